@@ -1,0 +1,7 @@
+pub mod Limits
+pub mod Choice
+pub mod Refusal
+pub mod Opening
+pub mod Question
+pub mod Lent
+pub mod Fold

@@ -1,0 +1,42 @@
+-- The paper's number of each refusal: that of the question that said no.
+use Prim.Native.Nat.{ℕ}
+use Rattle.group.specs.declared.Refusal.{Refusal}
+use Rattle.group.specs.declared.Refusal.the-variants.{UnsoundState, ShortOutput, PacketSize, UnknownKind, PayloadLength, ForbiddenFields, OtherGroup, OtherEnd, UnknownMember, AcknowledgedAhead, CountAhead, WantedAhead, LongPayload, AlreadyWaiting, NothingWaiting, NumbersUsedUp, NotInHistory, Opening}
+
+abbrev pub numberOf : Refusal → ℕ
+-- Is the state sound?
+numberOf UnsoundState = 1
+-- Is the lent output at least as long as the longest packet?
+numberOf ShortOutput = 2
+-- Is the packet at least a header and at most the longest packet?
+numberOf PacketSize = 3
+-- Is its kind 1 to 5?
+numberOf UnknownKind = 4
+-- Is its length that of its header and L, and L zero for kinds 3 to 5?
+numberOf PayloadLength = 5
+-- Do A, B, C (and byte 1 of a poll) obey the kind?
+numberOf ForbiddenFields = 6
+-- Is the group number ours?
+numberOf OtherGroup = 7
+-- Is the kind for this end?
+numberOf OtherEnd = 8
+-- Is byte 1 below n?
+numberOf UnknownMember = 9
+-- At the sequencer, is A at most top?
+numberOf AcknowledgedAhead = 10
+-- Is a request's count at most the last count and one?
+numberOf CountAhead = 11
+-- Is a gap's C at most top?
+numberOf WantedAhead = 12
+-- Has a submitted or written payload at most the limit's bytes?
+numberOf LongPayload = 13
+-- On submit, is nothing waiting?
+numberOf AlreadyWaiting = 14
+-- On repeat, is something waiting?
+numberOf NothingWaiting = 15
+-- Is a next number left?
+numberOf NumbersUsedUp = 16
+-- Is a copied number in the history?
+numberOf NotInHistory = 17
+-- On opening, is n 1 to 16 and the member number below n?
+numberOf Opening = 18

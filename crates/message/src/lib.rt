@@ -1,0 +1,117 @@
+// One kept message: its originator, its count, and its payload with zeros behind it.
+use group::Group;
+use group::MemberNumber;
+ghost use mathlib.Core.Path.{_≡_};
+ghost use Prim.Native.Nat.{_≤_};
+ghost use lib.ListN.{length, drop};
+ghost use Rattle.group.specs.Choice.{_=?_, _and_};
+ghost use Rattle.group.specs.Limits.{payloadMost};
+ghost use Rattle.group.specs.Lent.{front};
+ghost use Rattle.message.specs.Message.{allZero, padded, messageOf, emptyMessage, zeroBehind, isEmpty};
+
+// A place that holds a message, or none: it is empty exactly if its count is 0.
+pub struct Message {
+    pub originator: MemberNumber,
+    pub count: u32,
+    pub length: usize,
+    pub payload: [u8; Group::PAYLOAD],
+}
+
+// Copies bytes to the front of the part that is lent.
+pub fn copy(bytes: &[u8], part: &mut [u8])
+    requires { ⌜ length (now bytes) ≤ length (now part) ⌝ }
+    ensures { λ _. ⌜ now (part .exit) ≡ front (now (bytes .entry)) (now (part .entry)) ⌝ }
+{
+    bytes::copy(bytes, part);
+}
+
+fn larger(a: u8, b: u8) -> u8
+    ensures { λ r. ⌜ (r =? 0) ≡ a =? 0 and b =? 0 ⌝ }
+{
+    if a < b { b } else { a }
+}
+
+// Whether every byte is zero: the largest is, which a loop finds without leaving early.
+fn all_zero(bytes: &[u8]) -> bool
+    ensures { λ r. ⌜ r ≡ allZero (now (bytes .entry)) ⌝ }
+{
+    let mut largest: u8 = 0;
+    let mut i: usize = 0;
+    while i < bytes.len() {
+        largest = larger(largest, bytes[i]);
+        i += 1;
+    }
+    largest == 0
+}
+
+// Whether every byte from an index on is zero.
+fn zero_from(payload: [u8; Group::PAYLOAD], from: usize) -> bool
+    ensures { λ r. ⌜ r ≡ allZero (drop from payload) ⌝ }
+{
+    if Group::PAYLOAD < from {
+        return true;
+    }
+    all_zero(&payload[from..])
+}
+
+// The payload with zeros behind it.
+fn with_zeros(payload: &[u8]) -> [u8; Group::PAYLOAD]
+    requires { ⌜ length (now payload) ≤ payloadMost ⌝ }
+    ensures { λ r. ⌜ r ≡ padded (now (payload .entry)) ⌝ }
+{
+    let mut bytes = [0u8; Group::PAYLOAD];
+    copy(payload, &mut bytes);
+    bytes
+}
+
+impl Message {
+    // The place that holds no message: all of it is zero.
+    pub fn empty() -> Self
+        ensures { λ r. ⌜ r ≡ emptyMessage ⌝ }
+    {
+        Message {
+            originator: MemberNumber(0),
+            count: 0,
+            length: 0,
+            payload: [0u8; Group::PAYLOAD],
+        }
+    }
+
+    // The keeping step: the message of a payload.
+    pub fn keep(originator: MemberNumber, count: u32, payload: &[u8]) -> Self
+        requires { ⌜ length (now payload) ≤ payloadMost ⌝ }
+        ensures { λ r. ⌜ r ≡ messageOf originator count (now (payload .entry)) ⌝ }
+    {
+        let bytes = with_zeros(payload);
+        Message {
+            originator,
+            count,
+            length: payload.len(),
+            payload: bytes,
+        }
+    }
+
+    // Whether every byte behind the payload is zero.
+    pub fn zero_behind(self) -> bool
+        ensures { λ r. ⌜ r ≡ zeroBehind self ⌝ }
+    {
+        let payload = self.payload;
+        zero_from(payload, self.length)
+    }
+
+    // Whether all of it is zero.
+    pub fn is_empty(self) -> bool
+        ensures { λ r. ⌜ r ≡ isEmpty self ⌝ }
+    {
+        if self.originator.0 != 0 {
+            return false;
+        }
+        if self.count != 0 {
+            return false;
+        }
+        if self.length != 0 {
+            return false;
+        }
+        self.zero_behind()
+    }
+}

@@ -81,4 +81,7 @@ both-then false x e = let z : false ≡ true = e in cc
 pub ruleset says = (both-first, both-then, ltb-true, leb-true, eqb-true)
 
 -- down a nest of choices
-pub ruleset choices = (if-lt, if-nlt, if-le, if-nle, if-eq, if-ne, if-true, if-false, if-true-of, if-false-of, if-eq-of, if-ne-of, both-hold, first-fails, then-fails, lt-ltb, le-ltb, le-leb, lt-leb, eq-eqb, ne-eqb)
+pub ruleset choices = (if-lt, if-nlt, if-le, if-nle, if-eq, if-ne, if-true, if-false, if-true-of, if-false-of, if-eq-of, if-ne-of)
+
+-- the same where a test is two
+pub ruleset tests = (both-hold, first-fails, then-fails, lt-ltb, le-ltb, le-leb, lt-leb, eq-eqb, ne-eqb)

@@ -1,0 +1,72 @@
+-- Each test is one of the definition's.
+-- Assumes nothing.
+use Rattle.group.proofs.Choice.{choices}
+use Rattle.packet.specs.Packet.{obeys}
+use borrow.Author.Needs.{needs}
+use Rattle.packet.proofs.Header.obeys.Statement.{statement}
+use Rattle.packet.proofs.Header.obeys.Tie as tie
+
+returns : tie.Need-returns
+unfolding obeys
+returns c = search (choices, needs) depth 9
+
+returns-2 : tie.Need-returns-2
+unfolding obeys
+returns-2 c = search (choices, needs) depth 9
+
+returns-3 : tie.Need-returns-3
+unfolding obeys
+returns-3 c = search (choices, needs) depth 9
+
+returns-4 : tie.Need-returns-4
+unfolding obeys
+returns-4 c = search (choices, needs) depth 9
+
+returns-5 : tie.Need-returns-5
+unfolding obeys
+returns-5 c = search (choices, needs) depth 9
+
+returns-6 : tie.Need-returns-6
+unfolding obeys
+returns-6 c = search (choices, needs) depth 9
+
+returns-7 : tie.Need-returns-7
+unfolding obeys
+returns-7 c = search (choices, needs) depth 9
+
+returns-8 : tie.Need-returns-8
+unfolding obeys
+returns-8 c = search (choices, needs) depth 9
+
+returns-9 : tie.Need-returns-9
+unfolding obeys
+returns-9 c = search (choices, needs) depth 9
+
+returns-10 : tie.Need-returns-10
+unfolding obeys
+returns-10 c = search (choices, needs) depth 9
+
+returns-11 : tie.Need-returns-11
+unfolding obeys
+returns-11 c = search (choices, needs) depth 9
+
+returns-12 : tie.Need-returns-12
+unfolding obeys
+returns-12 c = search (choices, needs) depth 9
+
+pub obeys-spec : {M : Type 1} → statement M
+obeys-spec =
+    tie.close
+    (tie.spec
+    returns
+    returns-2
+    returns-3
+    returns-4
+    returns-5
+    returns-6
+    returns-7
+    returns-8
+    returns-9
+    returns-10
+    returns-11
+    returns-12)

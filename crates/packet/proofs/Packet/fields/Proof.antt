@@ -1,0 +1,56 @@
+-- Each kind's fields, by computation.
+-- Assumes nothing.
+use Rattle.packet.specs.Packet.{fieldsOf}
+use borrow.Author.Needs.{needs}
+use Rattle.packet.proofs.Packet.fields.Statement.{statement}
+use Rattle.packet.proofs.Packet.fields.Tie as tie
+
+enum-known-self : tie.Need-enum-known-self
+enum-known-self c = search needs
+
+enum-known-self-2 : tie.Need-enum-known-self-2
+enum-known-self-2 c = search needs
+
+enum-known-self-3 : tie.Need-enum-known-self-3
+enum-known-self-3 c = search needs
+
+enum-known-self-4 : tie.Need-enum-known-self-4
+enum-known-self-4 c = search needs
+
+enum-known-self-5 : tie.Need-enum-known-self-5
+enum-known-self-5 c = search needs
+
+returns : tie.Need-returns
+unfolding fieldsOf
+returns c = rw (c .before .self .given .1)
+
+returns-2 : tie.Need-returns-2
+unfolding fieldsOf
+returns-2 c = rw (c .before .self2 .given .1)
+
+returns-3 : tie.Need-returns-3
+unfolding fieldsOf
+returns-3 c = rw (c .before .self3 .given .1)
+
+returns-4 : tie.Need-returns-4
+unfolding fieldsOf
+returns-4 c = rw (c .before .self4 .given .1)
+
+returns-5 : tie.Need-returns-5
+unfolding fieldsOf
+returns-5 c = rw (c .before .self5 .given .1)
+
+pub fields-spec : {M : Type 1} → statement M
+fields-spec =
+    tie.close
+    (tie.spec
+    enum-known-self
+    enum-known-self-2
+    enum-known-self-3
+    enum-known-self-4
+    enum-known-self-5
+    returns
+    returns-2
+    returns-3
+    returns-4
+    returns-5)

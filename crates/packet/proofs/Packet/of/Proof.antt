@@ -1,0 +1,30 @@
+-- The kinds are told apart in the definition's order.
+-- Assumes nothing.
+use Rattle.group.proofs.Choice.{choices}
+use Rattle.packet.specs.Packet.{contentOf}
+use borrow.Author.Needs.{needs}
+use Rattle.packet.proofs.Packet.of.Statement.{statement}
+use Rattle.packet.proofs.Packet.of.Tie as tie
+
+returns : tie.Need-returns
+unfolding contentOf
+returns c = search (choices, needs) depth 9
+
+returns-2 : tie.Need-returns-2
+unfolding contentOf
+returns-2 c = search (choices, needs) depth 9
+
+returns-3 : tie.Need-returns-3
+unfolding contentOf
+returns-3 c = search (choices, needs) depth 9
+
+returns-4 : tie.Need-returns-4
+unfolding contentOf
+returns-4 c = search (choices, needs) depth 9
+
+returns-5 : tie.Need-returns-5
+unfolding contentOf
+returns-5 c = search (choices, needs) depth 9
+
+pub of-spec : {M : Type 1} → statement M
+of-spec = tie.close (tie.spec returns returns-2 returns-3 returns-4 returns-5)

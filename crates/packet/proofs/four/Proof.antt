@@ -1,0 +1,32 @@
+-- The bytes are the remainders, the highest first, by computation.
+-- Assumes nothing.
+use Rattle.packet.specs.Number.{bytesOf}
+use borrow.Author.Needs.{needs}
+use Rattle.packet.proofs.four.Statement.{statement}
+use Rattle.packet.proofs.four.Tie as tie
+
+low-byte-requires : tie.Need-low-byte-requires
+low-byte-requires c κs = search needs
+
+low-byte-requires-2 : tie.Need-low-byte-requires-2
+low-byte-requires-2 c κs = search needs
+
+low-byte-requires-3 : tie.Need-low-byte-requires-3
+low-byte-requires-3 c κs = search needs
+
+low-byte-requires-4 : tie.Need-low-byte-requires-4
+low-byte-requires-4 c κs = search needs
+
+returns : tie.Need-returns
+unfolding bytesOf
+returns c = cc
+
+pub four-spec : {M : Type 1} → statement M
+four-spec =
+    tie.close
+    (tie.spec
+    low-byte-requires
+    low-byte-requires-2
+    low-byte-requires-3
+    low-byte-requires-4
+    returns)

@@ -1,0 +1,40 @@
+-- The fields are put together from what stands at their offsets.
+-- Assumes nothing.
+use Rattle.packet.specs.Packet.{headerOf}
+use borrow.Author.Needs.{needs}
+use Rattle.packet.proofs.header_at.Statement.{statement}
+use Rattle.packet.proofs.header_at.Tie as tie
+
+number-at-requires : tie.Need-number-at-requires
+number-at-requires c κs = search needs
+
+number-at-requires-2 : tie.Need-number-at-requires-2
+number-at-requires-2 c κs = search needs
+
+number-at-requires-3 : tie.Need-number-at-requires-3
+number-at-requires-3 c κs = search needs
+
+number-at-requires-4 : tie.Need-number-at-requires-4
+number-at-requires-4 c κs = search needs
+
+shared-slice-read-t7 : tie.Need-shared-slice-read-t7
+shared-slice-read-t7 c = search needs
+
+shared-slice-read-t9 : tie.Need-shared-slice-read-t9
+shared-slice-read-t9 c = search needs
+
+returns : tie.Need-returns
+unfolding headerOf
+returns c = cc
+
+pub header-at-spec : {M : Type 1} → statement M
+header-at-spec =
+    tie.close
+    (tie.spec
+    number-at-requires
+    number-at-requires-2
+    number-at-requires-3
+    number-at-requires-4
+    shared-slice-read-t7
+    shared-slice-read-t9
+    returns)

@@ -1,0 +1,51 @@
+-- The four bytes from the index on are those of the definition.
+-- Assumes nothing.
+use mathlib.Core.Path.{_∙_}
+use denote.Ref.{now}
+use Rattle.packet.proofs.Number.{number-four}
+use borrow.Author.Needs.{needs}
+use native.Mathlib.Omega.{arith}
+use Rattle.packet.specs.Number.{numberAt}
+use Rattle.packet.proofs.number_at.Statement.{statement}
+use Rattle.packet.proofs.number_at.Tie as tie
+
+shared-slice-read-join : tie.Need-shared-slice-read-join
+shared-slice-read-join c = search needs
+
+add-join : tie.Need-add-join
+add-join c = search needs
+
+shared-slice-read-join-2 : tie.Need-shared-slice-read-join-2
+shared-slice-read-join-2 c = search needs
+
+add-join-2 : tie.Need-add-join-2
+add-join-2 c = search needs
+
+shared-slice-read-join-3 : tie.Need-shared-slice-read-join-3
+shared-slice-read-join-3 c = search needs
+
+add-join-3 : tie.Need-add-join-3
+add-join-3 c = search needs
+
+shared-slice-read-join-4 : tie.Need-shared-slice-read-join-4
+shared-slice-read-join-4 c = search needs
+
+join-requires : tie.Need-join-requires
+join-requires c κs = search needs
+
+returns : tie.Need-returns
+returns c = c .join .ensures ∙ number-four (now (c .before .before .before .before .before .before .args .packet)) (c .before .before .before .before .before .before .args .at)
+
+pub number-at-spec : {M : Type 1} → statement M
+number-at-spec =
+    tie.close
+    (tie.spec
+    shared-slice-read-join
+    add-join
+    shared-slice-read-join-2
+    add-join-2
+    shared-slice-read-join-3
+    add-join-3
+    shared-slice-read-join-4
+    join-requires
+    returns)

@@ -1,0 +1,88 @@
+-- What is proved of packets, besides the promises of reading and writing. `proofs/Laws.antt` has a proof of each statement.
+use mathlib.Core.Path.{_≡_}
+use mathlib.Core.List.{List, [], _∷_}
+use Prim.Native.Nat.{ℕ, _-_, _≤_, _<_}
+use lib.ListN.{length, getD}
+use Rattle.group.specs.Choice.{_and_, _≤?_}
+use Rattle.group.specs.Limits.{headerSize, payloadMost, longestPacket, largestNumber}
+use Rattle.group.specs.Question.{Question, firstNo, judged}
+use Rattle.group.specs.declared.Refusal.the-variants.{ShortOutput, PacketSize, UnknownKind, PayloadLength, ForbiddenFields, LongPayload}
+use Rattle.group.specs.declared.Verdict.{Verdict}
+use Rattle.packet.specs.Packet.{headerOf, lengthAt, payloadAt, knownKind, payloadFits, obeys, fieldsVerdict, readOf, packetOf, writeVerdict, contentOf, fieldsOf}
+use Rattle.packet.specs.declared.Header.{Header}
+use Rattle.packet.specs.declared.Packet.{Packet}
+use Rattle.packet.specs.declared.Reading.{Reading}
+
+-- the bytes of a packet are bytes
+pub Bytes : List ℕ → Type 0
+Bytes p = (i : ℕ) → i < length p → getD p i 0 < 256
+
+-- fields that their types can hold
+pub record Fits (h : Header) : Type 0 where
+  pub kind : h .kind < 256
+  pub member : h .member .0 < 256
+  pub group : h .group ≤ largestNumber
+  pub a : h .a ≤ largestNumber
+  pub b : h .b ≤ largestNumber
+  pub c : h .c ≤ largestNumber
+
+-- fields and a payload that a packet may have: writing accepts them where the lent output is long enough
+abbrev pub Allowed : Header → List ℕ → Type 0
+Allowed h payload = Fits h × (writeVerdict h (length payload) longestPacket ≡ Verdict.Accepted)
+
+-- a packet that reads to these fields and this payload
+abbrev pub Reads : List ℕ → Header → List ℕ → Type 0
+Reads p h payload = (readOf p ≡ Reading.Fields h) × (payloadAt p ≡ payload)
+
+-- reading what was written gives fields and payload back
+pub ReadWritten : Type 0
+ReadWritten = (h : Header) (payload : List ℕ) → Allowed h payload → Reads (packetOf h payload) h payload
+
+-- writing what was read gives the bytes back, and writing accepts it
+pub WriteRead : Type 0
+WriteRead = (p : List ℕ) (h : Header) (payload : List ℕ) → Bytes p → Reads p h payload → Allowed h payload × (packetOf h payload ≡ p)
+
+-- two packets that read to the same fields and payload are equal
+pub SameFieldsSamePacket : Type 0
+SameFieldsSamePacket =
+    (p q : List ℕ) (h : Header) (payload : List ℕ) → Bytes p → Bytes q → Reads p h payload → Reads q h payload → p ≡ q
+
+-- each allowed set of fields has exactly one packet
+pub OnePacket : Type 0
+OnePacket =
+    (h : Header) (payload : List ℕ) → Bytes payload → Allowed h payload
+    → (p : List ℕ) × Bytes p × Reads p h payload × ((q : List ℕ) → Bytes q → Reads q h payload → q ≡ p)
+
+-- the questions of reading, 3 to 6
+abbrev pub readQuestions : List ℕ → List Question
+readQuestions p =
+    record { yes = headerSize ≤? length p and length p ≤? longestPacket; refusal = PacketSize }
+    ∷ record { yes = knownKind (headerOf p .kind); refusal = UnknownKind }
+    ∷ record { yes = payloadFits (headerOf p .kind) (lengthAt p) (length p - headerSize); refusal = PayloadLength }
+    ∷ record { yes = obeys (headerOf p); refusal = ForbiddenFields }
+    ∷ []
+
+-- reading refuses with the first no of its questions, and accepts everything else
+pub ReadFirstNo : Type 0
+ReadFirstNo = (p : List ℕ) → readOf p ≡ judged (firstNo (readQuestions p)) Reading.Refused (Reading.Fields (headerOf p))
+
+-- the questions of writing, 2, 4, 5, 6 and 13
+abbrev pub writeQuestions : Header → ℕ → ℕ → List Question
+writeQuestions h size room =
+    record { yes = longestPacket ≤? room; refusal = ShortOutput }
+    ∷ record { yes = knownKind (h .kind); refusal = UnknownKind }
+    ∷ record { yes = payloadFits (h .kind) size size; refusal = PayloadLength }
+    ∷ record { yes = obeys h; refusal = ForbiddenFields }
+    ∷ record { yes = size ≤? payloadMost; refusal = LongPayload }
+    ∷ []
+
+-- writing refuses with the first no of its questions, and accepts everything else
+pub WriteFirstNo : Type 0
+WriteFirstNo = (h : Header) (size room : ℕ) → writeVerdict h size room ≡ firstNo (writeQuestions h size room)
+
+-- what the fields mean, and the fields that mean it, are inverse
+pub ContentFields : Type 0
+ContentFields = (group : ℕ) (packet : Packet) → contentOf (fieldsOf group packet) ≡ packet
+
+pub FieldsContent : Type 0
+FieldsContent = (h : Header) (l size : ℕ) → fieldsVerdict h l size ≡ Verdict.Accepted → fieldsOf (h .group) (contentOf h) ≡ h

@@ -1,0 +1,135 @@
+-- Packets: 20 bytes of header and then L payload bytes. Byte 0 is the kind, byte 1 a member number, bytes 2-3 L,
+-- bytes 4-7 the group number, then A (8-11), B (12-15), C (16-19). Numbers are big-endian.
+use mathlib.Core.Bool.{Bool, true}
+use mathlib.Core.List.{List, [], _∷_, _++_}
+use Prim.Native.Nat.{ℕ, _+_, _-_}
+use lib.ListN.{length, getD, drop}
+use Rattle.group.specs.Choice.{if_then_else_, ask_or_then_, _and_, _<?_, _≤?_, _=?_}
+use Rattle.group.specs.Limits.{headerSize, payloadMost, longestPacket}
+use Rattle.group.specs.Question.{judged}
+use Rattle.group.specs.declared.Refusal.the-variants.{ShortOutput, PacketSize, UnknownKind, PayloadLength, ForbiddenFields, LongPayload}
+use Rattle.group.specs.declared.Verdict.{Verdict}
+use Rattle.packet.specs.Number.{numberAt, bytesOf}
+use Rattle.packet.specs.declared.Header.{Header}
+use Rattle.packet.specs.declared.Packet.{Packet}
+use Rattle.packet.specs.declared.Packet.the-variants.{Request, Broadcast, Gap, Status, Poll}
+use Rattle.packet.specs.declared.Reading.{Reading}
+use Rattle.packet.specs.declared.Writing.{Writing}
+
+-- the kinds
+abbrev pub requestKind : ℕ
+requestKind = 1
+
+abbrev pub broadcastKind : ℕ
+broadcastKind = 2
+
+abbrev pub gapKind : ℕ
+gapKind = 3
+
+abbrev pub statusKind : ℕ
+statusKind = 4
+
+abbrev pub pollKind : ℕ
+pollKind = 5
+
+-- the fields that stand in the first 20 bytes, but for L
+unfoldable pub headerOf : List ℕ → Header
+headerOf p =
+    record {
+      kind = getD p 0 0;
+      member = record { 0 = getD p 1 0 };
+      group = numberAt 4 p 4;
+      a = numberAt 4 p 8;
+      b = numberAt 4 p 12;
+      c = numberAt 4 p 16;
+    }
+
+-- L
+abbrev pub lengthAt : List ℕ → ℕ
+lengthAt p = numberAt 2 p 2
+
+-- the payload is the stretch of the packet behind its header
+abbrev pub payloadAt : List ℕ → List ℕ
+payloadAt p = drop headerSize p
+
+-- the kinds are 1 to 5
+unfoldable pub knownKind : ℕ → Bool
+knownKind kind = requestKind ≤? kind and kind ≤? pollKind
+
+-- the payload is L bytes long, and L is zero in kinds 3, 4 and 5
+unfoldable pub payloadFits : ℕ → ℕ → ℕ → Bool
+payloadFits kind l size = size =? l and (if kind <? gapKind then true else l =? 0)
+
+-- do A, B, C (and byte 1 of a poll) obey the kind? A request has a count from 1 and C zero; of a broadcast A and B are at
+-- least 1 and C is below A; of a gap A < B ≤ C; of a status B and C are zero; of a poll byte 1 and B are zero and C ≤ A
+unfoldable pub obeys : Header → Bool
+obeys h =
+    if h .kind =? requestKind then 1 ≤? h .b and h .c =? 0 else
+    if h .kind =? broadcastKind then 1 ≤? h .a and 1 ≤? h .b and h .c <? h .a else
+    if h .kind =? gapKind then h .a <? h .b and h .b ≤? h .c else
+    if h .kind =? statusKind then h .b =? 0 and h .c =? 0 else
+    h .member .0 =? 0 and h .b =? 0 and h .c ≤? h .a
+
+-- questions 4, 5 and 6 of fields and L before `size` payload bytes
+unfoldable pub fieldsVerdict : Header → ℕ → ℕ → Verdict
+fieldsVerdict h l size =
+    ask knownKind (h .kind) or Verdict.Refused UnknownKind then
+    ask payloadFits (h .kind) l size or Verdict.Refused PayloadLength then
+    ask obeys h or Verdict.Refused ForbiddenFields then
+    Verdict.Accepted
+
+-- reading a packet: question 3, then 4 to 6
+unfoldable pub readOf : List ℕ → Reading
+readOf p =
+    ask headerSize ≤? length p and length p ≤? longestPacket or Reading.Refused PacketSize then
+    judged (fieldsVerdict (headerOf p) (lengthAt p) (length p - headerSize)) Reading.Refused (Reading.Fields (headerOf p))
+
+-- the 20 bytes of fields and L
+unfoldable pub headerBytes : Header → ℕ → List ℕ
+headerBytes h l =
+    h .kind ∷ h .member .0 ∷ (bytesOf 2 l ++ (bytesOf 4 (h .group) ++ (bytesOf 4 (h .a) ++ (bytesOf 4 (h .b) ++ bytesOf 4 (h .c)))))
+
+-- the packet of fields and a payload, whose length is L
+unfoldable pub packetOf : Header → List ℕ → List ℕ
+packetOf h payload = headerBytes h (length payload) ++ payload
+
+-- writing a packet from its fields: questions 2, 4, 5, 6 and 13. L is the payload's length, so question 5 asks only that
+-- kinds 3 to 5 have none
+unfoldable pub writeVerdict : Header → ℕ → ℕ → Verdict
+writeVerdict h size room =
+    ask longestPacket ≤? room or Verdict.Refused ShortOutput then
+    judged (fieldsVerdict h size size) Verdict.Refused
+    (ask size ≤? payloadMost or Verdict.Refused LongPayload then Verdict.Accepted)
+
+-- what writing answers, and the bytes that it lays at the front of the lent output
+pub record Written : Type 0 where
+  pub answer : Writing
+  pub bytes : List ℕ
+
+unfoldable pub writeOf : Header → List ℕ → ℕ → Written
+writeOf h payload room =
+    judged (writeVerdict h (length payload) room)
+    (λ refusal. record { answer = Writing.Refused refusal; bytes = [] })
+    (record { answer = Writing.Bytes (headerSize + length payload); bytes = packetOf h payload })
+
+-- what the fields of each kind mean
+unfoldable pub contentOf : Header → Packet
+contentOf h =
+    if h .kind =? requestKind then Request (h .member) (record { 0 = h .a }) (h .b) else
+    if h .kind =? broadcastKind then Broadcast (h .member) (record { 0 = h .a }) (h .b) (record { 0 = h .c }) else
+    if h .kind =? gapKind then Gap (h .member) (record { 0 = h .a }) (record { 0 = h .b }) (record { 0 = h .c }) else
+    if h .kind =? statusKind then Status (h .member) (record { 0 = h .a }) else
+    Poll (record { 0 = h .a }) (record { 0 = h .c })
+
+-- the fields that mean it, in the group of that number
+unfoldable pub fieldsOf : ℕ → Packet → Header
+fieldsOf group (Request sender taken count) =
+    record { kind = requestKind; member = sender; group = group; a = taken .0; b = count; c = 0 }
+fieldsOf group (Broadcast originator number count floor) =
+    record { kind = broadcastKind; member = originator; group = group; a = number .0; b = count; c = floor .0 }
+fieldsOf group (Gap sender taken first last) =
+    record { kind = gapKind; member = sender; group = group; a = taken .0; b = first .0; c = last .0 }
+fieldsOf group (Status sender taken) =
+    record { kind = statusKind; member = sender; group = group; a = taken .0; b = 0; c = 0 }
+fieldsOf group (Poll top floor) =
+    record { kind = pollKind; member = record { 0 = 0 }; group = group; a = top .0; b = 0; c = floor .0 }

@@ -1,0 +1,444 @@
+// Packets: a header of 20 bytes and the payload behind it.
+use group::Group;
+use group::MemberNumber;
+use group::Refusal;
+use group::SequenceNumber;
+use group::Verdict;
+ghost use mathlib.Core.Path.{_≡_};
+ghost use Prim.Native.Nat.{_+_, _*_, _/_, _%_, _≤_};
+ghost use mathlib.Core.List.{List};
+ghost use lib.ListN.{length};
+ghost use Rattle.group.specs.Limits.{headerSize};
+ghost use Rattle.group.specs.Lent.{front};
+ghost use Rattle.packet.specs.Number.{numberAt, bytesOf};
+ghost use Rattle.packet.specs.Packet.{headerOf, knownKind, payloadFits, obeys, fieldsVerdict, readOf, headerBytes, packetOf, writeVerdict, writeOf, contentOf, fieldsOf};
+
+// The fields of a header as they stand in its bytes. L is not among them: it is the payload's length.
+pub struct Header {
+    pub kind: u8,
+    pub member: MemberNumber,
+    pub group: u32,
+    pub a: u32,
+    pub b: u32,
+    pub c: u32,
+}
+
+// What reading a packet answers.
+pub enum Reading {
+    Fields(Header),
+    Refused(Refusal),
+}
+
+// What writing a packet answers: how many bytes it wrote, or what is refused.
+pub enum Writing {
+    Bytes(usize),
+    Refused(Refusal),
+}
+
+// What the fields of each kind mean.
+pub enum Packet {
+    Request {
+        sender: MemberNumber,
+        taken: SequenceNumber,
+        count: u32,
+    },
+    Broadcast {
+        originator: MemberNumber,
+        number: SequenceNumber,
+        count: u32,
+        floor: SequenceNumber,
+    },
+    Gap {
+        sender: MemberNumber,
+        taken: SequenceNumber,
+        first: SequenceNumber,
+        last: SequenceNumber,
+    },
+    Status {
+        sender: MemberNumber,
+        taken: SequenceNumber,
+    },
+    Poll {
+        top: SequenceNumber,
+        floor: SequenceNumber,
+    },
+}
+
+fn wide(x: u8) -> u32
+    ensures { λ r. ⌜ r ≡ x ⌝ }
+{
+    x as u32
+}
+
+// The number in two bytes, the highest first, and in four.
+fn join_two(a: u8, b: u8) -> u32
+    ensures { λ r. ⌜ r ≡ a * 256 + b ⌝ }
+{
+    wide(a) * 256 + wide(b)
+}
+
+fn join(a: u8, b: u8, c: u8, d: u8) -> u32
+    ensures { λ r. ⌜ r ≡ ((a * 256 + b) * 256 + c) * 256 + d ⌝ }
+{
+    ((wide(a) * 256 + wide(b)) * 256 + wide(c)) * 256 + wide(d)
+}
+
+fn number_at(packet: &[u8], at: usize) -> u32
+    requires { ⌜ at + 4 ≤ length (now packet) ⌝ }
+    ensures { λ r. ⌜ r ≡ numberAt 4 (now (packet .entry)) at ⌝ }
+{
+    join(packet[at], packet[at + 1], packet[at + 2], packet[at + 3])
+}
+
+fn half_at(packet: &[u8], at: usize) -> u32
+    requires { ⌜ at + 2 ≤ length (now packet) ⌝ }
+    ensures { λ r. ⌜ r ≡ numberAt 2 (now (packet .entry)) at ⌝ }
+{
+    join_two(packet[at], packet[at + 1])
+}
+
+fn header_at(packet: &[u8]) -> Header
+    requires { ⌜ headerSize ≤ length (now packet) ⌝ }
+    ensures { λ r. ⌜ r ≡ headerOf (now (packet .entry)) ⌝ }
+{
+    let group = number_at(packet, 4);
+    let a = number_at(packet, 8);
+    let b = number_at(packet, 12);
+    let c = number_at(packet, 16);
+    Header {
+        kind: packet[0],
+        member: MemberNumber(packet[1]),
+        group,
+        a,
+        b,
+        c,
+    }
+}
+
+impl Header {
+    // The kinds of packet.
+    pub const REQUEST: u8 = 1;
+
+    pub const BROADCAST: u8 = 2;
+
+    pub const GAP: u8 = 3;
+
+    pub const STATUS: u8 = 4;
+
+    pub const POLL: u8 = 5;
+
+    // Question 6: do A, B, C (and byte 1 of a poll) obey the kind?
+    fn obeys(self) -> bool
+        ensures { λ r. ⌜ r ≡ obeys self ⌝ }
+    {
+        if self.kind == Header::REQUEST {
+            if self.b < 1 {
+                return false;
+            }
+            return self.c == 0;
+        }
+        if self.kind == Header::BROADCAST {
+            if self.a < 1 {
+                return false;
+            }
+            if self.b < 1 {
+                return false;
+            }
+            return self.c < self.a;
+        }
+        if self.kind == Header::GAP {
+            if self.b <= self.a {
+                return false;
+            }
+            return self.b <= self.c;
+        }
+        if self.kind == Header::STATUS {
+            if self.b != 0 {
+                return false;
+            }
+            return self.c == 0;
+        }
+        if self.member.0 != 0 {
+            return false;
+        }
+        if self.b != 0 {
+            return false;
+        }
+        self.c <= self.a
+    }
+}
+
+// Question 4: is the kind 1 to 5?
+fn known(kind: u8) -> bool
+    ensures { λ r. ⌜ r ≡ knownKind kind ⌝ }
+{
+    if kind < Header::REQUEST {
+        return false;
+    }
+    kind <= Header::POLL
+}
+
+// Question 5: is the payload L bytes long, and L zero for kinds 3 to 5?
+fn fits(kind: u8, l: usize, size: usize) -> bool
+    ensures { λ r. ⌜ r ≡ payloadFits kind l size ⌝ }
+{
+    if size != l {
+        return false;
+    }
+    if kind < Header::GAP {
+        return true;
+    }
+    l == 0
+}
+
+// Questions 4 to 6 of fields and L before `size` payload bytes.
+fn ask_fields(h: Header, l: usize, size: usize) -> Verdict
+    ensures { λ r. ⌜ r ≡ fieldsVerdict h l size ⌝ }
+{
+    if known(h.kind) {
+        if fits(h.kind, l, size) {
+            if h.obeys() {
+                return Verdict::Accepted;
+            }
+            return Verdict::Refused(Refusal::ForbiddenFields);
+        }
+        return Verdict::Refused(Refusal::PayloadLength);
+    }
+    Verdict::Refused(Refusal::UnknownKind)
+}
+
+// Reads the fields of a packet: questions 3 to 6. Its payload is its part from byte 20 on.
+pub fn read(packet: &[u8]) -> Reading
+    ensures { λ r. ⌜ r ≡ readOf (now (packet .entry)) ⌝ }
+{
+    if packet.len() < Group::HEADER {
+        return Reading::Refused(Refusal::PacketSize);
+    }
+    if Group::PACKET < packet.len() {
+        return Reading::Refused(Refusal::PacketSize);
+    }
+    let h = header_at(packet);
+    let l = half_at(packet, 2);
+    let v = ask_fields(h, l as usize, packet.len() - Group::HEADER);
+    match v {
+        Verdict::Accepted => Reading::Fields(h),
+        Verdict::Refused(q) => Reading::Refused(q),
+    }
+}
+
+fn low_byte(v: u32) -> u8
+    ensures { λ r. ⌜ r ≡ v % 256 ⌝ }
+{
+    (v % 256) as u8
+}
+
+fn low(v: usize) -> u8
+    ensures { λ r. ⌜ r ≡ v % 256 ⌝ }
+{
+    (v % 256) as u8
+}
+
+// The four bytes of a number.
+fn four(v: u32) -> [u8; 4]
+    ensures { λ r. ⌜ r ≡ bytesOf 4 v ⌝ }
+{
+    [
+        low_byte(v / 256 / 256 / 256),
+        low_byte(v / 256 / 256),
+        low_byte(v / 256),
+        low_byte(v),
+    ]
+}
+
+// The 20 bytes of fields and L.
+fn header_bytes(h: Header, l: usize) -> [u8; Group::HEADER]
+    ensures { λ r. ⌜ r ≡ headerBytes h l ⌝ }
+{
+    let hi = low(l / 256);
+    let lo = low(l);
+    let g = four(h.group);
+    let a = four(h.a);
+    let b = four(h.b);
+    let c = four(h.c);
+    [
+        h.kind,
+        h.member.0,
+        hi,
+        lo,
+        g[0],
+        g[1],
+        g[2],
+        g[3],
+        a[0],
+        a[1],
+        a[2],
+        a[3],
+        b[0],
+        b[1],
+        b[2],
+        b[3],
+        c[0],
+        c[1],
+        c[2],
+        c[3],
+    ]
+}
+
+// Lays the packet of fields and a payload at the front of the output: the header, and the payload in the part behind it.
+fn lay(h: Header, payload: &[u8], out: &mut [u8])
+    requires { ⌜ headerSize + length (now payload) ≤ length (now out) ⌝ }
+    ensures { λ _. ⌜ now (out .exit) ≡ front (packetOf h (now (payload .entry))) (now (out .entry)) ⌝ }
+{
+    let header = header_bytes(h, payload.len());
+    message::copy(&header, out);
+    message::copy(payload, &mut out[Group::HEADER..]);
+}
+
+// Questions 2, 4, 5, 6 and 13 of writing.
+fn ask_writing(h: Header, size: usize, room: usize) -> Verdict
+    ensures { λ r. ⌜ r ≡ writeVerdict h size room ⌝ }
+{
+    if room < Group::PACKET {
+        return Verdict::Refused(Refusal::ShortOutput);
+    }
+    let v = ask_fields(h, size, size);
+    match v {
+        Verdict::Accepted => {
+            if Group::PAYLOAD < size {
+                return Verdict::Refused(Refusal::LongPayload);
+            }
+            Verdict::Accepted
+        }
+        Verdict::Refused(q) => Verdict::Refused(q),
+    }
+}
+
+// Writes the packet of fields and a payload to the front of the output.
+pub fn write(h: Header, payload: &[u8], out: &mut [u8]) -> Writing
+    ensures answer { λ r. ⌜ r ≡ writeOf h (now (payload .entry)) (length (now (out .entry))) .answer ⌝ }
+    ensures lent { λ _. ⌜ now (out .exit) ≡ front (writeOf h (now (payload .entry)) (length (now (out .entry))) .bytes) (now (out .entry)) ⌝ }
+{
+    let v = ask_writing(h, payload.len(), out.len());
+    match v {
+        Verdict::Accepted => {
+            lay(h, payload, out);
+            Writing::Bytes(Group::HEADER + payload.len())
+        }
+        Verdict::Refused(q) => Writing::Refused(q),
+    }
+}
+
+impl Packet {
+    // What the fields of each kind mean.
+    pub fn of(h: Header) -> Self
+        ensures { λ r. ⌜ r ≡ contentOf h ⌝ }
+    {
+        let member = h.member;
+        if h.kind == Header::REQUEST {
+            return Packet::Request {
+                sender: member,
+                taken: SequenceNumber(h.a),
+                count: h.b,
+            };
+        }
+        if h.kind == Header::BROADCAST {
+            return Packet::Broadcast {
+                originator: member,
+                number: SequenceNumber(h.a),
+                count: h.b,
+                floor: SequenceNumber(h.c),
+            };
+        }
+        if h.kind == Header::GAP {
+            return Packet::Gap {
+                sender: member,
+                taken: SequenceNumber(h.a),
+                first: SequenceNumber(h.b),
+                last: SequenceNumber(h.c),
+            };
+        }
+        if h.kind == Header::STATUS {
+            return Packet::Status {
+                sender: member,
+                taken: SequenceNumber(h.a),
+            };
+        }
+        Packet::Poll {
+            top: SequenceNumber(h.a),
+            floor: SequenceNumber(h.c),
+        }
+    }
+
+    // The fields that mean it, in the group of that number.
+    pub fn fields(self, group: u32) -> Header
+        ensures { λ r. ⌜ r ≡ fieldsOf group self ⌝ }
+    {
+        match self {
+            Packet::Request {
+                sender,
+                taken,
+                count,
+            } => Header {
+                kind: Header::REQUEST,
+                member: sender,
+                group,
+                a: taken.0,
+                b: count,
+                c: 0,
+            },
+            Packet::Broadcast {
+                originator,
+                number,
+                count,
+                floor,
+            } => Header {
+                kind: Header::BROADCAST,
+                member: originator,
+                group,
+                a: number.0,
+                b: count,
+                c: floor.0,
+            },
+            Packet::Gap {
+                sender,
+                taken,
+                first,
+                last,
+            } => Header {
+                kind: Header::GAP,
+                member: sender,
+                group,
+                a: taken.0,
+                b: first.0,
+                c: last.0,
+            },
+            Packet::Status { sender, taken } => Header {
+                kind: Header::STATUS,
+                member: sender,
+                group,
+                a: taken.0,
+                b: 0,
+                c: 0,
+            },
+            Packet::Poll { top, floor } => Header {
+                kind: Header::POLL,
+                member: MemberNumber(0),
+                group,
+                a: top.0,
+                b: 0,
+                c: floor.0,
+            },
+        }
+    }
+
+    // Lays the packet at the front of an output that has room for it, and gives its length: what an end writes.
+    pub fn put(self, group: u32, payload: &[u8], out: &mut [u8]) -> usize
+        requires { ⌜ headerSize + length (now payload) ≤ length (now out) ⌝ }
+        ensures size { λ r. ⌜ r ≡ headerSize + length (now (payload .entry)) ⌝ }
+        ensures lent { λ _. ⌜ now (out .exit) ≡ front (packetOf (fieldsOf group self) (now (payload .entry))) (now (out .entry)) ⌝ }
+    {
+        let h = self.fields(group);
+        lay(h, payload, out);
+        Group::HEADER + payload.len()
+    }
+}

@@ -1,2 +1,4 @@
 pub mod Choice
 pub mod Fold
+pub mod Lists
+pub mod Question

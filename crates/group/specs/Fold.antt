@@ -1,7 +1,7 @@
--- Going through a table, entry by entry.
+-- Going through a table entry by entry, and through the numbers above a number one by one.
 use mathlib.Core.Bool.{Bool, true, false}
 use mathlib.Core.List.{List, [], _∷_}
-use Prim.Native.Nat.{ℕ, _+_}
+use Prim.Native.Nat.{ℕ, zero, suc, _+_}
 use Rattle.group.specs.Choice.{if_then_else_, _and_, _<?_}
 
 -- whether `test` holds of each entry, where the first stands at index i
@@ -9,7 +9,12 @@ unfoldable pub all : {A : Type 0} → (ℕ → A → Bool) → ℕ → List A �
 all test i [] = true
 all test i (x ∷ rest) = test i x and all test (i + 1) rest
 
--- the smaller of m and the smallest entry
-unfoldable pub least : ℕ → List ℕ → ℕ
-least m [] = m
-least m (x ∷ rest) = least (if x <? m then x else m) rest
+-- whether `test` holds of each of the k numbers above f
+unfoldable pub allAbove : (ℕ → Bool) → ℕ → ℕ → Bool
+allAbove test f zero = true
+allAbove test f (suc k) = test (f + 1) and allAbove test (f + 1) k
+
+-- the smaller of m and the smallest of what `value` says of each entry
+unfoldable pub least : {A : Type 0} → (A → ℕ) → ℕ → List A → ℕ
+least value m [] = m
+least value m (x ∷ rest) = least value (if value x <? m then value x else m) rest

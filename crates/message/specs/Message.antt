@@ -37,3 +37,7 @@ zeroBehind m = allZero (drop (m .length) (m .payload))
 -- every byte and field of the place is zero
 unfoldable pub isEmpty : Message → Bool
 isEmpty m = m .originator .0 =? 0 and m .count =? 0 and m .length =? 0 and zeroBehind m
+
+-- what a list of messages is read as past its end: the value that the code's own reads have there
+abbrev pub blank : Message
+blank = record { originator = record { 0 = 0 }; count = 0; length = 0; payload = [] }

@@ -1,3 +1,6 @@
 pub mod Number
 pub mod Parts
 pub mod Verdicts
+pub mod RoundTrip
+pub mod Laws
+pub mod Facts

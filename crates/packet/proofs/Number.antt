@@ -1,10 +1,14 @@
--- A number's bytes, k of them, have the number, and a number that stands in k bytes has those bytes. Assumes nothing.
-use mathlib.Core.Path.{_≡_, refl, sym, ap, ap₂, _∙_}
+-- A number's bytes, k of them, have the number, and a number that stands in k bytes has those bytes: one law each way over
+-- the width, by induction on it. Assumes nothing.
+use mathlib.Core.Path.{_≡_, refl, sym, _∙_}
 use mathlib.Core.List.{List, [], _∷_, _++_, append-assoc}
-use Prim.Native.Nat.{ℕ, zero, suc, _+_, _-_, _*_, _/_, _%_, _^_, _≤_, _<_}
+use Prim.Native.Nat.{ℕ, zero, suc, _+_, _*_, _/_, _%_, _^_, _≤_, _<_}
+use native.Mathlib.Nat.{div-add-mod', pow-suc}
 use native.Mathlib.Omega.{arith}
-use lib.ListN.{length, getD, take, drop, length-append}
+use lib.ListN.{length, getD, take, drop, length-append, length-drop, take-append-drop}
+use lib.Seq.{take-suc, getD-at, getD-drop, drop-drop}
 use Rattle.group.specs.Limits.{headerSize}
+use Rattle.packet.specs.Laws.{Bytes}
 use Rattle.packet.specs.Number.{numberAt, bytesOf}
 use Rattle.packet.specs.Packet.{headerBytes}
 use Rattle.packet.specs.declared.Header.{Header}
@@ -13,6 +17,63 @@ pub bytesOf-length : (k v : ℕ) → length (bytesOf k v) ≡ k
 unfolding bytesOf
 bytesOf-length zero v = refl
 bytesOf-length (suc k) v = length-append (bytesOf k (v / 256)) (v % 256 ∷ []) ∙ (let z = bytesOf-length k (v / 256) in omega arith)
+
+-- the number in the bytes of a number is that number
+pub number-of-bytes : (k v : ℕ) (rest : List ℕ) → v < 256 ^ k → numberAt k (bytesOf k v ++ rest) 0 ≡ v
+unfolding numberAt bytesOf
+number-of-bytes zero v rest h = omega arith
+number-of-bytes (suc k) v rest h =
+    let b : v / 256 < 256 ^ k = omega (arith, pow-suc 256 k) in
+    let e : 0 + k ≡ k = omega arith in
+    rw (append-assoc (bytesOf k (v / 256)) (v % 256 ∷ []) rest, number-of-bytes k (v / 256) (v % 256 ∷ rest) b, e, getD-at (bytesOf k (v / 256)) (v % 256) rest 0 k (bytesOf-length k (v / 256))) (div-add-mod' v 256)
+
+-- where it stands does not matter
+pub number-behind : (k : ℕ) (p : List ℕ) (i : ℕ) → numberAt k p i ≡ numberAt k (drop i p) 0
+unfolding numberAt
+number-behind zero p i = refl
+number-behind (suc k) p i =
+    let e : 0 + k ≡ k = omega arith in
+    rw (number-behind k p i, e, getD-drop i p k 0)
+
+module _ (p : List ℕ) (bytes : Bytes p) where
+  -- the bytes of the number in k bytes are those bytes
+  pub bytes-of-number : (k i : ℕ) → i + k ≤ length p → bytesOf k (numberAt k p i) ≡ take k (drop i p)
+  unfolding Bytes numberAt bytesOf
+  bytes-of-number zero i h = refl
+  bytes-of-number (suc k) i h =
+      let b = bytes (i + k) (omega arith) in
+      let q : (numberAt k p i * 256 + getD p (i + k) 0) / 256 ≡ numberAt k p i = omega arith in
+      let r : (numberAt k p i * 256 + getD p (i + k) 0) % 256 ≡ getD p (i + k) 0 = omega arith in
+      rw (q, r, bytes-of-number k i (omega arith), ← (getD-drop i p k 0)) (sym (take-suc (drop i p) k 0 (simp length-drop (omega arith))))
+
+  -- a number in k bytes fits them
+  pub number-fits : (k i : ℕ) → i + k ≤ length p → numberAt k p i < 256 ^ k
+  unfolding Bytes numberAt
+  number-fits zero i h = omega arith
+  number-fits (suc k) i h =
+      let b = bytes (i + k) (omega arith) in
+      let n = number-fits k i (omega arith) in
+      omega (arith, pow-suc 256 k)
+
+  -- the bytes of the number in k bytes, and what stands behind them
+  pub bytes-of-number-then : (k i : ℕ) → i + k ≤ length p → bytesOf k (numberAt k p i) ++ drop (i + k) p ≡ drop i p
+  bytes-of-number-then k i h = rw (bytes-of-number k i h, ← (drop-drop k i p)) (take-append-drop k (drop i p))
+
+-- bytes in front of bytes are bytes
+pub bytes-cons : (b : ℕ) (l : List ℕ) → b < 256 → Bytes l → Bytes (b ∷ l)
+unfolding Bytes
+bytes-cons b l f g zero h = f
+bytes-cons b l f g (suc i) h = g i (omega arith)
+
+pub bytes-append : (l m : List ℕ) → Bytes l → Bytes m → Bytes (l ++ m)
+unfolding Bytes
+bytes-append [] m f g = g
+bytes-append (b ∷ l) m f g = bytes-cons b (l ++ m) (f 0 (omega arith)) (bytes-append l m (λ i h. f (suc i) (omega arith)) g)
+
+pub bytesOf-bytes : (k v : ℕ) → Bytes (bytesOf k v)
+unfolding Bytes bytesOf
+bytesOf-bytes zero v = λ i h. absurd (omega arith)
+bytesOf-bytes (suc k) v = bytes-append (bytesOf k (v / 256)) (v % 256 ∷ []) (bytesOf-bytes k (v / 256)) (bytes-cons (v % 256) [] (omega arith) (λ i h. absurd (omega arith)))
 
 pub headerBytes-length : (h : Header) (l : ℕ) → length (headerBytes h l) ≡ headerSize
 unfolding headerBytes bytesOf

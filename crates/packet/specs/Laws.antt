@@ -14,7 +14,7 @@ use Rattle.packet.specs.declared.Packet.{Packet}
 use Rattle.packet.specs.declared.Reading.{Reading}
 
 -- the bytes of a packet are bytes
-pub Bytes : List ℕ → Type 0
+unfoldable pub Bytes : List ℕ → Type 0
 Bytes p = (i : ℕ) → i < length p → getD p i 0 < 256
 
 -- fields that their types can hold
@@ -35,20 +35,20 @@ abbrev pub Reads : List ℕ → Header → List ℕ → Type 0
 Reads p h payload = (readOf p ≡ Reading.Fields h) × (payloadAt p ≡ payload)
 
 -- reading what was written gives fields and payload back
-pub ReadWritten : Type 0
+abbrev pub ReadWritten : Type 0
 ReadWritten = (h : Header) (payload : List ℕ) → Allowed h payload → Reads (packetOf h payload) h payload
 
 -- writing what was read gives the bytes back, and writing accepts it
-pub WriteRead : Type 0
+abbrev pub WriteRead : Type 0
 WriteRead = (p : List ℕ) (h : Header) (payload : List ℕ) → Bytes p → Reads p h payload → Allowed h payload × (packetOf h payload ≡ p)
 
 -- two packets that read to the same fields and payload are equal
-pub SameFieldsSamePacket : Type 0
+abbrev pub SameFieldsSamePacket : Type 0
 SameFieldsSamePacket =
     (p q : List ℕ) (h : Header) (payload : List ℕ) → Bytes p → Bytes q → Reads p h payload → Reads q h payload → p ≡ q
 
 -- each allowed set of fields has exactly one packet
-pub OnePacket : Type 0
+abbrev pub OnePacket : Type 0
 OnePacket =
     (h : Header) (payload : List ℕ) → Bytes payload → Allowed h payload
     → (p : List ℕ) × Bytes p × Reads p h payload × ((q : List ℕ) → Bytes q → Reads q h payload → q ≡ p)
@@ -63,7 +63,7 @@ readQuestions p =
     ∷ []
 
 -- reading refuses with the first no of its questions, and accepts everything else
-pub ReadFirstNo : Type 0
+abbrev pub ReadFirstNo : Type 0
 ReadFirstNo = (p : List ℕ) → readOf p ≡ judged (firstNo (readQuestions p)) Reading.Refused (Reading.Fields (headerOf p))
 
 -- the questions of writing, 2, 4, 5, 6 and 13
@@ -77,12 +77,12 @@ writeQuestions h size room =
     ∷ []
 
 -- writing refuses with the first no of its questions, and accepts everything else
-pub WriteFirstNo : Type 0
+abbrev pub WriteFirstNo : Type 0
 WriteFirstNo = (h : Header) (size room : ℕ) → writeVerdict h size room ≡ firstNo (writeQuestions h size room)
 
 -- what the fields mean, and the fields that mean it, are inverse
-pub ContentFields : Type 0
+abbrev pub ContentFields : Type 0
 ContentFields = (group : ℕ) (packet : Packet) → contentOf (fieldsOf group packet) ≡ packet
 
-pub FieldsContent : Type 0
+abbrev pub FieldsContent : Type 0
 FieldsContent = (h : Header) (l size : ℕ) → fieldsVerdict h l size ≡ Verdict.Accepted → fieldsOf (h .group) (contentOf h) ≡ h

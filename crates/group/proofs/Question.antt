@@ -1,0 +1,26 @@
+-- Going down a list of questions, one at a time or in parts, comes to the first no. Assumes nothing.
+use mathlib.Core.Path.{_≡_, refl}
+use mathlib.Core.Bool.{Bool, true, false}
+use mathlib.Core.List.{List, [], _∷_, _++_}
+use Rattle.group.specs.Choice.{if_then_else_, ask_or_then_}
+use Rattle.group.specs.Question.{Question, firstNo, judged}
+use Rattle.group.specs.declared.Refusal.{Refusal}
+use Rattle.group.specs.declared.Verdict.the-variants.{Refused}
+
+-- a question before the others
+pub judged-ask : {A : Type 0} (refused : Refusal → A) (accepted : A) (yes : Bool) (refusal : Refusal) (rest : List Question)
+    → ask yes or refused refusal then judged (firstNo rest) refused accepted ≡ judged (firstNo (record { yes = yes; refusal = refusal } ∷ rest)) refused accepted
+unfolding if_then_else_ firstNo judged
+judged-ask refused accepted true refusal rest = refl
+judged-ask refused accepted false refusal rest = refl
+
+-- questions before the others
+pub firstNo-append : (before rest : List Question) → judged (firstNo before) Refused (firstNo rest) ≡ firstNo (before ++ rest)
+unfolding if_then_else_ firstNo judged
+firstNo-append [] rest = refl
+firstNo-append (q ∷ before) rest = go (q .yes) (firstNo-append before rest)
+  where
+    go : (yes : Bool) → judged (firstNo before) Refused (firstNo rest) ≡ firstNo (before ++ rest)
+        → judged (ask yes or Refused (q .refusal) then firstNo before) Refused (firstNo rest) ≡ ask yes or Refused (q .refusal) then firstNo (before ++ rest)
+    go true e = e
+    go false e = refl

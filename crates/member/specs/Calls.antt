@@ -1,0 +1,218 @@
+-- The member's calls: each goes down its questions in their order, and then takes its step.
+use mathlib.Core.Bool.{Bool, true, false}
+use mathlib.Core.List.{List, []}
+use Prim.Native.Nat.{ℕ, _+_, _-_}
+use lib.ListN.{length, set}
+use Rattle.group.specs.Choice.{if_then_else_, ask_or_then_, _and_, _<?_, _≤?_, _=?_}
+use Rattle.group.specs.Limits.{heldMost, payloadMost, longestPacket, largestNumber}
+use Rattle.group.specs.Opening.{openOf}
+use Rattle.group.specs.Question.{judged}
+use Rattle.group.specs.declared.Group.{Group}
+use Rattle.group.specs.declared.MemberNumber.{MemberNumber}
+use Rattle.group.specs.declared.SequenceNumber.{SequenceNumber}
+use Rattle.group.specs.declared.Opened.{Opened}
+use Rattle.group.specs.declared.Opened.the-variants.{Open}
+use Rattle.group.specs.declared.Refusal.{Refusal}
+use Rattle.group.specs.declared.Verdict.{Verdict}
+use Rattle.message.specs.Message.{messageOf, emptyMessage, payloadOf}
+use Rattle.message.specs.declared.Message.{Message}
+use Rattle.packet.specs.Packet.{contentOf, fieldsOf, packetOf, payloadAt, readOf}
+use Rattle.packet.specs.declared.Packet.{Packet}
+use Rattle.packet.specs.declared.Reading.{Reading}
+use Rattle.packet.specs.declared.Reading.the-variants.{Fields}
+use Rattle.member.specs.Sound.{soundOf}
+use Rattle.member.specs.State.{placeOf, messageAt, isHeld, lowestMissing, acknowledgedOf, freshMember}
+use Rattle.member.specs.declared.Answer.{Answer}
+use Rattle.member.specs.declared.Member.{Member}
+use Rattle.member.specs.declared.Opening.{Opening}
+use Rattle.member.specs.declared.Step.{Step}
+
+-- what a call comes to: the state that it leaves, its answer, and the bytes that it lays at the front of the lent output
+pub record Outcome : Type 0 where
+  pub member : Member
+  pub answer : Answer
+  pub bytes : List ℕ
+
+-- what the call gives back of it
+abbrev pub stepOf : Outcome → Step
+stepOf o = record { member = o .member; answer = o .answer; written = length (o .bytes) }
+
+-- an answer that writes nothing
+unfoldable pub answered : Member → Answer → Outcome
+answered m answer = record { member = m; answer = answer; bytes = [] }
+
+-- a no: the state is the same and nothing is written
+abbrev pub refused : Member → Refusal → Outcome
+refused m refusal = answered m (Answer.Refused refusal)
+
+-- the packets that a member writes: its request with its count and payload, a gap, a status
+unfoldable pub requestPacket : Member → List ℕ
+requestPacket m =
+    packetOf (fieldsOf (m .group .number) (Packet.Request (m .number) (acknowledgedOf m) (m .submitted))) (payloadOf (m .message))
+
+unfoldable pub gapPacket : Member → ℕ → ℕ → List ℕ
+gapPacket m first last =
+    packetOf (fieldsOf (m .group .number) (Packet.Gap (m .number) (acknowledgedOf m) (record { 0 = first }) (record { 0 = last }))) []
+
+unfoldable pub statusPacket : Member → List ℕ
+statusPacket m = packetOf (fieldsOf (m .group .number) (Packet.Status (m .number) (acknowledgedOf m))) []
+
+-- questions 1 and 2, of every call
+unfoldable pub callVerdict : Member → ℕ → Verdict
+callVerdict m room =
+    ask soundOf m or Verdict.Refused Refusal.UnsoundState then
+    ask longestPacket ≤? room or Verdict.Refused Refusal.ShortOutput then
+    Verdict.Accepted
+
+-- questions 13, 14 and 16 of a submission of `size` bytes
+unfoldable pub submitVerdict : Member → ℕ → Verdict
+submitVerdict m size =
+    ask size ≤? payloadMost or Verdict.Refused Refusal.LongPayload then
+    ask (if m .waiting then false else true) or Verdict.Refused Refusal.AlreadyWaiting then
+    ask m .submitted <? largestNumber or Verdict.Refused Refusal.NumbersUsedUp then
+    Verdict.Accepted
+
+-- u grows by 1, and the message waits
+unfoldable pub withWaiting : Member → List ℕ → Member
+withWaiting m payload =
+    record {
+      group = m .group;
+      number = m .number;
+      taken = m .taken;
+      submitted = m .submitted + 1;
+      waiting = true;
+      message = messageOf (m .number) (m .submitted + 1) payload;
+      held = m .held;
+    }
+
+-- submit: its request is written
+unfoldable pub submitOf : Member → List ℕ → ℕ → Outcome
+submitOf m payload room =
+    judged (callVerdict m room) (refused m)
+    (judged (submitVerdict m (length payload)) (refused m)
+    (record { member = withWaiting m payload; answer = Answer.Sent; bytes = requestPacket (withWaiting m payload) }))
+
+-- repeat: the waiting request is written with today's t. Question 15
+unfoldable pub repeatOf : Member → ℕ → Outcome
+repeatOf m room =
+    judged (callVerdict m room) (refused m)
+    (ask m .waiting or refused m Refusal.NothingWaiting then
+    record { member = m; answer = Answer.Sent; bytes = requestPacket m })
+
+-- status call: kind 4 with t
+unfoldable pub statusOf : Member → ℕ → Outcome
+statusOf m room =
+    judged (callVerdict m room) (refused m)
+    (record { member = m; answer = Answer.Sent; bytes = statusPacket m })
+
+-- a message kept under its number
+unfoldable pub withHeld : Member → ℕ → Message → Member
+withHeld m number message =
+    record {
+      group = m .group;
+      number = m .number;
+      taken = m .taken;
+      submitted = m .submitted;
+      waiting = m .waiting;
+      message = m .message;
+      held = set (m .held) (placeOf number) message;
+    }
+
+-- where a number up to `last` is missing: `gapped`, with a gap packet from the lowest missing to `last`; else `whole`
+unfoldable pub gapUpTo : Member → ℕ → Answer → Outcome → Outcome
+gapUpTo m last gapped whole =
+    if lowestMissing (m .held) (m .taken .0) (last - m .taken .0) =? 0 then whole else
+    record { member = m; answer = gapped; bytes = gapPacket m (lowestMissing (m .held) (m .taken .0) (last - m .taken .0)) last }
+
+-- a number that is neither taken nor held, up to t + 8: it is kept
+unfoldable pub keptOf : Member → MemberNumber → ℕ → ℕ → List ℕ → Outcome
+keptOf m originator number count payload =
+    gapUpTo (withHeld m number (messageOf originator count payload)) (number - 1) Answer.KeptGap
+    (answered (withHeld m number (messageOf originator count payload)) Answer.Kept)
+
+-- broadcast of a number. Floor is read and not yet acted on
+unfoldable pub broadcastOf : Member → MemberNumber → ℕ → ℕ → List ℕ → Outcome
+broadcastOf m originator number count payload =
+    if number ≤? m .taken .0 then answered m Answer.Old else
+    if number ≤? m .taken .0 + heldMost
+    then if isHeld (m .held) number then answered m Answer.Old else keptOf m originator number count payload
+    else gapUpTo m (m .taken .0 + heldMost) Answer.BeyondGap (answered m Answer.Beyond)
+
+-- the smaller of two numbers
+unfoldable pub smallerOf : ℕ → ℕ → ℕ
+smallerOf a b = if a <? b then a else b
+
+-- poll with top A: Gap up to the smaller of A and t + 8, else Status with kind 4
+unfoldable pub pollOf : Member → SequenceNumber → Outcome
+pollOf m top =
+    gapUpTo m (smallerOf (top .0) (m .taken .0 + heldMost)) Answer.Gap
+    (record { member = m; answer = Answer.Status; bytes = statusPacket m })
+
+-- what a packet of our group says: kinds 2 and 5 are for this end (question 8); byte 1 is below n (question 9)
+unfoldable pub contentStep : Member → Packet → List ℕ → Outcome
+contentStep m (Packet.Request sender taken count) payload = refused m Refusal.OtherEnd
+contentStep m (Packet.Broadcast originator number count floor) payload =
+    ask originator .0 <? m .group .n or refused m Refusal.UnknownMember then
+    broadcastOf m originator (number .0) count payload
+contentStep m (Packet.Gap sender taken first last) payload = refused m Refusal.OtherEnd
+contentStep m (Packet.Status sender taken) payload = refused m Refusal.OtherEnd
+contentStep m (Packet.Poll top floor) payload = pollOf m top
+
+-- a packet that was read: question 7
+unfoldable pub readStep : Member → Reading → List ℕ → Outcome
+readStep m (Fields h) payload =
+    ask h .group =? m .group .number or refused m Refusal.OtherGroup then
+    contentStep m (contentOf h) payload
+readStep m (Reading.Refused refusal) payload = refused m refusal
+
+-- the call for packets
+unfoldable pub receiveOf : Member → List ℕ → ℕ → Outcome
+receiveOf m packet room = judged (callVerdict m room) (refused m) (readStep m (readOf packet) (payloadAt packet))
+
+-- whether a taken message is the member's own waiting one
+unfoldable pub isOwn : Member → Message → Bool
+isOwn m message =
+    m .waiting
+    and message .originator .0 =? m .number .0
+    and message .count =? m .submitted
+
+-- t + 1 handed out: its place is cleared, t grows by 1, and if it is the member's own waiting count nothing waits any more
+unfoldable pub withTaken : Member → Message → Member
+withTaken m message =
+    record {
+      group = m .group;
+      number = m .number;
+      taken = record { 0 = m .taken .0 + 1 };
+      submitted = m .submitted;
+      waiting = if isOwn m message then false else m .waiting;
+      message = if isOwn m message then emptyMessage else m .message;
+      held = set (m .held) (placeOf (m .taken .0 + 1)) emptyMessage;
+    }
+
+-- a message handed out: number, originator, count and payload, and whether the following number is held
+unfoldable pub tookOf : Member → Message → Outcome
+tookOf m message =
+    record {
+      member = withTaken m message;
+      answer = Answer.Took (record { 0 = m .taken .0 + 1 }) (message .originator) (message .count) (isHeld (m .held) (m .taken .0 + 2));
+      bytes = payloadOf message;
+    }
+
+-- take: t + 1 if it is held, otherwise None, exactly then
+unfoldable pub takeOf : Member → ℕ → Outcome
+takeOf m room =
+    judged (callVerdict m room) (refused m)
+    (if isHeld (m .held) (m .taken .0 + 1) then tookOf m (messageAt (m .held) (m .taken .0 + 1)) else
+    answered m Answer.None)
+
+-- opening: question 18, n 1 to 16 and the member number below n. Where it is refused, the state is all zero
+unfoldable pub openedOf : Opened → MemberNumber → Opening
+openedOf (Open group) number =
+    if number .0 <? group .n
+    then record { member = freshMember group number; verdict = Verdict.Accepted }
+    else record { member = freshMember (record { n = 0; number = 0 }) (record { 0 = 0 }); verdict = Verdict.Refused Refusal.Opening }
+openedOf (Opened.Refused refusal) number =
+    record { member = freshMember (record { n = 0; number = 0 }) (record { 0 = 0 }); verdict = Verdict.Refused refusal }
+
+unfoldable pub freshOf : ℕ → MemberNumber → ℕ → Opening
+freshOf n number group = openedOf (openOf n group) number

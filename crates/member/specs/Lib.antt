@@ -1,0 +1,5 @@
+pub mod State
+pub mod Sound
+pub mod Calls
+pub mod Order
+pub mod Laws

@@ -1,0 +1,210 @@
+-- The sequencer's calls: each goes down its questions in their order, and then takes its step.
+use mathlib.Core.Bool.{Bool, true}
+use mathlib.Core.List.{List, []}
+use Prim.Native.Nat.{ℕ, zero, suc, _+_, _-_}
+use lib.ListN.{length, set}
+use Rattle.group.specs.Choice.{if_then_else_, ask_or_then_, _and_, _<?_, _≤?_, _=?_}
+use Rattle.group.specs.Limits.{placesMost, longestPacket, largestNumber}
+use Rattle.group.specs.Opening.{openOf}
+use Rattle.group.specs.Question.{judged}
+use Rattle.group.specs.declared.Group.{Group}
+use Rattle.group.specs.declared.MemberNumber.{MemberNumber}
+use Rattle.group.specs.declared.SequenceNumber.{SequenceNumber}
+use Rattle.group.specs.declared.Opened.{Opened}
+use Rattle.group.specs.declared.Opened.the-variants.{Open}
+use Rattle.group.specs.declared.Refusal.{Refusal}
+use Rattle.group.specs.declared.Refusal.the-variants.{UnsoundState, ShortOutput, OtherGroup, OtherEnd, UnknownMember, AcknowledgedAhead, CountAhead, WantedAhead, NumbersUsedUp, NotInHistory}
+use Rattle.group.specs.declared.Verdict.{Verdict}
+use Rattle.message.specs.Message.{messageOf, payloadOf}
+use Rattle.message.specs.declared.Message.{Message}
+use Rattle.packet.specs.Packet.{contentOf, fieldsOf, packetOf, payloadAt, readOf}
+use Rattle.packet.specs.declared.Packet.{Packet}
+use Rattle.packet.specs.declared.Packet.the-variants.{Request, Broadcast, Gap, Status, Poll}
+use Rattle.packet.specs.declared.Reading.{Reading}
+use Rattle.packet.specs.declared.Reading.the-variants.{Fields}
+use Rattle.sequencer.specs.Note.{largerOf, noteOf}
+use Rattle.sequencer.specs.Sound.{soundOf}
+use Rattle.sequencer.specs.State.{acknowledgementOf, lastCount, placeOf, messageAt, freshSequencer}
+use Rattle.sequencer.specs.declared.Acknowledgement.{Acknowledgement}
+use Rattle.sequencer.specs.declared.Answer.{Answer}
+use Rattle.sequencer.specs.declared.Answer.the-variants.{Old, Again, Full, Numbered, Noted, Wanted, Sent}
+use Rattle.sequencer.specs.declared.Opening.{Opening}
+use Rattle.sequencer.specs.declared.Sequencer.{Sequencer}
+use Rattle.sequencer.specs.declared.Step.{Step}
+
+-- what a call comes to: the state that it leaves, its answer, and the bytes that it lays at the front of the lent output
+pub record Outcome : Type 0 where
+  pub sequencer : Sequencer
+  pub answer : Answer
+  pub bytes : List ℕ
+
+-- what the call gives back of it
+abbrev pub stepOf : Outcome → Step
+stepOf o = record { sequencer = o .sequencer; answer = o .answer; written = length (o .bytes) }
+
+-- an answer that writes nothing
+unfoldable pub answered : Sequencer → Answer → Outcome
+answered s answer = record { sequencer = s; answer = answer; bytes = [] }
+
+-- a no: the state is the same and nothing is written
+abbrev pub refused : Sequencer → Refusal → Outcome
+refused s refusal = answered s (Answer.Refused refusal)
+
+-- the broadcast of a number, with today's floor
+unfoldable pub broadcastOf : Sequencer → ℕ → List ℕ
+broadcastOf s number =
+    packetOf
+    (fieldsOf (s .group .number)
+    (Broadcast (messageAt (s .history) number .originator) (record { 0 = number }) (messageAt (s .history) number .count) (s .floor)))
+    (payloadOf (messageAt (s .history) number))
+
+-- the poll packet
+unfoldable pub pollPacket : Sequencer → List ℕ
+pollPacket s = packetOf (fieldsOf (s .group .number) (Poll (s .top) (s .floor))) []
+
+-- one repeat more; the count stays at the largest number once there
+unfoldable pub oneMore : ℕ → ℕ
+oneMore repeats = if repeats <? largestNumber then repeats + 1 else repeats
+
+unfoldable pub repeatedOf : Sequencer → Sequencer
+repeatedOf s =
+    record {
+      group = s .group;
+      acknowledgements = s .acknowledgements;
+      top = s .top;
+      floor = s .floor;
+      history = s .history;
+      repeats = oneMore (s .repeats);
+    }
+
+-- a message of that originator and count
+unfoldable pub isOf : MemberNumber → ℕ → Message → Bool
+isOf m count message = message .originator .0 =? m .0 and message .count =? count
+
+-- the highest of the k numbers above floor whose message has that originator and count; 0: there is none
+unfoldable pub findOf : List Message → MemberNumber → ℕ → ℕ → ℕ → ℕ
+findOf history m count floor zero = 0
+findOf history m count floor (suc k) =
+    if isOf m count (messageAt history (floor + suc k)) then floor + suc k else
+    findOf history m count floor k
+
+-- Old
+unfoldable pub oldOf : Sequencer → Outcome
+oldOf s = answered (repeatedOf s) Old
+
+-- the last count again: Old if no history message has it, else Again with that broadcast
+unfoldable pub againOf : Sequencer → ℕ → Outcome
+againOf s number =
+    if number =? 0 then oldOf s else
+    record { sequencer = repeatedOf s; answer = Again (record { 0 = number }); bytes = broadcastOf s number }
+
+-- Full, with a poll packet; nothing but the noting changes
+unfoldable pub fullOf : Sequencer → Outcome
+fullOf s = record { sequencer = s; answer = Full; bytes = pollPacket s }
+
+-- a message numbered: top grows by 1, the message is kept, its originator's last count becomes its count
+unfoldable pub withMessage : Sequencer → MemberNumber → ℕ → List ℕ → Sequencer
+withMessage s m count payload =
+    record {
+      group = s .group;
+      acknowledgements = set (s .acknowledgements) (m .0) (record { taken = acknowledgementOf (s .acknowledgements) m .taken; count = count });
+      top = record { 0 = s .top .0 + 1 };
+      floor = s .floor;
+      history = set (s .history) (placeOf (s .top .0 + 1)) (messageOf m count payload);
+      repeats = s .repeats;
+    }
+
+-- Numbered, with its broadcast
+unfoldable pub numberedOf : Sequencer → MemberNumber → ℕ → List ℕ → Outcome
+numberedOf s m count payload =
+    record {
+      sequencer = withMessage s m count payload;
+      answer = Numbered (record { 0 = s .top .0 + 1 });
+      bytes = broadcastOf (withMessage s m count payload) (s .top .0 + 1);
+    }
+
+-- request with a count from m, once A is noted
+unfoldable pub requestOf : Sequencer → MemberNumber → ℕ → List ℕ → Outcome
+requestOf s m count payload =
+    if count <? lastCount s m then oldOf s else
+    if count =? lastCount s m then againOf s (findOf (s .history) m count (s .floor .0) (s .top .0 - s .floor .0)) else
+    if s .top .0 - s .floor .0 =? placesMost then fullOf s else
+    numberedOf s m count payload
+
+-- gap, once A is noted: Noted if C ≤ floor, else Wanted, from the larger of B and floor + 1, to C
+unfoldable pub gapOf : Sequencer → SequenceNumber → SequenceNumber → Outcome
+gapOf s first last =
+    if last .0 ≤? s .floor .0 then answered s Noted else
+    answered s (Wanted (record { 0 = largerOf (first .0) (s .floor .0 + 1) }) last)
+
+-- questions 9 and 10 of a sender and the number it acknowledges
+unfoldable pub senderVerdict : ℕ → ℕ → MemberNumber → SequenceNumber → Verdict
+senderVerdict n top sender taken =
+    ask sender .0 <? n or Verdict.Refused UnknownMember then
+    ask taken .0 ≤? top or Verdict.Refused AcknowledgedAhead then
+    Verdict.Accepted
+
+-- questions 11 and 16 of a request's count: it is at most p + 1, and if it is p + 1 a next number is left
+unfoldable pub countVerdict : ℕ → ℕ → ℕ → Verdict
+countVerdict last top count =
+    ask count ≤? last + 1 or Verdict.Refused CountAhead then
+    ask (if count ≤? last then true else top <? largestNumber) or Verdict.Refused NumbersUsedUp then
+    Verdict.Accepted
+
+-- question 12 of a gap
+unfoldable pub wantedVerdict : ℕ → SequenceNumber → Verdict
+wantedVerdict top last = ask last .0 ≤? top or Verdict.Refused WantedAhead then Verdict.Accepted
+
+-- what a packet of our group says: kinds 1, 3 and 4 are for this end (question 8); each is asked its questions, then A is noted
+unfoldable pub contentStep : Sequencer → Packet → List ℕ → Outcome
+contentStep s (Request sender taken count) payload =
+    judged (senderVerdict (s .group .n) (s .top .0) sender taken) (refused s)
+    (judged (countVerdict (lastCount s sender) (s .top .0) count) (refused s)
+    (requestOf (noteOf s sender taken) sender count payload))
+contentStep s (Broadcast originator number count floor) payload = refused s OtherEnd
+contentStep s (Gap sender taken first last) payload =
+    judged (senderVerdict (s .group .n) (s .top .0) sender taken) (refused s)
+    (judged (wantedVerdict (s .top .0) last) (refused s)
+    (gapOf (noteOf s sender taken) first last))
+contentStep s (Status sender taken) payload =
+    judged (senderVerdict (s .group .n) (s .top .0) sender taken) (refused s)
+    (answered (noteOf s sender taken) Noted)
+contentStep s (Poll top floor) payload = refused s OtherEnd
+
+-- a packet that was read: question 7
+unfoldable pub readStep : Sequencer → Reading → List ℕ → Outcome
+readStep s (Fields h) payload =
+    ask h .group =? s .group .number or refused s OtherGroup then
+    contentStep s (contentOf h) payload
+readStep s (Reading.Refused refusal) payload = refused s refusal
+
+-- questions 1 and 2, of every call
+unfoldable pub callVerdict : Sequencer → ℕ → Verdict
+callVerdict s room =
+    ask soundOf s or Verdict.Refused UnsoundState then
+    ask longestPacket ≤? room or Verdict.Refused ShortOutput then
+    Verdict.Accepted
+
+-- the call for packets
+unfoldable pub receiveOf : Sequencer → List ℕ → ℕ → Outcome
+receiveOf s packet room = judged (callVerdict s room) (refused s) (readStep s (readOf packet) (payloadAt packet))
+
+-- the poll call: the poll packet
+unfoldable pub pollOf : Sequencer → ℕ → Outcome
+pollOf s room = judged (callVerdict s room) (refused s) (record { sequencer = s; answer = Sent; bytes = pollPacket s })
+
+-- the copy call for a number: its broadcast, with today's floor. Question 17
+unfoldable pub copyOf : Sequencer → SequenceNumber → ℕ → Outcome
+copyOf s number room =
+    judged (callVerdict s room) (refused s)
+    (ask s .floor .0 <? number .0 and number .0 ≤? s .top .0 or refused s NotInHistory then
+    record { sequencer = s; answer = Sent; bytes = broadcastOf s (number .0) })
+
+-- opening: question 18. Where it is refused, the state is all zero
+unfoldable pub openedOf : Opened → Opening
+openedOf (Open group) = record { sequencer = freshSequencer group; verdict = Verdict.Accepted }
+openedOf (Opened.Refused refusal) =
+    record { sequencer = freshSequencer (record { n = 0; number = 0 }); verdict = Verdict.Refused refusal }
+
+unfoldable pub freshOf : ℕ → ℕ → Opening
+freshOf n number = openedOf (openOf n number)

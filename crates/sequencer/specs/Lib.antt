@@ -1,0 +1,6 @@
+pub mod State
+pub mod Sound
+pub mod Note
+pub mod Calls
+pub mod Order
+pub mod Laws

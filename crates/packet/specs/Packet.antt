@@ -133,3 +133,8 @@ fieldsOf group (Status sender taken) =
     record { kind = statusKind; member = sender; group = group; a = taken .0; b = 0; c = 0 }
 fieldsOf group (Poll top floor) =
     record { kind = pollKind; member = record { 0 = 0 }; group = group; a = top .0; b = 0; c = floor .0 }
+
+-- the packets that a call wrote, from the bytes that it laid at the front of its output: one, or none
+unfoldable pub written : List ℕ → List (List ℕ)
+written [] = []
+written (b ∷ rest) = (b ∷ rest) ∷ []

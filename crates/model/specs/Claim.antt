@@ -1,0 +1,58 @@
+-- Demand 3: one claim about the whole list of events, a field for each of its sentences; and what an event that is refused
+-- leaves. `proofs/Theorem.antt` has the proofs.
+use mathlib.Core.Path.{_≡_}
+use mathlib.Core.Logic.{_⊎_}
+use mathlib.Core.List.{List, [], _++_}
+use Prim.Native.Nat.{ℕ, zero, suc, _+_, _-_, _*_, _≤_, _<_}
+use lib.ListN.{length} 
+use lib.ListN as list
+use Rattle.group.specs.Limits.{membersMost, largestNumber}
+use Rattle.group.specs.declared.Refusal.{Refusal}
+use Rattle.member.specs.declared.Answer as memberAnswer
+use Rattle.message.specs.Order.{Submission, ownOf}
+use Rattle.model.specs.Closing.{closing, closingMost}
+use Rattle.model.specs.Log.{order, taken, owed, accepted, historyOf}
+use Rattle.model.specs.World.{Event, Answer, absent, bySequencer, byMember, Group, happen, World, run, fresh}
+use Rattle.sequencer.specs.declared.Answer as sequencerAnswer
+
+-- the sum of what `f` says of terminals 0 to n - 1
+unfoldable pub sum : ℕ → (ℕ → ℕ) → ℕ
+sum zero f = 0
+sum (suc n) f = sum n f + f n
+
+-- all but the last
+abbrev pub allButLast : List Submission → List Submission
+allButLast l = list.take (length l - 1) l
+
+pub record Claim (n : ℕ) (w : World) : Type 0 where
+  -- for each terminal, what it took followed by what it is owed, the history's messages numbered above that, equals the whole
+  -- order of numbered messages
+  pub whole : (i : ℕ) → i < n → taken i (w .log) ++ owed w i ≡ order (w .log)
+  -- so taken + owed, summed over all terminals, = n × numbered
+  pub total : sum n (λ i. length (taken i (w .log)) + length (owed w i)) ≡ n * length (order (w .log))
+  -- each terminal's own messages in the order are exactly its accepted submissions, once each, in its order, all or all but
+  -- the last
+  pub own : (i : ℕ) → i < n
+      → (ownOf i (order (w .log)) ≡ accepted i (w .log)) ⊎ (ownOf i (order (w .log)) ≡ allButLast (accepted i (w .log)))
+  -- from there a closing round of at most 98 × n events
+  pub closing-short : length (closing w) ≤ closingMost * n
+  -- (which changes no order)
+  pub closing-order : order (run w (closing w) .log) ≡ order (w .log)
+  -- empties the history
+  pub closing-empties : historyOf (run w (closing w) .group .sequencer) ≡ []
+  -- and gives every terminal the whole order
+  pub closing-gives : (i : ℕ) → i < n → taken i (run w (closing w) .log) ≡ order (w .log)
+
+-- start from a fresh group of n terminals, 1 to 16, and let any list of its events happen
+abbrev pub Demand3 : Type 0
+Demand3 = (n number : ℕ) → 1 ≤ n → n ≤ membersMost → number ≤ largestNumber → (events : List Event) → Claim n (run (fresh n number) events)
+
+-- an answer that is a refusal, or says that a packet or member is not there
+abbrev pub NotDone : Answer → Type 0
+NotDone absent = Unit {0}
+NotDone (bySequencer answer bytes) = (refusal : Refusal) × (answer ≡ sequencerAnswer.Answer.Refused refusal)
+NotDone (byMember answer bytes) = (refusal : Refusal) × (answer ≡ memberAnswer.Answer.Refused refusal)
+
+-- an event that is refused, or names a packet or member not there, changes nothing and writes nothing
+abbrev pub RefusedChangesNothing : Type 0
+RefusedChangesNothing = (g : Group) (event : Event) → NotDone (happen g event .answer) → happen g event .group ≡ g

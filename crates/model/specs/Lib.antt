@@ -1,0 +1,4 @@
+pub mod World
+pub mod Log
+pub mod Closing
+pub mod Claim

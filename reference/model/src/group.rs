@@ -1,0 +1,275 @@
+//! A whole group: the sequencer, its members and every packet written.
+//! Loss, doubling and reordering are a matter of which packets are handed
+//! over, and when.
+
+use crate::answer::{Answer, Refusal};
+use crate::limits::PACKET;
+use crate::member::Member;
+use crate::packet;
+use crate::sequencer::Sequencer;
+
+/// One event of a schedule. Members and packets may be named that are not
+/// there.
+#[derive(Clone, Debug, PartialEq, Eq)]
+pub enum Event {
+    /// A member submits a message.
+    Submit {
+        /// Index of the member.
+        member: usize,
+        /// Its message.
+        payload: Vec<u8>,
+    },
+    /// A member repeats its waiting request.
+    Repeat {
+        /// Index of the member.
+        member: usize,
+    },
+    /// A member takes the next message.
+    Take {
+        /// Index of the member.
+        member: usize,
+    },
+    /// A member writes its status.
+    Status {
+        /// Index of the member.
+        member: usize,
+    },
+    /// The sequencer polls.
+    Poll,
+    /// The sequencer copies a message of its history.
+    Copy {
+        /// The sequence number.
+        number: u32,
+    },
+    /// A packet is handed to a member.
+    ToMember {
+        /// Index of the packet.
+        packet: usize,
+        /// Index of the member.
+        member: usize,
+    },
+    /// A packet is handed to the sequencer.
+    ToSequencer {
+        /// Index of the packet.
+        packet: usize,
+    },
+}
+
+/// What came of an event.
+#[derive(Clone, Debug, PartialEq, Eq)]
+pub struct Outcome {
+    /// The answer of the call.
+    pub answer: Answer,
+    /// Index of the packet written, if one was.
+    pub packet: Option<usize>,
+    /// The payload that a take handed out, else empty.
+    pub payload: Vec<u8>,
+}
+
+/// A message as the order knows it.
+#[derive(Clone, Debug, PartialEq, Eq)]
+pub struct Message {
+    /// Its sequence number.
+    pub number: u32,
+    /// Who submitted it.
+    pub originator: u8,
+    /// The originator's count for it.
+    pub count: u32,
+    /// Its payload.
+    pub payload: Vec<u8>,
+}
+
+/// A sequencer, n members and all packets written so far.
+#[derive(Clone, Debug, PartialEq, Eq)]
+pub struct Group {
+    /// The sequencer.
+    pub sequencer: Sequencer,
+    /// Members 0 to n-1.
+    pub members: Vec<Member>,
+    /// Every packet written, first at index 0.
+    pub packets: Vec<Vec<u8>>,
+}
+
+impl Group {
+    /// A fresh group: question 18.
+    pub fn fresh(n: u32, group: u32) -> Result<Group, Refusal> {
+        Ok(Group {
+            sequencer: Sequencer::fresh(n, group)?,
+            members: (0..n)
+                .map(|number| Member::fresh(n, number, group))
+                .collect::<Result<_, _>>()?,
+            packets: Vec::new(),
+        })
+    }
+
+    /// Lets one event happen; `None` if it names a packet or member that is
+    /// not there.
+    pub fn step(&mut self, event: &Event) -> Option<Outcome> {
+        let Group {
+            sequencer,
+            members,
+            packets,
+        } = self;
+        let mut out = [0; PACKET];
+        let (answer, length) = match *event {
+            Event::Submit {
+                member,
+                ref payload,
+            } => members.get_mut(member)?.submit(payload, &mut out),
+            Event::Repeat { member } => members.get(member)?.repeat(&mut out),
+            Event::Take { member } => members.get_mut(member)?.take(&mut out),
+            Event::Status { member } => members.get(member)?.status(&mut out),
+            Event::Poll => sequencer.poll(&mut out),
+            Event::Copy { number } => sequencer.copy(number, &mut out),
+            Event::ToMember { packet, member } => members
+                .get_mut(member)?
+                .receive(packets.get(packet)?, &mut out),
+            Event::ToSequencer { packet } => sequencer.receive(packets.get(packet)?, &mut out),
+        };
+        let written = out[..length].to_vec();
+        let mut outcome = Outcome {
+            answer,
+            packet: None,
+            payload: Vec::new(),
+        };
+        if let Answer::Took { .. } = answer {
+            outcome.payload = written;
+        } else if length > 0 {
+            outcome.packet = Some(packets.len());
+            packets.push(written);
+        }
+        Some(outcome)
+    }
+}
+
+/// A group together with everything that happened to it since it was fresh.
+#[derive(Clone, Debug, PartialEq, Eq)]
+pub struct Run {
+    /// The group.
+    pub group: Group,
+    /// Every event and what came of it.
+    pub log: Vec<(Event, Option<Outcome>)>,
+}
+
+impl Run {
+    /// A fresh group with an empty log.
+    pub fn fresh(n: u32, group: u32) -> Result<Run, Refusal> {
+        let group = Group::fresh(n, group)?;
+        Ok(Run {
+            group,
+            log: Vec::new(),
+        })
+    }
+
+    /// Lets an event happen and logs it.
+    pub fn step(&mut self, event: Event) -> Option<Outcome> {
+        let outcome = self.group.step(&event);
+        self.log.push((event, outcome.clone()));
+        outcome
+    }
+
+    /// The messages answered Numbered, in that sequence.
+    pub fn order(&self) -> Vec<Message> {
+        self.answered()
+            .filter_map(|(event, outcome)| match (event, outcome.answer) {
+                (Event::ToSequencer { packet }, Answer::Numbered(number)) => {
+                    let request = &self.group.packets[*packet];
+                    let header = packet::read(request).expect("a request that was numbered");
+                    Some(Message {
+                        number,
+                        originator: header.member,
+                        count: header.b,
+                        payload: packet::payload(request).to_vec(),
+                    })
+                }
+                _ => None,
+            })
+            .collect()
+    }
+
+    /// The messages that a member's takes handed out, in that sequence.
+    pub fn taken(&self, member: usize) -> Vec<Message> {
+        self.answered()
+            .filter(|(event, _)| **event == Event::Take { member })
+            .filter_map(|(_, outcome)| match outcome.answer {
+                Answer::Took {
+                    number,
+                    originator,
+                    count,
+                    ..
+                } => Some(Message {
+                    number,
+                    originator,
+                    count,
+                    payload: outcome.payload.clone(),
+                }),
+                _ => None,
+            })
+            .collect()
+    }
+
+    /// The history's messages numbered above the last one that a member
+    /// took, lowest first.
+    pub fn owed(&self, member: usize) -> Vec<Message> {
+        let last = self
+            .taken(member)
+            .last()
+            .map_or(0, |message| message.number);
+        let sequencer = &self.group.sequencer;
+        (sequencer.floor..sequencer.top)
+            .map(|below| below + 1)
+            .filter(|&number| number > last)
+            .map(|number| {
+                let place = &sequencer.history[number as usize % sequencer.history.len()];
+                Message {
+                    number,
+                    originator: place.originator,
+                    count: place.count,
+                    payload: place.payload.as_slice().to_vec(),
+                }
+            })
+            .collect()
+    }
+
+    /// A member's accepted submissions; the j-th has count j.
+    pub fn submissions(&self, member: usize) -> Vec<(u32, Vec<u8>)> {
+        let payloads =
+            self.answered()
+                .filter_map(|(event, outcome)| match (event, outcome.answer) {
+                    (Event::Submit { member: m, payload }, Answer::Sent) if *m == member => {
+                        Some(payload.clone())
+                    }
+                    _ => None,
+                });
+        (1..).zip(payloads).collect()
+    }
+
+    /// The closing round; how many events it took.
+    pub fn closing_round(&mut self) -> usize {
+        let before = self.log.len();
+        for member in 0..self.group.members.len() {
+            for below in self.group.members[member].taken..self.group.sequencer.top {
+                let number = below + 1;
+                if let Some(packet) = self.write(Event::Copy { number }) {
+                    self.step(Event::ToMember { packet, member });
+                }
+                self.step(Event::Take { member });
+            }
+            if let Some(packet) = self.write(Event::Status { member }) {
+                self.step(Event::ToSequencer { packet });
+            }
+        }
+        self.log.len() - before
+    }
+
+    /// Lets an event happen; the index of the packet it wrote.
+    fn write(&mut self, event: Event) -> Option<usize> {
+        self.step(event)?.packet
+    }
+
+    fn answered(&self) -> impl Iterator<Item = (&Event, &Outcome)> {
+        self.log
+            .iter()
+            .filter_map(|(event, outcome)| Some((event, outcome.as_ref()?)))
+    }
+}

@@ -1,0 +1,16 @@
+//! The group's limits, each named once.
+
+/// Members of a group, at most.
+pub const MEMBERS: usize = 16;
+/// Places of the sequencer's history.
+pub const HISTORY: usize = 32;
+/// Places of a member, for the numbers t+1 to t+8.
+pub const WINDOW: usize = 8;
+/// Bytes of a packet's header.
+pub const HEADER: usize = 20;
+/// Bytes of a payload, at most.
+pub const PAYLOAD: usize = 96;
+/// Bytes of a packet, at most; also the least lent output.
+pub const PACKET: usize = HEADER + PAYLOAD;
+/// The largest sequence number, count and repeat count.
+pub const LARGEST: u32 = u32::MAX;

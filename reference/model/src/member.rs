@@ -1,0 +1,245 @@
+//! A member: submits one message at a time and takes all messages in the
+//! order of their numbers.
+
+use crate::answer::{Answer, Outcome, Refusal, settle};
+use crate::limits::{LARGEST, MEMBERS, PACKET, PAYLOAD, WINDOW};
+use crate::packet::{self, BROADCAST, GAP, Header, POLL, REQUEST, STATUS};
+use crate::place::{Payload, Place};
+
+/// A member's state.
+#[derive(Clone, Debug, PartialEq, Eq)]
+pub struct Member {
+    /// Members of the group, 1 to 16.
+    pub n: u8,
+    /// This member's number, below n.
+    pub number: u8,
+    /// The group number.
+    pub group: u32,
+    /// t, the last number taken.
+    pub taken: u32,
+    /// u, the submissions so far.
+    pub submitted: u32,
+    /// Whether a message waits to be numbered; its count is u.
+    pub waiting: bool,
+    /// The waiting message, else zeros.
+    pub message: Payload,
+    /// One bit a place, set if the place holds a message.
+    pub held: u8,
+    /// The numbers t+1 to t+8, number s in place s modulo 8.
+    pub places: [Place; WINDOW],
+}
+
+impl Member {
+    /// Opens member `number` of n: question 18.
+    pub fn fresh(n: u32, number: u32, group: u32) -> Result<Member, Refusal> {
+        Refusal::Opening.unless((1..=MEMBERS as u32).contains(&n) && number < n)?;
+        Ok(Member {
+            n: n as u8,
+            number: number as u8,
+            group,
+            taken: 0,
+            submitted: 0,
+            waiting: false,
+            message: Payload::EMPTY,
+            held: 0,
+            places: [Place::EMPTY; WINDOW],
+        })
+    }
+
+    /// Question 1.
+    pub fn is_sound(&self) -> bool {
+        // How many numbers above t there are; the window may reach past them.
+        let left = LARGEST - self.taken;
+        (1..=MEMBERS).contains(&usize::from(self.n))
+            && self.number < self.n
+            && (!self.waiting || self.submitted >= 1)
+            && (self.waiting || self.message.length == 0)
+            && self.message.is_sound()
+            && (left >= WINDOW as u32 || self.window() >> left == 0)
+            && self.places.iter().enumerate().all(|(at, place)| {
+                let fits = if self.held >> at & 1 == 1 {
+                    place.originator < self.n && place.count >= 1
+                } else {
+                    place.is_zero()
+                };
+                fits && place.payload.is_sound()
+            })
+    }
+
+    /// Submits a message and writes its request.
+    pub fn submit(&mut self, payload: &[u8], out: &mut [u8]) -> (Answer, usize) {
+        settle(self.try_submit(payload, out))
+    }
+
+    /// Writes the waiting request again, with today's t.
+    pub fn repeat(&self, out: &mut [u8]) -> (Answer, usize) {
+        settle(self.try_repeat(out))
+    }
+
+    /// Hands out the next message in order, if it is held; the payload goes
+    /// to the front of `out`, the length is the payload's.
+    pub fn take(&mut self, out: &mut [u8]) -> (Answer, usize) {
+        settle(self.try_take(out))
+    }
+
+    /// Writes a status packet.
+    pub fn status(&self, out: &mut [u8]) -> (Answer, usize) {
+        settle(
+            self.ready(out)
+                .map(|()| (Answer::Sent, self.put_status(out))),
+        )
+    }
+
+    /// Takes a packet; the answer and the length of the packet written.
+    pub fn receive(&mut self, packet: &[u8], out: &mut [u8]) -> (Answer, usize) {
+        settle(self.try_receive(packet, out))
+    }
+
+    /// Questions 1 and 2.
+    fn ready(&self, out: &[u8]) -> Result<(), Refusal> {
+        Refusal::Unsound.unless(self.is_sound())?;
+        Refusal::ShortOutput.unless(out.len() >= PACKET)
+    }
+
+    fn try_submit(&mut self, payload: &[u8], out: &mut [u8]) -> Outcome {
+        self.ready(out)?;
+        Refusal::PayloadTooLong.unless(payload.len() <= PAYLOAD)?;
+        Refusal::AlreadyWaiting.unless(!self.waiting)?;
+        Refusal::NumbersUsedUp.unless(self.submitted < LARGEST)?;
+        self.submitted += 1;
+        self.waiting = true;
+        self.message.set(payload);
+        Ok((Answer::Sent, self.put_request(out)))
+    }
+
+    fn try_repeat(&self, out: &mut [u8]) -> Outcome {
+        self.ready(out)?;
+        Refusal::NothingWaiting.unless(self.waiting)?;
+        Ok((Answer::Sent, self.put_request(out)))
+    }
+
+    fn try_take(&mut self, out: &mut [u8]) -> Outcome {
+        self.ready(out)?;
+        let window = self.window();
+        if window & 1 == 0 {
+            return Ok((Answer::None, 0));
+        }
+        self.taken += 1;
+        let at = place(self.taken);
+        let Place {
+            originator,
+            count,
+            payload,
+        } = &self.places[at];
+        let (originator, count, bytes) = (*originator, *count, payload.as_slice());
+        let length = bytes.len();
+        out[..length].copy_from_slice(bytes);
+        self.places[at] = Place::EMPTY;
+        self.held &= !(1 << at);
+        if self.waiting && originator == self.number && count == self.submitted {
+            self.waiting = false;
+            self.message = Payload::EMPTY;
+        }
+        let took = Answer::Took {
+            number: self.taken,
+            originator,
+            count,
+            more: window & 2 != 0,
+        };
+        Ok((took, length))
+    }
+
+    fn try_receive(&mut self, packet: &[u8], out: &mut [u8]) -> Outcome {
+        self.ready(out)?;
+        let header = packet::read(packet)?;
+        Refusal::OtherGroup.unless(header.group == self.group)?;
+        Refusal::OtherEnd.unless(matches!(header.kind, BROADCAST | POLL))?;
+        Refusal::NoSuchMember.unless(header.member < self.n)?;
+        Ok(if header.kind == BROADCAST {
+            self.broadcast(&header, packet::payload(packet), out)
+        } else {
+            self.poll(header.a, out)
+        })
+    }
+
+    /// Numbers are compared by their distance above t: t+8 may pass the
+    /// largest, a distance never does.
+    fn broadcast(&mut self, header: &Header, payload: &[u8], out: &mut [u8]) -> (Answer, usize) {
+        let number = header.a;
+        if number <= self.taken {
+            return (Answer::Old, 0);
+        }
+        let distance = number - self.taken;
+        let run = self.run();
+        if distance > WINDOW as u32 {
+            return if run < WINDOW as u32 {
+                (Answer::BeyondGap, self.put_gap(run, WINDOW as u32, out))
+            } else {
+                (Answer::Beyond, 0)
+            };
+        }
+        let at = place(number);
+        if self.held >> at & 1 == 1 {
+            return (Answer::Old, 0);
+        }
+        self.places[at].keep(header.member, header.b, payload);
+        self.held |= 1 << at;
+        if run < distance - 1 {
+            (Answer::KeptGap, self.put_gap(run, distance - 1, out))
+        } else {
+            (Answer::Kept, 0)
+        }
+    }
+
+    fn poll(&self, top: u32, out: &mut [u8]) -> (Answer, usize) {
+        let last = top.saturating_sub(self.taken).min(WINDOW as u32);
+        let run = self.run();
+        if run < last {
+            (Answer::Gap, self.put_gap(run, last, out))
+        } else {
+            (Answer::Status, self.put_status(out))
+        }
+    }
+
+    /// The held bits from t+1 on, t+1 lowest.
+    fn window(&self) -> u8 {
+        self.held
+            .rotate_right(self.taken.wrapping_add(1) % WINDOW as u32)
+    }
+
+    /// How many numbers from t+1 on are held without a gap, 0 to 8.
+    fn run(&self) -> u32 {
+        self.window().trailing_ones()
+    }
+
+    fn put_request(&self, out: &mut [u8]) -> usize {
+        self.put(REQUEST, self.submitted, 0, self.message.as_slice(), out)
+    }
+
+    fn put_status(&self, out: &mut [u8]) -> usize {
+        self.put(STATUS, 0, 0, &[], out)
+    }
+
+    /// A gap from the lowest missing number to t + `last`.
+    fn put_gap(&self, run: u32, last: u32, out: &mut [u8]) -> usize {
+        self.put(GAP, self.taken + run + 1, self.taken + last, &[], out)
+    }
+
+    /// Every packet of a member carries its number and acknowledgement.
+    fn put(&self, kind: u8, b: u32, c: u32, payload: &[u8], out: &mut [u8]) -> usize {
+        let header = Header {
+            kind,
+            member: self.number,
+            group: self.group,
+            a: self.taken,
+            b,
+            c,
+        };
+        packet::put(&header, payload, out)
+    }
+}
+
+/// The place of a number at a member.
+fn place(number: u32) -> usize {
+    number as usize % WINDOW
+}

@@ -1,0 +1,188 @@
+//! Plays a schedule: one event a line in, one answer a line out.
+
+use crate::answer::Answer;
+use crate::group::{Event, Group, Outcome};
+use std::io::{self, BufRead, BufReader, BufWriter, Read, Write};
+
+/// Packets written, at most.
+const PACKETS: usize = 200;
+/// Characters of a line, at most.
+const LINE: usize = 1000;
+
+/// Plays the schedule in `input` to its end. Input and output go line by
+/// line, so their size has no limit.
+pub fn play(input: impl Read, output: impl Write) -> io::Result<()> {
+    let mut lines = Lines::new(input);
+    let mut output = BufWriter::new(output);
+    match lines.next_line()?.and_then(Line::opening) {
+        None => writeln!(output, "bad line")?,
+        Some((n, group)) => match Group::fresh(n, group) {
+            Err(refusal) => writeln!(output, "{}", Answer::Refused(refusal))?,
+            Ok(mut group) => {
+                events(&mut group, &mut lines, &mut output)?;
+                closing_line(&group, &mut output)?;
+            }
+        },
+    }
+    output.flush()
+}
+
+fn events(
+    group: &mut Group,
+    lines: &mut Lines<impl Read>,
+    output: &mut impl Write,
+) -> io::Result<()> {
+    let mut number = 0u64;
+    while let Some(line) = lines.next_line()? {
+        number += 1;
+        write!(output, "{number} ")?;
+        let Some(event) = line.event() else {
+            return writeln!(output, "bad line");
+        };
+        if group.packets.len() >= PACKETS {
+            return writeln!(output, "no space");
+        }
+        match group.step(&event) {
+            None => writeln!(output, "absent")?,
+            Some(outcome) => answer_line(&outcome, output)?,
+        }
+    }
+    Ok(())
+}
+
+fn answer_line(outcome: &Outcome, output: &mut impl Write) -> io::Result<()> {
+    write!(output, "{}", outcome.answer)?;
+    if let Answer::Took { more, .. } = outcome.answer {
+        output.write_all(if outcome.payload.is_empty() {
+            b" -"
+        } else {
+            b" "
+        })?;
+        for byte in &outcome.payload {
+            write!(output, "{byte:02x}")?;
+        }
+        output.write_all(if more { b" more" } else { b" last" })?;
+    }
+    if let Some(index) = outcome.packet {
+        write!(output, " {index}")?;
+    }
+    writeln!(output)
+}
+
+fn closing_line(group: &Group, output: &mut impl Write) -> io::Result<()> {
+    let sequencer = &group.sequencer;
+    let (top, floor) = (sequencer.top, sequencer.floor);
+    write!(output, "top {top} floor {floor} taken")?;
+    for member in &group.members {
+        write!(output, " {}", member.taken)?;
+    }
+    writeln!(output)
+}
+
+/// Lines of an input, at most one of them in memory, and that cut off.
+struct Lines<R> {
+    input: BufReader<R>,
+    line: Vec<u8>,
+}
+
+impl<R: Read> Lines<R> {
+    fn new(input: R) -> Self {
+        let input = BufReader::new(input);
+        let line = Vec::with_capacity(LINE + 1);
+        Lines { input, line }
+    }
+
+    /// The next line; `None` at the end of the input. A line that is too
+    /// long is cut after one character too many; what follows is not read,
+    /// since such a line ends the events.
+    fn next_line(&mut self) -> io::Result<Option<Line<'_>>> {
+        self.line.clear();
+        let mut front = (&mut self.input).take(LINE as u64 + 1);
+        if front.read_until(b'\n', &mut self.line)? == 0 {
+            return Ok(None);
+        }
+        if self.line.last() == Some(&b'\n') {
+            self.line.pop();
+        }
+        Ok(Some(Line(&self.line)))
+    }
+}
+
+/// A line without its line feed.
+struct Line<'a>(&'a [u8]);
+
+impl<'a> Line<'a> {
+    /// The first line: n and the group number.
+    fn opening(self) -> Option<(u32, u32)> {
+        match self.fields()? {
+            [Some(b"N"), Some(n), Some(group), None] => Some((number(n)?, number(group)?)),
+            _ => None,
+        }
+    }
+
+    /// An event.
+    fn event(self) -> Option<Event> {
+        Some(match self.fields()? {
+            [Some(b"S"), Some(i), Some(hex), None] => Event::Submit {
+                member: index(i)?,
+                payload: payload(hex)?,
+            },
+            [Some(b"R"), Some(i), None, None] => Event::Repeat { member: index(i)? },
+            [Some(b"T"), Some(i), None, None] => Event::Take { member: index(i)? },
+            [Some(b"A"), Some(i), None, None] => Event::Status { member: index(i)? },
+            [Some(b"P"), None, None, None] => Event::Poll,
+            [Some(b"C"), Some(s), None, None] => Event::Copy { number: number(s)? },
+            [Some(b"M"), Some(k), Some(i), None] => Event::ToMember {
+                packet: index(k)?,
+                member: index(i)?,
+            },
+            [Some(b"Q"), Some(k), None, None] => Event::ToSequencer { packet: index(k)? },
+            _ => return None,
+        })
+    }
+
+    /// The first four fields; a line has at most three. `None` if the line
+    /// is too long.
+    fn fields(&self) -> Option<[Option<&'a [u8]>; 4]> {
+        let mut fields = self.0.split(|&byte| byte == b' ');
+        (self.0.len() <= LINE).then(|| std::array::from_fn(|_| fields.next()))
+    }
+}
+
+/// Digits, up to the largest number.
+fn number(field: &[u8]) -> Option<u32> {
+    let (&first, rest) = field.split_first()?;
+    rest.iter().try_fold(digit(first)?, |value, &byte| {
+        value.checked_mul(10)?.checked_add(digit(byte)?)
+    })
+}
+
+fn digit(byte: u8) -> Option<u32> {
+    char::from(byte).to_digit(10)
+}
+
+fn index(field: &[u8]) -> Option<usize> {
+    number(field).map(|number| number as usize)
+}
+
+/// Lower case hex, two digits a byte; `-` for empty.
+fn payload(field: &[u8]) -> Option<Vec<u8>> {
+    if field == b"-" {
+        return Some(Vec::new());
+    }
+    let (pairs @ [_, ..], []) = field.as_chunks::<2>() else {
+        return None;
+    };
+    pairs
+        .iter()
+        .map(|&[high, low]| Some(nibble(high)? << 4 | nibble(low)?))
+        .collect()
+}
+
+fn nibble(byte: u8) -> Option<u8> {
+    match byte {
+        b'0'..=b'9' => Some(byte - b'0'),
+        b'a'..=b'f' => Some(byte - b'a' + 10),
+        _ => None,
+    }
+}

@@ -1,0 +1,390 @@
+//! Demand 3: whatever happens to a group, what a member took and what it is
+//! owed is the whole order, and a closing round hands it all out.
+
+mod common;
+
+use common::{GROUP, Random};
+use model::answer::{Answer, Refusal};
+use model::group::{Event, Outcome, Run};
+use model::member::Member;
+use model::place::Place;
+use model::sequencer::Sequencer;
+use std::collections::BTreeSet;
+
+/// The claim after any list of events.
+fn check(run: &Run) {
+    let n = run.group.members.len();
+    let order = run.order();
+    assert!(order.iter().map(|m| m.number).eq(1..=order.len() as u32));
+    assert_eq!(run.group.sequencer.top as usize, order.len());
+    let mut sum = 0;
+    for member in 0..n {
+        let taken = run.taken(member);
+        let owed = run.owed(member);
+        assert_eq!(run.group.members[member].taken as usize, taken.len());
+        sum += taken.len() + owed.len();
+        assert_eq!([taken, owed].concat(), order);
+
+        let submissions = run.submissions(member);
+        let own: Vec<(u32, Vec<u8>)> = order
+            .iter()
+            .filter(|message| usize::from(message.originator) == member)
+            .map(|message| (message.count, message.payload.clone()))
+            .collect();
+        assert!(own.len() == submissions.len() || own.len() + 1 == submissions.len());
+        assert_eq!(own[..], submissions[..own.len()]);
+    }
+    assert_eq!(sum, n * order.len());
+    assert!(run.group.sequencer.is_sound());
+    assert!(run.group.members.iter().all(|member| member.is_sound()));
+}
+
+/// The claim about the closing round.
+fn close(run: &mut Run) {
+    let n = run.group.members.len();
+    let order = run.order();
+    let submissions: Vec<_> = (0..n).map(|member| run.submissions(member)).collect();
+    assert!(run.closing_round() <= 98 * n);
+    assert_eq!(run.order(), order);
+    assert_eq!(run.group.sequencer.floor, run.group.sequencer.top);
+    assert_eq!(run.group.sequencer.history, [Place::EMPTY; 32]);
+    for (member, submissions) in submissions.iter().enumerate() {
+        assert_eq!(run.taken(member), order);
+        assert!(run.owed(member).is_empty());
+        assert_eq!(run.submissions(member), *submissions);
+    }
+    check(run);
+}
+
+/// Makes schedules: events by chance, mixed with the handing over of what
+/// was just written, so that long orders come about. Packets are lost,
+/// doubled, reordered and handed over long after.
+struct Scheduler {
+    random: Random,
+    /// Deliveries that are due, in no order.
+    due: Vec<Event>,
+    /// Members that seldom take, one bit each.
+    lazy: usize,
+}
+
+impl Scheduler {
+    fn seeded(seed: u64) -> Scheduler {
+        let mut random = Random::seeded(seed);
+        let lazy = match random.below(3) {
+            0 => 0,
+            _ => random.below(1 << 16) & random.below(1 << 16),
+        };
+        Scheduler {
+            random,
+            due: Vec::new(),
+            lazy,
+        }
+    }
+
+    fn chance(&mut self, of: usize) -> bool {
+        self.random.below(of) == 0
+    }
+
+    fn next(&mut self, run: &Run) -> Event {
+        if !self.due.is_empty() && !self.chance(4) {
+            let at = self.random.below(self.due.len());
+            return self.due.swap_remove(at);
+        }
+        let n = run.group.members.len();
+        let written = run.group.packets.len();
+        let absent = self.chance(40);
+        let member = self.random.below(n) + if absent { n } else { 0 };
+        let packet = self.random.below(written + 1) + if absent { written } else { 0 };
+        match self.random.below(100) {
+            0..30 => {
+                let length = match self.random.below(8) {
+                    0 => 95 + self.random.below(3),
+                    _ => self.random.below(12),
+                };
+                let payload = (0..length).map(|_| self.random.next() as u8).collect();
+                Event::Submit { member, payload }
+            }
+            30..36 => Event::Repeat { member },
+            36..66 if self.lazy >> member & 1 == 1 && !self.chance(40) => Event::Poll,
+            36..66 => Event::Take { member },
+            66..74 => Event::Status { member },
+            74..76 => Event::Poll,
+            76..82 => {
+                let sequencer = &run.group.sequencer;
+                let kept = (sequencer.top - sequencer.floor) as usize;
+                let number = sequencer.floor + self.random.below(kept + 2) as u32;
+                Event::Copy { number }
+            }
+            82..91 => Event::ToMember { packet, member },
+            _ => Event::ToSequencer { packet },
+        }
+    }
+
+    /// Makes deliveries due, but not all and some twice.
+    fn follow(&mut self, run: &Run, outcome: &Outcome) {
+        if let Some(packet) = outcome.packet {
+            if matches!(run.group.packets[packet][0], 2 | 5) {
+                for member in 0..run.group.members.len() {
+                    self.deliver(Event::ToMember { packet, member });
+                }
+            } else {
+                self.deliver(Event::ToSequencer { packet });
+            }
+        }
+        if let Answer::Wanted(first, last) = outcome.answer {
+            for number in first..=last {
+                self.deliver(Event::Copy { number });
+            }
+        }
+        if let Answer::Took { more: true, .. } = outcome.answer {
+            let (last, _) = run.log.last().unwrap();
+            self.deliver(last.clone());
+        }
+        while self.due.len() > 100 {
+            let at = self.random.below(self.due.len());
+            self.due.swap_remove(at);
+        }
+    }
+
+    fn deliver(&mut self, event: Event) {
+        if !self.chance(5) {
+            self.due.push(event.clone());
+        }
+        if self.chance(10) {
+            self.due.push(event);
+        }
+    }
+}
+
+/// The answer without its numbers; a refusal with its question.
+fn name(answer: Option<Answer>) -> String {
+    match answer {
+        None => "absent".into(),
+        Some(Answer::Refused(refusal)) => format!("refused {}", refusal.number()),
+        Some(answer) => {
+            let words = answer.to_string();
+            words.split(' ').next().unwrap_or_default().into()
+        }
+    }
+}
+
+/// What every group meets in a long schedule.
+const COMMON: [&str; 17] = [
+    "absent",
+    "again",
+    "gap",
+    "kept",
+    "none",
+    "noted",
+    "numbered",
+    "old",
+    "refused 13",
+    "refused 14",
+    "refused 15",
+    "refused 17",
+    "refused 8",
+    "sent",
+    "status",
+    "took",
+    "wanted",
+];
+
+/// What only a group of several can meet: alone, a member has its message
+/// numbered only after it took the one before.
+const SEVERAL: [&str; 4] = ["beyond", "beyondgap", "full", "keptgap"];
+
+/// The names of the answers met and the longest order.
+fn random_runs(
+    n: u32,
+    seeds: std::ops::Range<u64>,
+    events: usize,
+    every: usize,
+) -> (BTreeSet<String>, u32) {
+    let mut seen = BTreeSet::new();
+    let mut longest = 0;
+    for seed in seeds {
+        let mut scheduler = Scheduler::seeded(seed * 31 + u64::from(n));
+        let mut run = Run::fresh(n, GROUP).unwrap();
+        for at in 0..events {
+            let event = scheduler.next(&run);
+            let ends = (run.group.sequencer.clone(), run.group.members.clone());
+            let written = run.group.packets.len();
+            let outcome = run.step(event);
+            let answer = outcome.as_ref().map(|outcome| outcome.answer);
+            if matches!(answer, None | Some(Answer::Refused(_))) {
+                assert_eq!(run.group.sequencer, ends.0);
+                assert_eq!(run.group.members, ends.1);
+                assert_eq!(run.group.packets.len(), written);
+            }
+            seen.insert(name(answer));
+            if let Some(outcome) = outcome {
+                scheduler.follow(&run, &outcome);
+            }
+            if at % every == 0 {
+                check(&run);
+            }
+        }
+        check(&run);
+        longest = longest.max(run.group.sequencer.top);
+        close(&mut run);
+        // A second round finds everything in place.
+        assert_eq!(run.closing_round(), 2 * n as usize);
+        check(&run);
+    }
+    (seen, longest)
+}
+
+fn long_lists(n: u32, seeds: u64, events: usize, at_least: u32) {
+    let (seen, longest) = random_runs(n, 1000..1000 + seeds, events, 500);
+    let mut expected: BTreeSet<String> = COMMON.map(String::from).into();
+    if n > 1 {
+        expected.extend(SEVERAL.map(String::from));
+    }
+    assert_eq!(seen, expected);
+    assert!(longest >= at_least, "only {longest} numbered");
+}
+
+#[test]
+fn short_lists_checked_after_every_event() {
+    for n in [1, 2, 3, 5, 16] {
+        random_runs(n, 0..60, 120, 1);
+    }
+}
+
+#[test]
+fn long_lists_of_1() {
+    long_lists(1, 100, 4000, 200);
+}
+
+#[test]
+fn long_lists_of_2() {
+    long_lists(2, 100, 4000, 100);
+}
+
+#[test]
+fn long_lists_of_3() {
+    long_lists(3, 100, 4000, 100);
+}
+
+#[test]
+fn long_lists_of_5() {
+    long_lists(5, 100, 6000, 100);
+}
+
+#[test]
+fn long_lists_of_16() {
+    long_lists(16, 60, 15_000, 64);
+}
+
+/// All lists of events up to a depth, from a small choice of them.
+fn every_list(run: &Run, depth: usize, lists: &mut usize) {
+    check(run);
+    close(&mut run.clone());
+    *lists += 1;
+    if depth == 0 {
+        return;
+    }
+    let n = run.group.members.len();
+    let written = run.group.packets.len();
+    let mut events = vec![Event::Poll, Event::Copy { number: 1 }];
+    for member in 0..n {
+        let payload = vec![member as u8; 1 + member];
+        events.push(Event::Submit { member, payload });
+        events.push(Event::Repeat { member });
+        events.push(Event::Take { member });
+        events.push(Event::Status { member });
+        events.extend((0..written).map(|packet| Event::ToMember { packet, member }));
+    }
+    events.extend((0..written).map(|packet| Event::ToSequencer { packet }));
+    for event in events {
+        let mut next = run.clone();
+        next.step(event);
+        every_list(&next, depth - 1, lists);
+    }
+}
+
+#[test]
+fn every_short_list() {
+    for (n, depth, least) in [(1, 6, 20_000), (2, 5, 20_000), (3, 4, 2_000)] {
+        let mut lists = 0;
+        every_list(&Run::fresh(n, GROUP).unwrap(), depth, &mut lists);
+        assert!(lists > least, "{lists}");
+    }
+}
+
+#[test]
+fn a_fresh_group() {
+    for n in [0, 17, 256, u32::MAX] {
+        assert_eq!(Run::fresh(n, GROUP).unwrap_err(), Refusal::Opening);
+    }
+    for n in 1..=16 {
+        let mut run = Run::fresh(n, GROUP).unwrap();
+        assert!(run.group.packets.is_empty());
+        for (number, member) in (0..).zip(&run.group.members) {
+            assert_eq!(*member, Member::fresh(n, number, GROUP).unwrap());
+        }
+        assert_eq!(run.group.sequencer, Sequencer::fresh(n, GROUP).unwrap());
+        check(&run);
+        close(&mut run);
+    }
+}
+
+#[test]
+fn what_is_not_there_changes_nothing() {
+    let mut run = Run::fresh(2, GROUP).unwrap();
+    run.step(Event::Submit {
+        member: 0,
+        payload: vec![1],
+    });
+    let before = run.group.clone();
+    let payload = vec![0; 500];
+    for event in [
+        Event::Submit { member: 2, payload },
+        Event::Repeat { member: 99 },
+        Event::Take { member: 16 },
+        Event::Status { member: usize::MAX },
+        Event::ToMember {
+            packet: 0,
+            member: 2,
+        },
+        Event::ToMember {
+            packet: 1,
+            member: 0,
+        },
+        Event::ToSequencer { packet: 1 },
+        Event::ToSequencer {
+            packet: u32::MAX as usize,
+        },
+    ] {
+        assert_eq!(run.step(event), None);
+        assert_eq!(run.group, before);
+    }
+    assert_eq!(run.log.len(), 9);
+}
+
+/// The longest closing round: the history full, nobody took anything but
+/// the one that submits.
+#[test]
+fn the_closing_round_after_a_full_history() {
+    for n in [2, 3, 16] {
+        let mut run = Run::fresh(n, GROUP).unwrap();
+        for count in 1..=33u32 {
+            let payload = vec![7; count as usize];
+            let sent = run.step(Event::Submit { member: 0, payload }).unwrap();
+            let packet = sent.packet.unwrap();
+            let answer = run.step(Event::ToSequencer { packet }).unwrap();
+            if count == 33 {
+                assert_eq!(answer.answer, Answer::Full);
+                break;
+            }
+            assert_eq!(answer.answer, Answer::Numbered(count));
+            let packet = answer.packet.unwrap();
+            run.step(Event::ToMember { packet, member: 0 });
+            run.step(Event::Take { member: 0 });
+        }
+        check(&run);
+        let events = run.clone().closing_round();
+        assert_eq!(events, 98 * (n as usize - 1) + 2);
+        close(&mut run);
+    }
+}

@@ -1,11 +1,12 @@
 -- Going down a list of questions, one at a time or in parts, comes to the first no. Assumes nothing.
-use mathlib.Core.Path.{_≡_, refl}
+use mathlib.Core.Path.{_≡_, refl, ap, _∙_}
 use mathlib.Core.Bool.{Bool, true, false}
 use mathlib.Core.List.{List, [], _∷_, _++_}
 use Rattle.group.specs.Choice.{if_then_else_, ask_or_then_}
 use Rattle.group.specs.Question.{Question, firstNo, judged}
 use Rattle.group.specs.declared.Refusal.{Refusal}
-use Rattle.group.specs.declared.Verdict.the-variants.{Refused}
+use Rattle.group.specs.declared.Verdict.{Verdict}
+use Rattle.group.specs.declared.Verdict.the-variants.{Accepted, Refused}
 
 -- a question before the others
 pub judged-ask : {A : Type 0} (refused : Refusal → A) (accepted : A) (yes : Bool) (refusal : Refusal) (rest : List Question)
@@ -24,3 +25,13 @@ firstNo-append (q ∷ before) rest = go (q .yes) (firstNo-append before rest)
         → judged (ask yes or Refused (q .refusal) then firstNo before) Refused (firstNo rest) ≡ ask yes or Refused (q .refusal) then firstNo (before ++ rest)
     go true e = e
     go false e = refl
+
+-- the step behind some questions, and the step behind those and others before them
+pub judged-append : {A : Type 0} (refused : Refusal → A) (accepted : A) (before rest : List Question)
+    → judged (firstNo before) refused (judged (firstNo rest) refused accepted) ≡ judged (firstNo (before ++ rest)) refused accepted
+unfolding judged
+judged-append refused accepted before rest = go (firstNo before) ∙ ap (λ (v : Verdict). judged v refused accepted) (firstNo-append before rest)
+  where
+    go : (v : Verdict) → judged v refused (judged (firstNo rest) refused accepted) ≡ judged (judged v Refused (firstNo rest)) refused accepted
+    go Accepted = refl
+    go (Refused r) = refl

@@ -1,1 +1,10 @@
 pub mod Invariant
+pub mod Soundness
+pub mod Missing
+pub mod Keeping
+pub mod Writes
+pub mod Receiving
+pub mod Laws
+pub mod Ordering
+pub mod Taking
+pub mod Closing

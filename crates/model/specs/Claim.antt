@@ -4,7 +4,7 @@ use mathlib.Core.Path.{_≡_}
 use mathlib.Core.Logic.{_⊎_}
 use mathlib.Core.List.{List, [], _++_}
 use Prim.Native.Nat.{ℕ, zero, suc, _+_, _-_, _*_, _≤_, _<_}
-use lib.ListN.{length} 
+use lib.ListN.{length}
 use lib.ListN as list
 use Rattle.group.specs.Limits.{membersMost, largestNumber}
 use Rattle.group.specs.declared.Refusal.{Refusal}

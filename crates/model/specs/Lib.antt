@@ -2,3 +2,4 @@ pub mod World
 pub mod Log
 pub mod Closing
 pub mod Claim
+pub mod Examples

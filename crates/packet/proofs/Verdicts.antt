@@ -28,7 +28,7 @@ unfolding readOf
 read-by p h l v lo hi eh el ev = rw (ev, eh, el) (search (choices, tests, needs) depth 9)
 
 -- the verdict that is not a refusal
-accepted≢ : (r : Refusal) → Refused r ≡ Accepted → ⊥
+pub accepted≢ : (r : Refusal) → Refused r ≡ Accepted → ⊥
 accepted≢ r e = let z : _≡_ {A = ℕ} 0 1 = cc in omega arith
 
 -- a verdict that did not come to a refusal was none

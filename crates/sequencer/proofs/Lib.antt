@@ -1,1 +1,10 @@
 pub mod Invariant
+pub mod Soundness
+pub mod Noting
+pub mod Numbering
+pub mod Packets
+pub mod Keeping
+pub mod Histories
+pub mod Owning
+pub mod Answering
+pub mod Ordering

@@ -1,0 +1,147 @@
+-- What the closing round does with a terminal's member: the next number is handed over and held, taken, and acknowledged; and a
+-- fresh member is a fresh terminal's. Assumes nothing.
+use mathlib.Core.Path.{_≡_, refl, sym, ap, _∙_}
+use mathlib.Core.Bool.{true}
+use mathlib.Core.List.{List, []}
+use Prim.Native.Nat.{ℕ, _+_, _-_, _≤_, _<_}
+use native.Mathlib.Omega.{arith}
+use borrow.Author.Tests.{leb-true, leb-false, lt-ltb, ltb-true, ltb-false, eq-eqb, eqb-false}
+use lib.ListN.{length}
+use Rattle.group.specs.Choice.{if_then_else_, _<?_, _≤?_, _=?_}
+use Rattle.group.specs.Limits.{membersMost, heldMost, longestPacket, largestNumber}
+use Rattle.group.specs.Question.{judged}
+use Rattle.group.specs.declared.Group.{Group}
+use Rattle.group.specs.declared.MemberNumber.{MemberNumber}
+use Rattle.group.specs.declared.SequenceNumber.{SequenceNumber}
+use Rattle.group.specs.declared.Verdict.{Verdict}
+use Rattle.group.proofs.Choice.{says}
+use Rattle.group.proofs.Lists.{if-elim, at-nil}
+use Rattle.message.specs.Message.{messageOf}
+use Rattle.message.specs.Order.{Ordered, ownOf, countedFrom}
+use Rattle.packet.specs.Laws.{Allowed}
+use Rattle.packet.specs.Packet.{obeys, fieldsOf, packetOf}
+use Rattle.packet.specs.declared.Packet.{Packet}
+use Rattle.packet.specs.declared.Packet.the-variants.{Request, Broadcast, Gap, Status, Poll}
+use Rattle.packet.proofs.Laws.{read-written, content-fields}
+use Rattle.packet.proofs.Verdicts.{askable, writable}
+use Rattle.member.specs.Calls.{Outcome, answered, statusPacket, callVerdict, statusOf, withHeld, gapUpTo, keptOf, broadcastOf, contentStep, readStep, receiveOf, withTaken, tookOf, takeOf}
+use Rattle.member.specs.Sound.{soundOf}
+use Rattle.member.specs.State.{messageAt, isHeld, lowestMissing, freshMember}
+use Rattle.member.specs.declared.Answer.{Answer}
+use Rattle.member.specs.declared.Member.{Member}
+use Rattle.member.proofs.Invariant.{Terminal}
+use Rattle.member.proofs.Keeping.{empty-none, fresh-none, fresh-typed, fresh-sound}
+use Rattle.member.proofs.Missing.{held-same}
+use Rattle.member.proofs.Soundness.{sound-of, of-sound}
+use Rattle.member.proofs.Writes.{status-allowed}
+
+-- a sound state and the longest packet's room go past questions 1 and 2
+pub call-accepted : (m : Member) → soundOf m ≡ true → callVerdict m longestPacket ≡ Verdict.Accepted
+unfolding callVerdict if_then_else_
+call-accepted m h = rw h
+
+pub status-is : (m : Member) → soundOf m ≡ true → statusOf m longestPacket ≡ record { member = m; answer = Answer.Sent; bytes = statusPacket m }
+unfolding statusOf judged
+status-is m h = rw (call-accepted m h)
+
+pub take-is : (m : Member) → soundOf m ≡ true → 1 ≤ messageAt (m .held) (m .taken .0 + 1) .count → takeOf m longestPacket ≡ tookOf m (messageAt (m .held) (m .taken .0 + 1))
+unfolding takeOf judged if_then_else_
+take-is m h c = rw (call-accepted m h, lt-ltb 0 (messageAt (m .held) (m .taken .0 + 1) .count) c)
+
+fields-group : (g : ℕ) (content : Packet) → fieldsOf g content .group ≡ g
+unfolding fieldsOf
+fields-group g (Request sender taken count) = refl
+fields-group g (Broadcast originator number count floor) = refl
+fields-group g (Gap sender taken first last) = refl
+fields-group g (Status sender taken) = refl
+fields-group g (Poll top floor) = refl
+
+-- a packet of the group is received as what it says
+pub receive-is : (m : Member) (g : ℕ) (content : Packet) (payload : List ℕ) → soundOf m ≡ true → m .group .number ≡ g → Allowed (fieldsOf g content) payload
+    → receiveOf m (packetOf (fieldsOf g content) payload) longestPacket ≡ contentStep m content payload
+unfolding receiveOf judged readStep if_then_else_
+receive-is m g content payload h e allowed =
+    let r = read-written (fieldsOf g content) payload allowed in
+    rw (call-accepted m h, r .0, r .1, content-fields g content, eq-eqb (fieldsOf g content .group) (m .group .number) (fields-group g content ∙ sym e))
+
+-- what handing over the broadcast of number t + 1 leaves
+pub record HandOk (m : Member) (o : Outcome) : Type 0 where
+  pub taken-is : o .member .taken .0 ≡ m .taken .0
+  pub held : 1 ≤ messageAt (o .member .held) (m .taken .0 + 1) .count
+  pub bytes-are : o .bytes ≡ []
+
+module _ (n g i acknowledged count : ℕ) (order took : List Ordered) (submitted : List (List ℕ)) (m : Member) (h : Terminal n g i acknowledged count m order took submitted) where
+  module _ (originator : MemberNumber) (number : SequenceNumber) (c : ℕ) (floor : SequenceNumber) (payload : List ℕ)
+      (allowed : Allowed (fieldsOf g (Broadcast originator number c floor)) payload) (member : originator .0 < n) (next : number .0 ≡ m .taken .0 + 1) where
+    -- a message is a message: its count is at least 1
+    count-pos : 1 ≤ c
+    unfolding fieldsOf obeys if_then_else_
+    count-pos =
+        let w = writable _ (length payload) longestPacket (allowed .1) in
+        let o = askable _ (length payload) (length payload) (w .fields) .obey in
+        search says
+
+    kept : 1 ≤ messageAt (withHeld m (number .0) (messageOf originator c payload) .held) (m .taken .0 + 1) .count
+    unfolding withHeld messageOf
+    kept = rw (← next, held-same (m .held) (h .typed .held) (number .0) (messageOf originator c payload)) count-pos
+
+    -- no number below it is missing
+    abbrev low : ℕ
+    low = lowestMissing (withHeld m (number .0) (messageOf originator c payload) .held) (m .taken .0) (number .0 - 1 - m .taken .0)
+
+    none : low ≡ 0
+    unfolding lowestMissing
+    none = let z : number .0 - 1 - m .taken .0 ≡ 0 = omega arith in rw z
+
+    pub hand-ok : HandOk m (receiveOf m (packetOf (fieldsOf g (Broadcast originator number c floor)) payload) longestPacket)
+    unfolding contentStep broadcastOf keptOf gapUpTo withHeld answered
+    hand-ok =
+        rw (receive-is m g (Broadcast originator number c floor) payload (h .sound) (h .g-is) allowed)
+        (if-elim (HandOk m) (originator .0 <? m .group .n)
+        (λ _. if-elim (HandOk m) (number .0 ≤? m .taken .0)
+        (λ a. let z = leb-true (number .0) (m .taken .0) a in absurd (omega arith))
+        (λ _. if-elim (HandOk m) (number .0 ≤? m .taken .0 + heldMost)
+        (λ _. if-elim (HandOk m) (isHeld (m .held) (number .0))
+        (λ a. record { taken-is = refl; held = rw (← next) (ltb-true 0 (messageAt (m .held) (number .0) .count) a); bytes-are = refl })
+        (λ _. if-elim (HandOk m) (low =? 0)
+        (λ _. record { taken-is = refl; held = kept; bytes-are = refl })
+        (λ a. absurd (eqb-false low 0 a none))))
+        (λ a. let z = leb-false (number .0) (m .taken .0 + heldMost) a in absurd (omega arith))))
+        (λ a. let z = ltb-false (originator .0) (m .group .n) a in let y = h .n-is in absurd (omega arith)))
+
+  pub take-ok : 1 ≤ messageAt (m .held) (m .taken .0 + 1) .count → takeOf m longestPacket .member .taken .0 ≡ m .taken .0 + 1
+  unfolding tookOf withTaken
+  take-ok c = ap (λ (o : Outcome). o .member .taken .0) (take-is m (h .sound) c)
+
+  -- the status that is written, as the group knows it
+  pub status-ok : (statusPacket m ≡ packetOf (fieldsOf g (Status (m .number) (m .taken))) []) × Allowed (fieldsOf g (Status (m .number) (m .taken))) []
+  unfolding statusPacket
+  status-ok = (
+    ap (λ (k : ℕ). packetOf (fieldsOf k (Status (m .number) (m .taken))) []) (h .g-is),
+    rw (h .g-is) at (status-allowed m (h .typed) (sound-of m (h .sound))),
+  )
+
+pub fresh-terminal : (n g i : ℕ) → 1 ≤ n → n ≤ membersMost → i < n → g ≤ largestNumber
+    → Terminal n g i 0 0 (freshMember (record { n = n; number = g }) (record { 0 = i })) [] [] []
+unfolding freshMember ownOf countedFrom
+fresh-terminal n g i lo hi inside most =
+    let group : Group = record { n = n; number = g } in
+    let number : MemberNumber = record { 0 = i } in
+    record {
+      n-is = refl;
+      g-is = refl;
+      number-is = refl;
+      typed = fresh-typed group number most;
+      sound = of-sound (freshMember group number) (fresh-sound group number lo hi inside);
+      acknowledged-le = omega arith;
+      taken-le = omega arith;
+      took-is = refl;
+      held-is = λ k a b c. absurd (empty-none (rw (fresh-none group number k) at c));
+      submitted-is = refl;
+      count-le = omega arith;
+      count-near = omega arith;
+      idle = λ _. refl;
+      waiting-is = λ e. let z : _≡_ {A = ℕ} 0 1 = cc in absurd (omega arith);
+      own-is = refl;
+      payload-ok = λ c payload e. absurd (at-nil c e);
+    }

@@ -1,0 +1,181 @@
+-- Every call of a member keeps the state within its types and sound, and writes nothing or a packet that reading accepts: the
+-- call's text, a choice at a time. Assumes nothing.
+use mathlib.Core.Path.{_≡_, refl, ap, _∙_}
+use mathlib.Core.Bool.{Bool, true, false}
+use mathlib.Core.List.{List, [], _∷_}
+use mathlib.Core.Logic.{_⊎_, inl, inr}
+use Prim.Native.Nat.{ℕ, _+_, _-_, _≤_, _<_}
+use native.Mathlib.Omega.{arith}
+use borrow.Author.Tests.{leb-true, ltb-true}
+use lib.ListN.{length}
+use Rattle.group.specs.Choice.{if_then_else_, _<?_, _≤?_}
+use Rattle.group.specs.Limits.{headerSize, payloadMost, largestNumber}
+use Rattle.group.specs.declared.Refusal.{Refusal}
+use Rattle.group.specs.declared.Verdict.{Verdict}
+use Rattle.group.proofs.Choice.{if-was, says}
+use Rattle.group.proofs.Lists.{if-elim, judged-elim, All}
+use Rattle.message.specs.Message.{messageOf, payloadOf}
+use Rattle.message.proofs.Kept.{kept-zero}
+use Rattle.packet.specs.Laws.{Allowed}
+use Rattle.packet.specs.Packet.{headerOf, obeys, contentOf, fieldsOf, packetOf, payloadAt, readOf, written}
+use Rattle.packet.specs.declared.Header.{Header}
+use Rattle.packet.specs.declared.Packet.{Packet}
+use Rattle.packet.specs.declared.Packet.the-variants.{Request, Broadcast, Gap, Status, Poll}
+use Rattle.packet.specs.declared.Reading.{Reading}
+use Rattle.packet.proofs.Facts.{KnownBy}
+use Rattle.packet.proofs.Laws.{read-written, fields-content}
+use Rattle.packet.proofs.Verdicts.{readable, askable}
+use Rattle.member.specs.Calls.{Outcome, answered, requestPacket, statusPacket, callVerdict, submitVerdict, withWaiting, submitOf, repeatOf, statusOf, readStep, receiveOf, withTaken, tookOf, takeOf}
+use Rattle.member.specs.Laws.{Typed, Keeps, WritesPacket, SubmitKeeps, RepeatKeeps, StatusKeeps, ReceiveKeeps, TakeKeeps}
+use Rattle.member.specs.Sound.{soundOf}
+use Rattle.member.specs.State.{messageAt, isHeld, acknowledgedOf}
+use Rattle.member.specs.declared.Answer.{Answer}
+use Rattle.member.specs.declared.Member.{Member}
+use Rattle.member.proofs.Keeping.{waiting-typed, waiting-sound, held-typed, held-sound, taken-typed, taken-sound}
+use Rattle.member.proofs.Receiving.{Keepable, read-heard}
+use Rattle.member.proofs.Soundness.{Sound, sound-of, of-sound}
+use Rattle.member.proofs.Writes.{Own, payload-short, request-allowed, status-allowed}
+
+accepted≢ : (refusal : Refusal) → Verdict.Refused refusal ≡ Verdict.Accepted → ⊥
+accepted≢ refusal e = let z : _≡_ {A = ℕ} 0 1 = cc in omega arith
+
+-- what a call that goes past questions 1 and 2 was asked
+pub call-sound : (m : Member) (room : ℕ) → callVerdict m room ≡ Verdict.Accepted → soundOf m ≡ true
+unfolding callVerdict
+call-sound m room e = if-was (soundOf m) _ _ Verdict.Accepted e (accepted≢ Refusal.UnsoundState) .0
+
+-- what a submission that is accepted was asked
+pub record Submittable (m : Member) (size : ℕ) : Type 0 where
+  pub short : size ≤ payloadMost
+  pub idle : m .waiting ≡ false
+  pub left : m .submitted < largestNumber
+
+pub submittable : (m : Member) (size : ℕ) → submitVerdict m size ≡ Verdict.Accepted → Submittable m size
+unfolding submitVerdict
+submittable m size e =
+    let a = if-was (size ≤? payloadMost) _ _ Verdict.Accepted e (accepted≢ Refusal.LongPayload) in
+    let b = if-was (if m .waiting then false else true) _ _ Verdict.Accepted (a .1) (accepted≢ Refusal.AlreadyWaiting) in
+    let c = if-was (m .submitted <? largestNumber) _ _ Verdict.Accepted (b .1) (accepted≢ Refusal.NumbersUsedUp) in
+    record { short = leb-true size payloadMost (a .0); idle = idle (m .waiting) (b .0); left = ltb-true (m .submitted) largestNumber (c .0) }
+  where
+    idle : (waiting : Bool) → (if waiting then false else true) ≡ true → waiting ≡ false
+    idle waiting = if-elim (λ (b : Bool). b ≡ true → waiting ≡ false) waiting (λ _ z. let y : _≡_ {A = ℕ} 0 1 = cc in absurd (omega arith)) (λ z _. z)
+
+module _ (m : Member) (typed : Typed m) where
+  -- a sound state within its types, left by a call
+  kept : (m′ : Member) (answer : Answer) (bytes : List ℕ) → Typed m′ → Sound m′ → Keeps m (record { member = m′; answer = answer; bytes = bytes })
+  kept m′ answer bytes t s = record { typed = t; sound = λ _. of-sound m′ s }
+
+  same : (answer : Answer) (bytes : List ℕ) → Keeps m (record { member = m; answer = answer; bytes = bytes })
+  same answer bytes = record { typed = typed; sound = λ e. e }
+
+  abbrev Good : Outcome → Type 0
+  Good o = Keeps m o × WritesPacket o
+
+  quiet : (answer : Answer) → Good (answered m answer)
+  unfolding answered
+  quiet answer = (same answer [], inl refl)
+
+writes : (bytes : List ℕ) (g : ℕ) (content : Packet) (payload : List ℕ) → bytes ≡ packetOf (fieldsOf g content) payload → Allowed (fieldsOf g content) payload
+    → (bytes ≡ []) ⊎ ((h : Header) × (readOf bytes ≡ Reading.Fields h))
+writes bytes g content payload e a = inr (fieldsOf g content, ap readOf e ∙ read-written (fieldsOf g content) payload a .0)
+
+request-writes : (m : Member) (answer : Answer) → Typed m → Sound m → 1 ≤ m .submitted → m .message .length ≤ payloadMost
+    → WritesPacket (record { member = m; answer = answer; bytes = requestPacket m })
+unfolding requestPacket
+request-writes m answer typed s some short =
+    writes _ (m .group .number) (Request (m .number) (acknowledgedOf m) (m .submitted)) (payloadOf (m .message)) refl
+    (request-allowed m typed s (payloadOf (m .message)) some (payload-short (m .message) short))
+
+pub submit-keeps : SubmitKeeps
+unfolding submitOf withWaiting
+submit-keeps m payload room typed =
+    judged-elim (Good m typed) (callVerdict m room) (λ r _. quiet m typed (Answer.Refused r))
+    (λ e. judged-elim (Good m typed) (submitVerdict m (length payload)) (λ r _. quiet m typed (Answer.Refused r))
+    (λ f. let a = submittable m (length payload) f in
+    let s = waiting-sound m typed payload (a .short) (sound-of m (call-sound m room e)) in
+    let t = waiting-typed m typed payload (a .left) in
+    let w = s .waiting .waits refl in
+    (kept m typed (withWaiting m payload) Answer.Sent _ t s, request-writes (withWaiting m payload) Answer.Sent t s (w .submitted-pos) (w .short))))
+
+pub repeat-keeps : RepeatKeeps
+unfolding repeatOf
+repeat-keeps m room typed =
+    judged-elim (Good m typed) (callVerdict m room) (λ r _. quiet m typed (Answer.Refused r))
+    (λ e. if-elim (Good m typed) (m .waiting)
+    (λ f. let s = sound-of m (call-sound m room e) in
+    let w = s .waiting .waits f in
+    (same m typed Answer.Sent _, request-writes m Answer.Sent typed s (w .submitted-pos) (w .short)))
+    (λ _. quiet m typed (Answer.Refused Refusal.NothingWaiting)))
+
+pub status-keeps : StatusKeeps
+unfolding statusOf statusPacket
+status-keeps m room typed =
+    judged-elim (Good m typed) (callVerdict m room) (λ r _. quiet m typed (Answer.Refused r))
+    (λ e. (
+      same m typed Answer.Sent _,
+      writes _ (m .group .number) (Status (m .number) (acknowledgedOf m)) [] refl (status-allowed m typed (sound-of m (call-sound m room e))),
+    ))
+
+pub take-keeps : TakeKeeps
+unfolding takeOf tookOf answered
+take-keeps m room typed =
+    judged-elim Took (callVerdict m room) (λ r _. none (Answer.Refused r))
+    (λ e. if-elim Took (isHeld (m .held) (m .taken .0 + 1))
+    (λ f. let s = sound-of m (call-sound m room e) in
+    let x = messageAt (m .held) (m .taken .0 + 1) in
+    let h = s .places .holds (m .taken .0 + 1) (omega arith) (omega arith) (ltb-true 0 (x .count) f) in
+    (kept m typed (withTaken m x) _ _ (taken-typed m typed x (let z = h .number-le in omega arith)) (taken-sound m typed x s), payload-short x (h .short)))
+    (λ _. none Answer.None))
+  where
+    Took : Outcome → Type 0
+    Took o = Keeps m o × (length (o .bytes) ≤ payloadMost)
+
+    none : (answer : Answer) → Took (answered m answer)
+    none answer = (quiet m typed answer .0, omega arith)
+
+-- the state of a packet call: within its types, and sound
+abbrev pub Right : Member → Type 0
+Right m = Typed m × Sound m
+
+-- a broadcast that was read may be held
+keepable : (m : Member) (g : ℕ) (content : Packet) (payload : List ℕ) → obeys (fieldsOf g content) ≡ true → fieldsOf g content .a ≤ largestNumber
+    → length payload ≤ payloadMost → Right m → Keepable Right m content payload
+unfolding fieldsOf obeys if_then_else_ messageOf
+keepable m g (Request sender taken count) payload obey most short right = tt
+keepable m g (Broadcast originator number count floor) payload obey most short (typed, s) =
+    λ a lo hi. (
+      held-typed m typed (number .0) (messageOf originator count payload),
+      held-sound m typed (number .0) (messageOf originator count payload) lo hi (search says)
+          (record { originator-lt = a; short = short; zero-behind = kept-zero originator count payload; number-le = most }) s,
+    )
+keepable m g (Gap sender taken first last) payload obey most short right = tt
+keepable m g (Status sender taken) payload obey most short right = tt
+keepable m g (Poll top floor) payload obey most short right = tt
+
+-- packets that a member wrote are packets that reading accepts
+own-writes : (o : Outcome) → Own [] o → WritesPacket o
+unfolding written
+own-writes o = go (o .bytes) refl
+  where
+    go : (bytes : List ℕ) → o .bytes ≡ bytes → All (KnownBy (o .member .group .number) (o .member .number .0) (o .member .taken .0) []) (written bytes) → WritesPacket o
+    go [] e k = inl e
+    go (b ∷ rest) e (k, _) = writes (o .bytes) (o .member .group .number) (k .content) (k .payload) (e ∙ k .bytes-are) (k .allowed)
+
+-- what was read of a packet may be held, if it is a broadcast
+pub read-keepable : (m : Member) (packet : List ℕ) → headerOf packet .a ≤ largestNumber → Right m → (h : Header) → readOf packet ≡ Reading.Fields h
+    → (fieldsOf (h .group) (contentOf h) .a ≤ largestNumber) × Keepable Right m (contentOf h) (payloadAt packet)
+read-keepable m packet most right h e =
+    let r = readable packet h e in
+    let f = fields-content h (length packet - headerSize) (length packet - headerSize) (r .fields) in
+    let a : fieldsOf (h .group) (contentOf h) .a ≤ largestNumber = rw (f, r .header) most in
+    let o : obeys (fieldsOf (h .group) (contentOf h)) ≡ true = rw f (askable h _ _ (r .fields) .obey) in
+    (a, keepable m (h .group) (contentOf h) (payloadAt packet) o a (r .payload) right)
+
+pub receive-keeps : ReceiveKeeps
+unfolding receiveOf
+receive-keeps m packet room most typed =
+    judged-elim (Good m typed) (callVerdict m room) (λ r _. quiet m typed (Answer.Refused r))
+    (λ e. let s = sound-of m (call-sound m room e) in
+    let h = read-heard Right (λ m r. r .0) (λ m r. r .1) m (typed, s) (readOf packet) (payloadAt packet) (read-keepable m packet most (typed, s)) in
+    (record { typed = h .state .0; sound = λ _. of-sound _ (h .state .1) }, own-writes (readStep m (readOf packet) (payloadAt packet)) (h .own [])))

@@ -1,0 +1,211 @@
+-- Each call of a terminal's member owes the group what demand 3's invariant asks: the state that it leaves is a terminal's, and
+-- the packets that it wrote say what is so. Assumes nothing.
+use mathlib.Core.Path.{_≡_, refl, sym, ap, _∙_}
+use mathlib.Core.Bool.{false}
+use mathlib.Core.Logic.{_⊎_, inl, inr}
+use mathlib.Core.Option.{some}
+use mathlib.Core.List.{List, [], _∷_, _++_, append-nil}
+use Prim.Native.Nat.{ℕ, suc, _+_, _≤_, _<_}
+use native.Mathlib.Nat.{le-refl}
+use native.Mathlib.Numerals.{add-one}
+use native.Mathlib.Omega.{arith}
+use lib.ListN.{length, length-append}
+use lib.Seq.{take-append-le}
+use Rattle.group.specs.Limits.{heldMost, payloadMost, longestPacket, largestNumber}
+use Rattle.group.specs.declared.MemberNumber.{MemberNumber}
+use Rattle.group.specs.declared.Refusal.{Refusal}
+use Rattle.group.proofs.Choice.{says}
+use Rattle.group.proofs.Lists.{if-elim, judged-elim, at, All, at-append, at-last, at-snoc}
+use Rattle.message.specs.Message.{messageOf, payloadOf}
+use Rattle.message.specs.Order.{Ordered, countedFrom}
+use Rattle.message.specs.declared.Message.{Message}
+use Rattle.message.proofs.Kept.{kept-payload}
+use Rattle.packet.specs.Packet.{headerOf, contentOf, fieldsOf, payloadAt, readOf, written}
+use Rattle.packet.specs.declared.Header.{Header}
+use Rattle.packet.specs.declared.Packet.{Packet}
+use Rattle.packet.specs.declared.Packet.the-variants.{Request, Broadcast, Gap, Status, Poll}
+use Rattle.packet.specs.declared.Reading.{Reading}
+use Rattle.packet.proofs.Facts.{ordered, Says, Known, KnownBy}
+use Rattle.packet.proofs.Laws.{read-written, content-fields}
+use Rattle.packet.proofs.RoundTrip.{header-back}
+use Rattle.member.specs.Calls.{Outcome, answered, requestPacket, callVerdict, submitVerdict, withWaiting, submitOf, repeatOf, statusOf, withHeld, readStep, receiveOf}
+use Rattle.member.specs.Order.{acceptedBy}
+use Rattle.member.specs.declared.Answer.{Answer}
+use Rattle.member.specs.declared.Member.{Member}
+use Rattle.member.proofs.Invariant.{Terminal, MemberGood}
+use Rattle.member.proofs.Keeping.{waiting-typed, waiting-sound}
+use Rattle.member.proofs.Laws.{Right, submittable, read-keepable}
+use Rattle.member.proofs.Missing.{place-one, held-each}
+use Rattle.member.proofs.Receiving.{Keepable, read-heard}
+use Rattle.member.proofs.Soundness.{Sound, sound-of, of-sound}
+use Rattle.member.proofs.Writes.{Own, request-own, status-own}
+
+module _ (n g i acknowledged count : ℕ) (order took : List Ordered) (submitted : List (List ℕ)) where
+  -- packets that are the member's own are terminal i's
+  own-known : (o : Outcome) (took′ : List Ordered) (submitted′ : List (List ℕ)) → Terminal n g i acknowledged count (o .member) order took′ submitted′ → Own submitted′ o
+      → All (KnownBy g i (o .member .taken .0) submitted′) (written (o .bytes))
+  own-known o took′ submitted′ h k = rw (h .g-is, h .number-is) at k
+
+  module _ (m : Member) (h : Terminal n g i acknowledged count m order took submitted) where
+    abbrev Good : Outcome → Type 0
+    Good o = MemberGood n g i acknowledged count order submitted m took submitted (written (o .bytes)) o
+
+    -- a call that leaves the state
+    same : (o : Outcome) → o .member ≡ m → Own submitted o → Good o
+    same o e k =
+        let h′ : Terminal n g i acknowledged count (o .member) order took submitted = rw e h in
+        record { terminal = h′; up = rw e (le-refl _); grown = λ c payload z. z; known = own-known o took submitted h′ k }
+
+    quiet : (answer : Answer) → Good (answered m answer)
+    unfolding answered written
+    quiet answer = same (answered m answer) refl tt
+
+    -- status and repeat
+    pub status-good : Good (statusOf m longestPacket)
+    unfolding statusOf
+    status-good =
+        judged-elim Good (callVerdict m longestPacket) (λ r _. quiet (Answer.Refused r))
+        (λ e. same _ refl (status-own m (h .typed) (sound-of m (h .sound)) submitted Answer.Sent))
+
+    pub repeat-good : Good (repeatOf m longestPacket)
+    unfolding repeatOf
+    repeat-good =
+        judged-elim Good (callVerdict m longestPacket) (λ r _. quiet (Answer.Refused r))
+        (λ _. if-elim Good (m .waiting)
+        (λ e. let s = sound-of m (h .sound) in
+        let w = s .waiting .waits e in
+        let last = h .waiting-is e in
+        let p : payloadOf (m .message) ≡ last .0 = ap payloadOf (last .2) ∙ kept-payload (record { 0 = i }) (m .submitted) (last .0) in
+        same _ refl (request-own m (h .typed) s submitted Answer.Sent (w .submitted-pos) (w .short) (last .1 ∙ ap some (sym p))))
+        (λ _. quiet (Answer.Refused Refusal.NothingWaiting)))
+
+    -- submit
+    abbrev GoodSubmit : List ℕ → Outcome → Type 0
+    GoodSubmit payload o = MemberGood n g i acknowledged count order submitted m took (submitted ++ acceptedBy (o .answer) payload) (written (o .bytes)) o
+
+    submit-refused : (payload : List ℕ) (refusal : Refusal) → GoodSubmit payload (answered m (Answer.Refused refusal))
+    unfolding answered acceptedBy
+    submit-refused payload refusal = rw append-nil (quiet (Answer.Refused refusal))
+
+    module _ (payload : List ℕ) (short : length payload ≤ payloadMost) (idle : m .waiting ≡ false) (left : m .submitted < largestNumber) where
+      last : at (submitted ++ (payload ∷ [])) (m .submitted + 1) ≡ some payload
+      last = rw (add-one, h .submitted-is) (at-last submitted payload)
+
+      all-short : (c : ℕ) (p : List ℕ) → at (submitted ++ (payload ∷ [])) c ≡ some p → length p ≤ payloadMost
+      all-short c p e = go (at-snoc submitted payload c e)
+        where
+          go : (at submitted c ≡ some p) ⊎ ((c ≡ suc (length submitted)) × (payload ≡ p)) → length p ≤ payloadMost
+          go (inl z) = h .payload-ok c p z
+          go (inr z) = rw (← (z .1)) short
+
+      waiting-sound′ : Sound (withWaiting m payload)
+      waiting-sound′ = waiting-sound m (h .typed) payload short (sound-of m (h .sound))
+
+      waiting-terminal : Terminal n g i acknowledged count (withWaiting m payload) order took (submitted ++ (payload ∷ []))
+      unfolding withWaiting
+      waiting-terminal =
+          record {
+            n-is = h .n-is;
+            g-is = h .g-is;
+            number-is = h .number-is;
+            typed = waiting-typed m (h .typed) payload left;
+            sound = of-sound _ waiting-sound′;
+            acknowledged-le = h .acknowledged-le;
+            taken-le = h .taken-le;
+            took-is = h .took-is;
+            held-is = h .held-is;
+            submitted-is = simp length-append (omega arith);
+            count-le = omega arith;
+            count-near = (let z = h .idle idle in omega arith);
+            idle = λ e. let z : _≡_ {A = ℕ} 0 1 = cc in absurd (omega arith);
+            waiting-is = λ _. (payload, last, ap (λ (k : ℕ). messageOf (record { 0 = k }) (m .submitted + 1) payload) (h .number-is));
+            own-is = h .own-is ∙ ap (countedFrom 1) (sym (take-append-le count submitted (payload ∷ []) (omega arith)));
+            payload-ok = all-short;
+          }
+
+      submits-good : GoodSubmit payload (record { member = withWaiting m payload; answer = Answer.Sent; bytes = requestPacket (withWaiting m payload) })
+      unfolding withWaiting acceptedBy messageOf
+      submits-good =
+          let o : Outcome = record { member = withWaiting m payload; answer = Answer.Sent; bytes = requestPacket (withWaiting m payload) } in
+          let w = waiting-sound′ .waiting .waits refl in
+          let k = kept-payload (m .number) (m .submitted + 1) payload in
+          record {
+            terminal = waiting-terminal;
+            up = le-refl _;
+            grown = λ c p e. at-append submitted (payload ∷ []) c e;
+            known =
+                own-known o took (submitted ++ (payload ∷ [])) waiting-terminal
+                (request-own (withWaiting m payload) (waiting-terminal .typed) waiting-sound′ (submitted ++ (payload ∷ [])) Answer.Sent (w .submitted-pos) (w .short) (last ∙ ap some (sym k)));
+          }
+
+    pub submit-good : (payload : List ℕ) → GoodSubmit payload (submitOf m payload longestPacket)
+    unfolding submitOf
+    submit-good payload =
+        judged-elim (GoodSubmit payload) (callVerdict m longestPacket) (λ r _. submit-refused payload r)
+        (λ _. judged-elim (GoodSubmit payload) (submitVerdict m (length payload)) (λ r _. submit-refused payload r)
+        (λ e. let a = submittable m (length payload) e in submits-good payload (a .short) (a .idle) (a .left)))
+
+    -- a packet
+    abbrev Here : Member → Type 0
+    Here m′ = Terminal n g i acknowledged count m′ order took submitted
+
+    -- the order's message of number k is held
+    held-terminal : (originator : MemberNumber) (k c : ℕ) (payload : List ℕ) → at order k ≡ some (ordered k (originator .0) c payload)
+        → m .taken .0 < k → k ≤ m .taken .0 + heldMost → Right (withHeld m k (messageOf originator c payload)) → Here (withHeld m k (messageOf originator c payload))
+    unfolding withHeld
+    held-terminal originator k c payload this lo hi (t, s) =
+        record {
+          n-is = h .n-is;
+          g-is = h .g-is;
+          number-is = h .number-is;
+          typed = t;
+          sound = of-sound _ s;
+          acknowledged-le = h .acknowledged-le;
+          taken-le = h .taken-le;
+          took-is = h .took-is;
+          held-is = λ j a b.
+              held-each (m .held) (h .typed .held) k (messageOf originator c payload)
+              (λ (z : Message). 1 ≤ z .count → (y : Ordered) × (at order j ≡ some y) × (z ≡ messageOf (record { 0 = y .originator }) (y .count) (y .payload))) j
+              (λ e _. rw (place-one (m .taken .0) k j lo hi a b e) (ordered k (originator .0) c payload, this, refl))
+              (λ e. h .held-is j a b);
+          submitted-is = h .submitted-is;
+          count-le = h .count-le;
+          count-near = h .count-near;
+          idle = h .idle;
+          waiting-is = h .waiting-is;
+          own-is = h .own-is;
+          payload-ok = h .payload-ok;
+        }
+
+    module _ (t : ℕ → ℕ) (subs : ℕ → List (List ℕ)) where
+      says-keepable : (content : Packet) (payload : List ℕ) → Says order t subs content payload → Keepable Right m content payload → Keepable Here m content payload
+      says-keepable (Request sender taken c) payload so keep = tt
+      says-keepable (Broadcast originator number c floor) payload so keep = λ a lo hi. held-terminal originator (number .0) c payload so lo hi (keep a lo hi)
+      says-keepable (Gap sender taken first last) payload so keep = tt
+      says-keepable (Status sender taken) payload so keep = tt
+      says-keepable (Poll top floor) payload so keep = tt
+
+      module _ (bytes : List ℕ) (k : Known g order t subs bytes) where
+        -- what is read of a packet that the group knows
+        known-read : (readOf bytes ≡ Reading.Fields (fieldsOf g (k .content))) × (payloadAt bytes ≡ k .payload)
+        known-read = rw (k .bytes-are) (read-written (fieldsOf g (k .content)) (k .payload) (k .allowed))
+
+        known-most : headerOf bytes .a ≤ largestNumber
+        known-most = rw (k .bytes-are, header-back (fieldsOf g (k .content)) (k .payload) (k .allowed .0)) (k .allowed .0 .a)
+
+        known-keepable : (e : Header) → readOf bytes ≡ Reading.Fields e → (fieldsOf (e .group) (contentOf e) .a ≤ largestNumber) × Keepable Here m (contentOf e) (payloadAt bytes)
+        known-keepable e r =
+            let z = known-read .0 in
+            let q : e ≡ fieldsOf g (k .content) = cc in
+            let c : contentOf e ≡ k .content = ap contentOf q ∙ content-fields g (k .content) in
+            let right = read-keepable m bytes known-most (h .typed, sound-of m (h .sound)) e r in
+            let so : Says order t subs (contentOf e) (payloadAt bytes) = rw (c, known-read .1) (k .says) in
+            (right .0, says-keepable (contentOf e) (payloadAt bytes) so (right .1))
+
+        pub receive-good : Good (receiveOf m bytes longestPacket)
+        unfolding receiveOf
+        receive-good =
+            judged-elim Good (callVerdict m longestPacket) (λ r _. quiet (Answer.Refused r))
+            (λ _. let o : Outcome = readStep m (readOf bytes) (payloadAt bytes) in
+            let a = read-heard Here (λ m′ e. e .typed) (λ m′ e. sound-of m′ (e .sound)) m h (readOf bytes) (payloadAt bytes) known-keepable in
+            record { terminal = a .state; up = (let z = a .taken-is in omega arith); grown = λ c payload e. e; known = own-known o took submitted (a .state) (a .own submitted) })

@@ -1,0 +1,95 @@
+-- The packets that a member writes are allowed, and its own: a sound state within its types has fields that fit and obey their
+-- kind. Assumes nothing.
+use mathlib.Core.Path.{_≡_, refl}
+use mathlib.Core.Option.{some}
+use mathlib.Core.List.{List, []}
+use Prim.Native.Nat.{ℕ, _≤_, _<_}
+use native.Mathlib.Nat.{le-refl}
+use native.Mathlib.Omega.{arith}
+use borrow.Author.Tests.{lt-ltb, le-leb, eq-eqb}
+use lib.ListN.{length, length-take}
+use Rattle.group.specs.Choice.{if_then_else_}
+use Rattle.group.specs.Limits.{payloadMost, longestPacket, largestNumber}
+use Rattle.group.proofs.Lists.{at, All}
+use Rattle.message.specs.Message.{payloadOf}
+use Rattle.message.specs.declared.Message.{Message}
+use Rattle.packet.specs.Laws.{Allowed}
+use Rattle.packet.specs.Packet.{knownKind, payloadFits, obeys, fieldsVerdict, fieldsOf, headerBytes, packetOf, written}
+use Rattle.packet.specs.declared.Packet.the-variants.{Request, Gap, Status}
+use Rattle.packet.proofs.Facts.{KnownBy}
+use Rattle.packet.proofs.Verdicts.{accepted}
+use Rattle.member.specs.Calls.{Outcome, requestPacket, gapPacket, statusPacket}
+use Rattle.member.specs.Laws.{Typed}
+use Rattle.member.specs.State.{acknowledgedOf}
+use Rattle.member.specs.declared.Answer.{Answer}
+use Rattle.member.specs.declared.Member.{Member}
+use Rattle.member.proofs.Soundness.{Sound}
+
+-- a message's payload is as long as it says, or shorter
+pub payload-short : (x : Message) → x .length ≤ payloadMost → length (payloadOf x) ≤ payloadMost
+unfolding payloadOf
+payload-short x h = simp length-take (omega arith)
+
+module _ (m : Member) (typed : Typed m) (s : Sound m) where
+  pub request-allowed : (payload : List ℕ) → 1 ≤ m .submitted → length payload ≤ payloadMost
+      → Allowed (fieldsOf (m .group .number) (Request (m .number) (acknowledgedOf m) (m .submitted))) payload
+  unfolding fieldsOf fieldsVerdict knownKind payloadFits obeys if_then_else_
+  request-allowed payload pos short = (
+    record { kind = omega arith; member = omega arith; group = typed .group; a = typed .taken; b = typed .submitted; c = omega arith },
+    accepted _ (length payload) longestPacket
+        (record { enough = omega arith; fields = rw (eq-eqb (length payload) (length payload) refl, le-leb 1 (m .submitted) pos); short = short }),
+  )
+
+  pub gap-allowed : (first last : ℕ) → m .taken .0 < first → first ≤ last → last ≤ largestNumber
+      → Allowed (fieldsOf (m .group .number) (Gap (m .number) (acknowledgedOf m) (record { 0 = first }) (record { 0 = last }))) []
+  unfolding fieldsOf fieldsVerdict knownKind payloadFits obeys if_then_else_
+  gap-allowed first last lo hi most = (
+    record { kind = omega arith; member = omega arith; group = typed .group; a = typed .taken; b = omega arith; c = most },
+    accepted _ 0 longestPacket
+        (record { enough = omega arith; fields = rw (lt-ltb (m .taken .0) first lo, le-leb first last hi); short = omega arith }),
+  )
+
+  pub status-allowed : Allowed (fieldsOf (m .group .number) (Status (m .number) (acknowledgedOf m))) []
+  unfolding fieldsOf fieldsVerdict knownKind payloadFits obeys if_then_else_
+  status-allowed = (
+    record { kind = omega arith; member = omega arith; group = typed .group; a = typed .taken; b = omega arith; c = omega arith },
+    accepted _ 0 longestPacket (record { enough = omega arith; fields = refl; short = omega arith }),
+  )
+
+-- the packets that a call wrote are its member's, which took what it acknowledges in them
+abbrev pub Own : List (List ℕ) → Outcome → Type 0
+Own submitted o = All (KnownBy (o .member .group .number) (o .member .number .0) (o .member .taken .0) submitted) (written (o .bytes))
+
+module _ (m : Member) (typed : Typed m) (sound : Sound m) (submitted : List (List ℕ)) where
+  pub gap-own : (first last : ℕ) (answer : Answer) → m .taken .0 < first → first ≤ last → last ≤ largestNumber
+      → Own submitted (record { member = m; answer = answer; bytes = gapPacket m first last })
+  unfolding gapPacket packetOf headerBytes fieldsOf written
+  gap-own first last answer lo hi most = (
+    record {
+      content = Gap (m .number) (acknowledgedOf m) (record { 0 = first }) (record { 0 = last });
+      payload = [];
+      bytes-are = refl;
+      allowed = gap-allowed m typed sound first last lo hi most;
+      says = (refl, le-refl _);
+    },
+    tt,
+  )
+
+  pub status-own : (answer : Answer) → Own submitted (record { member = m; answer = answer; bytes = statusPacket m })
+  unfolding statusPacket packetOf headerBytes fieldsOf written
+  status-own answer =
+      (record { content = Status (m .number) (acknowledgedOf m); payload = []; bytes-are = refl; allowed = status-allowed m typed sound; says = (refl, le-refl _) }, tt)
+
+  pub request-own : (answer : Answer) → 1 ≤ m .submitted → m .message .length ≤ payloadMost → at submitted (m .submitted) ≡ some (payloadOf (m .message))
+      → Own submitted (record { member = m; answer = answer; bytes = requestPacket m })
+  unfolding requestPacket packetOf headerBytes fieldsOf written
+  request-own answer pos short last = (
+    record {
+      content = Request (m .number) (acknowledgedOf m) (m .submitted);
+      payload = payloadOf (m .message);
+      bytes-are = refl;
+      allowed = request-allowed m typed sound (payloadOf (m .message)) pos (payload-short (m .message) short);
+      says = (refl, le-refl _, last);
+    },
+    tt,
+  )

@@ -1,0 +1,56 @@
+-- The table of examples holds, by computation. Assumes nothing.
+use mathlib.Core.Path.{refl}
+use Rattle.group.specs.Choice.{if_then_else_}
+use Rattle.group.specs.Fold.{all, allAbove, least}
+use Rattle.group.specs.Opening.{openOf}
+use Rattle.group.specs.Question.{judged}
+use Rattle.member.specs.Calls as member
+use Rattle.member.specs.Sound as memberSound
+use Rattle.member.specs.State.{lowestMissing, freshMember}
+use Rattle.message.specs.Message.{allZero, messageOf, emptyMessage, payloadOf, zeroBehind, isEmpty}
+use Rattle.model.specs.Closing.{closeMember, closeFrom}
+use Rattle.model.specs.Examples.{Examples, request, broadcast, statusOf, requested, holding}
+use Rattle.model.specs.Log.{gather, numberedIn, messagesAbove}
+use Rattle.model.specs.World.{happen, run, freshMembers, fresh}
+use Rattle.packet.specs.Number.{numberAt, bytesOf}
+use Rattle.packet.specs.Packet.{headerOf, knownKind, payloadFits, obeys, fieldsVerdict, readOf, headerBytes, packetOf, writeVerdict, writeOf, contentOf, fieldsOf, written}
+use Rattle.sequencer.specs.Calls as sequencer
+use Rattle.sequencer.specs.Note.{largerOf, tableNoted, clearedOf, withTable, noteOf}
+use Rattle.sequencer.specs.Order.{numberedBy}
+use Rattle.sequencer.specs.Sound.{entrySound, keptSound, placeSound, frameSound, soundOf}
+use Rattle.sequencer.specs.State.{floorOf, freshSequencer}
+
+pub examples : Examples
+unfolding if_then_else_ all allAbove least openOf judged member.answered member.requestPacket member.gapPacket member.statusPacket member.callVerdict member.submitVerdict member.withWaiting member.submitOf member.repeatOf member.statusOf member.withHeld member.gapUpTo member.keptOf member.broadcastOf member.smallerOf member.pollOf member.contentStep member.readStep member.receiveOf member.isOwn member.withTaken member.tookOf member.takeOf member.openedOf member.freshOf memberSound.placeSound memberSound.waitingSound memberSound.frameSound memberSound.soundOf lowestMissing freshMember allZero messageOf emptyMessage payloadOf zeroBehind isEmpty closeMember closeFrom request broadcast statusOf requested holding gather numberedIn messagesAbove happen run freshMembers fresh numberAt bytesOf headerOf knownKind payloadFits obeys fieldsVerdict readOf headerBytes packetOf writeVerdict writeOf contentOf fieldsOf written sequencer.answered sequencer.broadcastOf sequencer.pollPacket sequencer.oneMore sequencer.repeatedOf sequencer.isOf sequencer.findOf sequencer.oldOf sequencer.againOf sequencer.fullOf sequencer.withMessage sequencer.numberedOf sequencer.requestOf sequencer.gapOf sequencer.senderVerdict sequencer.countVerdict sequencer.wantedVerdict sequencer.contentStep sequencer.readStep sequencer.callVerdict sequencer.receiveOf sequencer.pollOf sequencer.copyOf sequencer.openedOf sequencer.freshOf largerOf tableNoted clearedOf withTable noteOf numberedBy entrySound keptSound placeSound frameSound soundOf floorOf freshSequencer
+examples =
+    record {
+      floor = refl;
+      submit-96 = refl;
+      submit-97 = refl;
+      write-96 = refl;
+      write-97 = refl;
+      packet-19 = refl;
+      packet-117 = refl;
+      packet-20 = refl;
+      packet-20-status = refl;
+      eighth = refl;
+      ninth = refl;
+      eighth-gap = refl;
+      eighth-packet = refl;
+      ninth-gap = refl;
+      ninth-packet = refl;
+      thirty-second = refl;
+      next-full = refl;
+      frees-one = refl;
+      again-counted = refl;
+      old-counted = refl;
+      others-not = refl;
+      at-top = refl;
+      over-top = refl;
+      empty-payload = refl;
+      alone-empties = refl;
+      ab-written = refl;
+      ab-read = refl;
+      schedule-answers = refl;
+      schedule-closing = refl;
+    }

@@ -1,0 +1,29 @@
+-- The invariant of the whole group: the parts that the ends' crates state, joined. Assumes nothing.
+use mathlib.Core.Path.{_≡_}
+use mathlib.Core.List.{List}
+use Prim.Native.Nat.{ℕ, _<_}
+use lib.ListN.{length, getD}
+use Rattle.group.proofs.Lists.{All}
+use Rattle.member.proofs.Invariant.{Terminal}
+use Rattle.member.specs.declared.Member.{Member}
+use Rattle.message.specs.Order.{Ordered}
+use Rattle.model.specs.Log.{order, taken, submitted}
+use Rattle.model.specs.World.{Group, World, noMember}
+use Rattle.packet.proofs.Facts.{Known}
+use Rattle.sequencer.proofs.Invariant.{SequencerInv, takenIn, countIn}
+
+-- the last number that member i took
+abbrev pub takenOf : List Member → ℕ → ℕ
+takenOf members i = getD members i noMember .taken .0
+
+-- the group under an order, what each terminal took, and what it submitted
+pub record Inv (n g : ℕ) (w : Group) (ord : List Ordered) (tk : ℕ → List Ordered) (sb : ℕ → List (List ℕ)) : Type 0 where
+  pub sequencer : SequencerInv n g (w .sequencer) ord
+  pub members : length (w .members) ≡ n
+  pub terminal : (i : ℕ) → i < n
+      → Terminal n g i (takenIn (w .sequencer .acknowledgements) i) (countIn (w .sequencer .acknowledgements) i) (getD (w .members) i noMember) ord (tk i) (sb i)
+  pub packets : All (Known g ord (takenOf (w .members)) sb) (w .packets)
+
+-- the same where the three are read off the log
+abbrev pub WorldInv : ℕ → ℕ → World → Type 0
+WorldInv n g w = Inv n g (w .group) (order (w .log)) (λ i. taken i (w .log)) (λ i. submitted i (w .log))

@@ -1,0 +1,102 @@
+-- The invariant after a call of one end, from what that call owes. Assumes nothing.
+use mathlib.Core.Path.{_≡_, refl, sym, ap, _∙_, subst}
+use mathlib.Core.Logic.{_≢_}
+use mathlib.Core.Option.{some}
+use mathlib.Core.List.{List, [], _∷_, _++_}
+use Prim.Native.Nat.{ℕ, _+_, _≤_, _<_}
+use native.Mathlib.Nat.{le-refl}
+use native.Mathlib.Omega.{arith}
+use lib.ListN.{length, getD, set, take, length-set, length-append}
+use lib.Seq.{take-append-le, getD-set-same}
+use Rattle.group.proofs.Lists.{at, All, all-append, all-map, at-append, set-each, eq-or}
+use Rattle.member.proofs.Invariant.{Terminal, MemberGood}
+use Rattle.member.specs.Calls as member
+use Rattle.member.specs.declared.Member.{Member}
+use Rattle.message.specs.Order.{Ordered, ownOf, countedFrom}
+use Rattle.model.specs.World.{Group, noMember, withMember, withSequencer}
+use Rattle.model.proofs.Invariant.{Inv, takenOf}
+use Rattle.packet.proofs.Facts.{Known, KnownBy, known-grows, known-by}
+use Rattle.packet.specs.Packet.{written}
+use Rattle.sequencer.proofs.Invariant.{SequencerGood, takenIn, countIn}
+use Rattle.sequencer.specs.Calls as sequencer
+use Rattle.sequencer.specs.Order.{numberedBy}
+
+-- a terminal after a call of the sequencer: the order grew, and so may have its entry
+terminal-grows : (n g i a a′ c c′ : ℕ) (m : Member) (ord more tk : List Ordered) (sb : List (List ℕ))
+    → Terminal n g i a c m ord tk sb → a′ ≤ m .taken .0 → c ≤ c′ → c′ ≤ length sb
+    → ownOf i (ord ++ more) ≡ countedFrom 1 (take c′ sb)
+    → Terminal n g i a′ c′ m (ord ++ more) tk sb
+terminal-grows n g i a a′ c c′ m ord more tk sb h ha hc hs ho =
+    record {
+      n-is = h .n-is;
+      g-is = h .g-is;
+      number-is = h .number-is;
+      typed = h .typed;
+      sound = h .sound;
+      acknowledged-le = ha;
+      taken-le = simp length-append (let z = h .taken-le in omega arith);
+      took-is = h .took-is ∙ sym (take-append-le (m .taken .0) ord more (h .taken-le));
+      held-is = λ k lo hi held. let x = h .held-is k lo hi held in (x .0, at-append ord more k (x .1), x .2);
+      submitted-is = h .submitted-is;
+      count-le = let z = h .submitted-is in omega arith;
+      count-near = let z = h .count-near in omega arith;
+      idle = λ e. let y = h .idle e in let z = h .submitted-is in omega arith;
+      waiting-is = h .waiting-is;
+      own-is = ho;
+      payload-ok = h .payload-ok;
+    }
+
+-- a call of the sequencer
+pub keep-sequencer : (n g : ℕ) (w : Group) (ord : List Ordered) (tk : ℕ → List Ordered) (sb : ℕ → List (List ℕ)) (o : sequencer.Outcome)
+    → Inv n g w ord tk sb
+    → SequencerGood n g (w .sequencer .acknowledgements) ord (takenOf (w .members)) sb (written (o .bytes)) o
+    → Inv n g (withSequencer w o .group) (ord ++ numberedBy (o .answer) (o .bytes)) tk sb
+keep-sequencer n g w ord tk sb o v h =
+    record {
+      sequencer = h .inv;
+      members = v .members;
+      terminal = λ i b.
+          terminal-grows n g i _ _ _ _ _ ord (numberedBy (o .answer) (o .bytes)) (tk i) (sb i) (v .terminal i b) (h .acknowledged i b) (h .counts-up i b) (h .counts-most i b) (h .own i b);
+      packets =
+          all-append _ (w .packets) (written (o .bytes))
+          (all-map _ _
+          (known-grows ord (ord ++ numberedBy (o .answer) (o .bytes)) (takenOf (w .members)) (takenOf (w .members)) sb sb
+          (λ s m e. at-append ord (numberedBy (o .answer) (o .bytes)) s e) (λ i. le-refl _) (λ i c p e. e) g)
+          (w .packets) (v .packets))
+          (h .known);
+    }
+
+-- a call of member i
+pub keep-member : (n g : ℕ) (w : Group) (ord : List Ordered) (tk tk′ : ℕ → List Ordered) (sb sb′ : ℕ → List (List ℕ)) (i : ℕ) (o : member.Outcome) (packets : List (List ℕ))
+    → i < n → ((j : ℕ) → j ≢ i → tk′ j ≡ tk j) → ((j : ℕ) → j ≢ i → sb′ j ≡ sb j)
+    → Inv n g w ord tk sb
+    → MemberGood n g i (takenIn (w .sequencer .acknowledgements) i) (countIn (w .sequencer .acknowledgements) i) ord (sb i) (getD (w .members) i noMember) (tk′ i) (sb′ i) packets o
+    → Inv n g (withMember w i o packets .group) ord tk′ sb′
+keep-member n g w ord tk tk′ sb sb′ i o packets hi ht hs v h =
+    record {
+      sequencer = v .sequencer;
+      members = length-set (w .members) i (o .member) ∙ v .members;
+      terminal = λ j b.
+          set-each
+          (λ (k : ℕ) (m : Member). Terminal n g k (takenIn (w .sequencer .acknowledgements) k) (countIn (w .sequencer .acknowledgements) k) m ord (tk′ k) (sb′ k))
+          (w .members) i (o .member) noMember j
+          (λ e. rw e (h .terminal))
+          (λ e. rw (ht j e, hs j e) (v .terminal j b))
+          inside;
+      packets =
+          all-append _ (w .packets) packets
+          (all-map _ _ (known-grows ord ord (takenOf (w .members)) (takenOf (set (w .members) i (o .member))) sb sb′ (λ s m e. e) up grown g) (w .packets) (v .packets))
+          (all-map _ _
+          (λ p y. known-by g i ord (takenOf (set (w .members) i (o .member))) sb′ p
+          (subst (λ (x : Member). KnownBy g i (x .taken .0) (sb′ i) p) (sym (getD-set-same (w .members) i (o .member) noMember inside)) y))
+          packets (h .known));
+    }
+  where
+    inside : i < length (w .members)
+    inside = let z = v .members in omega arith
+
+    up : (j : ℕ) → takenOf (w .members) j ≤ takenOf (set (w .members) i (o .member)) j
+    up j = set-each (λ (k : ℕ) (m : Member). takenOf (w .members) k ≤ m .taken .0) (w .members) i (o .member) noMember j (λ e. rw e (h .up)) (λ e. le-refl _) inside
+
+    grown : (j c : ℕ) (p : List ℕ) → at (sb j) c ≡ some p → at (sb′ j) c ≡ some p
+    grown j c p e = eq-or j i (λ q. rw q (h .grown c p (rw q at e))) (λ q. rw (hs j q) e)

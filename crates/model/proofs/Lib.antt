@@ -1,0 +1,7 @@
+pub mod Invariant
+pub mod Keep
+pub mod Step
+pub mod Whole
+pub mod Round
+pub mod Theorem
+pub mod Examples

@@ -1,0 +1,115 @@
+-- Demand 3: the closing round over all terminals, and the claim about every list of events. Assumes nothing.
+use mathlib.Core.Path.{_≡_, refl, sym, ap, _∙_, subst}
+use mathlib.Core.List.{List, [], _∷_, _++_}
+use Prim.Native.Nat.{ℕ, zero, suc, _+_, _-_, _*_, _≤_, _<_}
+use native.Mathlib.Nat.{not-suc-le-zero, zero-add}
+use native.Mathlib.Omega.{arith}
+use lib.ListN.{length, getD, length-append}
+use lib.Seq.{take-all}
+use Rattle.group.proofs.Lists.{eq-or}
+use Rattle.group.specs.Limits.{membersMost, placesMost, largestNumber}
+use Rattle.member.specs.declared.Member.{Member}
+use Rattle.model.proofs.Invariant.{WorldInv, takenOf}
+use Rattle.model.proofs.Round.{closes-one}
+use Rattle.model.proofs.Step.{run-keeps, fresh-inv}
+use Rattle.model.proofs.Whole.{floor-le, whole, total, owns}
+use Rattle.model.specs.Claim.{Claim, Demand3}
+use Rattle.model.specs.Closing.{closeMember, closeFrom, closing, closingMost}
+use Rattle.model.specs.Log.{order, messagesAbove}
+use Rattle.model.specs.World.{Event, noMember, World, run, fresh}
+use Rattle.sequencer.proofs.Invariant.{takenIn}
+use Rattle.sequencer.proofs.Ordering.{floor-all}
+use Rattle.sequencer.proofs.Soundness.{sound-of}
+
+run-append : (w : World) (a b : List Event) → run w (a ++ b) ≡ run (run w a) b
+unfolding run
+run-append w [] b = refl
+run-append w (e ∷ a) b = run-append _ a b
+
+-- every terminal has all, and the sequencer knows it
+record Closes (n : ℕ) (w w′ : World) : Type 0 where
+  top-is : w′ .group .sequencer .top .0 ≡ w .group .sequencer .top .0
+  entries : (j : ℕ) → j < n → w .group .sequencer .top .0 ≤ takenIn (w′ .group .sequencer .acknowledgements) j
+  order-is : order (w′ .log) ≡ order (w .log)
+
+module _ (n g : ℕ) (hn : n ≤ membersMost) (hg : g ≤ largestNumber) where
+  closes-from : (ms : List Member) (i b : ℕ) (w : World) → WorldInv n g w → length (w .group .packets) ≡ b → i + length ms ≡ n
+      → ((k : ℕ) → k < length ms → takenOf (w .group .members) (i + k) ≡ getD ms k noMember .taken .0)
+      → ((j : ℕ) → j < i → w .group .sequencer .top .0 ≤ takenIn (w .group .sequencer .acknowledgements) j)
+      → Closes n w (run w (closeFrom ms i (w .group .sequencer .top .0) b))
+  unfolding closeFrom run
+  closes-from [] i b w v eb ei ht ha = record { top-is = refl; entries = λ j x. ha j (omega arith); order-is = refl }
+  closes-from (m ∷ ms) i b w v eb ei ht ha =
+      let top : ℕ = w .group .sequencer .top .0 in
+      let t : ℕ = m .taken .0 in
+      let hi : i < n = omega arith in
+      let et : takenOf (w .group .members) i ≡ t = subst (λ (k : ℕ). takenOf (w .group .members) k ≡ t) (omega arith) (ht 0 (omega arith)) in
+      let le = v .terminal i hi .taken-le in
+      let tp = v .sequencer .top-is in
+      let es : List Event = closeMember i t (top - t) b in
+      let w1 : World = run w es in
+      let v1 : WorldInv n g w1 = run-keeps n g hn hg w es v in
+      let c = closes-one n g hn hg i hi (top - t) t b w v et (omega arith) eb in
+      let d = closes-from ms (i + 1) (b + (top - t) + 1) w1 v1 (c .length-is ∙ (omega arith)) (omega arith)
+      (λ k x. let e : i + 1 + k ≡ i + suc k = omega arith in
+      c .taken-other (i + 1 + k) (λ z. omega arith) ∙ ap (takenOf (w .group .members)) e ∙ ht (suc k) (omega arith))
+      (λ j x. let z = c .top-is in
+      eq-or j i (λ e. rw e (let y = c .entry-is in omega arith)) (λ e. rw (c .entry-other j e) (let y = ha j (omega arith) in omega arith))) in
+      let top1 : w1 .group .sequencer .top .0 ≡ top = c .top-is in
+      let rest : List Event = closeFrom ms (i + 1) top (b + (top - t) + 1) in
+      let d′ : Closes n w1 (run w1 rest) = subst (λ (k : ℕ). Closes n w1 (run w1 (closeFrom ms (i + 1) k (b + (top - t) + 1)))) top1 d in
+      subst (λ (x : World). Closes n w x) (sym (run-append w es rest))
+      (record { top-is = d′ .top-is ∙ top1; entries = λ j x. let z = d′ .entries j x in omega arith; order-is = d′ .order-is ∙ c .order-is })
+
+-- its length
+member-length : (i t k b : ℕ) → length (closeMember i t k b) ≡ 3 * k + 2
+unfolding closeMember
+member-length i t zero b = refl
+member-length i t (suc k) b = let z = member-length i (t + 1) k (b + 1) in omega arith
+
+from-length : (ms : List Member) (i top b : ℕ) → ((k : ℕ) → k < length ms → top - getD ms k noMember .taken .0 ≤ placesMost) → length (closeFrom ms i top b) ≤ closingMost * length ms
+unfolding closeFrom
+from-length [] i top b h = omega arith
+from-length (m ∷ ms) i top b h =
+    let x = h 0 (omega arith) in
+    let t : ℕ = m .taken .0 in
+    let y = member-length i t (top - t) b in
+    let z = from-length ms (i + 1) top (b + (top - t) + 1) (λ k a. h (suc k) (omega arith)) in
+    simp length-append (omega arith)
+
+claim : (n g : ℕ) → 1 ≤ n → n ≤ membersMost → g ≤ largestNumber → (w : World) → WorldInv n g w → Claim n w
+unfolding messagesAbove
+claim n g lo hn hg w v =
+    let w′ : World = run w (closing w) in
+    let v′ : WorldInv n g w′ = run-keeps n g hn hg w (closing w) v in
+    let c = closes-from n g hn hg (w .group .members) 0 (length (w .group .packets)) w v refl (zero-add _ ∙ v .members)
+    (λ k x. ap (takenOf (w .group .members)) (zero-add k)) (λ j x. absurd (not-suc-le-zero x)) in
+    let s′ = v′ .sequencer in
+    let tp = c .top-is in
+    let same = s′ .top-is in
+    let fl = floor-all n g (order (w′ .log)) (w′ .group .sequencer) s′ (λ i b. let y = c .entries i b in omega arith) in
+    let z : w′ .group .sequencer .top .0 - w′ .group .sequencer .floor .0 ≡ 0 = omega arith in
+    record {
+      whole = λ i b. whole n g w i v b;
+      total = total n g w v;
+      own = λ i b. owns n g w i v b;
+      closing-short =
+          let y = from-length (w .group .members) 0 (w .group .sequencer .top .0) (length (w .group .packets))
+          (λ k a. let b : k < n = (let e = v .members in omega arith) in
+          let f = floor-le n g w k v b in
+          let x = sound-of (w .group .sequencer) (v .sequencer .sound) in
+          omega arith) in
+          subst (λ (k : ℕ). length (closing w) ≤ closingMost * k) (v .members) y;
+      closing-order = c .order-is;
+      closing-empties = ap (messagesAbove (w′ .group .sequencer .history) (w′ .group .sequencer .floor .0)) z;
+      closing-gives = λ i b.
+          let h = v′ .terminal i b in
+          let y = c .entries i b in
+          let x = s′ .top-is in
+          let a = h .acknowledged-le in
+          h .took-is ∙ take-all (takenOf (w′ .group .members) i) (order (w′ .log)) (omega arith) ∙ c .order-is;
+    }
+
+pub demand3 : Demand3
+demand3 n number lo hn hg events =
+    claim n number lo hn hg (run (fresh n number) events) (run-keeps n number hn hg (fresh n number) events (fresh-inv n number lo hn hg))

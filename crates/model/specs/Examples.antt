@@ -1,0 +1,120 @@
+-- The table of proved examples: document 01's marked sentences, in its order, and the schedule at its end, each computed.
+-- `proofs/Examples.antt` computes them.
+use mathlib.Core.Path.{_≡_}
+use mathlib.Core.List.{List, [], _∷_, _++_, map}
+use Prim.Native.Nat.{ℕ, zero, suc, _+_}
+use lib.ListN.{length, replicate}
+use Rattle.group.specs.Limits.{headerSize, payloadMost, longestPacket, placesMost, heldMost}
+use Rattle.group.specs.declared.Refusal.{Refusal}
+use Rattle.member.specs.Calls as member
+use Rattle.member.specs.State.{freshMember}
+use Rattle.member.specs.declared.Answer as memberAnswer
+use Rattle.member.specs.declared.Member.{Member}
+use Rattle.message.specs.Order.{Ordered}
+use Rattle.model.specs.Closing.{closing}
+use Rattle.model.specs.Log.{order, historyOf}
+use Rattle.model.specs.World.{Event, submit, take, status, copy, handMember, handSequencer, Answer, bySequencer, byMember, World, run, fresh}
+use Rattle.packet.specs.Packet.{packetOf, fieldsOf, readOf, writeOf}
+use Rattle.packet.specs.declared.Packet.{Packet}
+use Rattle.packet.specs.declared.Reading.{Reading}
+use Rattle.packet.specs.declared.Writing.{Writing}
+use Rattle.sequencer.specs.Calls as sequencer
+use Rattle.sequencer.specs.State.{floorOf, freshSequencer}
+use Rattle.sequencer.specs.declared.Acknowledgement.{Acknowledgement}
+use Rattle.sequencer.specs.declared.Answer as sequencerAnswer
+use Rattle.sequencer.specs.declared.Sequencer.{Sequencer}
+
+-- an acknowledgement of that number
+abbrev pub acknowledgedUpTo : ℕ → Acknowledgement
+acknowledgedUpTo number = record { taken = record { 0 = number }; count = 0 }
+
+-- member 1's request in group 7, and the broadcast of its message with that number and count
+unfoldable pub request : ℕ → ℕ → List ℕ → List ℕ
+request taken count payload = packetOf (fieldsOf 7 (Packet.Request (record { 0 = 1 }) (record { 0 = taken }) count)) payload
+
+unfoldable pub broadcast : ℕ → List ℕ
+broadcast number = packetOf (fieldsOf 7 (Packet.Broadcast (record { 0 = 1 }) (record { 0 = number }) number (record { 0 = 0 }))) []
+
+unfoldable pub statusOf : ℕ → ℕ → List ℕ
+statusOf i taken = packetOf (fieldsOf 7 (Packet.Status (record { 0 = i }) (record { 0 = taken }))) []
+
+-- the sequencer of n members of group 7 after member 1's requests with counts 1 to k, nothing taken
+unfoldable pub requested : ℕ → ℕ → Sequencer
+requested n zero = freshSequencer (record { n = n; number = 7 })
+requested n (suc k) = sequencer.receiveOf (requested n k) (request 0 (suc k) []) longestPacket .sequencer
+
+-- member 0 of two in group 7 that holds numbers 1 to k
+unfoldable pub holding : ℕ → Member
+holding zero = freshMember (record { n = 2; number = 7 }) (record { 0 = 0 })
+holding (suc k) = member.receiveOf (holding k) (broadcast (suc k)) longestPacket .member
+
+-- what is answered in a list of events
+abbrev pub answers : World → List Answer
+answers w = map (λ entry. entry .answer) (w .log)
+
+-- the schedule that the document plays
+abbrev pub schedule : List Event
+schedule = submit 1 (0x61 ∷ 0x62 ∷ []) ∷ handSequencer 0 ∷ handMember 1 1 ∷ take 1 ∷ take 0 ∷ []
+
+-- one member: its message numbered, kept and taken, then its status
+abbrev pub alone : List Event
+alone = submit 0 [] ∷ handSequencer 0 ∷ handMember 1 0 ∷ take 0 ∷ status 0 ∷ handSequencer 2 ∷ []
+
+-- group 7, member 1, first message "ab"
+abbrev pub ab : List ℕ
+ab = 0x01 ∷ 0x01 ∷ 0x00 ∷ 0x02 ∷ 0x00 ∷ 0x00 ∷ 0x00 ∷ 0x07 ∷ 0x00 ∷ 0x00 ∷ 0x00 ∷ 0x00 ∷ 0x00 ∷ 0x00 ∷ 0x00 ∷ 0x01 ∷ 0x00 ∷ 0x00 ∷ 0x00 ∷ 0x00 ∷ 0x61 ∷ 0x62 ∷ []
+
+pub record Examples : Type 0 where
+  -- acknowledgements 8, 7, 9, 8, 6, 8 give floor 6
+  pub floor : floorOf 6 (acknowledgedUpTo 8 ∷ acknowledgedUpTo 7 ∷ acknowledgedUpTo 9 ∷ acknowledgedUpTo 8 ∷ acknowledgedUpTo 6 ∷ acknowledgedUpTo 8 ∷ []) ≡ 6
+  -- payload 96 goes, 97 is 13: submitted, and written
+  pub submit-96 : member.submitOf (holding 0) (replicate 96 1) longestPacket .answer ≡ memberAnswer.Answer.Sent
+  pub submit-97 : member.submitOf (holding 0) (replicate 97 1) longestPacket .answer ≡ memberAnswer.Answer.Refused Refusal.LongPayload
+  pub write-96 : writeOf (fieldsOf 7 (Packet.Request (record { 0 = 1 }) (record { 0 = 0 }) 1)) (replicate 96 1) longestPacket .answer ≡ Writing.Bytes 116
+  pub write-97 : writeOf (fieldsOf 7 (Packet.Request (record { 0 = 1 }) (record { 0 = 0 }) 1)) (replicate 97 1) longestPacket .answer ≡ Writing.Refused Refusal.LongPayload
+  -- packet of 19 or 117 bytes: 3; 20: goes on
+  pub packet-19 : readOf (replicate 19 0) ≡ Reading.Refused Refusal.PacketSize
+  pub packet-117 : readOf (replicate 117 0) ≡ Reading.Refused Refusal.PacketSize
+  pub packet-20 : readOf (replicate 20 0) ≡ Reading.Refused Refusal.UnknownKind
+  pub packet-20-status : readOf (statusOf 1 0) ≡ Reading.Fields (fieldsOf 7 (Packet.Status (record { 0 = 1 }) (record { 0 = 0 })))
+  -- with t + 1 to t + 7 held, t + 8 is Kept and then t + 9 Beyond
+  pub eighth : member.receiveOf (holding 7) (broadcast 8) longestPacket .answer ≡ memberAnswer.Answer.Kept
+  pub ninth : member.receiveOf (holding 8) (broadcast 9) longestPacket .answer ≡ memberAnswer.Answer.Beyond
+  -- with nothing held, t + 8 is KeptGap (t + 1 to t + 7) and t + 9 BeyondGap (t + 1 to t + 8)
+  pub eighth-gap : member.receiveOf (holding 0) (broadcast 8) longestPacket .answer ≡ memberAnswer.Answer.KeptGap
+  pub eighth-packet : member.receiveOf (holding 0) (broadcast 8) longestPacket .bytes
+      ≡ packetOf (fieldsOf 7 (Packet.Gap (record { 0 = 0 }) (record { 0 = 0 }) (record { 0 = 1 }) (record { 0 = 7 }))) []
+  pub ninth-gap : member.receiveOf (holding 0) (broadcast 9) longestPacket .answer ≡ memberAnswer.Answer.BeyondGap
+  pub ninth-packet : member.receiveOf (holding 0) (broadcast 9) longestPacket .bytes
+      ≡ packetOf (fieldsOf 7 (Packet.Gap (record { 0 = 0 }) (record { 0 = 0 }) (record { 0 = 1 }) (record { 0 = 8 }))) []
+  -- the 32nd above floor is Numbered, the next Full
+  pub thirty-second : sequencer.receiveOf (requested 2 31) (request 0 32 []) longestPacket .answer ≡ sequencerAnswer.Answer.Numbered (record { 0 = 32 })
+  pub next-full : sequencer.receiveOf (requested 2 32) (request 0 33 []) longestPacket .answer ≡ sequencerAnswer.Answer.Full
+  -- a request that finds 32 kept and whose own A frees one is Numbered
+  pub frees-one : sequencer.receiveOf (sequencer.receiveOf (requested 2 32) (statusOf 0 1) longestPacket .sequencer) (request 1 33 []) longestPacket .answer
+      ≡ sequencerAnswer.Answer.Numbered (record { 0 = 33 })
+  -- Old and Again add 1 to the repeat count, which nothing else changes
+  pub again-counted : sequencer.receiveOf (requested 2 1) (request 0 1 []) longestPacket .sequencer .repeats ≡ 1
+  pub old-counted : sequencer.receiveOf (requested 2 2) (request 0 1 []) longestPacket .sequencer .repeats ≡ 1
+  pub others-not : requested 2 2 .repeats ≡ 0
+  -- A = top goes, top + 1 is 10
+  pub at-top : sequencer.receiveOf (requested 2 1) (statusOf 0 1) longestPacket .answer ≡ sequencerAnswer.Answer.Noted
+  pub over-top : sequencer.receiveOf (requested 2 1) (statusOf 0 2) longestPacket .answer ≡ sequencerAnswer.Answer.Refused Refusal.AcknowledgedAhead
+  -- an empty payload is a message
+  pub empty-payload : order (run (fresh 1 7) alone .log) ≡ record { number = 1; originator = 0; count = 1; payload = [] } ∷ []
+  -- with n = 1, member 0's message is numbered, kept and taken, and its status empties the history
+  pub alone-empties : historyOf (run (fresh 1 7) alone .group .sequencer) ≡ []
+  -- group 7, member 1, first message "ab", in hexadecimal
+  pub ab-written : request 0 1 (0x61 ∷ 0x62 ∷ []) ≡ ab
+  pub ab-read : readOf ab ≡ Reading.Fields (fieldsOf 7 (Packet.Request (record { 0 = 1 }) (record { 0 = 0 }) 1))
+  -- the schedule at the document's end: sent, numbered 1, kept, took 1 1 1 6162 last, none
+  pub schedule-answers : answers (run (fresh 2 7) schedule)
+      ≡ byMember memberAnswer.Answer.Sent ab
+      ∷ bySequencer (sequencerAnswer.Answer.Numbered (record { 0 = 1 }))
+      (packetOf (fieldsOf 7 (Packet.Broadcast (record { 0 = 1 }) (record { 0 = 1 }) 1 (record { 0 = 0 }))) (0x61 ∷ 0x62 ∷ []))
+      ∷ byMember memberAnswer.Answer.Kept []
+      ∷ byMember (memberAnswer.Answer.Took (record { 0 = 1 }) (record { 0 = 1 }) 1 mathlib.Core.Bool.false) (0x61 ∷ 0x62 ∷ [])
+      ∷ byMember memberAnswer.Answer.None []
+      ∷ []
+  -- its closing round: three events for the number that terminal 0 lacks, and two for each terminal
+  pub schedule-closing : length (closing (run (fresh 2 7) schedule)) ≡ 7

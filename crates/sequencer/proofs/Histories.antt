@@ -1,0 +1,226 @@
+-- The invariant of demand 3 holds of a fresh sequencer, and noting, repeating and numbering keep it; and a number of the
+-- history has the broadcast of the order's message. Assumes nothing.
+use mathlib.Core.Path.{_≡_, refl, ap, _∙_}
+use mathlib.Core.Logic.{_⊎_, inl, inr}
+use mathlib.Core.Option.{Option, some}
+use mathlib.Core.List.{List, [], _∷_, _++_}
+use Prim.Native.Nat.{ℕ, suc, _+_, _≤_, _<_}
+use native.Mathlib.Nat.{le-trans}
+use native.Mathlib.Omega.{arith}
+use lib.ListN.{length, getD, length-append, getD-replicate, List·getD-eq-default}
+use Rattle.group.proofs.Lists.{at, at-le, at-nil, at-snoc, at-some, le-or}
+use Rattle.group.specs.Limits.{membersMost, placesMost, payloadMost, largestNumber}
+use Rattle.group.specs.declared.MemberNumber.{MemberNumber}
+use Rattle.group.specs.declared.SequenceNumber.{SequenceNumber}
+use Rattle.message.proofs.Kept.{kept-payload, empty-zero}
+use Rattle.message.specs.Message.{messageOf, emptyMessage, blank, isEmpty}
+use Rattle.message.specs.Order.{Ordered}
+use Rattle.packet.proofs.Facts.{Known, ordered}
+use Rattle.packet.specs.Laws.{Allowed}
+use Rattle.packet.specs.Packet.{fieldsOf, packetOf}
+use Rattle.packet.specs.declared.Packet.{Packet}
+use Rattle.packet.specs.declared.Packet.the-variants.{Broadcast}
+use Rattle.sequencer.specs.Calls.{broadcastOf, repeatedOf, withMessage}
+use Rattle.sequencer.specs.Note.{withTable, noteOf}
+use Rattle.sequencer.specs.State.{noAcknowledgement, messageAt, placeOf, freshSequencer}
+use Rattle.sequencer.specs.declared.Acknowledgement.{Acknowledgement}
+use Rattle.sequencer.specs.declared.Sequencer.{Sequencer}
+use Rattle.sequencer.proofs.Invariant.{SequencerInv, countIn}
+use Rattle.sequencer.proofs.Keeping.{repeated-typed, repeated-sound}
+use Rattle.sequencer.proofs.Noting.{cleared-other, noted-count, floor-up, note-typed, note-sound}
+use Rattle.sequencer.proofs.Numbering.{counted-same, counted-up, kept-here, kept-other, numbered-typed, numbered-sound}
+use Rattle.sequencer.proofs.Packets.{broadcast-allowed}
+use Rattle.sequencer.proofs.Soundness.{Sound, sound-of, of-sound, floor-most}
+
+module _ (n g : ℕ) (order : List Ordered) (s : Sequencer) (v : SequencerInv n g s order) where
+  sound : Sound s
+  sound = sound-of s (v .sound)
+
+  -- a member of the group and a number that it can have taken
+  module _ (m : MemberNumber) (taken : SequenceNumber) (member : m .0 < n) (known : taken .0 ≤ length order) where
+    pub note-inv : SequencerInv n g (noteOf s m taken) order
+    unfolding noteOf withTable
+    note-inv =
+        let f = sound in
+        let member′ : m .0 < s .group .n = rw (v .n-is) member in
+        let known′ : taken .0 ≤ s .top .0 = rw (v .top-is) known in
+        let up = floor-up s m taken (v .typed) f member′ in
+        record {
+          n-is = v .n-is;
+          g-is = v .g-is;
+          typed = note-typed s m taken (v .typed) f member′ known′;
+          sound = of-sound (noteOf s m taken) (note-sound s m taken (v .typed) f member′ known′);
+          top-is = v .top-is;
+          history-is = λ k x e h.
+              let l = at-le order k e in
+              let t = v .top-is in
+              let w = f .window in
+              cleared-other (s .history) (s .floor .0) _ k (omega arith) (omega arith) ∙ v .history-is k x e (omega arith);
+          number-is = v .number-is;
+          originator-ok = v .originator-ok;
+          count-least = v .count-least;
+          count-most = λ k x e. rw (noted-count s m taken (v .typed) f member′ (x .originator)) (v .count-most k x e);
+          payload-ok = v .payload-ok;
+        }
+
+  pub repeated-inv : SequencerInv n g (repeatedOf s) order
+  unfolding repeatedOf
+  repeated-inv =
+      record {
+        n-is = v .n-is;
+        g-is = v .g-is;
+        typed = repeated-typed s (v .typed) sound;
+        sound = of-sound (repeatedOf s) (repeated-sound s (v .typed) sound);
+        top-is = v .top-is;
+        history-is = v .history-is;
+        number-is = v .number-is;
+        originator-ok = v .originator-ok;
+        count-least = v .count-least;
+        count-most = v .count-most;
+        payload-ok = v .payload-ok;
+      }
+
+  -- a message of a member with the count after its last, where a place and a number are left
+  module _ (m : MemberNumber) (count : ℕ) (payload : List ℕ) (member : m .0 < n) (next : count ≡ countIn (s .acknowledgements) (m .0) + 1)
+      (most : count ≤ largestNumber) (short : length payload ≤ payloadMost) (room : s .top .0 < s .floor .0 + placesMost) (left : s .top .0 < largestNumber) where
+    abbrev message : Ordered
+    message = ordered (s .top .0 + 1) (m .0) count payload
+
+    -- what the order has with the message: what it had, or the message
+    abbrev Had : ℕ → Ordered → Type 0
+    Had k x = (at order k ≡ some x) ⊎ ((k ≡ suc (length order)) × (message ≡ x))
+
+    pub numbered-inv : SequencerInv n g (withMessage s m count payload) (order ++ (message ∷ []))
+    unfolding withMessage
+    numbered-inv =
+        let f = sound in
+        let typed = v .typed in
+        let member′ : m .0 < s .group .n = rw (v .n-is) member in
+        let up : countIn (s .acknowledgements) (m .0) ≤ count = omega arith in
+        record {
+          n-is = v .n-is;
+          g-is = v .g-is;
+          typed = numbered-typed s m count payload typed f member′ up most left;
+          sound = of-sound (withMessage s m count payload) (numbered-sound s m count payload typed f member′ up most left (omega arith) short room);
+          top-is = let t = v .top-is in simp length-append (omega arith);
+          history-is = λ k x e h. history k x h (at-snoc order message k e);
+          number-is = λ k x e. number k x (at-snoc order message k e);
+          originator-ok = λ k x e. originator k x (at-snoc order message k e);
+          count-least = λ k x e. least k x (at-snoc order message k e);
+          count-most = λ k x e. counted k x (at-snoc order message k e);
+          payload-ok = λ k x e. size k x (at-snoc order message k e);
+        }
+      where
+        history : (k : ℕ) (x : Ordered) → s .floor .0 < k → Had k x
+            → messageAt (withMessage s m count payload .history) k ≡ messageOf (record { 0 = x .originator }) (x .count) (x .payload)
+        history k x h (inl e) =
+            let l = at-le order k e in
+            let t = v .top-is in
+            kept-other s m count payload (v .typed) sound (rw (v .n-is) member) room k h (let w = sound .window in omega arith) (omega arith) ∙ v .history-is k x e h
+        history k x h (inr e) =
+            let z : k ≡ s .top .0 + 1 = (let w = e .0 in let t = v .top-is in omega arith) in
+            rw (z, ← (e .1)) (kept-here s m count payload (v .typed) sound (rw (v .n-is) member))
+
+        number : (k : ℕ) (x : Ordered) → Had k x → x .number ≡ k
+        number k x (inl e) = v .number-is k x e
+        number k x (inr e) = rw (← (e .1)) (let w = e .0 in let t = v .top-is in omega arith)
+
+        originator : (k : ℕ) (x : Ordered) → Had k x → x .originator < n
+        originator k x (inl e) = v .originator-ok k x e
+        originator k x (inr e) = rw (← (e .1)) member
+
+        least : (k : ℕ) (x : Ordered) → Had k x → 1 ≤ x .count
+        least k x (inl e) = v .count-least k x e
+        least k x (inr e) = rw (← (e .1)) (omega arith)
+
+        counted : (k : ℕ) (x : Ordered) → Had k x → x .count ≤ countIn (withMessage s m count payload .acknowledgements) (x .originator)
+        counted k x (inl e) = le-trans (v .count-most k x e) (counted-up s m count payload (v .typed) sound (rw (v .n-is) member) (omega arith) (x .originator))
+        counted k x (inr e) = rw (← (e .1)) (let z = counted-same s m count payload (v .typed) sound (rw (v .n-is) member) in omega arith)
+
+        size : (k : ℕ) (x : Ordered) → Had k x → length (x .payload) ≤ payloadMost
+        size k x (inl e) = v .payload-ok k x e
+        size k x (inr e) = rw (← (e .1)) short
+
+  -- the broadcast of a number of the history is that of the order's message
+  module _ (k : ℕ) (m : Ordered) (e : at order k ≡ some m) (above : s .floor .0 < k) where
+    abbrev broadcast : Packet
+    broadcast = Broadcast (record { 0 = m .originator }) (record { 0 = k }) (m .count) (s .floor)
+
+    pub broadcast-is : broadcastOf s k ≡ packetOf (fieldsOf g broadcast) (m .payload)
+    unfolding broadcastOf messageOf
+    broadcast-is = rw (v .g-is, v .history-is k m e above, kept-payload (record { 0 = m .originator }) (m .count) (m .payload))
+
+    pub broadcast-may : Allowed (fieldsOf g broadcast) (m .payload)
+    unfolding messageOf
+    broadcast-may =
+        let l = at-le order k e in
+        let t = v .top-is in
+        rw (v .g-is, v .history-is k m e above, kept-payload (record { 0 = m .originator }) (m .count) (m .payload)) at
+        (broadcast-allowed s (v .typed) sound k above (omega arith))
+
+  pub broadcast-known : (t : ℕ → ℕ) (submitted : ℕ → List (List ℕ)) (k : ℕ) → s .floor .0 < k → k ≤ length order → Known g order t submitted (broadcastOf s k)
+  broadcast-known t submitted k above below =
+      let found = at-some order k (omega arith) below in
+      let m : Ordered = found .0 in
+      record {
+        content = Broadcast (record { 0 = m .originator }) (record { 0 = k }) (m .count) (s .floor);
+        payload = m .payload;
+        bytes-are = broadcast-is k m (found .1) above;
+        allowed = broadcast-may k m (found .1) above;
+        says = found .1 ∙ ap {B = Option Ordered} some (λ i. record { number = v .number-is k m (found .1) i; originator = m .originator; count = m .count; payload = m .payload });
+      }
+
+-- nothing was numbered in a fresh state
+module _ (n g : ℕ) (low : 1 ≤ n) (high : n ≤ membersMost) (fits : g ≤ largestNumber) where
+  abbrev opened : Sequencer
+  opened = freshSequencer (record { n = n; number = g })
+
+  fresh-entry : (i : ℕ) → getD (opened .acknowledgements) i noAcknowledgement ≡ noAcknowledgement
+  unfolding freshSequencer
+  fresh-entry i =
+      le-or membersMost i (λ h. List·getD-eq-default (opened .acknowledgements) noAcknowledgement {n = i} h)
+      (λ h. getD-replicate membersMost i noAcknowledgement noAcknowledgement h)
+
+  fresh-place : (k : ℕ) → messageAt (opened .history) k ≡ emptyMessage
+  unfolding freshSequencer
+  fresh-place k = getD-replicate placesMost (placeOf k) emptyMessage blank (omega arith)
+
+  fresh-sound : Sound opened
+  unfolding freshSequencer
+  fresh-sound =
+      record {
+        n-least = low;
+        n-most = high;
+        floor-is = let z = floor-most n (opened .acknowledgements) 0 low (omega arith) in omega arith;
+        floor-le = omega arith;
+        window = omega arith;
+        taken-le = λ i h. let z = ap (λ (a : Acknowledgement). a .taken .0) (fresh-entry i) in omega arith;
+        unused = λ i h. fresh-entry i;
+        kept = λ k a b. absurd (omega arith);
+        empty = λ k a b. ap isEmpty (fresh-place k) ∙ empty-zero;
+      }
+
+  pub fresh-inv : SequencerInv n g opened []
+  unfolding freshSequencer
+  fresh-inv =
+      record {
+        n-is = refl;
+        g-is = refl;
+        typed =
+            record {
+              group = fits;
+              top = omega arith;
+              repeats = omega arith;
+              table = refl;
+              history = refl;
+              counts = λ i. let z = ap (λ (a : Acknowledgement). a .count) (fresh-entry i) in omega arith;
+            };
+        sound = of-sound opened fresh-sound;
+        top-is = refl;
+        history-is = λ k m e h. absurd (at-nil k e);
+        number-is = λ k m e. absurd (at-nil k e);
+        originator-ok = λ k m e. absurd (at-nil k e);
+        count-least = λ k m e. absurd (at-nil k e);
+        count-most = λ k m e. absurd (at-nil k e);
+        payload-ok = λ k m e. absurd (at-nil k e);
+      }

@@ -1,0 +1,178 @@
+-- Each step of a sound sequencer leaves a sound state that its types can hold, and writes nothing or a packet that reading
+-- accepts: the step's text, with a proof for each way that a choice goes. Assumes nothing.
+use mathlib.Core.Path.{_≡_, refl}
+use mathlib.Core.Logic.{_⊎_, inl, inr}
+use mathlib.Core.Bool.{true}
+use mathlib.Core.List.{List, []}
+use Prim.Native.Nat.{ℕ, _+_, _-_, _≤_, _<_}
+use native.Mathlib.Omega.{arith}
+use borrow.Author.Tests.{ltb-true, ltb-false, leb-true, eqb-false, lt-leb}
+use lib.ListN.{length}
+use Rattle.group.proofs.Choice.{if-was, says}
+use Rattle.group.proofs.Lists.{if-elim, judged-elim}
+use Rattle.group.specs.Choice.{if_then_else_, _<?_, _≤?_, _=?_}
+use Rattle.group.specs.Limits.{placesMost, payloadMost, largestNumber}
+use Rattle.group.specs.declared.MemberNumber.{MemberNumber}
+use Rattle.group.specs.declared.Refusal.{Refusal}
+use Rattle.group.specs.declared.Refusal.the-variants.{UnknownMember, AcknowledgedAhead, CountAhead, NumbersUsedUp, OtherEnd}
+use Rattle.group.specs.declared.SequenceNumber.{SequenceNumber}
+use Rattle.group.specs.declared.Verdict.{Verdict}
+use Rattle.packet.proofs.Laws.{read-written}
+use Rattle.packet.proofs.Verdicts.{accepted≢}
+use Rattle.packet.specs.Packet.{obeys, readOf, fieldsOf}
+use Rattle.packet.specs.declared.Header.{Header}
+use Rattle.packet.specs.declared.Packet.{Packet}
+use Rattle.packet.specs.declared.Packet.the-variants.{Request, Broadcast, Gap, Status, Poll}
+use Rattle.packet.specs.declared.Reading.{Reading}
+use Rattle.sequencer.specs.Calls.{Outcome, answered, refused, broadcastOf, pollPacket, oneMore, repeatedOf, findOf, oldOf, againOf, fullOf, numberedOf, withMessage, requestOf, gapOf, senderVerdict, countVerdict, wantedVerdict, contentStep}
+use Rattle.sequencer.specs.Laws.{Typed}
+use Rattle.sequencer.specs.Note.{largerOf, withTable, noteOf}
+use Rattle.sequencer.specs.State.{lastCount}
+use Rattle.sequencer.specs.declared.Answer.{Answer}
+use Rattle.sequencer.specs.declared.Answer.the-variants.{Noted, Wanted}
+use Rattle.sequencer.specs.declared.Sequencer.{Sequencer}
+use Rattle.sequencer.proofs.Noting.{noted-count, note-typed, note-sound}
+use Rattle.sequencer.proofs.Numbering.{numbered-typed, numbered-sound}
+use Rattle.sequencer.proofs.Packets.{broadcast-allowed, poll-allowed, found-in}
+use Rattle.sequencer.proofs.Soundness.{Sound}
+
+-- what the questions on a sender and on a request's count asked
+pub sender-was : (n top : ℕ) (sender : MemberNumber) (taken : SequenceNumber) → senderVerdict n top sender taken ≡ Verdict.Accepted → (sender .0 < n) × (taken .0 ≤ top)
+unfolding senderVerdict
+sender-was n top sender taken e =
+    let a = if-was (sender .0 <? n) _ _ Verdict.Accepted e (accepted≢ UnknownMember) in
+    let b = if-was (taken .0 ≤? top) _ _ Verdict.Accepted (a .1) (accepted≢ AcknowledgedAhead) in
+    (ltb-true (sender .0) n (a .0), leb-true (taken .0) top (b .0))
+
+pub count-was : (last top count : ℕ) → countVerdict last top count ≡ Verdict.Accepted → (count ≤ last + 1) × (last < count → top < largestNumber)
+unfolding countVerdict if_then_else_
+count-was last top count e =
+    let a = if-was (count ≤? last + 1) _ _ Verdict.Accepted e (accepted≢ CountAhead) in
+    let b = if-was (if count ≤? last then true else top <? largestNumber) _ _ Verdict.Accepted (a .1) (accepted≢ NumbersUsedUp) in
+    (leb-true count (last + 1) (a .0), λ h. ltb-true top largestNumber (rw (lt-leb count last h) at (b .0)))
+
+-- what a step leaves
+pub record Stays (o : Outcome) : Type 0 where
+  pub typed : Typed (o .sequencer)
+  pub sound : Sound (o .sequencer)
+  pub bytes : (o .bytes ≡ []) ⊎ ((h : Header) × (readOf (o .bytes) ≡ Reading.Fields h))
+
+module _ (s : Sequencer) (typed : Typed s) (sound : Sound s) where
+  pub answered-stays : (answer : Answer) → Stays (answered s answer)
+  unfolding answered
+  answered-stays answer = record { typed = typed; sound = sound; bytes = inl refl }
+
+  pub repeated-typed : Typed (repeatedOf s)
+  unfolding repeatedOf oneMore
+  repeated-typed =
+      record {
+        group = typed .group;
+        top = typed .top;
+        repeats = if-elim (λ (x : ℕ). x ≤ largestNumber) (s .repeats <? largestNumber) (λ t. let z = ltb-true (s .repeats) largestNumber t in omega arith) (λ t. typed .repeats);
+        table = typed .table;
+        history = typed .history;
+        counts = typed .counts;
+      }
+
+  pub repeated-sound : Sound (repeatedOf s)
+  unfolding repeatedOf
+  repeated-sound =
+      record {
+        n-least = sound .n-least;
+        n-most = sound .n-most;
+        floor-is = sound .floor-is;
+        floor-le = sound .floor-le;
+        window = sound .window;
+        taken-le = sound .taken-le;
+        unused = sound .unused;
+        kept = sound .kept;
+        empty = sound .empty;
+      }
+
+  pub broadcast-reads : (k : ℕ) → s .floor .0 < k → k ≤ s .top .0 → (h : Header) × (readOf (broadcastOf s k) ≡ Reading.Fields h)
+  unfolding broadcastOf
+  broadcast-reads k a b = (_, read-written _ _ (broadcast-allowed s typed sound k a b) .0)
+
+  pub poll-reads : (h : Header) × (readOf (pollPacket s) ≡ Reading.Fields h)
+  unfolding pollPacket
+  poll-reads = (_, read-written _ _ (poll-allowed s typed sound) .0)
+
+module _ (s : Sequencer) (typed : Typed s) (sound : Sound s) where
+  again-stays : (number : ℕ) → (number ≡ 0) ⊎ ((s .floor .0 < number) × (number ≤ s .floor .0 + (s .top .0 - s .floor .0))) → Stays (againOf s number)
+  unfolding againOf oldOf answered
+  again-stays number found =
+      if-elim Stays (number =? 0) (λ t. record { typed = repeated-typed s typed sound; sound = repeated-sound s typed sound; bytes = inl refl })
+      (λ t. record { typed = repeated-typed s typed sound; sound = repeated-sound s typed sound; bytes = inr (reads (eqb-false number 0 t) found) })
+    where
+      reads : (number ≡ 0 → ⊥) → (number ≡ 0) ⊎ ((s .floor .0 < number) × (number ≤ s .floor .0 + (s .top .0 - s .floor .0))) → (h : Header) × (readOf (broadcastOf s number) ≡ Reading.Fields h)
+      reads n (inl e) = absurd (n e)
+      reads n (inr e) = broadcast-reads s typed sound number (e .0) (let z = e .1 in let y = sound .floor-le in omega arith)
+
+  -- a request, once A is noted
+  request-stays : (m : MemberNumber) (count : ℕ) (payload : List ℕ) → m .0 < s .group .n → 1 ≤ count → count ≤ largestNumber → length payload ≤ payloadMost
+      → count ≤ lastCount s m + 1 → (lastCount s m < count → s .top .0 < largestNumber) → Stays (requestOf s m count payload)
+  unfolding requestOf oldOf answered fullOf numberedOf withMessage
+  request-stays m count payload member least most short next left =
+      if-elim Stays (count <? lastCount s m) (λ a. record { typed = repeated-typed s typed sound; sound = repeated-sound s typed sound; bytes = inl refl })
+      (λ a. if-elim Stays (count =? lastCount s m)
+      (λ b. again-stays (findOf (s .history) m count (s .floor .0) (s .top .0 - s .floor .0)) (found-in (s .history) m count (s .floor .0) (s .top .0 - s .floor .0)))
+      (λ b. if-elim Stays (s .top .0 - s .floor .0 =? placesMost) (λ c. record { typed = typed; sound = sound; bytes = inr (poll-reads s typed sound) })
+      (λ c.
+      let p = ltb-false count (lastCount s m) a in
+      let q = eqb-false count (lastCount s m) b in
+      let r = eqb-false (s .top .0 - s .floor .0) placesMost c in
+      let w = sound .window in
+      let room : s .top .0 < s .floor .0 + placesMost = omega arith in
+      number member least most short room (omega arith) (left (omega arith)))))
+    where
+      number : m .0 < s .group .n → 1 ≤ count → count ≤ largestNumber → length payload ≤ payloadMost → s .top .0 < s .floor .0 + placesMost → lastCount s m ≤ count → s .top .0 < largestNumber
+          → Stays (numberedOf s m count payload)
+      number member least most short room up left =
+          let typed′ = numbered-typed s m count payload typed sound member up most left in
+          let sound′ = numbered-sound s m count payload typed sound member up most left least short room in
+          record { typed = typed′; sound = sound′; bytes = inr (broadcast-reads (withMessage s m count payload) typed′ sound′ (s .top .0 + 1) (let z = sound .floor-le in omega arith) (omega arith)) }
+
+-- what a packet of our group says
+module _ (s : Sequencer) (typed : Typed s) (sound : Sound s) (g : ℕ) (payload : List ℕ) (short : length payload ≤ payloadMost) where
+  refused-stays : (refusal : Refusal) → Stays (refused s refusal)
+  refused-stays refusal = answered-stays s typed sound (Answer.Refused refusal)
+
+  -- once a sender was accepted, its number is noted
+  module _ (sender : MemberNumber) (taken : SequenceNumber) (e : senderVerdict (s .group .n) (s .top .0) sender taken ≡ Verdict.Accepted) where
+    typed′ : Typed (noteOf s sender taken)
+    typed′ = let a = sender-was (s .group .n) (s .top .0) sender taken e in note-typed s sender taken typed sound (a .0) (a .1)
+
+    sound′ : Sound (noteOf s sender taken)
+    sound′ = let a = sender-was (s .group .n) (s .top .0) sender taken e in note-sound s sender taken typed sound (a .0) (a .1)
+
+    noted-stays : (answer : Answer) → Stays (answered (noteOf s sender taken) answer)
+    noted-stays answer = answered-stays (noteOf s sender taken) typed′ sound′ answer
+
+    requested-stays : (count : ℕ) → 1 ≤ count → count ≤ largestNumber → countVerdict (lastCount s sender) (s .top .0) count ≡ Verdict.Accepted
+        → Stays (requestOf (noteOf s sender taken) sender count payload)
+    unfolding noteOf withTable
+    requested-stays count least most f =
+        let a = sender-was (s .group .n) (s .top .0) sender taken e in
+        let b = count-was (lastCount s sender) (s .top .0) count f in
+        let c = noted-count s sender taken typed sound (a .0) (sender .0) in
+        request-stays (noteOf s sender taken) typed′ sound′ sender count payload (a .0) least most short (omega arith) (λ h. b .1 (omega arith))
+
+    gap-stays : (first last : SequenceNumber) → Stays (gapOf (noteOf s sender taken) first last)
+    unfolding gapOf
+    gap-stays first last =
+        if-elim Stays (last .0 ≤? noteOf s sender taken .floor .0) (λ t. noted-stays Noted)
+        (λ t. noted-stays (Wanted (record { 0 = largerOf (first .0) (noteOf s sender taken .floor .0 + 1) }) last))
+
+  pub content-stays : (content : Packet) → obeys (fieldsOf g content) ≡ true → fieldsOf g content .b ≤ largestNumber → Stays (contentStep s content payload)
+  unfolding contentStep fieldsOf obeys if_then_else_
+  content-stays (Request sender taken count) o most =
+      judged-elim Stays (senderVerdict (s .group .n) (s .top .0) sender taken) (λ r e. refused-stays r)
+      (λ e. judged-elim Stays (countVerdict (lastCount s sender) (s .top .0) count) (λ r f. refused-stays r)
+      (λ f. requested-stays sender taken e count (search says) most f))
+  content-stays (Broadcast originator number count floor) o most = refused-stays OtherEnd
+  content-stays (Gap sender taken first last) o most =
+      judged-elim Stays (senderVerdict (s .group .n) (s .top .0) sender taken) (λ r e. refused-stays r)
+      (λ e. judged-elim Stays (wantedVerdict (s .top .0) last) (λ r f. refused-stays r) (λ f. gap-stays sender taken e first last))
+  content-stays (Status sender taken) o most =
+      judged-elim Stays (senderVerdict (s .group .n) (s .top .0) sender taken) (λ r e. refused-stays r) (λ e. noted-stays sender taken e Noted)
+  content-stays (Poll top floor) o most = refused-stays OtherEnd

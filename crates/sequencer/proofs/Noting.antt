@@ -1,0 +1,159 @@
+-- Noting an acknowledgement keeps a state sound, and moves floor up, at most to top: what floor passes is cleared, and every
+-- number above the new floor keeps its place. Assumes nothing.
+use mathlib.Core.Path.{_≡_, refl, ap, _∙_}
+use mathlib.Core.Logic.{_≢_}
+use mathlib.Core.List.{List}
+use Prim.Native.Nat.{ℕ, zero, suc, _+_, _-_, _≤_, _<_}
+use native.Mathlib.Nat.{le-refl, le-trans}
+use native.Mathlib.Omega.{arith}
+use borrow.Author.Tests.{ltb-true, ltb-false}
+use lib.ListN.{length, getD, length-set}
+use lib.Seq.{getD-set-same, getD-set-other}
+use Rattle.group.proofs.Lists.{if-elim, eq-or, le-or, set-each}
+use Rattle.group.specs.Choice.{_<?_}
+use Rattle.group.specs.Limits.{membersMost, placesMost}
+use Rattle.group.specs.declared.MemberNumber.{MemberNumber}
+use Rattle.group.specs.declared.SequenceNumber.{SequenceNumber}
+use Rattle.message.proofs.Kept.{empty-zero}
+use Rattle.message.specs.Message.{emptyMessage, blank, isEmpty}
+use Rattle.message.specs.declared.Message.{Message}
+use Rattle.sequencer.specs.Laws.{Typed}
+use Rattle.sequencer.specs.Note.{largerOf, withTaken, tableNoted, clearedOf, withTable, noteOf}
+use Rattle.sequencer.specs.State.{noAcknowledgement, acknowledgementOf, placeOf, messageAt, floorOf}
+use Rattle.sequencer.specs.declared.Acknowledgement.{Acknowledgement}
+use Rattle.sequencer.specs.declared.Sequencer.{Sequencer}
+use Rattle.sequencer.proofs.Invariant.{takenIn, countIn}
+use Rattle.sequencer.proofs.Soundness.{KeptFacts, Sound, floor-most, floor-least}
+
+pub larger-least : (a b : ℕ) → a ≤ largerOf a b
+unfolding largerOf
+larger-least a b = if-elim (λ (x : ℕ). a ≤ x) (a <? b) (λ t. let z = ltb-true a b t in omega arith) (λ t. le-refl a)
+
+pub larger-new : (a b : ℕ) → b ≤ largerOf a b
+unfolding largerOf
+larger-new a b = if-elim (λ (x : ℕ). b ≤ x) (a <? b) (λ t. le-refl b) (λ t. ltb-false a b t)
+
+pub larger-most : (a b c : ℕ) → a ≤ c → b ≤ c → largerOf a b ≤ c
+unfolding largerOf
+larger-most a b c h k = if-elim (λ (x : ℕ). x ≤ c) (a <? b) (λ t. k) (λ t. h)
+
+-- the history with the k numbers above f cleared
+module _ (history : List Message) (f : ℕ) where
+  pub cleared-length : (k : ℕ) → length (clearedOf history f k) ≡ length history
+  unfolding clearedOf
+  cleared-length zero = refl
+  cleared-length (suc k) = length-set (clearedOf history f k) (placeOf (f + suc k)) emptyMessage ∙ cleared-length k
+
+  -- a number above them keeps its message
+  pub cleared-other : (k number : ℕ) → f + k < number → number ≤ f + placesMost → messageAt (clearedOf history f k) number ≡ messageAt history number
+  unfolding clearedOf
+  cleared-other zero number a b = refl
+  cleared-other (suc k) number a b =
+      getD-set-other (clearedOf history f k) (placeOf (f + suc k)) (placeOf number) emptyMessage blank (omega arith)
+      ∙ cleared-other k number (omega arith) b
+
+  -- a place of one of them is empty
+  pub cleared-empty : length history ≡ placesMost → (k number r : ℕ) → f < r → r ≤ f + k → placeOf number ≡ placeOf r → messageAt (clearedOf history f k) number ≡ emptyMessage
+  unfolding clearedOf
+  cleared-empty l zero number r a b e = absurd (omega arith)
+  cleared-empty l (suc k) number r a b e =
+      let z = cleared-length k in
+      let history′ = clearedOf history f k in
+      let place = placeOf (f + suc k) in
+      eq-or (placeOf number) place (λ q. rw q (getD-set-same history′ place emptyMessage blank (omega arith)))
+      (λ q. getD-set-other history′ place (placeOf number) emptyMessage blank q
+      ∙ cleared-empty l k number r a (le-or r (f + k) (λ h. h) (λ h. let y : r ≡ f + suc k = omega arith in absurd (q (e ∙ ap placeOf y)))) e)
+
+module _ (s : Sequencer) (m : MemberNumber) (taken : SequenceNumber) (typed : Typed s) (sound : Sound s) (member : m .0 < s .group .n) where
+  abbrev table : List Acknowledgement
+  table = s .acknowledgements
+
+  abbrev table′ : List Acknowledgement
+  table′ = tableNoted (s .acknowledgements) m taken
+
+  pub noted-length : length table′ ≡ membersMost
+  unfolding tableNoted
+  noted-length = length-set table (m .0) (withTaken (acknowledgementOf table m) taken) ∙ typed .table
+
+  -- an entry is the member's, with the larger number, or as it was
+  pub noted-each : (P : ℕ → Acknowledgement → Type 0) (i : ℕ) → (i ≡ m .0 → P i (withTaken (acknowledgementOf table m) taken)) → (i ≢ m .0 → P i (getD table i noAcknowledgement)) → P i (getD table′ i noAcknowledgement)
+  unfolding tableNoted
+  noted-each P i same other =
+      set-each P table (m .0) (withTaken (acknowledgementOf table m) taken) noAcknowledgement i same other (omega arith)
+
+  pub noted-count : (i : ℕ) → countIn table′ i ≡ countIn table i
+  noted-count i = noted-each (λ j a. a .count ≡ countIn table j) i (λ q. rw q) (λ q. refl)
+
+  pub noted-least : (i : ℕ) → takenIn table i ≤ takenIn table′ i
+  noted-least i = noted-each (λ j a. takenIn table j ≤ a .taken .0) i (λ q. rw q (larger-least (takenIn table (m .0)) (taken .0))) (λ q. le-refl (takenIn table i))
+
+  pub noted-own : taken .0 ≤ takenIn table′ (m .0)
+  noted-own = noted-each (λ j a. taken .0 ≤ a .taken .0) (m .0) (λ q. larger-new (takenIn table (m .0)) (taken .0)) (λ q. absurd (q refl))
+
+  pub noted-other : (i : ℕ) → i ≢ m .0 → takenIn table′ i ≡ takenIn table i
+  noted-other i other = noted-each (λ j a. a .taken .0 ≡ takenIn table j) i (λ q. absurd (other q)) (λ q. refl)
+
+  pub noted-most : (t : ℕ → ℕ) → ((i : ℕ) → i < s .group .n → takenIn table i ≤ t i) → taken .0 ≤ t (m .0) → (i : ℕ) → i < s .group .n → takenIn table′ i ≤ t i
+  noted-most t old new i h =
+      noted-each (λ j a. a .taken .0 ≤ t j) i (λ q. rw q (larger-most (takenIn table (m .0)) (taken .0) (t (m .0)) (old (m .0) member) new)) (λ q. old i h)
+
+  pub floor-up : s .floor .0 ≤ floorOf (s .group .n) table′
+  floor-up =
+      floor-least (s .group .n) table′ (s .floor .0) (omega arith)
+      (λ i h k.
+      let l = noted-length in
+      let a = floor-most (s .group .n) table i h (omega arith) in
+      let b = noted-least i in
+      omega arith)
+
+  module _ (known : taken .0 ≤ s .top .0) where
+    pub floor-down : floorOf (s .group .n) table′ ≤ s .top .0
+    floor-down =
+        let l = noted-length in
+        le-trans (floor-most (s .group .n) table′ 0 (sound .n-least) (omega arith)) (noted-most (λ i. s .top .0) (sound .taken-le) known 0 (sound .n-least))
+
+    pub note-typed : Typed (noteOf s m taken)
+    unfolding noteOf withTable
+    note-typed =
+        record {
+          group = typed .group;
+          top = typed .top;
+          repeats = typed .repeats;
+          table = noted-length;
+          history = cleared-length (s .history) (s .floor .0) (floorOf (s .group .n) table′ - s .floor .0) ∙ typed .history;
+          counts = λ i. rw (noted-count i) (typed .counts i);
+        }
+
+    pub note-sound : Sound (noteOf s m taken)
+    unfolding noteOf withTable
+    note-sound =
+        let up = floor-up in
+        let down = floor-down in
+        let floor′ = floorOf (s .group .n) table′ in
+        let k′ = floor′ - s .floor .0 in
+        record {
+          n-least = sound .n-least;
+          n-most = sound .n-most;
+          floor-is = refl;
+          floor-le = down;
+          window = let w = sound .window in omega arith;
+          taken-le = noted-most (λ i. s .top .0) (sound .taken-le) known;
+          unused = λ i h. noted-each (λ j a. a ≡ noAcknowledgement) i (λ q. absurd (omega arith)) (λ q. sound .unused i h);
+          kept = λ k a b.
+              rw (cleared-other (s .history) (s .floor .0) k′ k (omega arith) (let w = sound .window in omega arith))
+              (kept-noted (messageAt (s .history) k) (sound .kept k (omega arith) b));
+          empty = λ k a b.
+              le-or k (s .floor .0 + placesMost)
+              (λ h. ap isEmpty (cleared-other (s .history) (s .floor .0) k′ k (omega arith) h) ∙ sound .empty k a h)
+              (λ h. ap isEmpty (cleared-empty (s .history) (s .floor .0) (typed .history) k′ k (k - placesMost) (omega arith) (omega arith) (omega arith)) ∙ empty-zero);
+        }
+      where
+        kept-noted : (message : Message) → KeptFacts (s .group .n) table message → KeptFacts (s .group .n) table′ message
+        kept-noted message f =
+            record {
+              originator = f .originator;
+              count-least = f .count-least;
+              count-most = rw (noted-count (message .originator .0)) (f .count-most);
+              short = f .short;
+              zeros = f .zeros;
+            }

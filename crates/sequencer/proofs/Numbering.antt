@@ -1,0 +1,107 @@
+-- Numbering a message keeps a state sound: it lies in the place above top, which was free, and no other place or
+-- acknowledgement changes. Assumes nothing.
+use mathlib.Core.Path.{_≡_, refl, ap, _∙_}
+use mathlib.Core.Logic.{_≢_}
+use mathlib.Core.List.{List}
+use Prim.Native.Nat.{ℕ, _+_, _≤_, _<_}
+use native.Mathlib.Nat.{le-refl, le-trans}
+use native.Mathlib.Omega.{arith}
+use lib.ListN.{length, getD, set, length-set}
+use lib.Seq.{getD-set-same, getD-set-other}
+use Rattle.group.proofs.Lists.{eq-or, set-each}
+use Rattle.group.specs.Limits.{placesMost, payloadMost, largestNumber}
+use Rattle.group.specs.declared.MemberNumber.{MemberNumber}
+use Rattle.message.proofs.Kept.{kept-zero}
+use Rattle.message.specs.Message.{messageOf, blank, isEmpty}
+use Rattle.message.specs.declared.Message.{Message}
+use Rattle.sequencer.specs.Calls.{withMessage}
+use Rattle.sequencer.specs.Laws.{Typed}
+use Rattle.sequencer.specs.State.{noAcknowledgement, acknowledgementOf, placeOf, messageAt}
+use Rattle.sequencer.specs.declared.Acknowledgement.{Acknowledgement}
+use Rattle.sequencer.specs.declared.Sequencer.{Sequencer}
+use Rattle.sequencer.proofs.Invariant.{takenIn, countIn}
+use Rattle.sequencer.proofs.Soundness.{KeptFacts, Sound, floor-same}
+
+-- the member's entry, with the count
+abbrev pub countedEntry : Sequencer → MemberNumber → ℕ → Acknowledgement
+countedEntry s m count = record { taken = acknowledgementOf (s .acknowledgements) m .taken; count = count }
+
+module _ (s : Sequencer) (m : MemberNumber) (count : ℕ) (payload : List ℕ) (typed : Typed s) (sound : Sound s) (member : m .0 < s .group .n) where
+  abbrev table : List Acknowledgement
+  table = s .acknowledgements
+
+  abbrev table′ : List Acknowledgement
+  table′ = set table (m .0) (countedEntry s m count)
+
+  abbrev history′ : List Message
+  history′ = set (s .history) (placeOf (s .top .0 + 1)) (messageOf m count payload)
+
+  pub counted-each : (P : ℕ → Acknowledgement → Type 0) (i : ℕ) → (i ≡ m .0 → P i (countedEntry s m count)) → (i ≢ m .0 → P i (getD table i noAcknowledgement)) → P i (getD table′ i noAcknowledgement)
+  counted-each P i same other = set-each P table (m .0) (countedEntry s m count) noAcknowledgement i same other (omega arith)
+
+  pub counted-taken : (i : ℕ) → takenIn table′ i ≡ takenIn table i
+  counted-taken i = counted-each (λ j a. a .taken .0 ≡ takenIn table j) i (λ q. rw q) (λ q. refl)
+
+  pub counted-same : countIn table′ (m .0) ≡ count
+  counted-same = ap (λ (a : Acknowledgement). a .count) (getD-set-same table (m .0) (countedEntry s m count) noAcknowledgement (omega arith))
+
+  pub counted-up : countIn table (m .0) ≤ count → (i : ℕ) → countIn table i ≤ countIn table′ i
+  counted-up h i = counted-each (λ j a. countIn table j ≤ a .count) i (λ q. rw q h) (λ q. le-refl (countIn table i))
+
+  -- the new message lies in its place, and the others in theirs
+  pub kept-here : messageAt history′ (s .top .0 + 1) ≡ messageOf m count payload
+  kept-here = getD-set-same (s .history) (placeOf (s .top .0 + 1)) (messageOf m count payload) blank (omega arith)
+
+  pub kept-other : s .top .0 < s .floor .0 + placesMost → (k : ℕ) → s .floor .0 < k → k ≤ s .floor .0 + placesMost → k ≢ s .top .0 + 1 → messageAt history′ k ≡ messageAt (s .history) k
+  kept-other room k a b q =
+      getD-set-other (s .history) (placeOf (s .top .0 + 1)) (placeOf k) (messageOf m count payload) blank (omega arith)
+
+  module _ (up : countIn table (m .0) ≤ count) (fits : count ≤ largestNumber) (left : s .top .0 < largestNumber) where
+    pub numbered-typed : Typed (withMessage s m count payload)
+    unfolding withMessage
+    numbered-typed =
+        record {
+          group = typed .group;
+          top = omega arith;
+          repeats = typed .repeats;
+          table = length-set table (m .0) (countedEntry s m count) ∙ typed .table;
+          history = length-set (s .history) (placeOf (s .top .0 + 1)) (messageOf m count payload) ∙ typed .history;
+          counts = λ i. counted-each (λ j a. a .count ≤ largestNumber) i (λ q. fits) (λ q. typed .counts i);
+        }
+
+    pub numbered-sound : 1 ≤ count → length payload ≤ payloadMost → s .top .0 < s .floor .0 + placesMost → Sound (withMessage s m count payload)
+    unfolding withMessage messageOf
+    numbered-sound least short room =
+        record {
+          n-least = sound .n-least;
+          n-most = sound .n-most;
+          floor-is = floor-same (s .group .n) table′ table (length-set table (m .0) (countedEntry s m count)) counted-taken ∙ sound .floor-is;
+          floor-le = omega arith;
+          window = omega arith;
+          taken-le = λ i h. let z = counted-taken i in let y = sound .taken-le i h in omega arith;
+          unused = λ i h. counted-each (λ j a. a ≡ noAcknowledgement) i (λ q. absurd (omega arith)) (λ q. sound .unused i h);
+          kept = λ k a b.
+              eq-or k (s .top .0 + 1) (λ q. rw (q, kept-here) fresh)
+              (λ q. rw (kept-other room k a (omega arith) q) (old (messageAt (s .history) k) (sound .kept k a (omega arith))));
+          empty = λ k a b. ap isEmpty (kept-other room k (omega arith) b (omega arith)) ∙ sound .empty k (omega arith) b;
+        }
+      where
+        fresh : KeptFacts (s .group .n) table′ (messageOf m count payload)
+        fresh =
+            record {
+              originator = member;
+              count-least = least;
+              count-most = let z = counted-same in omega arith;
+              short = short;
+              zeros = kept-zero m count payload;
+            }
+
+        old : (message : Message) → KeptFacts (s .group .n) table message → KeptFacts (s .group .n) table′ message
+        old message f =
+            record {
+              originator = f .originator;
+              count-least = f .count-least;
+              count-most = le-trans (f .count-most) (counted-up up (message .originator .0));
+              short = f .short;
+              zeros = f .zeros;
+            }

@@ -1,0 +1,175 @@
+-- Each call of the sequencer owes the group what the invariant of demand 3 asks: the call's text, with a proof for each way
+-- that a choice goes. Assumes nothing.
+use mathlib.Core.Path.{_≡_, refl, sym, _∙_, subst}
+use mathlib.Core.Logic.{_≢_}
+use mathlib.Core.Option.{some}
+use mathlib.Core.List.{List, []}
+use Prim.Native.Nat.{ℕ, _≤_, _<_}
+use native.Mathlib.Nat.{le-refl}
+use native.Mathlib.Omega.{arith}
+use borrow.Author.Tests.{ltb-true, leb-true, eq-eqb, lt-ltb, le-leb}
+use lib.ListN.{length, take}
+use Rattle.group.proofs.Choice.{both-first, both-then}
+use Rattle.group.proofs.Lists.{if-elim, judged-elim, at, at-le}
+use Rattle.group.specs.Choice.{if_then_else_, _and_, _<?_, _≤?_}
+use Rattle.group.specs.Limits.{payloadMost, longestPacket, largestNumber}
+use Rattle.group.specs.Question.{judged}
+use Rattle.group.specs.declared.MemberNumber.{MemberNumber}
+use Rattle.group.specs.declared.Refusal.{Refusal}
+use Rattle.group.specs.declared.Refusal.the-variants.{OtherEnd, NotInHistory}
+use Rattle.group.specs.declared.SequenceNumber.{SequenceNumber}
+use Rattle.group.specs.declared.Verdict.{Verdict}
+use Rattle.message.specs.Order.{Ordered, ownOf, countedFrom}
+use Rattle.packet.proofs.Facts.{Known, Says}
+use Rattle.packet.proofs.Laws.{read-written, content-fields}
+use Rattle.packet.proofs.Verdicts.{writable}
+use Rattle.packet.specs.Laws.{Allowed}
+use Rattle.packet.specs.Packet.{packetOf, fieldsOf, written}
+use Rattle.packet.specs.declared.Packet.{Packet}
+use Rattle.packet.specs.declared.Packet.the-variants.{Request, Broadcast, Gap, Status, Poll}
+use Rattle.sequencer.specs.Calls.{Outcome, answered, refused, broadcastOf, pollPacket, requestOf, senderVerdict, countVerdict, wantedVerdict, contentStep, readStep, callVerdict, receiveOf, pollOf, copyOf}
+use Rattle.sequencer.specs.Note.{withTable, noteOf}
+use Rattle.sequencer.specs.Order.{numberedBy}
+use Rattle.sequencer.specs.State.{lastCount}
+use Rattle.sequencer.specs.declared.Answer.{Answer}
+use Rattle.sequencer.specs.declared.Answer.the-variants.{Noted, Sent}
+use Rattle.sequencer.specs.declared.Sequencer.{Sequencer}
+use Rattle.sequencer.proofs.Histories.{broadcast-is}
+use Rattle.sequencer.proofs.Invariant.{SequencerInv, SequencerGood, takenIn, countIn}
+use Rattle.sequencer.proofs.Keeping.{sender-was, count-was}
+use Rattle.sequencer.proofs.Noting.{noted-count, noted-own, noted-other}
+use Rattle.sequencer.proofs.Soundness.{sound-of, floor-most, floor-least}
+use Rattle.sequencer.proofs.Answering.{Good, Ready, written-all, quiet, note-ready, quiet-answer, poll-known, copy-known, request-good, gap-good}
+
+fields-group : (g : ℕ) (content : Packet) → fieldsOf g content .group ≡ g
+unfolding fieldsOf
+fields-group g (Request sender taken count) = refl
+fields-group g (Broadcast originator number count floor) = refl
+fields-group g (Gap sender taken first last) = refl
+fields-group g (Status sender taken) = refl
+fields-group g (Poll top floor) = refl
+
+-- a state with its invariant
+module _ (n g : ℕ) (order : List Ordered) (s : Sequencer) (v : SequencerInv n g s order) where
+  called : callVerdict s longestPacket ≡ Verdict.Accepted
+  unfolding callVerdict if_then_else_
+  called = rw (v .sound)
+
+  -- a packet of the group that may be written reaches its step
+  pub received : (content : Packet) (payload : List ℕ) → Allowed (fieldsOf g content) payload → receiveOf s (packetOf (fieldsOf g content) payload) longestPacket ≡ contentStep s content payload
+  unfolding receiveOf judged readStep if_then_else_
+  received content payload allowed =
+      let r = read-written (fieldsOf g content) payload allowed in
+      let e = eq-eqb (fieldsOf g content .group) (s .group .number) (fields-group g content ∙ sym (v .g-is)) in
+      rw (called, r .0, r .1, e, content-fields g content)
+
+  -- the copy of a number of the history is the broadcast of the order's message
+  pub copy-ok : (k : ℕ) (m : Ordered) → at order k ≡ some m → s .floor .0 < k
+      → copyOf s (record { 0 = k }) longestPacket ≡ record { sequencer = s; answer = Sent; bytes = packetOf (fieldsOf g (Broadcast (record { 0 = m .originator }) (record { 0 = k }) (m .count) (s .floor))) (m .payload) }
+  unfolding copyOf judged if_then_else_
+  copy-ok k m e above =
+      let l = at-le order k e in
+      let z = v .top-is in
+      rw (called, lt-ltb (s .floor .0) k above, le-leb k (s .top .0) (omega arith), broadcast-is n g order s v k m e above)
+
+  -- a member's status is noted
+  pub status-ok : (sender : MemberNumber) (taken : SequenceNumber) → Allowed (fieldsOf g (Status sender taken)) [] → sender .0 < n → taken .0 ≤ length order
+      → receiveOf s (packetOf (fieldsOf g (Status sender taken)) []) longestPacket ≡ answered (noteOf s sender taken) Noted
+  unfolding contentStep senderVerdict judged if_then_else_
+  status-ok sender taken allowed member known =
+      received (Status sender taken) [] allowed
+      ∙ rw (v .n-is, v .top-is, lt-ltb (sender .0) n member, le-leb (taken .0) (length order) known)
+
+  -- of which that member's entry shows as much, and the others' entries what they did
+  pub status-own : (sender : MemberNumber) (taken : SequenceNumber) → sender .0 < n → taken .0 ≤ takenIn (noteOf s sender taken .acknowledgements) (sender .0)
+  unfolding noteOf withTable
+  status-own sender taken member = noted-own s sender taken (v .typed) (sound-of s (v .sound)) (rw (v .n-is) member)
+
+  pub status-other : (sender : MemberNumber) (taken : SequenceNumber) → sender .0 < n → (i : ℕ) → i ≢ sender .0
+      → takenIn (noteOf s sender taken .acknowledgements) i ≡ takenIn (s .acknowledgements) i
+  unfolding noteOf withTable
+  status-other sender taken member = noted-other s sender taken (v .typed) (sound-of s (v .sound)) (rw (v .n-is) member)
+
+  -- floor is at most each member's entry, and the length of the order where all of them are
+  pub floor-below : (i : ℕ) → i < n → s .floor .0 ≤ takenIn (s .acknowledgements) i
+  floor-below i h =
+      let f = sound-of s (v .sound) in
+      let l = v .typed .table in
+      rw (f .floor-is) at (floor-most (s .group .n) (s .acknowledgements) i (rw (v .n-is) h) (omega arith))
+
+  pub floor-all : ((i : ℕ) → i < n → length order ≤ takenIn (s .acknowledgements) i) → s .floor .0 ≡ length order
+  floor-all all =
+      let f = sound-of s (v .sound) in
+      let e = v .top-is in
+      let low = floor-least (s .group .n) (s .acknowledgements) (length order) (omega arith) (λ i h k. all i (rw (v .n-is) at h)) in
+      omega arith
+
+  -- the group's other facts: what its terminals took and submitted
+  module _ (t : ℕ → ℕ) (submitted : ℕ → List (List ℕ)) (acked : (i : ℕ) → i < n → takenIn (s .acknowledgements) i ≤ t i) (t-le : (i : ℕ) → i < n → t i ≤ length order)
+      (counts : (i : ℕ) → i < n → countIn (s .acknowledgements) i ≤ length (submitted i)) (sizes : (i : ℕ) → i < n → length (submitted i) ≤ largestNumber)
+      (owns : (i : ℕ) → i < n → ownOf i order ≡ countedFrom 1 (take (countIn (s .acknowledgements) i) (submitted i))) where
+    abbrev Owes : Outcome → Type 0
+    Owes = Good n g order t submitted (s .acknowledgements)
+
+    ready : Ready n g order t submitted (s .acknowledgements) s
+    ready = record { inv = v; acked = acked; ups = λ i h. le-refl (countIn (s .acknowledgements) i); counts = counts; owns = owns }
+
+    refused-good : (refusal : Refusal) → Owes (refused s refusal)
+    unfolding numberedBy
+    refused-good refusal = quiet-answer n g order t submitted (s .acknowledgements) s ready (Answer.Refused refusal) refl
+
+    -- the steps, once a sender was accepted and its number is noted
+    module _ (sender : MemberNumber) (taken : SequenceNumber) (known : taken .0 ≤ t (sender .0)) (e : senderVerdict (s .group .n) (s .top .0) sender taken ≡ Verdict.Accepted) where
+      member : sender .0 < n
+      member = rw (v .n-is) at (sender-was (s .group .n) (s .top .0) sender taken e .0)
+
+      noted : Ready n g order t submitted (s .acknowledgements) (noteOf s sender taken)
+      noted = note-ready n g order t submitted (s .acknowledgements) s ready sender taken member known (t-le (sender .0) member)
+
+      noted-request : (count : ℕ) (payload : List ℕ) → at (submitted (sender .0)) count ≡ some payload → length payload ≤ payloadMost
+          → countVerdict (lastCount s sender) (s .top .0) count ≡ Verdict.Accepted → Owes (requestOf (noteOf s sender taken) sender count payload)
+      unfolding noteOf withTable
+      noted-request count payload submission short f =
+          let b = count-was (lastCount s sender) (s .top .0) count f in
+          let c = noted-count s sender taken (v .typed) (sound-of s (v .sound)) (rw (v .n-is) member) (sender .0) in
+          request-good n g order t submitted (s .acknowledgements) (noteOf s sender taken) noted sender count payload member submission (sizes (sender .0) member) short (omega arith) (λ h. b .1 (omega arith))
+
+    content-good : (content : Packet) (payload : List ℕ) → length payload ≤ payloadMost → Says order t submitted content payload → Owes (contentStep s content payload)
+    unfolding contentStep numberedBy
+    content-good (Request sender taken count) payload short says =
+        judged-elim Owes (senderVerdict (s .group .n) (s .top .0) sender taken) (λ r e. refused-good r)
+        (λ e. judged-elim Owes (countVerdict (lastCount s sender) (s .top .0) count) (λ r f. refused-good r) (λ f. noted-request sender taken (says .0) e count payload (says .1) short f))
+    content-good (Broadcast originator number count floor) payload short says = refused-good OtherEnd
+    content-good (Gap sender taken first last) payload short says =
+        judged-elim Owes (senderVerdict (s .group .n) (s .top .0) sender taken) (λ r e. refused-good r)
+        (λ e. judged-elim Owes (wantedVerdict (s .top .0) last) (λ r f. refused-good r)
+        (λ f. gap-good n g order t submitted (s .acknowledgements) (noteOf s sender taken) (noted sender taken says e) first last))
+    content-good (Status sender taken) payload short says =
+        judged-elim Owes (senderVerdict (s .group .n) (s .top .0) sender taken) (λ r e. refused-good r)
+        (λ e. quiet-answer n g order t submitted (s .acknowledgements) (noteOf s sender taken) (noted sender taken says e) Noted refl)
+    content-good (Poll top floor) payload short says = refused-good OtherEnd
+
+    pub receive-good : (bytes : List ℕ) → Known g order t submitted bytes → SequencerGood n g (s .acknowledgements) order t submitted (written (receiveOf s bytes longestPacket .bytes)) (receiveOf s bytes longestPacket)
+    receive-good bytes k =
+        let w = writable (fieldsOf g (k .content)) (length (k .payload)) longestPacket (k .allowed .1) in
+        let e : receiveOf s bytes longestPacket ≡ contentStep s (k .content) (k .payload) = rw (k .bytes-are) (received (k .content) (k .payload) (k .allowed)) in
+        subst Owes (sym e) (content-good (k .content) (k .payload) (w .short) (k .says))
+
+    pub poll-good : SequencerGood n g (s .acknowledgements) order t submitted (written (pollOf s longestPacket .bytes)) (pollOf s longestPacket)
+    unfolding pollOf numberedBy
+    poll-good =
+        judged-elim Owes (callVerdict s longestPacket) (λ r e. refused-good r)
+        (λ e. quiet n g order t submitted (s .acknowledgements) s Sent (pollPacket s) ready refl (written-all (Known g order t submitted) (pollPacket s) (poll-known n g order t submitted (s .acknowledgements) s ready)))
+
+    pub copy-good : (number : SequenceNumber) → SequencerGood n g (s .acknowledgements) order t submitted (written (copyOf s number longestPacket .bytes)) (copyOf s number longestPacket)
+    unfolding copyOf numberedBy
+    copy-good number =
+        let inside = s .floor .0 <? number .0 and number .0 ≤? s .top .0 in
+        judged-elim Owes (callVerdict s longestPacket) (λ r e. refused-good r)
+        (λ e. if-elim Owes inside
+        (λ h.
+        let a = ltb-true (s .floor .0) (number .0) (both-first (s .floor .0 <? number .0) (number .0 ≤? s .top .0) h) in
+        let b = leb-true (number .0) (s .top .0) (both-then (s .floor .0 <? number .0) (number .0 ≤? s .top .0) h) in
+        quiet n g order t submitted (s .acknowledgements) s Sent (broadcastOf s (number .0)) ready refl
+        (written-all (Known g order t submitted) (broadcastOf s (number .0)) (copy-known n g order t submitted (s .acknowledgements) s ready (number .0) a b)))
+        (λ h. refused-good NotInHistory))

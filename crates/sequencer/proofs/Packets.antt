@@ -1,0 +1,77 @@
+-- The packets that a sound sequencer writes may be written: the broadcast of a number of the history, and the poll packet; and
+-- a number that was found is one of the history's. Assumes nothing.
+use mathlib.Core.Path.{_≡_, refl}
+use mathlib.Core.Logic.{_⊎_, inl, inr}
+use mathlib.Core.List.{List, []}
+use Prim.Native.Nat.{ℕ, zero, suc, _+_, _≤_, _<_}
+use native.Mathlib.Omega.{arith}
+use borrow.Author.Tests.{lt-ltb, le-leb, eq-eqb}
+use lib.ListN.{length, length-take}
+use Rattle.group.proofs.Lists.{if-elim}
+use Rattle.group.specs.Choice.{if_then_else_}
+use Rattle.group.specs.Limits.{payloadMost, longestPacket}
+use Rattle.group.specs.declared.MemberNumber.{MemberNumber}
+use Rattle.group.specs.declared.SequenceNumber.{SequenceNumber}
+use Rattle.group.specs.declared.Verdict.{Verdict}
+use Rattle.message.specs.Message.{payloadOf}
+use Rattle.message.specs.declared.Message.{Message}
+use Rattle.packet.proofs.Verdicts.{accepted}
+use Rattle.packet.specs.Laws.{Allowed}
+use Rattle.packet.specs.Packet.{knownKind, payloadFits, obeys, fieldsVerdict, fieldsOf}
+use Rattle.packet.specs.declared.Packet.the-variants.{Broadcast, Poll}
+use Rattle.sequencer.specs.Calls.{isOf, findOf}
+use Rattle.sequencer.specs.Laws.{Typed}
+use Rattle.sequencer.specs.State.{messageAt}
+use Rattle.sequencer.specs.declared.Sequencer.{Sequencer}
+use Rattle.sequencer.proofs.Soundness.{Sound}
+
+broadcast-fields : (g number count size : ℕ) (originator : MemberNumber) (floor : SequenceNumber) → 1 ≤ number → 1 ≤ count → floor .0 < number
+    → fieldsVerdict (fieldsOf g (Broadcast originator (record { 0 = number }) count floor)) size size ≡ Verdict.Accepted
+unfolding fieldsVerdict knownKind payloadFits obeys fieldsOf if_then_else_
+broadcast-fields g number count size originator floor a b c = rw (eq-eqb size size refl, le-leb 1 number a, le-leb 1 count b, lt-ltb (floor .0) number c)
+
+poll-fields : (g : ℕ) (top floor : SequenceNumber) → floor .0 ≤ top .0 → fieldsVerdict (fieldsOf g (Poll top floor)) 0 0 ≡ Verdict.Accepted
+unfolding fieldsVerdict knownKind payloadFits obeys fieldsOf if_then_else_
+poll-fields g top floor h = rw (le-leb (floor .0) (top .0) h)
+
+payload-short : (m : Message) → m .length ≤ payloadMost → length (payloadOf m) ≤ payloadMost
+unfolding payloadOf
+payload-short m h = simp length-take (omega arith)
+
+module _ (s : Sequencer) (typed : Typed s) (sound : Sound s) where
+  pub broadcast-allowed : (k : ℕ) → s .floor .0 < k → k ≤ s .top .0
+      → Allowed (fieldsOf (s .group .number) (Broadcast (messageAt (s .history) k .originator) (record { 0 = k }) (messageAt (s .history) k .count) (s .floor))) (payloadOf (messageAt (s .history) k))
+  unfolding fieldsOf
+  broadcast-allowed k a b =
+      let m = messageAt (s .history) k in
+      let f = sound .kept k a b in
+      let c = typed .counts (m .originator .0) in (
+        omega arith,
+        accepted (fieldsOf (s .group .number) (Broadcast (m .originator) (record { 0 = k }) (m .count) (s .floor))) (length (payloadOf m)) longestPacket
+            (record {
+              enough = omega arith;
+              fields = broadcast-fields (s .group .number) k (m .count) (length (payloadOf m)) (m .originator) (s .floor) (omega arith) (f .count-least) a;
+              short = payload-short m (f .short);
+            }),
+      )
+
+  pub poll-allowed : Allowed (fieldsOf (s .group .number) (Poll (s .top) (s .floor))) []
+  unfolding fieldsOf
+  poll-allowed = (
+    omega arith,
+    accepted (fieldsOf (s .group .number) (Poll (s .top) (s .floor))) 0 longestPacket
+        (record { enough = omega arith; fields = poll-fields (s .group .number) (s .top) (s .floor) (sound .floor-le); short = omega arith }),
+  )
+
+-- what is found is 0 or one of the k numbers above floor
+pub found-in : (history : List Message) (m : MemberNumber) (count floor k : ℕ)
+    → (findOf history m count floor k ≡ 0) ⊎ ((floor < findOf history m count floor k) × (findOf history m count floor k ≤ floor + k))
+unfolding findOf
+found-in history m count floor zero = inl refl
+found-in history m count floor (suc k) =
+    if-elim (λ (x : ℕ). (x ≡ 0) ⊎ ((floor < x) × (x ≤ floor + suc k))) (isOf m count (messageAt history (floor + suc k))) (λ t. inr (omega arith))
+    (λ t. up (found-in history m count floor k))
+  where
+    up : {x : ℕ} → (x ≡ 0) ⊎ ((floor < x) × (x ≤ floor + k)) → (x ≡ 0) ⊎ ((floor < x) × (x ≤ floor + suc k))
+    up (inl e) = inl e
+    up (inr e) = inr (omega arith)

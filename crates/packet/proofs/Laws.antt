@@ -1,5 +1,5 @@
--- The laws that `specs/Laws.antt` states: the round trips by the laws of a packet's parts, the first no by trying both answers
--- to each question. Assumes nothing.
+-- The laws that `specs/Laws.antt` states: the round trips by the laws of a packet's parts, the first no by going down the
+-- questions, the two ways of saying a packet by its kind. Assumes nothing.
 use mathlib.Core.Path.{_≡_, refl, sym, ap, _∙_}
 use mathlib.Core.Bool.{true, false}
 use mathlib.Core.List.{List, [], _∷_}
@@ -42,7 +42,6 @@ read-written h payload (fits, allowed) =
     (sym r, payload-back h payload)
 
 pub write-read : WriteRead
-unfolding judged
 write-read p h payload bytes (r, b) =
     let a = readable p h r in
     let n = length-drop headerSize p in
@@ -76,8 +75,10 @@ content-fields group (Gap sender taken first last) = refl
 content-fields group (Status sender taken) = refl
 content-fields group (Poll top floor) = refl
 
--- fields by fields: the kind decides which of them are zero
-fields-content-by : (kind member group a b c : ℕ) → let h : Header = record { kind = kind; member = record { 0 = member }; group = group; a = a; b = b; c = c } in knownKind kind ≡ true → obeys h ≡ true → fieldsOf group (contentOf h) ≡ h
+-- the fields one by one: the kind decides which of them are zero
+fields-content-by : (kind member group a b c : ℕ)
+    → let h : Header = record { kind = kind; member = record { 0 = member }; group = group; a = a; b = b; c = c } in
+    knownKind kind ≡ true → obeys h ≡ true → fieldsOf group (contentOf h) ≡ h
 unfolding knownKind obeys contentOf fieldsOf if_then_else_
 fields-content-by zero member group a b c k o = let z : false ≡ true = k in cc
 fields-content-by (suc zero) member group a b c k o = let z : c ≡ 0 = search says in rw z

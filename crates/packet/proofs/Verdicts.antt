@@ -15,6 +15,7 @@ use Rattle.group.specs.declared.Refusal.the-variants.{ShortOutput, PacketSize, 
 use Rattle.group.specs.declared.Verdict.{Verdict}
 use Rattle.group.specs.declared.Verdict.the-variants.{Accepted, Refused}
 use Rattle.group.proofs.Choice.{choices, tests, if-was, both-first, both-then}
+use Rattle.group.proofs.Question.{accepted≢, judged-was}
 use Rattle.packet.specs.Packet.{headerOf, lengthAt, payloadAt, knownKind, payloadFits, obeys, fieldsVerdict, readOf, packetOf, writeVerdict, writeOf}
 use Rattle.packet.specs.declared.Header.{Header}
 use Rattle.packet.specs.declared.Reading.{Reading}
@@ -26,16 +27,6 @@ pub read-by : (p : List ℕ) (h : Header) (l : ℕ) (v : Verdict) → headerSize
     → judged v Reading.Refused (Reading.Fields h) ≡ readOf p
 unfolding readOf
 read-by p h l v lo hi eh el ev = rw (ev, eh, el) (search (choices, tests, needs) depth 9)
-
--- the verdict that is not a refusal
-pub accepted≢ : (r : Refusal) → Refused r ≡ Accepted → ⊥
-accepted≢ r e = let z : _≡_ {A = ℕ} 0 1 = cc in omega arith
-
--- a verdict that did not come to a refusal was none
-judged-was : {A : Type 0} (v : Verdict) (refused : Refusal → A) (x z : A) → ((r : Refusal) → refused r ≡ z → ⊥) → judged v refused x ≡ z → (v ≡ Accepted) × (x ≡ z)
-unfolding judged
-judged-was Accepted refused x z n e = (refl, e)
-judged-was (Refused r) refused x z n e = absurd (n r e)
 
 -- what fields that are accepted were asked
 pub record Askable (h : Header) (l size : ℕ) : Type 0 where
@@ -105,6 +96,7 @@ pub write-by : (h : Header) (size room : ℕ) (v : Verdict) → longestPacket �
 unfolding writeVerdict
 write-by h size room v e ev = rw ev (search (choices, needs) depth 9)
 
+-- a writing of which all that holds is accepted
 pub accepted : (h : Header) (size room : ℕ) → Writable h size room → writeVerdict h size room ≡ Accepted
 unfolding judged
 accepted h size room w =

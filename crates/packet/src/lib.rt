@@ -6,7 +6,6 @@ use group::SequenceNumber;
 use group::Verdict;
 ghost use mathlib.Core.Path.{_≡_};
 ghost use Prim.Native.Nat.{_+_, _*_, _/_, _%_, _≤_};
-ghost use mathlib.Core.List.{List};
 ghost use lib.ListN.{length};
 ghost use Rattle.group.specs.Limits.{headerSize};
 ghost use Rattle.group.specs.Lent.{front};

@@ -18,7 +18,7 @@ use Rattle.group.specs.declared.Refusal.the-variants.{UnknownMember, Acknowledg
 use Rattle.group.specs.declared.SequenceNumber.{SequenceNumber}
 use Rattle.group.specs.declared.Verdict.{Verdict}
 use Rattle.packet.proofs.Laws.{read-written}
-use Rattle.packet.proofs.Verdicts.{accepted≢}
+use Rattle.group.proofs.Question.{accepted≢}
 use Rattle.packet.specs.Packet.{obeys, readOf, fieldsOf}
 use Rattle.packet.specs.declared.Header.{Header}
 use Rattle.packet.specs.declared.Packet.{Packet}

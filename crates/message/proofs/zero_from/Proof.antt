@@ -8,7 +8,7 @@ use lib.Seq.{take-all}
 use Rattle.group.specs.Limits.{payloadMost}
 use Rattle.message.specs.Message.{allZero}
 use borrow.Author.Needs.{needs}
-use mathlib.Core.Path.{refl, sym, ap, _∙_}
+use mathlib.Core.Path.{ap, _∙_}
 use Rattle.message.proofs.zero_from.Statement.{statement}
 use Rattle.message.proofs.zero_from.Tie as tie
 

@@ -19,7 +19,7 @@ low-byte-requires-4 c κs = search needs
 
 returns : tie.Need-returns
 unfolding bytesOf
-returns c = cc
+returns c = rw (c .before .before .before .low-byte .ensures, c .before .before .low-byte2 .ensures, c .before .low-byte3 .ensures, c .low-byte4 .ensures)
 
 pub four-spec : {M : Type 1} → statement M
 four-spec =

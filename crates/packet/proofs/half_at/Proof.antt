@@ -4,8 +4,6 @@ use mathlib.Core.Path.{_∙_}
 use denote.Ref.{now}
 use Rattle.packet.proofs.Number.{number-two}
 use borrow.Author.Needs.{needs}
-use native.Mathlib.Omega.{arith}
-use Rattle.packet.specs.Number.{numberAt}
 use Rattle.packet.proofs.half_at.Statement.{statement}
 use Rattle.packet.proofs.half_at.Tie as tie
 

@@ -25,7 +25,8 @@ shared-slice-read-t9 c = search needs
 
 returns : tie.Need-returns
 unfolding headerOf
-returns c = cc
+returns c =
+    rw (c .before .before .before .before .before .number-at .ensures, c .before .before .before .before .number-at2 .ensures, c .before .before .before .number-at3 .ensures, c .before .before .number-at4 .ensures)
 
 pub header-at-spec : {M : Type 1} → statement M
 header-at-spec =

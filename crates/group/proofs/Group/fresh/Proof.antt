@@ -3,8 +3,6 @@ use Rattle.group.proofs.Choice.{choices, tests}
 use Rattle.group.specs.Opening.{openOf}
 use Rattle.group.proofs.Group.fresh.Statement.{statement}
 use Rattle.group.proofs.Group.fresh.Tie as tie
-use Rattle.group.proofs.Group.fresh.Reads as reads
-use Rattle.group.proofs.Group.fresh.Lts as lts
 
 -- src/lib.rt:108:13
 returns : tie.Need-returns

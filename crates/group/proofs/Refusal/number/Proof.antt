@@ -1,8 +1,6 @@
 use borrow.Author.Needs.{needs}
 use Rattle.group.proofs.Refusal.number.Statement.{statement}
 use Rattle.group.proofs.Refusal.number.Tie as tie
-use Rattle.group.proofs.Refusal.number.Reads as reads
-use Rattle.group.proofs.Refusal.number.Lts as lts
 
 -- src/lib.rt:41:38
 enum-told : tie.Need-enum-told

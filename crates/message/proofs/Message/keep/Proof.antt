@@ -10,7 +10,7 @@ with-zeros-requires c κs = search needs
 
 returns : tie.Need-returns
 unfolding messageOf
-returns c = cc
+returns c = rw (c .with-zeros .ensures)
 
 pub keep-spec : {M : Type 1} → statement M
 keep-spec = tie.close (tie.spec with-zeros-requires returns)

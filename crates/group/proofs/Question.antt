@@ -49,3 +49,9 @@ judged-append refused accepted before rest = go (firstNo before) ∙ ap (λ (v :
     go : (v : Verdict) → judged v refused (judged (firstNo rest) refused accepted) ≡ judged (judged v Refused (firstNo rest)) refused accepted
     go Accepted = refl
     go (Refused r) = refl
+
+-- a step may be another where the questions before it say yes
+pub judged-same : {A : Type 0} (v : Verdict) (refused : Refusal → A) (x y : A) → (v ≡ Accepted → x ≡ y) → judged v refused x ≡ judged v refused y
+unfolding judged
+judged-same Accepted refused x y e = e refl
+judged-same (Refused r) refused x y e = refl

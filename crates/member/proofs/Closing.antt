@@ -22,7 +22,8 @@ use Rattle.packet.specs.Laws.{Allowed}
 use Rattle.packet.specs.Packet.{obeys, fieldsOf, packetOf}
 use Rattle.packet.specs.declared.Packet.{Packet}
 use Rattle.packet.specs.declared.Packet.the-variants.{Request, Broadcast, Gap, Status, Poll}
-use Rattle.packet.proofs.Laws.{read-written, content-fields}
+use Rattle.packet.proofs.Facts.{Known}
+use Rattle.packet.proofs.Laws.{read-written, content-fields, fields-group}
 use Rattle.packet.proofs.Verdicts.{askable, writable}
 use Rattle.member.specs.Calls.{Outcome, answered, statusPacket, callVerdict, statusOf, withHeld, gapUpTo, keptOf, broadcastOf, contentStep, readStep, receiveOf, withTaken, tookOf, takeOf}
 use Rattle.member.specs.Sound.{soundOf}
@@ -48,14 +49,6 @@ pub take-is : (m : Member) → soundOf m ≡ true → 1 ≤ messageAt (m .held) 
 unfolding takeOf judged if_then_else_
 take-is m h c = rw (call-accepted m h, lt-ltb 0 (messageAt (m .held) (m .taken .0 + 1) .count) c)
 
-fields-group : (g : ℕ) (content : Packet) → fieldsOf g content .group ≡ g
-unfolding fieldsOf
-fields-group g (Request sender taken count) = refl
-fields-group g (Broadcast originator number count floor) = refl
-fields-group g (Gap sender taken first last) = refl
-fields-group g (Status sender taken) = refl
-fields-group g (Poll top floor) = refl
-
 -- a packet of the group is received as what it says
 pub receive-is : (m : Member) (g : ℕ) (content : Packet) (payload : List ℕ) → soundOf m ≡ true → m .group .number ≡ g → Allowed (fieldsOf g content) payload
     → receiveOf m (packetOf (fieldsOf g content) payload) longestPacket ≡ contentStep m content payload
@@ -73,7 +66,7 @@ pub record HandOk (m : Member) (o : Outcome) : Type 0 where
 module _ (n g i acknowledged count : ℕ) (order took : List Ordered) (submitted : List (List ℕ)) (m : Member) (h : Terminal n g i acknowledged count m order took submitted) where
   module _ (originator : MemberNumber) (number : SequenceNumber) (c : ℕ) (floor : SequenceNumber) (payload : List ℕ)
       (allowed : Allowed (fieldsOf g (Broadcast originator number c floor)) payload) (member : originator .0 < n) (next : number .0 ≡ m .taken .0 + 1) where
-    -- a message is a message: its count is at least 1
+    -- a count of a broadcast is at least 1
     count-pos : 1 ≤ c
     unfolding fieldsOf obeys if_then_else_
     count-pos =
@@ -108,6 +101,13 @@ module _ (n g i acknowledged count : ℕ) (order took : List Ordered) (submitted
         (λ a. absurd (eqb-false low 0 a none))))
         (λ a. let z = leb-false (number .0) (m .taken .0 + heldMost) a in absurd (omega arith))))
         (λ a. let z = ltb-false (originator .0) (m .group .n) a in let y = h .n-is in absurd (omega arith)))
+
+  -- the same of a broadcast that the group knows
+  pub hand-known : (t : ℕ → ℕ) (subs : ℕ → List (List ℕ)) (bytes : List ℕ) (k : Known g order t subs bytes) (originator : MemberNumber) (number : SequenceNumber) (c : ℕ) (floor : SequenceNumber)
+      → k .content ≡ Broadcast originator number c floor → originator .0 < n → number .0 ≡ m .taken .0 + 1 → HandOk m (receiveOf m bytes longestPacket)
+  hand-known t subs bytes k originator number c floor e member next =
+      let allowed : Allowed (fieldsOf g (Broadcast originator number c floor)) (k .payload) = rw e at (k .allowed) in
+      rw (k .bytes-are, e) (hand-ok originator number c floor (k .payload) allowed member next)
 
   pub take-ok : 1 ≤ messageAt (m .held) (m .taken .0 + 1) .count → takeOf m longestPacket .member .taken .0 ≡ m .taken .0 + 1
   unfolding tookOf withTaken

@@ -13,6 +13,7 @@ use Rattle.group.specs.Limits.{headerSize, payloadMost, largestNumber}
 use Rattle.group.specs.declared.Refusal.{Refusal}
 use Rattle.group.specs.declared.Verdict.{Verdict}
 use Rattle.group.proofs.Choice.{if-was, says}
+use Rattle.group.proofs.Question.{accepted≢}
 use Rattle.group.proofs.Lists.{if-elim, judged-elim, All}
 use Rattle.message.specs.Message.{messageOf, payloadOf}
 use Rattle.message.proofs.Kept.{kept-zero}
@@ -35,9 +36,6 @@ use Rattle.member.proofs.Keeping.{waiting-typed, waiting-sound, held-ty
 use Rattle.member.proofs.Receiving.{Keepable, read-heard}
 use Rattle.member.proofs.Soundness.{Sound, sound-of, of-sound}
 use Rattle.member.proofs.Writes.{Own, payload-short, request-allowed, status-allowed}
-
-accepted≢ : (refusal : Refusal) → Verdict.Refused refusal ≡ Verdict.Accepted → ⊥
-accepted≢ refusal e = let z : _≡_ {A = ℕ} 0 1 = cc in omega arith
 
 -- what a call that goes past questions 1 and 2 was asked
 pub call-sound : (m : Member) (room : ℕ) → callVerdict m room ≡ Verdict.Accepted → soundOf m ≡ true

@@ -8,3 +8,4 @@ pub mod Laws
 pub mod Ordering
 pub mod Taking
 pub mod Closing
+pub mod Asking

@@ -14,7 +14,6 @@ use lib.Seq.{take-append-le}
 use Rattle.group.specs.Limits.{heldMost, payloadMost, longestPacket, largestNumber}
 use Rattle.group.specs.declared.MemberNumber.{MemberNumber}
 use Rattle.group.specs.declared.Refusal.{Refusal}
-use Rattle.group.proofs.Choice.{says}
 use Rattle.group.proofs.Lists.{if-elim, judged-elim, at, All, at-append, at-last, at-snoc}
 use Rattle.message.specs.Message.{messageOf, payloadOf}
 use Rattle.message.specs.Order.{Ordered, countedFrom}

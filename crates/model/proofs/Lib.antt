@@ -4,4 +4,5 @@ pub mod Step
 pub mod Whole
 pub mod Round
 pub mod Theorem
+pub mod Refusals
 pub mod Examples

@@ -106,3 +106,12 @@ pub read-put : (group : ℕ) (packet : Packet) (payload : List ℕ) → Fits (fi
     → writeVerdict (fieldsOf group packet) (length payload) longestPacket ≡ Verdict.Accepted
     → readOf (packetOf (fieldsOf group packet) payload) ≡ Reading.Fields (fieldsOf group packet)
 read-put group packet payload fits allowed = read-written (fieldsOf group packet) payload (fits, allowed) .0
+
+-- the fields that mean a packet are of the group that it was written in
+pub fields-group : (group : ℕ) (packet : Packet) → fieldsOf group packet .group ≡ group
+unfolding fieldsOf
+fields-group group (Request sender taken count) = refl
+fields-group group (Broadcast originator number count floor) = refl
+fields-group group (Gap sender taken first last) = refl
+fields-group group (Status sender taken) = refl
+fields-group group (Poll top floor) = refl

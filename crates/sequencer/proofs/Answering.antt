@@ -1,7 +1,7 @@
 -- What each answer of the sequencer owes the group: one that numbers nothing leaves the order, and Numbered adds the next
 -- submission of its originator. Assumes nothing.
 use mathlib.Core.Path.{_≡_, refl, sym, ap, _∙_}
-use mathlib.Core.Logic.{_≢_, _⊎_, inl, inr}
+use mathlib.Core.Logic.{_≢_}
 use mathlib.Core.Option.{some}
 use mathlib.Core.List.{List, [], _∷_, _++_, append-nil}
 use Prim.Native.Nat.{ℕ, suc, _+_, _-_, _≤_, _<_}
@@ -35,12 +35,6 @@ use Rattle.sequencer.proofs.Owning.{own-other, own-next}
 use Rattle.sequencer.proofs.Packets.{poll-allowed, found-in}
 use Rattle.sequencer.proofs.Soundness.{Sound, sound-of}
 
--- what is known of the packets that were written is known of those that a call wrote
-pub written-all : (P : List ℕ → Type 0) (bytes : List ℕ) → P bytes → All P (written bytes)
-unfolding written
-written-all P [] h = tt
-written-all P (b ∷ rest) h = (h, tt)
-
 -- the order of the group, what its terminals took and submitted, and the table of acknowledgements before the call
 module _ (n g : ℕ) (order : List Ordered) (t : ℕ → ℕ) (submitted : ℕ → List (List ℕ)) (base : List Acknowledgement) where
   abbrev pub Good : Outcome → Type 0
@@ -54,19 +48,34 @@ module _ (n g : ℕ) (order : List Ordered) (t : ℕ → ℕ) (submitted : ℕ �
     pub counts : (i : ℕ) → i < n → countIn (s .acknowledgements) i ≤ length (submitted i)
     pub owns : (i : ℕ) → i < n → ownOf i order ≡ countedFrom 1 (take (countIn (s .acknowledgements) i) (submitted i))
 
+  -- what is known of the bytes that a call wrote is known of its packets
+  packets-known : (order : List Ordered) (bytes : List ℕ) → Known g order t submitted bytes → All (Known g order t submitted) (written bytes)
+  unfolding written
+  packets-known order [] k = tt
+  packets-known order (b ∷ rest) k = (k, tt)
+
   -- a step that numbers nothing
-  pub quiet : (s : Sequencer) (answer : Answer) (bytes : List ℕ) → Ready s → numberedBy answer bytes ≡ [] → All (Known g order t submitted) (written bytes)
-      → Good (record { sequencer = s; answer = answer; bytes = bytes })
-  quiet s answer bytes r e known =
-      let z : order ++ numberedBy answer bytes ≡ order = ap (λ (l : List Ordered). order ++ l) e ∙ append-nil order in
-      record {
-        inv = rw z (r .inv);
-        acknowledged = r .acked;
-        counts-up = r .ups;
-        counts-most = r .counts;
-        own = λ i h. rw z (r .owns i h);
-        known = rw z known;
-      }
+  module _ (s : Sequencer) (r : Ready s) where
+    settled : (answer : Answer) (bytes : List ℕ) → numberedBy answer bytes ≡ [] → All (Known g order t submitted) (written bytes)
+        → Good (record { sequencer = s; answer = answer; bytes = bytes })
+    settled answer bytes e known =
+        let z : order ++ numberedBy answer bytes ≡ order = ap (λ (l : List Ordered). order ++ l) e ∙ append-nil order in
+        record {
+          inv = rw z (r .inv);
+          acknowledged = r .acked;
+          counts-up = r .ups;
+          counts-most = r .counts;
+          own = λ i h. rw z (r .owns i h);
+          known = rw z known;
+        }
+
+    pub silent : (answer : Answer) → numberedBy answer [] ≡ [] → Good (answered s answer)
+    unfolding answered written
+    silent answer e = settled answer [] e tt
+
+    pub writing : (answer : Answer) (bytes : List ℕ) → numberedBy answer bytes ≡ [] → Known g order t submitted bytes
+        → Good (record { sequencer = s; answer = answer; bytes = bytes })
+    writing answer bytes e k = settled answer bytes e (packets-known order bytes k)
 
   module _ (s : Sequencer) (r : Ready s) where
     sound : Sound s
@@ -74,9 +83,11 @@ module _ (n g : ℕ) (order : List Ordered) (t : ℕ → ℕ) (submitted : ℕ �
 
     repeated-ready : Ready (repeatedOf s)
     unfolding repeatedOf
-    repeated-ready = record { inv = repeated-inv n g order s (r .inv); acked = r .acked; ups = r .ups; counts = r .counts; owns = r .owns }
+    repeated-ready =
+        record { inv = repeated-inv n g order s (r .inv); acked = r .acked; ups = r .ups; counts = r .counts; owns = r .owns }
 
-    pub note-ready : (m : MemberNumber) (taken : SequenceNumber) → m .0 < n → taken .0 ≤ t (m .0) → t (m .0) ≤ length order → Ready (noteOf s m taken)
+    pub note-ready : (m : MemberNumber) (taken : SequenceNumber) → m .0 < n → taken .0 ≤ t (m .0) → t (m .0) ≤ length order
+        → Ready (noteOf s m taken)
     unfolding noteOf withTable
     note-ready m taken member known below =
         let v = r .inv in
@@ -89,10 +100,6 @@ module _ (n g : ℕ) (order : List Ordered) (t : ℕ → ℕ) (submitted : ℕ �
           counts = λ i h. rw (c i) (r .counts i h);
           owns = λ i h. rw (c i) (r .owns i h);
         }
-
-    pub quiet-answer : (answer : Answer) → numberedBy answer [] ≡ [] → Good (answered s answer)
-    unfolding answered written
-    quiet-answer answer e = quiet s answer [] r e tt
 
     pub poll-known : Known g order t submitted (pollPacket s)
     unfolding pollPacket
@@ -115,73 +122,88 @@ module _ (n g : ℕ) (order : List Ordered) (t : ℕ → ℕ) (submitted : ℕ �
       abbrev message : Ordered
       message = ordered (s .top .0 + 1) (m .0) count payload
 
-      inv′ : SequencerInv n g (withMessage s m count payload) (order ++ (message ∷ []))
+      abbrev order′ : List Ordered
+      order′ = order ++ (message ∷ [])
+
+      abbrev s′ : Sequencer
+      s′ = withMessage s m count payload
+
+      inv′ : SequencerInv n g s′ order′
       inv′ = numbered-inv n g order s (r .inv) m count payload member next most short room left
 
-      numbered-by : numberedBy (Numbered (record { 0 = s .top .0 + 1 })) (broadcastOf (withMessage s m count payload) (s .top .0 + 1)) ≡ message ∷ []
+      above : s .floor .0 < s .top .0 + 1
+      above = let f = sound .floor-le in omega arith
+
+      -- the broadcast says the message that was numbered
+      numbered-by : numberedBy (Numbered (record { 0 = s .top .0 + 1 })) (broadcastOf s′ (s .top .0 + 1)) ≡ message ∷ []
       unfolding numberedBy withMessage fieldsOf
       numbered-by =
           let k : s .top .0 + 1 ≡ suc (length order) = (let z = r .inv .top-is in omega arith) in
-          let e : at (order ++ (message ∷ [])) (s .top .0 + 1) ≡ some message = ap (λ (j : ℕ). at (order ++ (message ∷ [])) j) k ∙ at-last order message in
-          let above : s .floor .0 < s .top .0 + 1 = (let z = sound .floor-le in omega arith) in
-          let b = broadcast-is n g (order ++ (message ∷ [])) (withMessage s m count payload) inv′ (s .top .0 + 1) message e above in
-          let a = broadcast-may n g (order ++ (message ∷ [])) (withMessage s m count payload) inv′ (s .top .0 + 1) message e above in
+          let e : at order′ (s .top .0 + 1) ≡ some message = ap (λ (j : ℕ). at order′ j) k ∙ at-last order message in
+          let b = broadcast-is n g order′ s′ inv′ (s .top .0 + 1) message e above in
+          let a = broadcast-may n g order′ s′ inv′ (s .top .0 + 1) message e above in
           rw (b, header-back _ payload (a .0), payload-back _ payload)
+
+      own-numbered : ownOf (m .0) order′ ≡ countedFrom 1 (take count (submitted (m .0)))
+      own-numbered =
+          own-next (countIn (s .acknowledgements) (m .0)) order (submitted (m .0)) message (r .counts (m .0) member) next submission (r .owns (m .0) member)
 
       numbered-good : Good (numberedOf s m count payload)
       unfolding numberedOf withMessage
       numbered-good =
           let v = r .inv in
-          let member′ : m .0 < s .group .n = rw (v .n-is) member in
-          let z : order ++ numberedBy (Numbered (record { 0 = s .top .0 + 1 })) (broadcastOf (withMessage s m count payload) (s .top .0 + 1)) ≡ order ++ (message ∷ []) = ap (λ (l : List Ordered). order ++ l) numbered-by in
-          let each = counted-each s m count payload (v .typed) sound member′ in
-          let bytes = broadcastOf (withMessage s m count payload) (s .top .0 + 1) in
+          let z = ap (λ (l : List Ordered). order ++ l) numbered-by in
+          let last = at-le (submitted (m .0)) count submission in
+          let l : s .top .0 + 1 ≤ length order′ = (let e = v .top-is in simp length-append (omega arith)) in
+          let each = counted-each s m count payload (v .typed) sound (rw (v .n-is) member) in
           record {
             inv = rw z inv′;
             acknowledged = λ i h. each (λ j a. a .taken .0 ≤ t j) i (λ q. rw q (r .acked (m .0) member)) (λ q. r .acked i h);
             counts-up = λ i h. each (λ j a. countIn base j ≤ a .count) i (λ q. let y = r .ups (m .0) member in rw q (omega arith)) (λ q. r .ups i h);
-            counts-most = λ i h. each (λ j a. a .count ≤ length (submitted j)) i (λ q. rw q (at-le (submitted (m .0)) count submission)) (λ q. r .counts i h);
+            counts-most = λ i h. each (λ j a. a .count ≤ length (submitted j)) i (λ q. rw q last) (λ q. r .counts i h);
             own = λ i h.
                 rw z
-                (each (λ j a. ownOf j (order ++ (message ∷ [])) ≡ countedFrom 1 (take (a .count) (submitted j))) i
-                (λ q. rw q (own-next (countIn (s .acknowledgements) (m .0)) order (submitted (m .0)) message (r .counts (m .0) member) next submission (r .owns (m .0) member)))
+                (each (λ j a. ownOf j order′ ≡ countedFrom 1 (take (a .count) (submitted j))) i (λ q. rw q own-numbered)
                 (λ q. own-other i order message (λ w. q (sym w)) ∙ r .owns i h));
-            known = rw z (written-all (Known g (order ++ (message ∷ [])) t submitted) bytes
-                (broadcast-known n g (order ++ (message ∷ [])) (withMessage s m count payload) inv′ t submitted (s .top .0 + 1) (let y = sound .floor-le in omega arith) (let y = v .top-is in simp length-append (omega arith))));
+            known =
+                rw z
+                (packets-known order′ (broadcastOf s′ (s .top .0 + 1)) (broadcast-known n g order′ s′ inv′ t submitted (s .top .0 + 1) above l));
           }
 
-    again-good : (number : ℕ) → (number ≡ 0) ⊎ ((s .floor .0 < number) × (number ≤ s .floor .0 + (s .top .0 - s .floor .0))) → Good (againOf s number)
-    unfolding againOf oldOf answered numberedBy written
+  module _ (s : Sequencer) (r : Ready s) where
+    again-good : (number : ℕ) → (number ≢ 0 → (s .floor .0 < number) × (number ≤ s .floor .0 + (s .top .0 - s .floor .0))) → Good (againOf s number)
+    unfolding againOf oldOf numberedBy
     again-good number found =
-        if-elim Good (number =? 0) (λ c. quiet (repeatedOf s) Old [] repeated-ready refl tt)
-        (λ c. quiet (repeatedOf s) (Again (record { 0 = number })) (broadcastOf s number) repeated-ready refl (written-all (Known g order t submitted) (broadcastOf s number) (known (eqb-false number 0 c) found)))
-      where
-        known : number ≢ 0 → (number ≡ 0) ⊎ ((s .floor .0 < number) × (number ≤ s .floor .0 + (s .top .0 - s .floor .0))) → Known g order t submitted (broadcastOf s number)
-        known q (inl e) = absurd (q e)
-        known q (inr e) = copy-known number (e .0) (let a = e .1 in let b = sound .floor-le in omega arith)
+        if-elim Good (number =? 0) (λ c. silent (repeatedOf s) (repeated-ready s r) Old refl)
+        (λ c.
+        let f = found (eqb-false number 0 c) in
+        let g = sound s r .floor-le in
+        writing (repeatedOf s) (repeated-ready s r) (Again (record { 0 = number })) (broadcastOf s number) refl (copy-known s r number (f .0) (omega arith)))
 
     -- a request, once A is noted
-    pub request-good : (m : MemberNumber) (count : ℕ) (payload : List ℕ) → m .0 < n → at (submitted (m .0)) count ≡ some payload → length (submitted (m .0)) ≤ largestNumber
-        → length payload ≤ payloadMost → count ≤ lastCount s m + 1 → (lastCount s m < count → s .top .0 < largestNumber) → Good (requestOf s m count payload)
-    unfolding requestOf oldOf fullOf answered numberedBy written
+    pub request-good : (m : MemberNumber) (count : ℕ) (payload : List ℕ) → m .0 < n → at (submitted (m .0)) count ≡ some payload
+        → length (submitted (m .0)) ≤ largestNumber → length payload ≤ payloadMost
+        → count ≤ lastCount s m + 1 → (lastCount s m < count → s .top .0 < largestNumber) → Good (requestOf s m count payload)
+    unfolding requestOf oldOf fullOf numberedBy
     request-good m count payload member submission sizes short next left =
-        if-elim Good (count <? lastCount s m) (λ a. quiet (repeatedOf s) Old [] repeated-ready refl tt)
+        let wide = s .top .0 - s .floor .0 in
+        if-elim Good (count <? lastCount s m) (λ a. silent (repeatedOf s) (repeated-ready s r) Old refl)
         (λ a. if-elim Good (count =? lastCount s m)
-        (λ b. again-good (findOf (s .history) m count (s .floor .0) (s .top .0 - s .floor .0)) (found-in (s .history) m count (s .floor .0) (s .top .0 - s .floor .0)))
-        (λ b. if-elim Good (s .top .0 - s .floor .0 =? placesMost) (λ c. quiet s Full (pollPacket s) r refl (written-all (Known g order t submitted) (pollPacket s) poll-known))
+        (λ b. again-good (findOf (s .history) m count (s .floor .0) wide) (found-in (s .history) m count (s .floor .0) wide))
+        (λ b. if-elim Good (wide =? placesMost) (λ c. writing s r Full (pollPacket s) refl (poll-known s r))
         (λ c.
         let p = ltb-false count (lastCount s m) a in
         let q = eqb-false count (lastCount s m) b in
-        let d = eqb-false (s .top .0 - s .floor .0) placesMost c in
-        let w = sound .window in
+        let d = eqb-false wide placesMost c in
+        let w = sound s r .window in
         let l = at-le (submitted (m .0)) count submission in
         let room : s .top .0 < s .floor .0 + placesMost = omega arith in
         let next : count ≡ countIn (s .acknowledgements) (m .0) + 1 = omega arith in
         let most : count ≤ largestNumber = omega arith in
-        numbered-good m count payload member submission next most short room (left (omega arith)))))
+        numbered-good s r m count payload member submission next most short room (left (omega arith)))))
 
     pub gap-good : (first last : SequenceNumber) → Good (gapOf s first last)
     unfolding gapOf numberedBy
     gap-good first last =
-        if-elim Good (last .0 ≤? s .floor .0) (λ a. quiet-answer Noted refl)
-        (λ a. quiet-answer (Wanted (record { 0 = largerOf (first .0) (s .floor .0 + 1) }) last) refl)
+        if-elim Good (last .0 ≤? s .floor .0) (λ a. silent s r Noted refl)
+        (λ a. silent s r (Wanted (record { 0 = largerOf (first .0) (s .floor .0 + 1) }) last) refl)

@@ -167,7 +167,10 @@ module _ (n g : ℕ) (order : List Ordered) (s : Sequencer) (v : SequencerInv n 
         payload = m .payload;
         bytes-are = broadcast-is k m (found .1) above;
         allowed = broadcast-may k m (found .1) above;
-        says = found .1 ∙ ap {B = Option Ordered} some (λ i. record { number = v .number-is k m (found .1) i; originator = m .originator; count = m .count; payload = m .payload });
+        says =
+            found .1
+            ∙ ap {B = Option Ordered} some
+            (λ i. record { number = v .number-is k m (found .1) i; originator = m .originator; count = m .count; payload = m .payload });
       }
 
 -- nothing was numbered in a fresh state

@@ -1,7 +1,7 @@
 -- Each step of a sound sequencer leaves a sound state that its types can hold, and writes nothing or a packet that reading
 -- accepts: the step's text, with a proof for each way that a choice goes. Assumes nothing.
 use mathlib.Core.Path.{_≡_, refl}
-use mathlib.Core.Logic.{_⊎_, inl, inr}
+use mathlib.Core.Logic.{_≢_, _⊎_, inl, inr}
 use mathlib.Core.Bool.{true}
 use mathlib.Core.List.{List, []}
 use Prim.Native.Nat.{ℕ, _+_, _-_, _≤_, _<_}
@@ -10,6 +10,7 @@ use borrow.Author.Tests.{ltb-true, ltb-false, leb-true, eqb-false, lt-leb}
 use lib.ListN.{length}
 use Rattle.group.proofs.Choice.{if-was, says}
 use Rattle.group.proofs.Lists.{if-elim, judged-elim}
+use Rattle.group.proofs.Question.{accepted≢}
 use Rattle.group.specs.Choice.{if_then_else_, _<?_, _≤?_, _=?_}
 use Rattle.group.specs.Limits.{placesMost, payloadMost, largestNumber}
 use Rattle.group.specs.declared.MemberNumber.{MemberNumber}
@@ -18,7 +19,6 @@ use Rattle.group.specs.declared.Refusal.the-variants.{UnknownMember, Acknowledg
 use Rattle.group.specs.declared.SequenceNumber.{SequenceNumber}
 use Rattle.group.specs.declared.Verdict.{Verdict}
 use Rattle.packet.proofs.Laws.{read-written}
-use Rattle.group.proofs.Question.{accepted≢}
 use Rattle.packet.specs.Packet.{obeys, readOf, fieldsOf}
 use Rattle.packet.specs.declared.Header.{Header}
 use Rattle.packet.specs.declared.Packet.{Packet}
@@ -37,7 +37,8 @@ use Rattle.sequencer.proofs.Packets.{broadcast-allowed, poll-allowed, f
 use Rattle.sequencer.proofs.Soundness.{Sound}
 
 -- what the questions on a sender and on a request's count asked
-pub sender-was : (n top : ℕ) (sender : MemberNumber) (taken : SequenceNumber) → senderVerdict n top sender taken ≡ Verdict.Accepted → (sender .0 < n) × (taken .0 ≤ top)
+pub sender-was : (n top : ℕ) (sender : MemberNumber) (taken : SequenceNumber) → senderVerdict n top sender taken ≡ Verdict.Accepted
+    → (sender .0 < n) × (taken .0 ≤ top)
 unfolding senderVerdict
 sender-was n top sender taken e =
     let a = if-was (sender .0 <? n) _ _ Verdict.Accepted e (accepted≢ UnknownMember) in
@@ -68,7 +69,9 @@ module _ (s : Sequencer) (typed : Typed s) (sound : Sound s) where
       record {
         group = typed .group;
         top = typed .top;
-        repeats = if-elim (λ (x : ℕ). x ≤ largestNumber) (s .repeats <? largestNumber) (λ t. let z = ltb-true (s .repeats) largestNumber t in omega arith) (λ t. typed .repeats);
+        repeats =
+            if-elim (λ (x : ℕ). x ≤ largestNumber) (s .repeats <? largestNumber) (λ t. let z = ltb-true (s .repeats) largestNumber t in omega arith)
+            (λ t. typed .repeats);
         table = typed .table;
         history = typed .history;
         counts = typed .counts;
@@ -98,39 +101,42 @@ module _ (s : Sequencer) (typed : Typed s) (sound : Sound s) where
   poll-reads = (_, read-written _ _ (poll-allowed s typed sound) .0)
 
 module _ (s : Sequencer) (typed : Typed s) (sound : Sound s) where
-  again-stays : (number : ℕ) → (number ≡ 0) ⊎ ((s .floor .0 < number) × (number ≤ s .floor .0 + (s .top .0 - s .floor .0))) → Stays (againOf s number)
+  again-stays : (number : ℕ) → (number ≢ 0 → (s .floor .0 < number) × (number ≤ s .floor .0 + (s .top .0 - s .floor .0))) → Stays (againOf s number)
   unfolding againOf oldOf answered
   again-stays number found =
       if-elim Stays (number =? 0) (λ t. record { typed = repeated-typed s typed sound; sound = repeated-sound s typed sound; bytes = inl refl })
-      (λ t. record { typed = repeated-typed s typed sound; sound = repeated-sound s typed sound; bytes = inr (reads (eqb-false number 0 t) found) })
-    where
-      reads : (number ≡ 0 → ⊥) → (number ≡ 0) ⊎ ((s .floor .0 < number) × (number ≤ s .floor .0 + (s .top .0 - s .floor .0))) → (h : Header) × (readOf (broadcastOf s number) ≡ Reading.Fields h)
-      reads n (inl e) = absurd (n e)
-      reads n (inr e) = broadcast-reads s typed sound number (e .0) (let z = e .1 in let y = sound .floor-le in omega arith)
+      (λ t.
+      let f = found (eqb-false number 0 t) in
+      let g = sound .floor-le in
+      record { typed = repeated-typed s typed sound; sound = repeated-sound s typed sound; bytes = inr (broadcast-reads s typed sound number (f .0) (omega arith)) })
+
+  numbered-stays : (m : MemberNumber) (count : ℕ) (payload : List ℕ) → m .0 < s .group .n → 1 ≤ count → count ≤ largestNumber → length payload ≤ payloadMost
+      → s .top .0 < s .floor .0 + placesMost → lastCount s m ≤ count → s .top .0 < largestNumber → Stays (numberedOf s m count payload)
+  unfolding numberedOf withMessage
+  numbered-stays m count payload member least most short room up left =
+      let typed′ = numbered-typed s m count payload typed sound member up most left in
+      let sound′ = numbered-sound s m count payload typed sound member up most left least short room in
+      let f = sound .floor-le in
+      let reads = broadcast-reads (withMessage s m count payload) typed′ sound′ (s .top .0 + 1) (omega arith) (omega arith) in
+      record { typed = typed′; sound = sound′; bytes = inr reads }
 
   -- a request, once A is noted
   request-stays : (m : MemberNumber) (count : ℕ) (payload : List ℕ) → m .0 < s .group .n → 1 ≤ count → count ≤ largestNumber → length payload ≤ payloadMost
       → count ≤ lastCount s m + 1 → (lastCount s m < count → s .top .0 < largestNumber) → Stays (requestOf s m count payload)
-  unfolding requestOf oldOf answered fullOf numberedOf withMessage
+  unfolding requestOf oldOf answered fullOf
   request-stays m count payload member least most short next left =
+      let wide = s .top .0 - s .floor .0 in
       if-elim Stays (count <? lastCount s m) (λ a. record { typed = repeated-typed s typed sound; sound = repeated-sound s typed sound; bytes = inl refl })
       (λ a. if-elim Stays (count =? lastCount s m)
-      (λ b. again-stays (findOf (s .history) m count (s .floor .0) (s .top .0 - s .floor .0)) (found-in (s .history) m count (s .floor .0) (s .top .0 - s .floor .0)))
-      (λ b. if-elim Stays (s .top .0 - s .floor .0 =? placesMost) (λ c. record { typed = typed; sound = sound; bytes = inr (poll-reads s typed sound) })
+      (λ b. again-stays (findOf (s .history) m count (s .floor .0) wide) (found-in (s .history) m count (s .floor .0) wide))
+      (λ b. if-elim Stays (wide =? placesMost) (λ c. record { typed = typed; sound = sound; bytes = inr (poll-reads s typed sound) })
       (λ c.
       let p = ltb-false count (lastCount s m) a in
       let q = eqb-false count (lastCount s m) b in
-      let r = eqb-false (s .top .0 - s .floor .0) placesMost c in
+      let r = eqb-false wide placesMost c in
       let w = sound .window in
       let room : s .top .0 < s .floor .0 + placesMost = omega arith in
-      number member least most short room (omega arith) (left (omega arith)))))
-    where
-      number : m .0 < s .group .n → 1 ≤ count → count ≤ largestNumber → length payload ≤ payloadMost → s .top .0 < s .floor .0 + placesMost → lastCount s m ≤ count → s .top .0 < largestNumber
-          → Stays (numberedOf s m count payload)
-      number member least most short room up left =
-          let typed′ = numbered-typed s m count payload typed sound member up most left in
-          let sound′ = numbered-sound s m count payload typed sound member up most left least short room in
-          record { typed = typed′; sound = sound′; bytes = inr (broadcast-reads (withMessage s m count payload) typed′ sound′ (s .top .0 + 1) (let z = sound .floor-le in omega arith) (omega arith)) }
+      numbered-stays m count payload member least most short room p (left (omega arith)))))
 
 -- what a packet of our group says
 module _ (s : Sequencer) (typed : Typed s) (sound : Sound s) (g : ℕ) (payload : List ℕ) (short : length payload ≤ payloadMost) where

@@ -8,3 +8,5 @@ pub mod Histories
 pub mod Owning
 pub mod Answering
 pub mod Ordering
+pub mod Asking
+pub mod Laws

@@ -53,7 +53,8 @@ module _ (history : List Message) (f : ℕ) where
       ∙ cleared-other k number (omega arith) b
 
   -- a place of one of them is empty
-  pub cleared-empty : length history ≡ placesMost → (k number r : ℕ) → f < r → r ≤ f + k → placeOf number ≡ placeOf r → messageAt (clearedOf history f k) number ≡ emptyMessage
+  pub cleared-empty : length history ≡ placesMost → (k number r : ℕ) → f < r → r ≤ f + k → placeOf number ≡ placeOf r
+      → messageAt (clearedOf history f k) number ≡ emptyMessage
   unfolding clearedOf
   cleared-empty l zero number r a b e = absurd (omega arith)
   cleared-empty l (suc k) number r a b e =
@@ -76,7 +77,8 @@ module _ (s : Sequencer) (m : MemberNumber) (taken : SequenceNumber) (typed : Ty
   noted-length = length-set table (m .0) (withTaken (acknowledgementOf table m) taken) ∙ typed .table
 
   -- an entry is the member's, with the larger number, or as it was
-  pub noted-each : (P : ℕ → Acknowledgement → Type 0) (i : ℕ) → (i ≡ m .0 → P i (withTaken (acknowledgementOf table m) taken)) → (i ≢ m .0 → P i (getD table i noAcknowledgement)) → P i (getD table′ i noAcknowledgement)
+  pub noted-each : (P : ℕ → Acknowledgement → Type 0) (i : ℕ) → (i ≡ m .0 → P i (withTaken (acknowledgementOf table m) taken))
+      → (i ≢ m .0 → P i (getD table i noAcknowledgement)) → P i (getD table′ i noAcknowledgement)
   unfolding tableNoted
   noted-each P i same other =
       set-each P table (m .0) (withTaken (acknowledgementOf table m) taken) noAcknowledgement i same other (omega arith)
@@ -145,7 +147,9 @@ module _ (s : Sequencer) (m : MemberNumber) (taken : SequenceNumber) (typed : Ty
           empty = λ k a b.
               le-or k (s .floor .0 + placesMost)
               (λ h. ap isEmpty (cleared-other (s .history) (s .floor .0) k′ k (omega arith) h) ∙ sound .empty k a h)
-              (λ h. ap isEmpty (cleared-empty (s .history) (s .floor .0) (typed .history) k′ k (k - placesMost) (omega arith) (omega arith) (omega arith)) ∙ empty-zero);
+              (λ h.
+              let e = cleared-empty (s .history) (s .floor .0) (typed .history) k′ k (k - placesMost) (omega arith) (omega arith) (omega arith) in
+              ap isEmpty e ∙ empty-zero);
         }
       where
         kept-noted : (message : Message) → KeptFacts (s .group .n) table message → KeptFacts (s .group .n) table′ message

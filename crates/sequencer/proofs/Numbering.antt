@@ -36,7 +36,8 @@ module _ (s : Sequencer) (m : MemberNumber) (count : ℕ) (payload : List ℕ) (
   abbrev history′ : List Message
   history′ = set (s .history) (placeOf (s .top .0 + 1)) (messageOf m count payload)
 
-  pub counted-each : (P : ℕ → Acknowledgement → Type 0) (i : ℕ) → (i ≡ m .0 → P i (countedEntry s m count)) → (i ≢ m .0 → P i (getD table i noAcknowledgement)) → P i (getD table′ i noAcknowledgement)
+  pub counted-each : (P : ℕ → Acknowledgement → Type 0) (i : ℕ) → (i ≡ m .0 → P i (countedEntry s m count))
+      → (i ≢ m .0 → P i (getD table i noAcknowledgement)) → P i (getD table′ i noAcknowledgement)
   counted-each P i same other = set-each P table (m .0) (countedEntry s m count) noAcknowledgement i same other (omega arith)
 
   pub counted-taken : (i : ℕ) → takenIn table′ i ≡ takenIn table i
@@ -52,7 +53,8 @@ module _ (s : Sequencer) (m : MemberNumber) (count : ℕ) (payload : List ℕ) (
   pub kept-here : messageAt history′ (s .top .0 + 1) ≡ messageOf m count payload
   kept-here = getD-set-same (s .history) (placeOf (s .top .0 + 1)) (messageOf m count payload) blank (omega arith)
 
-  pub kept-other : s .top .0 < s .floor .0 + placesMost → (k : ℕ) → s .floor .0 < k → k ≤ s .floor .0 + placesMost → k ≢ s .top .0 + 1 → messageAt history′ k ≡ messageAt (s .history) k
+  pub kept-other : s .top .0 < s .floor .0 + placesMost → (k : ℕ) → s .floor .0 < k → k ≤ s .floor .0 + placesMost → k ≢ s .top .0 + 1
+      → messageAt history′ k ≡ messageAt (s .history) k
   kept-other room k a b q =
       getD-set-other (s .history) (placeOf (s .top .0 + 1)) (placeOf k) (messageOf m count payload) blank (omega arith)
 

@@ -21,7 +21,7 @@ use Rattle.group.specs.declared.SequenceNumber.{SequenceNumber}
 use Rattle.group.specs.declared.Verdict.{Verdict}
 use Rattle.message.specs.Order.{Ordered, ownOf, countedFrom}
 use Rattle.packet.proofs.Facts.{Known, Says}
-use Rattle.packet.proofs.Laws.{read-written, content-fields}
+use Rattle.packet.proofs.Laws.{read-written, content-fields, fields-group}
 use Rattle.packet.proofs.Verdicts.{writable}
 use Rattle.packet.specs.Laws.{Allowed}
 use Rattle.packet.specs.Packet.{packetOf, fieldsOf, written}
@@ -39,15 +39,7 @@ use Rattle.sequencer.proofs.Invariant.{SequencerInv, SequencerGood, tak
 use Rattle.sequencer.proofs.Keeping.{sender-was, count-was}
 use Rattle.sequencer.proofs.Noting.{noted-count, noted-own, noted-other}
 use Rattle.sequencer.proofs.Soundness.{sound-of, floor-most, floor-least}
-use Rattle.sequencer.proofs.Answering.{Good, Ready, written-all, quiet, note-ready, quiet-answer, poll-known, copy-known, request-good, gap-good}
-
-fields-group : (g : ℕ) (content : Packet) → fieldsOf g content .group ≡ g
-unfolding fieldsOf
-fields-group g (Request sender taken count) = refl
-fields-group g (Broadcast originator number count floor) = refl
-fields-group g (Gap sender taken first last) = refl
-fields-group g (Status sender taken) = refl
-fields-group g (Poll top floor) = refl
+use Rattle.sequencer.proofs.Answering.{Good, Ready, silent, writing, note-ready, poll-known, copy-known, request-good, gap-good}
 
 -- a state with its invariant
 module _ (n g : ℕ) (order : List Ordered) (s : Sequencer) (v : SequencerInv n g s order) where
@@ -56,7 +48,8 @@ module _ (n g : ℕ) (order : List Ordered) (s : Sequencer) (v : SequencerInv n 
   called = rw (v .sound)
 
   -- a packet of the group that may be written reaches its step
-  pub received : (content : Packet) (payload : List ℕ) → Allowed (fieldsOf g content) payload → receiveOf s (packetOf (fieldsOf g content) payload) longestPacket ≡ contentStep s content payload
+  pub received : (content : Packet) (payload : List ℕ) → Allowed (fieldsOf g content) payload
+      → receiveOf s (packetOf (fieldsOf g content) payload) longestPacket ≡ contentStep s content payload
   unfolding receiveOf judged readStep if_then_else_
   received content payload allowed =
       let r = read-written (fieldsOf g content) payload allowed in
@@ -65,7 +58,8 @@ module _ (n g : ℕ) (order : List Ordered) (s : Sequencer) (v : SequencerInv n 
 
   -- the copy of a number of the history is the broadcast of the order's message
   pub copy-ok : (k : ℕ) (m : Ordered) → at order k ≡ some m → s .floor .0 < k
-      → copyOf s (record { 0 = k }) longestPacket ≡ record { sequencer = s; answer = Sent; bytes = packetOf (fieldsOf g (Broadcast (record { 0 = m .originator }) (record { 0 = k }) (m .count) (s .floor))) (m .payload) }
+      → let broadcast : Packet = Broadcast (record { 0 = m .originator }) (record { 0 = k }) (m .count) (s .floor) in
+      copyOf s (record { 0 = k }) longestPacket ≡ record { sequencer = s; answer = Sent; bytes = packetOf (fieldsOf g broadcast) (m .payload) }
   unfolding copyOf judged if_then_else_
   copy-ok k m e above =
       let l = at-le order k e in
@@ -105,8 +99,10 @@ module _ (n g : ℕ) (order : List Ordered) (s : Sequencer) (v : SequencerInv n 
       omega arith
 
   -- the group's other facts: what its terminals took and submitted
-  module _ (t : ℕ → ℕ) (submitted : ℕ → List (List ℕ)) (acked : (i : ℕ) → i < n → takenIn (s .acknowledgements) i ≤ t i) (t-le : (i : ℕ) → i < n → t i ≤ length order)
-      (counts : (i : ℕ) → i < n → countIn (s .acknowledgements) i ≤ length (submitted i)) (sizes : (i : ℕ) → i < n → length (submitted i) ≤ largestNumber)
+  module _ (t : ℕ → ℕ) (submitted : ℕ → List (List ℕ))
+      (acked : (i : ℕ) → i < n → takenIn (s .acknowledgements) i ≤ t i) (t-le : (i : ℕ) → i < n → t i ≤ length order)
+      (counts : (i : ℕ) → i < n → countIn (s .acknowledgements) i ≤ length (submitted i))
+      (sizes : (i : ℕ) → i < n → length (submitted i) ≤ largestNumber)
       (owns : (i : ℕ) → i < n → ownOf i order ≡ countedFrom 1 (take (countIn (s .acknowledgements) i) (submitted i))) where
     abbrev Owes : Outcome → Type 0
     Owes = Good n g order t submitted (s .acknowledgements)
@@ -116,10 +112,11 @@ module _ (n g : ℕ) (order : List Ordered) (s : Sequencer) (v : SequencerInv n 
 
     refused-good : (refusal : Refusal) → Owes (refused s refusal)
     unfolding numberedBy
-    refused-good refusal = quiet-answer n g order t submitted (s .acknowledgements) s ready (Answer.Refused refusal) refl
+    refused-good refusal = silent n g order t submitted (s .acknowledgements) s ready (Answer.Refused refusal) refl
 
     -- the steps, once a sender was accepted and its number is noted
-    module _ (sender : MemberNumber) (taken : SequenceNumber) (known : taken .0 ≤ t (sender .0)) (e : senderVerdict (s .group .n) (s .top .0) sender taken ≡ Verdict.Accepted) where
+    module _ (sender : MemberNumber) (taken : SequenceNumber) (known : taken .0 ≤ t (sender .0))
+        (e : senderVerdict (s .group .n) (s .top .0) sender taken ≡ Verdict.Accepted) where
       member : sender .0 < n
       member = rw (v .n-is) at (sender-was (s .group .n) (s .top .0) sender taken e .0)
 
@@ -132,13 +129,16 @@ module _ (n g : ℕ) (order : List Ordered) (s : Sequencer) (v : SequencerInv n 
       noted-request count payload submission short f =
           let b = count-was (lastCount s sender) (s .top .0) count f in
           let c = noted-count s sender taken (v .typed) (sound-of s (v .sound)) (rw (v .n-is) member) (sender .0) in
-          request-good n g order t submitted (s .acknowledgements) (noteOf s sender taken) noted sender count payload member submission (sizes (sender .0) member) short (omega arith) (λ h. b .1 (omega arith))
+          request-good n g order t submitted (s .acknowledgements) (noteOf s sender taken) noted
+          sender count payload member submission (sizes (sender .0) member) short (omega arith) (λ h. b .1 (omega arith))
 
-    content-good : (content : Packet) (payload : List ℕ) → length payload ≤ payloadMost → Says order t submitted content payload → Owes (contentStep s content payload)
+    content-good : (content : Packet) (payload : List ℕ) → length payload ≤ payloadMost → Says order t submitted content payload
+        → Owes (contentStep s content payload)
     unfolding contentStep numberedBy
     content-good (Request sender taken count) payload short says =
         judged-elim Owes (senderVerdict (s .group .n) (s .top .0) sender taken) (λ r e. refused-good r)
-        (λ e. judged-elim Owes (countVerdict (lastCount s sender) (s .top .0) count) (λ r f. refused-good r) (λ f. noted-request sender taken (says .0) e count payload (says .1) short f))
+        (λ e. judged-elim Owes (countVerdict (lastCount s sender) (s .top .0) count) (λ r f. refused-good r)
+        (λ f. noted-request sender taken (says .0) e count payload (says .1) short f))
     content-good (Broadcast originator number count floor) payload short says = refused-good OtherEnd
     content-good (Gap sender taken first last) payload short says =
         judged-elim Owes (senderVerdict (s .group .n) (s .top .0) sender taken) (λ r e. refused-good r)
@@ -146,10 +146,11 @@ module _ (n g : ℕ) (order : List Ordered) (s : Sequencer) (v : SequencerInv n 
         (λ f. gap-good n g order t submitted (s .acknowledgements) (noteOf s sender taken) (noted sender taken says e) first last))
     content-good (Status sender taken) payload short says =
         judged-elim Owes (senderVerdict (s .group .n) (s .top .0) sender taken) (λ r e. refused-good r)
-        (λ e. quiet-answer n g order t submitted (s .acknowledgements) (noteOf s sender taken) (noted sender taken says e) Noted refl)
+        (λ e. silent n g order t submitted (s .acknowledgements) (noteOf s sender taken) (noted sender taken says e) Noted refl)
     content-good (Poll top floor) payload short says = refused-good OtherEnd
 
-    pub receive-good : (bytes : List ℕ) → Known g order t submitted bytes → SequencerGood n g (s .acknowledgements) order t submitted (written (receiveOf s bytes longestPacket .bytes)) (receiveOf s bytes longestPacket)
+    pub receive-good : (bytes : List ℕ) → Known g order t submitted bytes
+        → SequencerGood n g (s .acknowledgements) order t submitted (written (receiveOf s bytes longestPacket .bytes)) (receiveOf s bytes longestPacket)
     receive-good bytes k =
         let w = writable (fieldsOf g (k .content)) (length (k .payload)) longestPacket (k .allowed .1) in
         let e : receiveOf s bytes longestPacket ≡ contentStep s (k .content) (k .payload) = rw (k .bytes-are) (received (k .content) (k .payload) (k .allowed)) in
@@ -159,9 +160,10 @@ module _ (n g : ℕ) (order : List Ordered) (s : Sequencer) (v : SequencerInv n 
     unfolding pollOf numberedBy
     poll-good =
         judged-elim Owes (callVerdict s longestPacket) (λ r e. refused-good r)
-        (λ e. quiet n g order t submitted (s .acknowledgements) s Sent (pollPacket s) ready refl (written-all (Known g order t submitted) (pollPacket s) (poll-known n g order t submitted (s .acknowledgements) s ready)))
+        (λ e. writing n g order t submitted (s .acknowledgements) s ready Sent (pollPacket s) refl (poll-known n g order t submitted (s .acknowledgements) s ready))
 
-    pub copy-good : (number : SequenceNumber) → SequencerGood n g (s .acknowledgements) order t submitted (written (copyOf s number longestPacket .bytes)) (copyOf s number longestPacket)
+    pub copy-good : (number : SequenceNumber)
+        → SequencerGood n g (s .acknowledgements) order t submitted (written (copyOf s number longestPacket .bytes)) (copyOf s number longestPacket)
     unfolding copyOf numberedBy
     copy-good number =
         let inside = s .floor .0 <? number .0 and number .0 ≤? s .top .0 in
@@ -170,6 +172,6 @@ module _ (n g : ℕ) (order : List Ordered) (s : Sequencer) (v : SequencerInv n 
         (λ h.
         let a = ltb-true (s .floor .0) (number .0) (both-first (s .floor .0 <? number .0) (number .0 ≤? s .top .0) h) in
         let b = leb-true (number .0) (s .top .0) (both-then (s .floor .0 <? number .0) (number .0 ≤? s .top .0) h) in
-        quiet n g order t submitted (s .acknowledgements) s Sent (broadcastOf s (number .0)) ready refl
-        (written-all (Known g order t submitted) (broadcastOf s (number .0)) (copy-known n g order t submitted (s .acknowledgements) s ready (number .0) a b)))
+        writing n g order t submitted (s .acknowledgements) s ready Sent (broadcastOf s (number .0)) refl
+        (copy-known n g order t submitted (s .acknowledgements) s ready (number .0) a b))
         (λ h. refused-good NotInHistory))

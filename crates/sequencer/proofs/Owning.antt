@@ -46,8 +46,8 @@ counted-append count (x ∷ l) payload =
     (counted-append (count + 1) l payload ∙ ap (λ (c : ℕ). countedFrom (count + 1) l ++ (record { count = c; payload = payload } ∷ [])) e)
 
 -- own messages that are the first p submissions, and the submission with the count after p
-pub own-next : (p : ℕ) (order : List Ordered) (submitted : List (List ℕ)) (m : Ordered) → p ≤ length submitted → m .count ≡ p + 1 → at submitted (m .count) ≡ some (m .payload)
-    → ownOf (m .originator) order ≡ countedFrom 1 (take p submitted)
+pub own-next : (p : ℕ) (order : List Ordered) (submitted : List (List ℕ)) (m : Ordered) → p ≤ length submitted → m .count ≡ p + 1
+    → at submitted (m .count) ≡ some (m .payload) → ownOf (m .originator) order ≡ countedFrom 1 (take p submitted)
     → ownOf (m .originator) (order ++ (m ∷ [])) ≡ countedFrom 1 (take (m .count) submitted)
 own-next p order submitted m h next e own =
     let c : m .count ≡ suc p = omega arith in

@@ -1,7 +1,7 @@
 -- The packets that a sound sequencer writes may be written: the broadcast of a number of the history, and the poll packet; and
 -- a number that was found is one of the history's. Assumes nothing.
 use mathlib.Core.Path.{_≡_, refl}
-use mathlib.Core.Logic.{_⊎_, inl, inr}
+use mathlib.Core.Logic.{_≢_}
 use mathlib.Core.List.{List, []}
 use Prim.Native.Nat.{ℕ, zero, suc, _+_, _≤_, _<_}
 use native.Mathlib.Omega.{arith}
@@ -40,7 +40,8 @@ payload-short m h = simp length-take (omega arith)
 
 module _ (s : Sequencer) (typed : Typed s) (sound : Sound s) where
   pub broadcast-allowed : (k : ℕ) → s .floor .0 < k → k ≤ s .top .0
-      → Allowed (fieldsOf (s .group .number) (Broadcast (messageAt (s .history) k .originator) (record { 0 = k }) (messageAt (s .history) k .count) (s .floor))) (payloadOf (messageAt (s .history) k))
+      → let m : Message = messageAt (s .history) k in
+      Allowed (fieldsOf (s .group .number) (Broadcast (m .originator) (record { 0 = k }) (m .count) (s .floor))) (payloadOf m)
   unfolding fieldsOf
   broadcast-allowed k a b =
       let m = messageAt (s .history) k in
@@ -63,15 +64,11 @@ module _ (s : Sequencer) (typed : Typed s) (sound : Sound s) where
         (record { enough = omega arith; fields = poll-fields (s .group .number) (s .top) (s .floor) (sound .floor-le); short = omega arith }),
   )
 
--- what is found is 0 or one of the k numbers above floor
-pub found-in : (history : List Message) (m : MemberNumber) (count floor k : ℕ)
-    → (findOf history m count floor k ≡ 0) ⊎ ((floor < findOf history m count floor k) × (findOf history m count floor k ≤ floor + k))
+-- what is found, unless it is 0, is one of the k numbers above floor
+pub found-in : (history : List Message) (m : MemberNumber) (count floor k : ℕ) → findOf history m count floor k ≢ 0
+    → (floor < findOf history m count floor k) × (findOf history m count floor k ≤ floor + k)
 unfolding findOf
-found-in history m count floor zero = inl refl
-found-in history m count floor (suc k) =
-    if-elim (λ (x : ℕ). (x ≡ 0) ⊎ ((floor < x) × (x ≤ floor + suc k))) (isOf m count (messageAt history (floor + suc k))) (λ t. inr (omega arith))
-    (λ t. up (found-in history m count floor k))
-  where
-    up : {x : ℕ} → (x ≡ 0) ⊎ ((floor < x) × (x ≤ floor + k)) → (x ≡ 0) ⊎ ((floor < x) × (x ≤ floor + suc k))
-    up (inl e) = inl e
-    up (inr e) = inr (omega arith)
+found-in history m count floor zero some = absurd (some refl)
+found-in history m count floor (suc k) some =
+    if-elim (λ (x : ℕ). x ≢ 0 → (floor < x) × (x ≤ floor + suc k)) (isOf m count (messageAt history (floor + suc k))) (λ t q. omega arith)
+    (λ t q. let z = found-in history m count floor k q in omega arith) some

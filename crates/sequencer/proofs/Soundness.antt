@@ -77,7 +77,8 @@ module _ (n : ℕ) (table : List Acknowledgement) where
   floor-first = least-first (λ a. a .taken .0) noAcknowledgement largestNumber (take n table)
 
 -- tables that differ in counts only have the same floor
-pub floor-same : (n : ℕ) (table table′ : List Acknowledgement) → length table ≡ length table′ → ((i : ℕ) → takenIn table i ≡ takenIn table′ i) → floorOf n table ≡ floorOf n table′
+pub floor-same : (n : ℕ) (table table′ : List Acknowledgement) → length table ≡ length table′ → ((i : ℕ) → takenIn table i ≡ takenIn table′ i)
+    → floorOf n table ≡ floorOf n table′
 floor-same n table table′ l e =
     le-antisymm
     (floor-least n table′ (floorOf n table) (floor-first n table) (λ i h k. let z = floor-most n table i h (omega arith) in let y = e i in omega arith))
@@ -122,9 +123,14 @@ module _ (s : Sequencer) where
         floor-is = search says depth 9;
         floor-le = below;
         window = omega arith;
-        taken-le = λ i h. le-or (length table) i (λ l. let z = ap (λ (a : Acknowledgement). a .taken .0) (List·getD-eq-default table noAcknowledgement l) in omega arith) (λ l. entry-used n (s .top .0) i (getD table i noAcknowledgement) h (entry i l));
-        unused = λ i h. le-or (length table) i (λ l. List·getD-eq-default table noAcknowledgement l) (λ l. entry-unused n (s .top .0) i (getD table i noAcknowledgement) h (entry i l));
-        kept = λ k a b. kept-facts n table (messageAt (s .history) k) (if-true (k ≤? s .top .0) _ _ _ (le-leb k (s .top .0) b) refl ∙ place k a (omega arith));
+        taken-le = λ i h.
+            le-or (length table) i (λ l. let z = ap (λ (x : Acknowledgement). x .taken .0) (List·getD-eq-default table noAcknowledgement l) in omega arith)
+            (λ l. entry-used n (s .top .0) i (getD table i noAcknowledgement) h (entry i l));
+        unused = λ i h.
+            le-or (length table) i (λ l. List·getD-eq-default table noAcknowledgement l)
+            (λ l. entry-unused n (s .top .0) i (getD table i noAcknowledgement) h (entry i l));
+        kept = λ k a b.
+            kept-facts n table (messageAt (s .history) k) (if-true (k ≤? s .top .0) _ _ _ (le-leb k (s .top .0) b) refl ∙ place k a (omega arith));
         empty = λ k a b. if-false (k ≤? s .top .0) _ _ _ (lt-leb k (s .top .0) a) refl ∙ place k (omega arith) b;
       }
 
@@ -140,4 +146,6 @@ module _ (s : Sequencer) where
       (both-hold (all (entrySound n (s .top .0)) 0 table) _
       (at-all (entrySound n (s .top .0)) noAcknowledgement table (λ i h. entry-sound n (s .top .0) i (getD table i noAcknowledgement) (f .taken-le i) (f .unused i)))
       (above-all (placeSound n table (s .history) (s .top .0)) (s .floor .0) placesMost
-      (λ k a b. if-elim (λ (x : Bool). x ≡ true) (k ≤? s .top .0) (λ t. facts-kept n table (messageAt (s .history) k) (f .kept k a (leb-true k (s .top .0) t))) (λ t. f .empty k (leb-false k (s .top .0) t) b))))
+      (λ k a b. if-elim (λ (x : Bool). x ≡ true) (k ≤? s .top .0)
+      (λ t. facts-kept n table (messageAt (s .history) k) (f .kept k a (leb-true k (s .top .0) t)))
+      (λ t. f .empty k (leb-false k (s .top .0) t) b))))

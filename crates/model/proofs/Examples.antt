@@ -5,12 +5,13 @@ use Rattle.group.specs.Fold.{all, allAbove, least}
 use Rattle.group.specs.Opening.{openOf}
 use Rattle.group.specs.Question.{judged}
 use Rattle.member.specs.Calls as member
+use Rattle.member.specs.Order.{tookBy}
 use Rattle.member.specs.Sound as memberSound
 use Rattle.member.specs.State.{lowestMissing, freshMember}
 use Rattle.message.specs.Message.{allZero, messageOf, emptyMessage, payloadOf, zeroBehind, isEmpty}
 use Rattle.model.specs.Closing.{closeMember, closeFrom}
 use Rattle.model.specs.Examples.{Examples, request, broadcast, statusOf, requested, holding}
-use Rattle.model.specs.Log.{gather, numberedIn, messagesAbove}
+use Rattle.model.specs.Log.{gather, numberedIn, tookIn, tookAt, messagesAbove, lastNumber, above}
 use Rattle.model.specs.World.{happen, run, freshMembers, fresh}
 use Rattle.packet.specs.Number.{numberAt, bytesOf}
 use Rattle.packet.specs.Packet.{headerOf, knownKind, payloadFits, obeys, fieldsVerdict, readOf, headerBytes, packetOf, writeVerdict, writeOf, contentOf, fieldsOf, written}
@@ -21,7 +22,7 @@ use Rattle.sequencer.specs.Sound.{entrySound, keptSound, placeSound, frameSound
 use Rattle.sequencer.specs.State.{floorOf, freshSequencer}
 
 pub examples : Examples
-unfolding if_then_else_ all allAbove least openOf judged member.answered member.requestPacket member.gapPacket member.statusPacket member.callVerdict member.submitVerdict member.withWaiting member.submitOf member.repeatOf member.statusOf member.withHeld member.gapUpTo member.keptOf member.broadcastOf member.smallerOf member.pollOf member.contentStep member.readStep member.receiveOf member.isOwn member.withTaken member.tookOf member.takeOf member.openedOf member.freshOf memberSound.placeSound memberSound.waitingSound memberSound.frameSound memberSound.soundOf lowestMissing freshMember allZero messageOf emptyMessage payloadOf zeroBehind isEmpty closeMember closeFrom request broadcast statusOf requested holding gather numberedIn messagesAbove happen run freshMembers fresh numberAt bytesOf headerOf knownKind payloadFits obeys fieldsVerdict readOf headerBytes packetOf writeVerdict writeOf contentOf fieldsOf written sequencer.answered sequencer.broadcastOf sequencer.pollPacket sequencer.oneMore sequencer.repeatedOf sequencer.isOf sequencer.findOf sequencer.oldOf sequencer.againOf sequencer.fullOf sequencer.withMessage sequencer.numberedOf sequencer.requestOf sequencer.gapOf sequencer.senderVerdict sequencer.countVerdict sequencer.wantedVerdict sequencer.contentStep sequencer.readStep sequencer.callVerdict sequencer.receiveOf sequencer.pollOf sequencer.copyOf sequencer.openedOf sequencer.freshOf largerOf tableNoted clearedOf withTable noteOf numberedBy entrySound keptSound placeSound frameSound soundOf floorOf freshSequencer
+unfolding if_then_else_ all allAbove least openOf judged member.answered member.requestPacket member.gapPacket member.statusPacket member.callVerdict member.submitVerdict member.withWaiting member.submitOf member.repeatOf member.statusOf member.withHeld member.gapUpTo member.keptOf member.broadcastOf member.smallerOf member.pollOf member.contentStep member.readStep member.receiveOf member.isOwn member.withTaken member.tookOf member.takeOf member.openedOf member.freshOf memberSound.placeSound memberSound.waitingSound memberSound.frameSound memberSound.soundOf lowestMissing freshMember allZero messageOf emptyMessage payloadOf zeroBehind isEmpty closeMember closeFrom request broadcast statusOf requested holding gather numberedIn tookIn tookAt tookBy messagesAbove lastNumber above happen run freshMembers fresh numberAt bytesOf headerOf knownKind payloadFits obeys fieldsVerdict readOf headerBytes packetOf writeVerdict writeOf contentOf fieldsOf written sequencer.answered sequencer.broadcastOf sequencer.pollPacket sequencer.oneMore sequencer.repeatedOf sequencer.isOf sequencer.findOf sequencer.oldOf sequencer.againOf sequencer.fullOf sequencer.withMessage sequencer.numberedOf sequencer.requestOf sequencer.gapOf sequencer.senderVerdict sequencer.countVerdict sequencer.wantedVerdict sequencer.contentStep sequencer.readStep sequencer.callVerdict sequencer.receiveOf sequencer.pollOf sequencer.copyOf sequencer.openedOf sequencer.freshOf largerOf tableNoted clearedOf withTable noteOf numberedBy entrySound keptSound placeSound frameSound soundOf floorOf freshSequencer
 examples =
     record {
       floor = refl;
@@ -52,5 +53,9 @@ examples =
       ab-written = refl;
       ab-read = refl;
       schedule-answers = refl;
+      schedule-packets = refl;
+      schedule-owed-1 = refl;
+      schedule-owed-0 = refl;
       schedule-closing = refl;
+      schedule-closed = refl;
     }

@@ -12,7 +12,7 @@ use Rattle.member.specs.declared.Answer as memberAnswer
 use Rattle.member.specs.declared.Member.{Member}
 use Rattle.message.specs.Order.{Ordered}
 use Rattle.model.specs.Closing.{closing}
-use Rattle.model.specs.Log.{order, historyOf}
+use Rattle.model.specs.Log.{order, owed, historyOf}
 use Rattle.model.specs.World.{Event, submit, take, status, copy, handMember, handSequencer, Answer, bySequencer, byMember, World, run, fresh}
 use Rattle.packet.specs.Packet.{packetOf, fieldsOf, readOf, writeOf}
 use Rattle.packet.specs.declared.Packet.{Packet}
@@ -116,5 +116,10 @@ pub record Examples : Type 0 where
       ∷ byMember (memberAnswer.Answer.Took (record { 0 = 1 }) (record { 0 = 1 }) 1 mathlib.Core.Bool.false) (0x61 ∷ 0x62 ∷ [])
       ∷ byMember memberAnswer.Answer.None []
       ∷ []
-  -- its closing round: three events for the number that terminal 0 lacks, and two for each terminal
+  -- two packets were written, terminal 1 is owed nothing, and terminal 0 the message
+  pub schedule-packets : length (run (fresh 2 7) schedule .group .packets) ≡ 2
+  pub schedule-owed-1 : owed (run (fresh 2 7) schedule) 1 ≡ []
+  pub schedule-owed-0 : owed (run (fresh 2 7) schedule) 0 ≡ record { number = 1; originator = 1; count = 1; payload = 0x61 ∷ 0x62 ∷ [] } ∷ []
+  -- its closing round: three events for the number that terminal 0 lacks, and two for each terminal; it empties the history
   pub schedule-closing : length (closing (run (fresh 2 7) schedule)) ≡ 7
+  pub schedule-closed : historyOf (run (run (fresh 2 7) schedule) (closing (run (fresh 2 7) schedule)) .group .sequencer) ≡ []

@@ -5,7 +5,10 @@ pub mod Keeping
 pub mod Writes
 pub mod Receiving
 pub mod Laws
+pub mod Asking
 pub mod Ordering
 pub mod Taking
 pub mod Closing
-pub mod Asking
+pub mod Places
+pub mod Scan
+pub mod Outcomes

@@ -3,3 +3,4 @@ pub mod Sound
 pub mod Calls
 pub mod Order
 pub mod Laws
+pub mod Steps

@@ -10,3 +10,6 @@ pub mod Answering
 pub mod Ordering
 pub mod Asking
 pub mod Laws
+pub mod Walk
+pub mod Outcomes
+pub mod Owed

@@ -4,3 +4,4 @@ pub mod Note
 pub mod Calls
 pub mod Order
 pub mod Laws
+pub mod Done

@@ -1,0 +1,14 @@
+-- The state is all zero.
+-- Assumes nothing.
+use borrow.Author.Needs.{needs}
+use Rattle.member.proofs.Member.closed.Statement.{statement}
+use Rattle.member.proofs.Member.closed.Tie as tie
+
+idle-requires : tie.Need-idle-requires
+idle-requires c κs = search needs
+
+returns : tie.Need-returns
+returns c = rw (c .idle .ensures)
+
+pub closed-spec : {M : Type 1} → statement M
+closed-spec = tie.close (tie.spec idle-requires returns)

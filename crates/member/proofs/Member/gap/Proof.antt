@@ -1,0 +1,23 @@
+-- The gap packet that was laid, beside the state.
+-- Assumes nothing.
+use Rattle.member.specs.Calls.{gapPacket}
+use Rattle.member.proofs.Outcomes.{sent}
+use borrow.Author.Needs.{needs}
+use Rattle.member.proofs.Member.gap.Statement.{statement}
+use Rattle.member.proofs.Member.gap.Tie as tie
+
+acknowledged-requires : tie.Need-acknowledged-requires
+acknowledged-requires c κs = search needs
+
+put-bare-requires : tie.Need-put-bare-requires
+put-bare-requires c κs = search needs
+
+same-length : tie.Need-same-length
+same-length c = search needs
+
+returns : tie.Need-returns
+unfolding gapPacket
+returns c = sent _ _ _ _ _ _ (rw (c .before .before .before .before .acknowledged .ensures) at (c .before .before .put-bare .ensures))
+
+pub gap-spec : {M : Type 1} → statement M
+gap-spec = tie.close (tie.spec acknowledged-requires put-bare-requires same-length returns)

@@ -1,0 +1,57 @@
+-- Question 17; then the broadcast.
+-- Assumes nothing.
+use mathlib.Core.Path.{_∙_}
+use denote.Ref.{now}
+use lib.ListN.{length}
+use Rattle.group.proofs.Choice.{choices, tests}
+use Rattle.sequencer.specs.Calls.{broadcastOf, copyOf}
+use Rattle.sequencer.specs.declared.Answer.the-variants.{Sent}
+use Rattle.sequencer.proofs.Outcomes.{done-as, lent-as-was, judged-yes}
+use Rattle.sequencer.proofs.Owed.{call-asked, sound-short}
+use borrow.Author.Needs.{needs}
+use Rattle.sequencer.proofs.Sequencer.copied.Statement.{statement}
+use Rattle.sequencer.proofs.Sequencer.copied.Tie as tie
+
+refused-requires : tie.Need-refused-requires
+refused-requires c κs = search needs
+
+returns : tie.Need-returns
+unfolding copyOf
+returns c = done-as (search (choices, tests, needs) depth 9 ∙ judged-yes _ _ _ (c .before .before .before .before .before .pre)) (lent-as-was (now (c .before .before .before .before .before .args .out)) (c .refused .ensures))
+
+refused-requires-2 : tie.Need-refused-requires-2
+refused-requires-2 c κs = search needs
+
+returns-2 : tie.Need-returns-2
+unfolding copyOf
+returns-2 c = done-as (search (choices, tests, needs) depth 9 ∙ judged-yes _ _ _ (c .before .before .before .before .before .before .before .before .pre)) (lent-as-was (now (c .before .before .before .before .before .before .before .before .args .out)) (c .refused2 .ensures))
+
+broadcast-requires : tie.Need-broadcast-requires
+broadcast-requires c κs =
+    let a = c .before .before .before .before .before .before .before .before .args in
+    let w = call-asked (a .self) (length (now (a .out))) (c .before .before .before .before .before .before .before .before .pre) in
+    (sound-short (a .self) (w .0), search needs)
+
+same-length : tie.Need-same-length
+same-length c = search needs
+
+returns-3 : tie.Need-returns-3
+unfolding copyOf
+returns-3 c =
+    let a = c .before .before .before .before .before .before .before .before .before .before .before .args in
+    let l = c .before .before .broadcast .ensures in
+    done-as {o = record { sequencer = a .self; answer = Sent; bytes = broadcastOf (a .self) (a .number .0) }}
+    (search (choices, tests, needs) depth 9 ∙ judged-yes _ _ _ (c .before .before .before .before .before .before .before .before .before .before .before .pre))
+    (record { answer = rw (l .all); lent = l .lent })
+
+pub copied-spec : {M : Type 1} → statement M
+copied-spec =
+    tie.close
+    (tie.spec
+    refused-requires
+    returns
+    refused-requires-2
+    returns-2
+    broadcast-requires
+    same-length
+    returns-3)

@@ -1,0 +1,101 @@
+-- The verdict on state and output, then what was read, each as the definition has it.
+-- Assumes nothing.
+use mathlib.Core.Path.{sym, _∙_}
+use denote.Ref.{now}
+use lib.ListN.{length, length-take, length-drop}
+use native.Mathlib.Omega.{arith}
+use Rattle.packet.proofs.Verdicts.{readable}
+use Rattle.sequencer.specs.Calls.{readStep, receiveOf}
+use Rattle.sequencer.proofs.Outcomes.{done-as, both, lent-as-was, judged-yes, judged-no, part}
+use Rattle.sequencer.proofs.Owed.{sound-members, sound-short, call-asked}
+use borrow.Author.Needs.{needs}
+use Rattle.sequencer.proofs.Sequencer.receive.Statement.{statement}
+use Rattle.sequencer.proofs.Sequencer.receive.Tie as tie
+
+ask-requires : tie.Need-ask-requires
+ask-requires c κs = search needs
+
+enum-told : tie.Need-enum-told
+enum-told c = search needs
+
+read-requires : tie.Need-read-requires
+read-requires c κs = search needs
+
+enum-known-reading : tie.Need-enum-known-reading
+enum-known-reading c = search needs
+
+sub-take-fields : tie.Need-sub-take-fields
+sub-take-fields c = readable _ _ (sym (c .before .before .before .read .ensures) ∙ c .before .reading .given .1) .long
+
+part-take-fields-start : tie.Need-part-take-fields-start
+part-take-fields-start c = readable _ _ (sym (c .before .before .before .read .ensures) ∙ c .before .reading .given .1) .long
+
+part-take-fields-end : tie.Need-part-take-fields-end
+part-take-fields-end c = search needs
+
+take-fields-requires : tie.Need-take-fields-requires
+take-fields-requires c κs =
+    let r = readable _ _ (sym (c .before .before .before .before .before .read .ensures) ∙ c .before .before .before .reading .given .1) in
+    let w = call-asked _ _ (sym (c .before .before .before .before .before .before .before .before .ask .ensures) ∙ c .before .before .before .before .before .before .enum-told .given .1) in
+    record {
+      members = sound-members _ (w .0);
+      payload = simp (length-take, length-drop) (omega arith);
+      output = w .1;
+      history = sound-short _ (w .0);
+    }
+
+enum-known-reading-2 : tie.Need-enum-known-reading-2
+enum-known-reading-2 c = search needs
+
+refused-requires : tie.Need-refused-requires
+refused-requires c κs = search needs
+
+enum-known-v : tie.Need-enum-known-v
+enum-known-v c = search needs
+
+refused-requires-2 : tie.Need-refused-requires-2
+refused-requires-2 c κs = search needs
+
+same-length : tie.Need-same-length
+same-length c = search needs
+
+returns : tie.Need-returns
+unfolding receiveOf
+returns c =
+    let e = sym (c .before .before .before .before .before .before .before .before .read .ensures) ∙ c .before .before .before .before .before .before .reading .given .1 in
+    let v = sym (c .before .before .before .before .before .before .before .before .before .before .before .ask .ensures) ∙ c .before .before .before .before .before .before .before .before .before .enum-told .given .1 in
+    let a = c .before .before .before .before .before .before .before .before .before .before .before .before .before .before .args in
+    both {o = receiveOf (a .self) (now (a .packet)) (length (now (a .out)))} (done-as (rw (part, e) (judged-yes _ _ _ v)) (c .before .before .take-fields .ensures))
+
+returns-2 : tie.Need-returns-2
+unfolding receiveOf readStep
+returns-2 c =
+    let e = sym (c .before .before .before .before .read .ensures) ∙ c .before .before .reading2 .given .1 in
+    let v = sym (c .before .before .before .before .before .before .before .ask .ensures) ∙ c .before .before .before .before .before .enum-told .given .1 in
+    let a = c .before .before .before .before .before .before .before .before .before .before .args in
+    both {o = receiveOf (a .self) (now (a .packet)) (length (now (a .out)))} (done-as (rw e (judged-yes _ _ _ v)) (lent-as-was (now (a .out)) (c .refused .ensures)))
+
+returns-3 : tie.Need-returns-3
+unfolding receiveOf
+returns-3 c = both (done-as (judged-no _ _ _ _ (sym (c .before .before .before .before .ask .ensures) ∙ c .before .before .v .given .1)) (lent-as-was (now (c .before .before .before .before .before .before .before .args .out)) (c .refused2 .ensures)))
+
+pub receive-spec : {M : Type 1} → statement M
+receive-spec =
+    tie.close
+    (tie.spec
+    ask-requires
+    enum-told
+    read-requires
+    enum-known-reading
+    sub-take-fields
+    part-take-fields-start
+    part-take-fields-end
+    take-fields-requires
+    enum-known-reading-2
+    refused-requires
+    enum-known-v
+    refused-requires-2
+    same-length
+    returns
+    returns-2
+    returns-3)

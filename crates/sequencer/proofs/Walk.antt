@@ -1,0 +1,77 @@
+-- The law by which a loop goes one number on, for clearing what a floor passes and for finding a message from top downwards.
+-- Assumes nothing.
+use mathlib.Core.Path.{_≡_, refl, sym, ap, _∙_}
+use mathlib.Core.Bool.{Bool, true, false}
+use mathlib.Core.List.{List}
+use Prim.Native.Nat.{ℕ, suc, _+_, _-_, _≤_, _<_}
+use native.Mathlib.Omega.{arith}
+use lib.ListN.{set}
+use Rattle.group.specs.Choice.{if_then_else_}
+use Rattle.group.specs.declared.MemberNumber.{MemberNumber}
+use Rattle.group.specs.declared.SequenceNumber.{SequenceNumber}
+use Rattle.group.proofs.Choice.{if-true-of, if-false-of}
+use Rattle.message.specs.Message.{emptyMessage}
+use Rattle.message.specs.declared.Message.{Message}
+use Rattle.sequencer.specs.State.{placeOf, messageAt}
+use Rattle.sequencer.specs.Note.{clearedOf, withTable}
+use Rattle.sequencer.specs.Calls.{isOf, findOf}
+use Rattle.sequencer.specs.declared.Acknowledgement.{Acknowledgement}
+use Rattle.sequencer.specs.declared.Sequencer.{Sequencer}
+
+-- a state whose history is cleared from its floor up to a number, and nothing else changed
+abbrev pub clearedTo : Sequencer → ℕ → Sequencer
+clearedTo s passed =
+    record {
+      group = s .group;
+      acknowledgements = s .acknowledgements;
+      top = s .top;
+      floor = s .floor;
+      history = clearedOf (s .history) (s .floor .0) (passed - s .floor .0);
+      repeats = s .repeats;
+    }
+
+pub clear-start : (s : Sequencer) → s ≡ clearedTo s (s .floor .0)
+unfolding clearedOf
+clear-start s = let e : s .floor .0 - s .floor .0 ≡ 0 = omega arith in rw e
+
+module _ (s t : Sequencer) (passed : ℕ) (low : s .floor .0 ≤ passed) (inv : t ≡ clearedTo s passed) where
+  -- a turn of the loop that clears: the next number's place
+  pub clear-on : (at : ℕ) (none : Message) → at ≡ placeOf (passed + 1) → none ≡ emptyMessage
+      → record { group = t .group; acknowledgements = t .acknowledgements; top = t .top; floor = t .floor; history = set (t .history) at none; repeats = t .repeats }
+      ≡ clearedTo s (passed + 1)
+  unfolding clearedOf
+  clear-on at none ea en =
+      let e : passed + 1 - s .floor .0 ≡ suc (passed - s .floor .0) = omega arith in
+      let f : s .floor .0 + suc (passed - s .floor .0) ≡ passed + 1 = omega arith in
+      rw (ea, en, inv, e, f)
+
+  -- its end, where the new floor is reached
+  pub clear-done : (table : List Acknowledgement) (floor : SequenceNumber) → passed - s .floor .0 ≤ floor .0 - s .floor .0 → floor .0 ≤ passed
+      → record { group = t .group; acknowledgements = table; top = t .top; floor = floor; history = t .history; repeats = t .repeats }
+      ≡ withTable s table (floor .0)
+  unfolding withTable
+  clear-done table floor h k = let e : passed - s .floor .0 ≡ floor .0 - s .floor .0 = omega arith in rw (inv, e)
+
+module _ (history : List Message) (m : MemberNumber) (count floor top number : ℕ)
+    (inv : findOf history m count floor (top - floor) ≡ findOf history m count floor (number - floor)) where
+  find-step : floor < number
+      → findOf history m count floor (top - floor)
+      ≡ if isOf m count (messageAt history number) then number else findOf history m count floor (number - 1 - floor)
+  unfolding findOf
+  find-step h =
+      let e : number - floor ≡ suc (number - 1 - floor) = omega arith in
+      let f : floor + suc (number - 1 - floor) ≡ number = omega arith in
+      inv ∙ ap (findOf history m count floor) e ∙ rw f
+
+  -- a turn of the search: found, on, and the end
+  pub find-found : (r : Bool) → floor < number → r ≡ isOf m count (messageAt history number) → r ≡ true
+      → number ≡ findOf history m count floor (top - floor)
+  find-found r h e t = if-true-of _ r _ _ _ e t refl ∙ sym (find-step h)
+
+  pub find-on : (r : Bool) → floor < number → r ≡ isOf m count (messageAt history number) → r ≡ false
+      → findOf history m count floor (top - floor) ≡ findOf history m count floor (number - 1 - floor)
+  find-on r h e t = find-step h ∙ sym (if-false-of _ r _ _ _ e t refl)
+
+  pub find-end : number ≤ floor → 0 ≡ findOf history m count floor (top - floor)
+  unfolding findOf
+  find-end h = let e : number - floor ≡ 0 = omega arith in sym (inv ∙ ap (findOf history m count floor) e)

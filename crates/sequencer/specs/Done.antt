@@ -1,0 +1,56 @@
+-- What the functions below the calls promise of the lent output, and what they are owed by the questions before them.
+use mathlib.Core.Path.{_≡_}
+use mathlib.Core.List.{List, []}
+use Prim.Native.Nat.{ℕ, _≤_, _<_}
+use lib.ListN.{length}
+use Rattle.group.specs.Lent.{front}
+use Rattle.group.specs.Limits.{membersMost, payloadMost, longestPacket, largestNumber}
+use Rattle.group.specs.declared.MemberNumber.{MemberNumber}
+use Rattle.message.specs.declared.Message.{Message}
+use Rattle.sequencer.specs.Calls.{Outcome, stepOf}
+use Rattle.sequencer.specs.State.{lastCount, messageAt}
+use Rattle.sequencer.specs.declared.Sequencer.{Sequencer}
+use Rattle.sequencer.specs.declared.Step.{Step}
+
+-- bytes laid at the front of a lent output, and how many
+pub record Laid (bytes : List ℕ) (size : ℕ) (before after : List ℕ) : Type 0 where
+  pub all : size ≡ length bytes
+  pub lent : after ≡ front bytes before
+
+-- what a call gives back, and leaves in the lent output, is what its outcome says
+pub record Done (o : Outcome) (step : Step) (before after : List ℕ) : Type 0 where
+  pub answer : step ≡ stepOf o
+  pub lent : after ≡ front (o .bytes) before
+
+-- what a function that is lent no output gives back, of an outcome that writes nothing
+pub record Quiet (o : Outcome) (step : Step) : Type 0 where
+  pub answer : step ≡ stepOf o
+  pub bytes : o .bytes ≡ []
+
+-- no place of a history holds more than a payload's bytes
+abbrev pub Short : List Message → Type 0
+Short history = (number : ℕ) → messageAt history number .length ≤ payloadMost
+
+-- of a message that is to be numbered: its sender is a member, a next number is left, and its payload, the lent output and
+-- the history have the sizes that a packet wants
+pub record Next (s : Sequencer) (sender : MemberNumber) (size room : ℕ) : Type 0 where
+  pub member : sender .0 < membersMost
+  pub left : s .top .0 < largestNumber
+  pub payload : size ≤ payloadMost
+  pub output : longestPacket ≤ room
+  pub history : Short (s .history)
+
+-- of a request that is to be answered: the same, but that a number is left only where it wants one
+pub record Ready (s : Sequencer) (sender : MemberNumber) (count size room : ℕ) : Type 0 where
+  pub member : sender .0 < membersMost
+  pub left : lastCount s sender < count → s .top .0 < largestNumber
+  pub payload : size ≤ payloadMost
+  pub output : longestPacket ≤ room
+  pub history : Short (s .history)
+
+-- of a packet that is to be answered: the group has at most the limit's members, and the sizes are as above
+pub record Sized (s : Sequencer) (size room : ℕ) : Type 0 where
+  pub members : s .group .n ≤ membersMost
+  pub payload : size ≤ payloadMost
+  pub output : longestPacket ≤ room
+  pub history : Short (s .history)

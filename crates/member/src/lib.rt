@@ -76,7 +76,11 @@ fn place(number: SequenceNumber, ahead: usize) -> usize
 }
 
 // The lowest number above the last taken, up to `last`, that is missing; 0 if none is.
-fn lowest_missing(held: [Message; Group::HELD], taken: SequenceNumber, last: SequenceNumber) -> SequenceNumber
+fn lowest_missing(
+    held: [Message; Group::HELD],
+    taken: SequenceNumber,
+    last: SequenceNumber,
+) -> SequenceNumber
     ensures { λ r. ⌜ r .0 ≡ lowestMissing held (taken .0) (last .0 - taken .0) ⌝ }
 {
     let mut number = taken;
@@ -365,7 +369,13 @@ impl Member {
     }
 
     // An answer with the gap packet of those numbers.
-    fn gap(self, first: SequenceNumber, last: SequenceNumber, answer: Answer, out: &mut [u8]) -> Step
+    fn gap(
+        self,
+        first: SequenceNumber,
+        last: SequenceNumber,
+        answer: Answer,
+        out: &mut [u8],
+    ) -> Step
         requires { ⌜ longestPacket ≤ length (now out) ⌝ }
         ensures { λ r. ⌜ Done (record { member = self; answer = answer; bytes = gapPacket self (first .0) (last .0) }) r (now (out .entry)) (now (out .exit)) ⌝ }
     {
@@ -561,7 +571,14 @@ impl Member {
     }
 
     // A broadcast. Its floor is read and not yet acted on.
-    fn broadcast(self, originator: MemberNumber, number: SequenceNumber, count: u32, payload: &[u8], out: &mut [u8]) -> Step
+    fn broadcast(
+        self,
+        originator: MemberNumber,
+        number: SequenceNumber,
+        count: u32,
+        payload: &[u8],
+        out: &mut [u8],
+    ) -> Step
         requires { ⌜ (length (now payload) ≤ payloadMost) × (longestPacket ≤ length (now out)) ⌝ }
         ensures { λ r. ⌜ Done (broadcastOf self originator (number .0) count (now (payload .entry))) r (now (out .entry)) (now (out .exit)) ⌝ }
     {

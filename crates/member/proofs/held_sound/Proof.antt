@@ -21,7 +21,7 @@ abbrev μ-loop : tie.MeasureT-loop
 μ-loop n taken held i₀ i = heldMost - i
 
 loop-holds : tie.Need-loop-holds Inv-loop μ-loop
-loop-holds c = 
+loop-holds c =
     let a = c .args in
     let e : a .taken .0 + 0 ≡ a .taken .0 = omega arith in
     (search needs, rw e)
@@ -51,19 +51,19 @@ loop-less : tie.Need-loop-less Inv-loop μ-loop
 loop-less c = omega arith
 
 loop-again : tie.Need-loop-again Inv-loop μ-loop
-loop-again c = 
+loop-again c =
     let l = c .before .before .before .before .before .loop in
     let a = c .before .before .before .before .before .before .args in
     (l .inv .0, above-on (placeSound (a .n) (a .t2)) (a .taken .0) heldMost (l .i) (l .inv .1) (c .before .message-sound .result) (omega arith) (place-sound (a .n) (a .t2) (a .taken .0) (l .i) (c .before .before .before .place .result) _ (c .before .before .before .place .ensures) (c .before .message-sound .ensures)) (c .if1 .taken))
 
 returns : tie.Need-returns Inv-loop μ-loop
-returns c = 
+returns c =
     let l = c .before .before .before .before .before .loop in
     let a = c .before .before .before .before .before .before .args in
     above-off (placeSound (a .n) (a .t2)) (a .taken .0) heldMost (l .i) (l .inv .1) (c .before .message-sound .result) (omega arith) (place-sound (a .n) (a .t2) (a .taken .0) (l .i) (c .before .before .before .place .result) _ (c .before .before .before .place .ensures) (c .before .message-sound .ensures)) (c .if1 .left)
 
 returns-2 : tie.Need-returns-2 Inv-loop μ-loop
-returns-2 c = 
+returns-2 c =
     let l = c .before .loop in
     let a = c .before .before .args in
     above-done (placeSound (a .n) (a .t2)) (a .taken .0) heldMost (l .i) (l .inv .1) (omega arith)

@@ -33,7 +33,7 @@ element-copy-out-if2 : tie.Need-element-copy-out-if2 Inv-loop μ-loop
 element-copy-out-if2 c = omega arith
 
 returns : tie.Need-returns Inv-loop μ-loop
-returns c = 
+returns c =
     let l = c .before .before .before .before .before .before .loop in
     missing-found _ _ (l .number .0) _ (l .inv .1) (omega arith) (rw (c .before .before .place .ensures) at (c .if2 .taken))
 
@@ -41,12 +41,12 @@ loop-less : tie.Need-loop-less Inv-loop μ-loop
 loop-less c = omega arith
 
 loop-again : tie.Need-loop-again Inv-loop μ-loop
-loop-again c = 
+loop-again c =
     let l = c .before .before .before .before .before .before .loop in
     (l .inv .0, missing-on _ _ (l .number .0) _ (l .inv .1) (omega arith) (rw (c .before .before .place .ensures) at (c .if2 .left)))
 
 returns-2 : tie.Need-returns-2 Inv-loop μ-loop
-returns-2 c = 
+returns-2 c =
     let l = c .before .before .before .loop in
     missing-none _ _ (l .number .0) _ (l .inv .1) (omega arith)
 

@@ -17,7 +17,7 @@ same-length : tie.Need-same-length
 same-length c = search needs
 
 returns : tie.Need-returns
-returns c = 
+returns c =
     let p = c .before .before .put .ensures in
     record { size = p .0 ∙ sym (packet-length _ []); lent = p .1 }
 

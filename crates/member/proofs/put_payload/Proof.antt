@@ -10,17 +10,17 @@ use Rattle.member.proofs.put_payload.Statement.{statement}
 use Rattle.member.proofs.put_payload.Tie as tie
 
 array-share-prefix-payload : tie.Need-array-share-prefix-payload
-array-share-prefix-payload c = 
+array-share-prefix-payload c =
     let n : length (c .before .before .args .message .payload) ≡ payloadMost = search needs in
     omega arith
 
 slice-aggregate-copy : tie.Need-slice-aggregate-copy
-slice-aggregate-copy c = 
+slice-aggregate-copy c =
     let n : length (c .before .before .before .args .message .payload) ≡ payloadMost = search needs in
     simp length-take (omega arith)
 
 copy-requires : tie.Need-copy-requires
-copy-requires c κs = 
+copy-requires c κs =
     let n : length (c .before .before .before .before .args .message .payload) ≡ payloadMost = search needs in
     simp length-take (omega arith)
 
@@ -29,7 +29,7 @@ same-length c = search needs
 
 returns : tie.Need-returns
 unfolding payloadOf
-returns c = 
+returns c =
     let n : length (c .before .before .before .before .before .before .before .args .message .payload) ≡ payloadMost = search needs in
     record { size = simp length-take (omega arith); lent = c .before .before .copy .ensures }
 

@@ -58,7 +58,7 @@ answered-requires-2 c κs = search needs
 
 returns-3 : tie.Need-returns-3
 unfolding broadcastOf
-returns-3 c = 
+returns-3 c =
     let a = c .before .before .before .before .before .before .before .before .before .before .before .before .args in
     let e : a .number .0 + 0 ≡ a .number .0 = omega arith in
     let h : 0 < messageAt (a .t1 .held) (a .number .0) .count = rw (c .before .before .place .ensures, e) at (c .before .if3 .taken) in
@@ -72,7 +72,7 @@ same-length-2 c = search needs
 
 returns-4 : tie.Need-returns-4
 unfolding broadcastOf
-returns-4 c = 
+returns-4 c =
     let a = c .before .before .before .before .before .before .before .before .before .before .before .before .before .before .before .args in
     let e : a .number .0 + 0 ≡ a .number .0 = omega arith in
     let h : messageAt (a .t1 .held) (a .number .0) .count ≤ 0 = rw (c .before .before .before .before .before .place .ensures, e) at (c .before .before .before .before .if3 .left) in

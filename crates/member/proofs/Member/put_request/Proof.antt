@@ -15,17 +15,17 @@ acknowledged-requires : tie.Need-acknowledged-requires
 acknowledged-requires c κs = search needs
 
 array-share-prefix-payload : tie.Need-array-share-prefix-payload
-array-share-prefix-payload c = 
+array-share-prefix-payload c =
     let n : length (c .before .before .before .before .before .args .self .message .payload) ≡ payloadMost = search needs in
     omega arith
 
 slice-aggregate-put : tie.Need-slice-aggregate-put
-slice-aggregate-put c = 
+slice-aggregate-put c =
     let n : length (c .before .before .before .before .before .before .args .self .message .payload) ≡ payloadMost = search needs in
     simp length-take (omega arith)
 
 put-requires : tie.Need-put-requires
-put-requires c κs = 
+put-requires c κs =
     let n : length (c .before .before .before .before .before .before .before .args .self .message .payload) ≡ payloadMost = search needs in
     simp length-take (omega arith)
 
@@ -34,7 +34,7 @@ same-length c = search needs
 
 returns : tie.Need-returns
 unfolding requestPacket payloadOf
-returns c = 
+returns c =
     let p = c .before .before .put .ensures in
     record { size = p .0 ∙ sym (packet-length _ _); lent = rw (c .before .before .before .before .before .acknowledged .ensures) at (p .1) }
 

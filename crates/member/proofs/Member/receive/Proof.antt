@@ -40,7 +40,7 @@ part-heard-end : tie.Need-part-heard-end
 part-heard-end c = search needs
 
 heard-requires : tie.Need-heard-requires
-heard-requires c κs = 
+heard-requires c κs =
     let w = readable _ _ (sym (c .before .before .before .before .before .before .before .before .before .read .ensures) ∙ c .before .before .before .before .before .before .before .r .given .1) in
     let s = asked _ _ (sym (c .before .before .before .before .before .before .before .before .before .before .before .before .ask .ensures) ∙ c .before .before .before .before .before .before .before .before .before .before .enum-told .given .1) in
     (rw behind (w .payload), s .1)
@@ -50,7 +50,7 @@ same-length c = search needs
 
 returns : tie.Need-returns
 unfolding receiveOf
-returns c = 
+returns c =
     let a = c .before .before .before .before .before .before .before .before .before .before .before .before .before .before .before .before .before .before .args in
     let s = judged-yes _ _ _ (sym (c .before .before .before .before .before .before .before .before .before .before .before .before .before .before .before .ask .ensures) ∙ c .before .before .before .before .before .before .before .before .before .before .before .before .before .enum-told .given .1) in
     let o = ours (a .self) _ _ _ (sym (c .before .before .before .before .before .before .before .before .before .before .before .before .read .ensures) ∙ c .before .before .before .before .before .before .before .before .before .before .r .given .1) (c .before .before .before .before .before .before .if1 .taken) in
@@ -73,7 +73,7 @@ refused-requires-3 c κs = search needs
 
 returns-2 : tie.Need-returns-2
 unfolding receiveOf
-returns-2 c = 
+returns-2 c =
     let a = c .before .before .before .before .before .before .before .before .before .before .before .before .before .args in
     let s = judged-yes _ _ _ (sym (c .before .before .before .before .before .before .before .before .before .before .ask .ensures) ∙ c .before .before .before .before .before .before .before .before .enum-told .given .1) in
     let o = others (a .self) _ _ _ (sym (c .before .before .before .before .before .before .before .read .ensures) ∙ c .before .before .before .before .before .r .given .1) (c .before .if1 .left) in
@@ -81,7 +81,7 @@ returns-2 c =
 
 returns-3 : tie.Need-returns-3
 unfolding receiveOf readStep
-returns-3 c = 
+returns-3 c =
     let a = c .before .before .before .before .before .before .before .before .before .before .args in
     let s = judged-yes _ _ _ (sym (c .before .before .before .before .before .before .before .ask .ensures) ∙ c .before .before .before .before .before .enum-told .given .1) in
     let e = sym (c .before .before .before .before .read .ensures) ∙ c .before .before .r2 .given .1 in

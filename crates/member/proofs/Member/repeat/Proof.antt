@@ -17,7 +17,7 @@ enum-told : tie.Need-enum-told
 enum-told c = search needs
 
 request-requires : tie.Need-request-requires
-request-requires c κs = 
+request-requires c κs =
     let s = asked (c .before .before .before .before .before .before .args .self) _ (sym (c .before .before .before .before .ask .ensures) ∙ c .before .before .enum-told .given .1) in
     (waiting-short (c .before .before .before .before .before .before .args .self) (s .0) (c .before .if1 .taken), s .1)
 

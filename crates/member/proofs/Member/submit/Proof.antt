@@ -27,7 +27,7 @@ with-waiting-requires c κs = asked-submission _ _ (sym (c .before .before .ask-
 
 request-requires : tie.Need-request-requires
 unfolding withWaiting messageOf
-request-requires c κs = 
+request-requires c κs =
     let s = asked _ _ (sym (c .before .before .before .before .before .before .before .ask .ensures) ∙ c .before .before .before .before .before .enum-told .given .1) in
     let w = asked-submission _ _ (sym (c .before .before .before .before .ask-submission .ensures) ∙ c .before .before .enum-told2 .given .1) in
     rw (c .before .with-waiting .ensures) (w .0, s .1)
@@ -49,14 +49,14 @@ same-length c = search needs
 
 returns : tie.Need-returns
 unfolding submitOf
-returns c = 
+returns c =
     let s = judged-yes _ _ _ (sym (c .before .before .before .before .before .before .before .before .before .before .ask .ensures) ∙ c .before .before .before .before .before .before .before .before .enum-told .given .1) in
     let w = judged-yes _ _ _ (sym (c .before .before .before .before .before .before .before .ask-submission .ensures) ∙ c .before .before .before .before .before .enum-told2 .given .1) in
     promised {p = submitOf (c .before .before .before .before .before .before .before .before .before .before .before .before .before .args .self) (now (c .before .before .before .before .before .before .before .before .before .before .before .before .before .args .payload)) (length (now (c .before .before .before .before .before .before .before .before .before .before .before .before .before .args .out)))} (rw (c .before .before .before .before .with-waiting .ensures) (w ∙ s)) (c .before .before .request .ensures)
 
 returns-2 : tie.Need-returns-2
 unfolding submitOf
-returns-2 c = 
+returns-2 c =
     let s = judged-yes _ _ _ (sym (c .before .before .before .before .before .before .before .ask .ensures) ∙ c .before .before .before .before .before .enum-told .given .1) in
     promised (judged-no _ _ _ _ (sym (c .before .before .before .before .ask-submission .ensures) ∙ c .before .before .w .given .1) ∙ s) (quiet _ _ _ (now (c .before .before .before .before .before .before .before .before .before .before .args .out)) (c .refused .ensures))
 

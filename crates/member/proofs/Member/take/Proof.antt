@@ -29,7 +29,7 @@ element-copy-out-message : tie.Need-element-copy-out-message
 element-copy-out-message c = search needs
 
 took-requires : tie.Need-took-requires
-took-requires c κs = 
+took-requires c κs =
     let m = c .before .before .before .before .before .before .before .before .before .before .args .t1 in
     let s = asked m _ (sym (c .before .before .before .before .before .before .before .before .ask .ensures) ∙ c .before .before .before .before .before .before .enum-told .given .1) in
     let n = next-short m (s .0) (rw (c .before .before .before .before .place .ensures) at (c .before .if1 .taken)) in
@@ -40,7 +40,7 @@ same-length c = search needs
 
 returns : tie.Need-returns
 unfolding takeOf
-returns c = 
+returns c =
     let m = c .before .before .before .before .before .before .before .before .before .before .before .before .before .args .t1 in
     let h : 0 < messageAt (m .held) (m .taken .0 + 1) .count = rw (c .before .before .before .before .before .before .before .place .ensures) at (c .before .before .before .before .if1 .taken) in
     let s = judged-yes _ _ _ (sym (c .before .before .before .before .before .before .before .before .before .before .before .ask .ensures) ∙ c .before .before .before .before .before .before .before .before .before .enum-told .given .1) in
@@ -57,7 +57,7 @@ refused-requires c κs = search needs
 
 returns-2 : tie.Need-returns-2
 unfolding takeOf
-returns-2 c = 
+returns-2 c =
     let m = c .before .before .before .before .before .before .before .before .before .before .args .t1 in
     let h : messageAt (m .held) (m .taken .0 + 1) .count ≤ 0 = rw (c .before .before .before .before .place .ensures) at (c .before .if1 .left) in
     let s = judged-yes _ _ _ (sym (c .before .before .before .before .before .before .before .before .ask .ensures) ∙ c .before .before .before .before .before .before .enum-told .given .1) in

@@ -19,7 +19,7 @@ element-set-from-message c = search needs
 
 returns : tie.Need-returns
 unfolding withHeld
-returns c = 
+returns c =
     let a = c .before .args in
     let e : a .number .0 + 0 ≡ a .number .0 = omega arith in
     rw (c .place .ensures, e)

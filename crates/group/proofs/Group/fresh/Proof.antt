@@ -1,20 +1,19 @@
+-- Each test is one of the definition's.
+-- Assumes nothing.
 use borrow.Author.Needs.{needs}
 use Rattle.group.proofs.Choice.{choices, tests}
 use Rattle.group.specs.Opening.{openOf}
 use Rattle.group.proofs.Group.fresh.Statement.{statement}
 use Rattle.group.proofs.Group.fresh.Tie as tie
 
--- src/lib.rt:108:13
 returns : tie.Need-returns
 unfolding openOf
 returns c = search (choices, tests, needs) depth 9
 
--- src/lib.rt:104:5
 returns-2 : tie.Need-returns-2
 unfolding openOf
 returns-2 c = search (choices, tests, needs) depth 9
 
--- src/lib.rt:104:5
 returns-3 : tie.Need-returns-3
 unfolding openOf
 returns-3 c = search (choices, tests, needs) depth 9

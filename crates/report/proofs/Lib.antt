@@ -1,0 +1,5 @@
+pub mod Pieces
+pub mod Decimal
+pub mod Hex
+pub mod Laws
+pub mod Examples

@@ -1,0 +1,46 @@
+-- The test is the definition's.
+-- Assumes nothing.
+use Rattle.group.specs.Choice.{if_then_else_}
+use Rattle.report.specs.Print.{moreText}
+use borrow.Author.Needs.{needs}
+use Rattle.report.proofs.put_more.Statement.{statement}
+use Rattle.report.proofs.put_more.Tie as tie
+
+slice-aggregate-put-word : tie.Need-slice-aggregate-put-word
+slice-aggregate-put-word c = search needs
+
+put-word-requires : tie.Need-put-word-requires
+put-word-requires c κs = search needs
+
+slice-aggregate-put-word-2 : tie.Need-slice-aggregate-put-word-2
+slice-aggregate-put-word-2 c = search needs
+
+put-word-requires-2 : tie.Need-put-word-requires-2
+put-word-requires-2 c κs = search needs
+
+same-length : tie.Need-same-length
+same-length c = search needs
+
+returns : tie.Need-returns
+unfolding moreText if_then_else_
+returns c = (rw (c .before .before .before .before .before .if1 .taken) (c .before .before .put-word .ensures .0), search needs)
+
+same-length-2 : tie.Need-same-length-2
+same-length-2 c = search needs
+
+returns-2 : tie.Need-returns-2
+unfolding moreText if_then_else_
+returns-2 c = (rw (c .before .before .before .before .before .if1 .left) (c .before .before .put-word2 .ensures .0), search needs)
+
+pub put-more-spec : {M : Type 1} → statement M
+put-more-spec =
+    tie.close
+    (tie.spec
+    slice-aggregate-put-word
+    put-word-requires
+    slice-aggregate-put-word-2
+    put-word-requires-2
+    same-length
+    returns
+    same-length-2
+    returns-2)

@@ -1,0 +1,473 @@
+// What the program that plays a schedule prints.
+use group::MemberNumber;
+use group::Refusal;
+use group::SequenceNumber;
+use model::Reply;
+use schedule::HEX_BASE;
+ghost use mathlib.Core.Path.{_≡_};
+ghost use mathlib.Core.List.{[], _∷_, _++_, map};
+ghost use Prim.Native.Nat.{_+_, _*_, _≤_, _<_};
+ghost use lib.ListN.{length, drop};
+ghost use Rattle.group.specs.Choice.{_≤?_};
+ghost use Rattle.group.specs.Lent.{front};
+ghost use Rattle.schedule.specs.Text.{textOf, hexBase};
+ghost use Rattle.report.specs.Laid.{Laid};
+ghost use Rattle.report.specs.Print.{glyphOf, decimalDigits, decimalOf, hexOf, payloadText, spaced, line, refusedFields, sequencerFields, moreText, memberFields, answerFields, lineOf, badLine, noSpace, badOpening, refusedOpening, lastLine, numberDigits, countDigits, answerRoom, lineRoom, eventRoom, lastRoom, fitting, answered};
+
+// The most digits of a number up to the largest, and of one of 64 bits.
+pub const NUMBER_DIGITS: usize = 10;
+
+pub const COUNT_DIGITS: usize = 20;
+
+// The room of the longest answer, which is a take's, beside the digits of its payload: `took`, three numbers, `-`, `more`, and
+// a space before each.
+pub const ANSWER_ROOM: usize = 4 + 3 * NUMBER_DIGITS + 1 + 4 + 6;
+
+// The room that a line asks for: an event's number, an answer and the line feed.
+pub const LINE_ROOM: usize = COUNT_DIGITS + ANSWER_ROOM + 1;
+
+// The limits of specs/ are these constants.
+fn number_digits() -> usize
+    ensures { λ r. ⌜ r ≡ numberDigits ⌝ }
+{
+    NUMBER_DIGITS
+}
+
+fn count_digits() -> usize
+    ensures { λ r. ⌜ r ≡ countDigits ⌝ }
+{
+    COUNT_DIGITS
+}
+
+fn answer_room() -> usize
+    ensures { λ r. ⌜ r ≡ answerRoom ⌝ }
+{
+    ANSWER_ROOM
+}
+
+fn line_room() -> usize
+    ensures { λ r. ⌜ r ≡ lineRoom ⌝ }
+{
+    LINE_ROOM
+}
+
+// The digit that is worth d.
+fn glyph(d: u8) -> u8
+    requires { ⌜ d < hexBase ⌝ }
+    ensures { λ r. ⌜ r ≡ glyphOf d ⌝ }
+{
+    if d < 10 { b'0' + d } else { b'a' + (d - 10) }
+}
+
+// The digits of a number, in an array from an index on.
+struct Spelled {
+    digits: [u8; COUNT_DIGITS],
+    start: usize,
+}
+
+// Spells a number from its last digit on.
+fn spell(n: u64) -> Spelled
+    ensures digits { λ r. ⌜ drop (r .start) (r .digits) ≡ decimalDigits n n ⌝ }
+    ensures within { λ r. ⌜ (r .start ≤ countDigits) × (length (r .digits) ≡ countDigits) ⌝ }
+{
+    let mut digits = [0u8; COUNT_DIGITS];
+    let mut start: usize = COUNT_DIGITS;
+    let mut rest = n;
+    while 0 < rest {
+        start -= 1;
+        let d = glyph((rest % 10) as u8);
+        digits[start] = d;
+        rest = rest / 10;
+    }
+    Spelled { digits, start }
+}
+
+// Each writer lays bytes in the lent output from an index on, and gives the index behind them.
+fn put(byte: u8, out: &mut [u8], at: usize) -> usize
+    requires { ⌜ at < length (now out) ⌝ }
+    ensures { λ r. ⌜ Laid at (byte ∷ []) (now (out .entry)) (now (out .exit)) r ⌝ }
+{
+    out[at] = byte;
+    at + 1
+}
+
+fn put_text(text: &[u8], out: &mut [u8], at: usize) -> usize
+    requires { ⌜ at + length (now text) ≤ length (now out) ⌝ }
+    ensures { λ r. ⌜ Laid at (now (text .entry)) (now (out .entry)) (now (out .exit)) r ⌝ }
+{
+    message::copy(text, &mut out[at..]);
+    at + text.len()
+}
+
+// A number in base ten.
+fn put_decimal(n: u64, out: &mut [u8], at: usize) -> usize
+    requires { ⌜ at + length (decimalOf n) ≤ length (now out) ⌝ }
+    ensures { λ r. ⌜ Laid at (decimalOf n) (now (out .entry)) (now (out .exit)) r ⌝ }
+{
+    if n == 0 {
+        return put(b'0', out, at);
+    }
+    let spelled = spell(n);
+    let digits = spelled.digits;
+    let start = spelled.start;
+    put_text(&digits[start..], out, at)
+}
+
+// A field that is a text, behind one space.
+fn put_word(text: &[u8], out: &mut [u8], at: usize) -> usize
+    requires { ⌜ at + 1 + length (now text) ≤ length (now out) ⌝ }
+    ensures laid { λ r. ⌜ Laid at (spaced (now (text .entry) ∷ [])) (now (out .entry)) (now (out .exit)) r ⌝ }
+    ensures short { λ r. ⌜ r ≡ at + 1 + length (now (text .entry)) ⌝ }
+{
+    let next = put(b' ', out, at);
+    put_text(text, out, next)
+}
+
+// A field that is a number up to the largest.
+fn put_number(n: u32, out: &mut [u8], at: usize) -> usize
+    requires { ⌜ at + 1 + numberDigits ≤ length (now out) ⌝ }
+    ensures laid { λ r. ⌜ Laid at (spaced (decimalOf n ∷ [])) (now (out .entry)) (now (out .exit)) r ⌝ }
+    ensures short { λ r. ⌜ r ≤ at + 1 + numberDigits ⌝ }
+{
+    let next = put(b' ', out, at);
+    put_decimal(n as u64, out, next)
+}
+
+// A field that is the index of a packet.
+fn put_index(index: usize, out: &mut [u8], at: usize) -> usize
+    requires { ⌜ at + 1 + countDigits ≤ length (now out) ⌝ }
+    ensures laid { λ r. ⌜ Laid at (spaced (decimalOf index ∷ [])) (now (out .entry)) (now (out .exit)) r ⌝ }
+    ensures short { λ r. ⌜ r ≤ at + 1 + countDigits ⌝ }
+{
+    let next = put(b' ', out, at);
+    put_decimal(index as u64, out, next)
+}
+
+// An answer and the index of its packet.
+fn put_indexed(word: &[u8], index: usize, out: &mut [u8], at: usize) -> usize
+    requires { ⌜ at + 2 + length (now word) + countDigits ≤ length (now out) ⌝ }
+    ensures laid { λ r. ⌜ Laid at (spaced (now (word .entry) ∷ decimalOf index ∷ [])) (now (out .entry)) (now (out .exit)) r ⌝ }
+    ensures short { λ r. ⌜ r ≤ at + 2 + length (now (word .entry)) + countDigits ⌝ }
+{
+    let next = put_word(word, out, at);
+    put_index(index, out, next)
+}
+
+// An answer, its number and the index of its packet.
+fn put_numbered(word: &[u8], number: u32, index: usize, out: &mut [u8], at: usize) -> usize
+    requires { ⌜ at + 3 + length (now word) + numberDigits + countDigits ≤ length (now out) ⌝ }
+    ensures laid { λ r. ⌜ Laid at (spaced (now (word .entry) ∷ decimalOf number ∷ decimalOf index ∷ [])) (now (out .entry)) (now (out .exit)) r ⌝ }
+    ensures short { λ r. ⌜ r ≤ at + 3 + length (now (word .entry)) + numberDigits + countDigits ⌝ }
+{
+    let next = put_word(word, out, at);
+    let next = put_number(number, out, next);
+    put_index(index, out, next)
+}
+
+// What is wanted, from one number to another.
+fn put_wanted(first: u32, last: u32, out: &mut [u8], at: usize) -> usize
+    requires { ⌜ at + length (textOf "wanted") + 3 + 2 * numberDigits ≤ length (now out) ⌝ }
+    ensures laid { λ r. ⌜ Laid at (spaced (textOf "wanted" ∷ decimalOf first ∷ decimalOf last ∷ [])) (now (out .entry)) (now (out .exit)) r ⌝ }
+    ensures short { λ r. ⌜ r ≤ at + length (textOf "wanted") + 3 + 2 * numberDigits ⌝ }
+{
+    let next = put_word(b"wanted", out, at);
+    let next = put_number(first, out, next);
+    put_number(last, out, next)
+}
+
+// A refusal and its number.
+fn put_refused(refusal: Refusal, out: &mut [u8], at: usize) -> usize
+    requires { ⌜ at + length (textOf "refused") + 2 + numberDigits ≤ length (now out) ⌝ }
+    ensures laid { λ r. ⌜ Laid at (spaced (refusedFields refusal)) (now (out .entry)) (now (out .exit)) r ⌝ }
+    ensures short { λ r. ⌜ r ≤ at + length (textOf "refused") + 2 + numberDigits ⌝ }
+{
+    let next = put_word(b"refused", out, at);
+    let number = refusal.number();
+    put_number(number as u32, out, next)
+}
+
+// The two digits of a byte.
+fn put_byte(byte: u8, out: &mut [u8], at: usize) -> usize
+    requires { ⌜ at + 2 ≤ length (now out) ⌝ }
+    ensures { λ r. ⌜ Laid at (hexOf (byte ∷ [])) (now (out .entry)) (now (out .exit)) r ⌝ }
+    ensures { λ r. ⌜ r ≡ at + 2 ⌝ }
+{
+    let high = glyph(byte / HEX_BASE);
+    let low = glyph(byte % HEX_BASE);
+    let next = put(high, out, at);
+    put(low, out, next)
+}
+
+// Bytes in hex.
+fn put_hex(bytes: &[u8], out: &mut [u8], at: usize) -> usize
+    requires { ⌜ at + 2 * length (now bytes) ≤ length (now out) ⌝ }
+    ensures laid { λ r. ⌜ Laid at (hexOf (now (bytes .entry))) (now (out .entry)) (now (out .exit)) r ⌝ }
+    ensures short { λ r. ⌜ r ≡ at + 2 * length (now (bytes .entry)) ⌝ }
+{
+    let mut next = at;
+    let mut i: usize = 0;
+    while i < bytes.len() {
+        next = put_byte(bytes[i], out, next);
+        i += 1;
+    }
+    next
+}
+
+// A field that is a payload.
+fn put_payload(payload: &[u8], out: &mut [u8], at: usize) -> usize
+    requires { ⌜ at + 2 + 2 * length (now payload) ≤ length (now out) ⌝ }
+    ensures laid { λ r. ⌜ Laid at (spaced (payloadText (now (payload .entry)) ∷ [])) (now (out .entry)) (now (out .exit)) r ⌝ }
+    ensures short { λ r. ⌜ r ≤ at + 2 + 2 * length (now (payload .entry)) ⌝ }
+{
+    let next = put(b' ', out, at);
+    if payload.len() == 0 {
+        return put(b'-', out, next);
+    }
+    put_hex(payload, out, next)
+}
+
+// Whether the following number is held.
+fn put_more(more: bool, out: &mut [u8], at: usize) -> usize
+    requires { ⌜ at + 1 + length (textOf "more") ≤ length (now out) ⌝ }
+    ensures laid { λ r. ⌜ Laid at (spaced (moreText more ∷ [])) (now (out .entry)) (now (out .exit)) r ⌝ }
+    ensures short { λ r. ⌜ r ≡ at + 1 + length (textOf "more") ⌝ }
+{
+    if more {
+        put_word(b"more", out, at)
+    } else {
+        put_word(b"last", out, at)
+    }
+}
+
+// The number, originator and count of a message.
+fn put_message(number: u32, originator: u32, count: u32, out: &mut [u8], at: usize) -> usize
+    requires { ⌜ at + 3 * (1 + numberDigits) ≤ length (now out) ⌝ }
+    ensures laid { λ r. ⌜ Laid at (spaced (decimalOf number ∷ decimalOf originator ∷ decimalOf count ∷ [])) (now (out .entry)) (now (out .exit)) r ⌝ }
+    ensures short { λ r. ⌜ r ≤ at + 3 * (1 + numberDigits) ⌝ }
+{
+    let next = put_number(number, out, at);
+    let next = put_number(originator, out, next);
+    put_number(count, out, next)
+}
+
+// A take with a message.
+fn put_took(
+    number: SequenceNumber,
+    originator: MemberNumber,
+    count: u32,
+    more: bool,
+    payload: &[u8],
+    out: &mut [u8],
+    at: usize,
+) -> usize
+    requires { ⌜ at + answerRoom + 2 * length (now payload) ≤ length (now out) ⌝ }
+    ensures laid { λ r. ⌜ Laid at (spaced (textOf "took" ∷ decimalOf (number .0) ∷ decimalOf (originator .0) ∷ decimalOf count ∷ payloadText (now (payload .entry)) ∷ moreText more ∷ [])) (now (out .entry)) (now (out .exit)) r ⌝ }
+    ensures short { λ r. ⌜ r ≤ at + answerRoom + 2 * length (now (payload .entry)) ⌝ }
+{
+    let next = put_word(b"took", out, at);
+    let next = put_message(number.0, originator.0 as u32, count, out, next);
+    let next = put_payload(payload, out, next);
+    put_more(more, out, next)
+}
+
+// The sequencer's answer.
+fn put_sequencer(answer: sequencer::Answer, index: usize, out: &mut [u8], at: usize) -> usize
+    requires { ⌜ at + answerRoom ≤ length (now out) ⌝ }
+    ensures laid { λ r. ⌜ Laid at (spaced (sequencerFields answer index)) (now (out .entry)) (now (out .exit)) r ⌝ }
+    ensures short { λ r. ⌜ r ≤ at + answerRoom ⌝ }
+{
+    match answer {
+        sequencer::Answer::Refused(refusal) => put_refused(refusal, out, at),
+        sequencer::Answer::Old => put_word(b"old", out, at),
+        sequencer::Answer::Again(number) => put_numbered(b"again", number.0, index, out, at),
+        sequencer::Answer::Full => put_indexed(b"full", index, out, at),
+        sequencer::Answer::Numbered(number) => put_numbered(b"numbered", number.0, index, out, at),
+        sequencer::Answer::Noted => put_word(b"noted", out, at),
+        sequencer::Answer::Wanted(first, last) => put_wanted(first.0, last.0, out, at),
+        sequencer::Answer::Sent => put_indexed(b"sent", index, out, at),
+    }
+}
+
+// The member's answer.
+fn put_member(
+    answer: member::Answer,
+    payload: &[u8],
+    index: usize,
+    out: &mut [u8],
+    at: usize,
+) -> usize
+    requires { ⌜ at + answerRoom + 2 * length (now payload) ≤ length (now out) ⌝ }
+    ensures laid { λ r. ⌜ Laid at (spaced (memberFields answer (now (payload .entry)) index)) (now (out .entry)) (now (out .exit)) r ⌝ }
+    ensures short { λ r. ⌜ r ≤ at + answerRoom + 2 * length (now (payload .entry)) ⌝ }
+{
+    match answer {
+        member::Answer::Refused(refusal) => put_refused(refusal, out, at),
+        member::Answer::Sent => put_indexed(b"sent", index, out, at),
+        member::Answer::Old => put_word(b"old", out, at),
+        member::Answer::Kept => put_word(b"kept", out, at),
+        member::Answer::KeptGap => put_indexed(b"keptgap", index, out, at),
+        member::Answer::Beyond => put_word(b"beyond", out, at),
+        member::Answer::BeyondGap => put_indexed(b"beyondgap", index, out, at),
+        member::Answer::Gap => put_indexed(b"gap", index, out, at),
+        member::Answer::Status => put_indexed(b"status", index, out, at),
+        member::Answer::None => put_word(b"none", out, at),
+        member::Answer::Took {
+            number,
+            originator,
+            count,
+            more,
+        } => put_took(number, originator, count, more, payload, out, at),
+    }
+}
+
+// What an event is answered.
+fn put_reply(reply: Reply, payload: &[u8], index: usize, out: &mut [u8], at: usize) -> usize
+    requires { ⌜ at + answerRoom + 2 * length (now payload) ≤ length (now out) ⌝ }
+    ensures laid { λ r. ⌜ Laid at (spaced (answerFields (answered reply (now (payload .entry))) index)) (now (out .entry)) (now (out .exit)) r ⌝ }
+    ensures short { λ r. ⌜ r ≤ at + answerRoom + 2 * length (now (payload .entry)) ⌝ }
+{
+    match reply {
+        Reply::Absent => put_word(b"absent", out, at),
+        Reply::Sequencer(answer) => put_sequencer(answer, index, out, at),
+        Reply::Member(answer) => put_member(answer, payload, index, out, at),
+    }
+}
+
+// Whether an output has the room that an event's line asks for, and that the last line asks for.
+fn event_fits(size: usize, room: usize) -> bool
+    ensures { λ r. ⌜ r ≡ (lineRoom + 2 * size ≤? room) ⌝ }
+{
+    if room < LINE_ROOM {
+        return false;
+    }
+    size <= (room - LINE_ROOM) / 2
+}
+
+fn last_fits(count: usize, room: usize) -> bool
+    ensures { λ r. ⌜ r ≡ (lineRoom + (1 + numberDigits) * count ≤? room) ⌝ }
+{
+    if room < LINE_ROOM {
+        return false;
+    }
+    count <= (room - LINE_ROOM) / (1 + NUMBER_DIGITS)
+}
+
+// The line that an event prints: its number, what it is answered, and the index of a packet that it wrote. `payload` is what
+// a take handed out. Gives the line's length; 0 where the output has not the room that the line asks for.
+pub fn write_event(number: u64, reply: Reply, index: usize, payload: &[u8], out: &mut [u8]) -> usize
+    ensures size { λ r. ⌜ r ≡ length (fitting (eventRoom (now (payload .entry))) (length (now (out .entry))) (lineOf number (answered reply (now (payload .entry))) index)) ⌝ }
+    ensures lent { λ _. ⌜ now (out .exit) ≡ front (fitting (eventRoom (now (payload .entry))) (length (now (out .entry))) (lineOf number (answered reply (now (payload .entry))) index)) (now (out .entry)) ⌝ }
+{
+    if event_fits(payload.len(), out.len()) {
+        let next = put_decimal(number, out, 0);
+        let next = put_reply(reply, payload, index, out, next);
+        put(b'\n', out, next)
+    } else {
+        0
+    }
+}
+
+// An event's number and a text of at most eight characters.
+fn write_note(number: u64, text: &[u8], out: &mut [u8]) -> usize
+    requires { ⌜ length (now text) ≤ 8 ⌝ }
+    ensures size { λ r. ⌜ r ≡ length (fitting lineRoom (length (now (out .entry))) (line (decimalOf number) (now (text .entry) ∷ []))) ⌝ }
+    ensures lent { λ _. ⌜ now (out .exit) ≡ front (fitting lineRoom (length (now (out .entry))) (line (decimalOf number) (now (text .entry) ∷ []))) (now (out .entry)) ⌝ }
+{
+    if out.len() < LINE_ROOM {
+        return 0;
+    }
+    let next = put_decimal(number, out, 0);
+    let next = put_word(text, out, next);
+    put(b'\n', out, next)
+}
+
+// A line of another form.
+pub fn write_bad_line(number: u64, out: &mut [u8]) -> usize
+    ensures size { λ r. ⌜ r ≡ length (fitting lineRoom (length (now (out .entry))) (badLine number)) ⌝ }
+    ensures lent { λ _. ⌜ now (out .exit) ≡ front (fitting lineRoom (length (now (out .entry))) (badLine number)) (now (out .entry)) ⌝ }
+{
+    write_note(number, b"bad line", out)
+}
+
+// An event that comes when as many packets are written as there is room for.
+pub fn write_no_space(number: u64, out: &mut [u8]) -> usize
+    ensures size { λ r. ⌜ r ≡ length (fitting lineRoom (length (now (out .entry))) (noSpace number)) ⌝ }
+    ensures lent { λ _. ⌜ now (out .exit) ≡ front (fitting lineRoom (length (now (out .entry))) (noSpace number)) (now (out .entry)) ⌝ }
+{
+    write_note(number, b"no space", out)
+}
+
+// A first line that is missing or of another form.
+pub fn write_bad_opening(out: &mut [u8]) -> usize
+    ensures size { λ r. ⌜ r ≡ length (fitting lineRoom (length (now (out .entry))) badOpening) ⌝ }
+    ensures lent { λ _. ⌜ now (out .exit) ≡ front (fitting lineRoom (length (now (out .entry))) badOpening) (now (out .entry)) ⌝ }
+{
+    if out.len() < LINE_ROOM {
+        return 0;
+    }
+    let next = put_text(b"bad line", out, 0);
+    put(b'\n', out, next)
+}
+
+// A first line whose group is refused.
+pub fn write_refused_opening(out: &mut [u8]) -> usize
+    ensures size { λ r. ⌜ r ≡ length (fitting lineRoom (length (now (out .entry))) refusedOpening) ⌝ }
+    ensures lent { λ _. ⌜ now (out .exit) ≡ front (fitting lineRoom (length (now (out .entry))) refusedOpening) (now (out .entry)) ⌝ }
+{
+    if out.len() < LINE_ROOM {
+        return 0;
+    }
+    let next = put_text(b"refused", out, 0);
+    let refusal = Refusal::Opening;
+    let number = refusal.number();
+    let next = put_number(number as u32, out, next);
+    put(b'\n', out, next)
+}
+
+// Top and floor, and the word before the numbers that the members took.
+fn put_tops(top: u32, floor: u32, out: &mut [u8]) -> usize
+    requires { ⌜ lineRoom ≤ length (now out) ⌝ }
+    ensures laid { λ r. ⌜ Laid 0 (textOf "top" ++ spaced (decimalOf top ∷ textOf "floor" ∷ decimalOf floor ∷ textOf "taken" ∷ [])) (now (out .entry)) (now (out .exit)) r ⌝ }
+    ensures short { λ r. ⌜ r < lineRoom ⌝ }
+{
+    let next = put_text(b"top", out, 0);
+    let next = put_number(top, out, next);
+    let next = put_word(b"floor", out, next);
+    let next = put_number(floor, out, next);
+    put_word(b"taken", out, next)
+}
+
+// Numbers, each behind one space.
+fn put_each(numbers: &[u32], out: &mut [u8], at: usize) -> usize
+    requires { ⌜ at + (1 + numberDigits) * length (now numbers) ≤ length (now out) ⌝ }
+    ensures laid { λ r. ⌜ Laid at (spaced (map decimalOf (now (numbers .entry)))) (now (out .entry)) (now (out .exit)) r ⌝ }
+    ensures short { λ r. ⌜ r ≤ at + (1 + numberDigits) * length (now (numbers .entry)) ⌝ }
+{
+    let mut next = at;
+    let mut i: usize = 0;
+    while i < numbers.len() {
+        next = put_number(numbers[i], out, next);
+        i += 1;
+    }
+    next
+}
+
+// The last line: top, floor, and what each member took last. Gives its length; 0 where the output has not the room that the
+// line asks for.
+pub fn write_last(
+    top: SequenceNumber,
+    floor: SequenceNumber,
+    taken: &[u32],
+    out: &mut [u8],
+) -> usize
+    ensures size { λ r. ⌜ r ≡ length (fitting (lastRoom (now (taken .entry))) (length (now (out .entry))) (lastLine (top .0) (floor .0) (now (taken .entry)))) ⌝ }
+    ensures lent { λ _. ⌜ now (out .exit) ≡ front (fitting (lastRoom (now (taken .entry))) (length (now (out .entry))) (lastLine (top .0) (floor .0) (now (taken .entry)))) (now (out .entry)) ⌝ }
+{
+    if last_fits(taken.len(), out.len()) {
+        let next = put_tops(top.0, floor.0, out);
+        let next = put_each(taken, out, next);
+        put(b'\n', out, next)
+    } else {
+        0
+    }
+}

@@ -1,0 +1,5 @@
+pub mod Text
+pub mod Field
+pub mod Line
+pub mod Laws
+pub mod Steps

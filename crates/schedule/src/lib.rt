@@ -1,0 +1,450 @@
+// Reads a schedule: the lines of an input, the fields of a line, and what a line means.
+use group::Group;
+ghost use mathlib.Core.Path.{_≡_};
+ghost use mathlib.Core.Bool.{true};
+ghost use mathlib.Core.List.{[], _∷_};
+ghost use mathlib.Core.Option.{some};
+ghost use Prim.Native.Nat.{_+_, _-_, _*_, _%_, _≤_, _<_};
+ghost use lib.ListN.{length, take, drop};
+ghost use Rattle.group.specs.Lent.{front};
+ghost use Rattle.schedule.specs.Text.{lineMost, payloadRoom, hexBase, digitOf};
+ghost use Rattle.schedule.specs.Field.{firstFrom, lineEnd, fieldsOf, letterOf, digitsOf, valueFrom, upToLargest, numberIn, pairsOf, isHex, hexBytes, hexIn};
+ghost use Rattle.schedule.specs.Steps.{partsAt, Within, read};
+ghost use Rattle.schedule.specs.Line.{alone, withNumber, submitted, handed, withTwo, formOf, eventOf, commandOf, payloadOf, opened, openingForm, openingOf};
+
+// A line of more characters is of another form.
+pub const LINE_MOST: usize = 1000;
+
+// The bytes that a line has room for, two digits a byte.
+pub const PAYLOAD_ROOM: usize = LINE_MOST / 2;
+
+// The base of a payload's digits.
+pub const HEX_BASE: u8 = 16;
+
+// What a line means as an event. A submit's payload lies at the front of the bytes that were lent.
+pub enum Command {
+    Other,
+    Submit { member: u32, length: usize },
+    Repeat(u32),
+    Take(u32),
+    Status(u32),
+    Poll,
+    Copy(u32),
+    HandMember { packet: u32, member: u32 },
+    HandSequencer(u32),
+}
+
+// What the first line means.
+pub enum Opening {
+    Other,
+    Group { n: u32, number: u32 },
+}
+
+// Where a character first stands.
+pub enum Found {
+    At(usize),
+    Nothing,
+}
+
+// Where the spaces stand that part the fields of a line: those before the second, the third and the fourth field.
+enum Parts {
+    One,
+    Two(usize),
+    Three(usize, usize),
+    More(usize, usize, usize),
+}
+
+// The number that a field is.
+enum Numeral {
+    Of(u32),
+    Other,
+}
+
+// The limits of specs/ are these constants.
+fn line_most() -> usize
+    ensures { λ r. ⌜ r ≡ lineMost ⌝ }
+{
+    LINE_MOST
+}
+
+fn payload_room() -> usize
+    ensures { λ r. ⌜ r ≡ payloadRoom ⌝ }
+{
+    PAYLOAD_ROOM
+}
+
+fn hex_base() -> u8
+    ensures { λ r. ⌜ r ≡ hexBase ⌝ }
+{
+    HEX_BASE
+}
+
+// Where a character first stands in a text, from an index on.
+fn first(text: &[u8], from: usize, character: u8) -> Found
+    requires { ⌜ from ≤ length (now text) ⌝ }
+    ensures { λ r. ⌜ r ≡ firstFrom character from (drop from (now (text .entry))) ⌝ }
+{
+    let mut i = from;
+    while i < text.len() {
+        if text[i] == character {
+            return Found::At(i);
+        }
+        i += 1;
+    }
+    Found::Nothing
+}
+
+// Where the first line of an input ends.
+pub fn line_end(input: &[u8]) -> Found
+    ensures { λ r. ⌜ r ≡ lineEnd (now (input .entry)) ⌝ }
+{
+    first(input, 0, b'\n')
+}
+
+// The fields of a line, by the spaces that part them.
+fn fields(line: &[u8]) -> Parts
+    ensures parts { λ r. ⌜ fieldsOf (now (line .entry)) ≡ partsAt r (now (line .entry)) ⌝ }
+    ensures within { λ r. ⌜ Within r (now (line .entry)) ⌝ }
+{
+    let found = first(line, 0, b' ');
+    match found {
+        Found::Nothing => Parts::One,
+        Found::At(a) => fields_behind(line, a),
+    }
+}
+
+// The same, where the first field ends at a.
+fn fields_behind(line: &[u8], a: usize) -> Parts
+    requires { ⌜ a < length (now line) ⌝ }
+    ensures parts { λ r. ⌜ take a (now (line .entry)) ∷ fieldsOf (drop (a + 1) (now (line .entry))) ≡ partsAt r (now (line .entry)) ⌝ }
+    ensures within { λ r. ⌜ Within r (now (line .entry)) ⌝ }
+{
+    let found = first(line, a + 1, b' ');
+    match found {
+        Found::Nothing => Parts::Two(a),
+        Found::At(b) => fields_last(line, a, b),
+    }
+}
+
+// The same, where the second field ends at b.
+fn fields_last(line: &[u8], a: usize, b: usize) -> Parts
+    requires { ⌜ (a < b) × (b < length (now line)) ⌝ }
+    ensures parts { λ r. ⌜ take a (now (line .entry)) ∷ take (b - (a + 1)) (drop (a + 1) (now (line .entry))) ∷ fieldsOf (drop (b + 1) (now (line .entry))) ≡ partsAt r (now (line .entry)) ⌝ }
+    ensures within { λ r. ⌜ Within r (now (line .entry)) ⌝ }
+{
+    let found = first(line, b + 1, b' ');
+    match found {
+        Found::Nothing => Parts::Three(a, b),
+        Found::At(c) => Parts::More(a, b, c),
+    }
+}
+
+// The character that a field is; 0 for a field of none or several.
+fn letter(field: &[u8]) -> u8
+    ensures { λ r. ⌜ r ≡ letterOf (now (field .entry)) ⌝ }
+{
+    if field.len() == 1 { field[0] } else { 0 }
+}
+
+// What a digit is worth; the base for any other character.
+fn digit(c: u8) -> u8
+    ensures { λ r. ⌜ r ≡ digitOf c ⌝ }
+{
+    if c < b'0' {
+        return HEX_BASE;
+    }
+    if c <= b'9' {
+        return c - b'0';
+    }
+    if c < b'a' {
+        return HEX_BASE;
+    }
+    if c <= b'f' {
+        return c - b'a' + 10;
+    }
+    HEX_BASE
+}
+
+// Whether every character is a digit of that base.
+fn all_digits(field: &[u8], base: u8) -> bool
+    ensures { λ r. ⌜ r ≡ digitsOf base (now (field .entry)) ⌝ }
+{
+    let mut i: usize = 0;
+    while i < field.len() {
+        if digit(field[i]) < base {
+            i += 1;
+        } else {
+            return false;
+        }
+    }
+    true
+}
+
+// What digits come to, up to the largest. Past it no digit can bring the value back, so that a long field does not wrap.
+fn value(field: &[u8]) -> Numeral
+    ensures { λ r. ⌜ read r ≡ upToLargest (valueFrom 0 (now (field .entry))) ⌝ }
+{
+    let mut value: u64 = 0;
+    let mut i: usize = 0;
+    while i < field.len() {
+        let next = value * 10 + (digit(field[i]) as u64);
+        if (Group::LARGEST as u64) < next {
+            return Numeral::Other;
+        }
+        value = next;
+        i += 1;
+    }
+    Numeral::Of(value as u32)
+}
+
+// The number that a field is.
+fn number(field: &[u8]) -> Numeral
+    ensures { λ r. ⌜ read r ≡ numberIn (now (field .entry)) ⌝ }
+{
+    if field.len() < 1 {
+        return Numeral::Other;
+    }
+    if all_digits(field, 10) {
+        value(field)
+    } else {
+        Numeral::Other
+    }
+}
+
+// Whether a field is a payload in hex.
+fn is_hex(field: &[u8]) -> bool
+    ensures { λ r. ⌜ r ≡ isHex (now (field .entry)) ⌝ }
+{
+    if letter(field) == b'-' {
+        return true;
+    }
+    if field.len() < 1 {
+        return false;
+    }
+    if field.len() % 2 != 0 {
+        return false;
+    }
+    all_digits(field, HEX_BASE)
+}
+
+// The byte of two digits.
+fn pair(high: u8, low: u8) -> u8
+    requires { ⌜ (digitOf high < hexBase) × (digitOf low < hexBase) ⌝ }
+    ensures { λ r. ⌜ r ≡ digitOf high * hexBase + digitOf low ⌝ }
+{
+    digit(high) * HEX_BASE + digit(low)
+}
+
+// Lays the bytes of pairs of digits at the front.
+fn lay_pairs(field: &[u8], payload: &mut [u8])
+    requires { ⌜ digitsOf hexBase (now field) ≡ true ⌝ }
+    requires { ⌜ length (now field) % 2 ≡ 0 ⌝ }
+    requires { ⌜ length (now field) ≤ 2 * length (now payload) ⌝ }
+    ensures { λ _. ⌜ now (payload .exit) ≡ front (pairsOf (now (field .entry))) (now (payload .entry)) ⌝ }
+{
+    let count = field.len() / 2;
+    let mut i: usize = 0;
+    while i < count {
+        let byte = pair(field[2 * i], field[2 * i + 1]);
+        payload[i] = byte;
+        i += 1;
+    }
+}
+
+// Lays a payload that is given in hex at the front, and gives its length.
+fn lay_hex(field: &[u8], payload: &mut [u8]) -> usize
+    requires { ⌜ isHex (now field) ≡ true ⌝ }
+    requires { ⌜ length (now field) ≤ 2 * length (now payload) ⌝ }
+    ensures size { λ r. ⌜ r ≡ length (hexBytes (now (field .entry))) ⌝ }
+    ensures lent { λ _. ⌜ now (payload .exit) ≡ front (hexBytes (now (field .entry))) (now (payload .entry)) ⌝ }
+{
+    if letter(field) == b'-' {
+        return 0;
+    }
+    lay_pairs(field, payload);
+    field.len() / 2
+}
+
+// `P`
+fn read_alone(name: &[u8]) -> Command
+    ensures { λ r. ⌜ r ≡ commandOf (alone (letterOf (now (name .entry)))) ⌝ }
+{
+    if letter(name) == b'P' {
+        Command::Poll
+    } else {
+        Command::Other
+    }
+}
+
+// `R i`, `T i`, `A i`, `C s`, `Q k`
+fn read_number(name: &[u8], a: &[u8]) -> Command
+    ensures { λ r. ⌜ r ≡ commandOf (withNumber (letterOf (now (name .entry))) (numberIn (now (a .entry)))) ⌝ }
+{
+    let l = letter(name);
+    let n = number(a);
+    match n {
+        Numeral::Of(x) => numbered(l, x),
+        Numeral::Other => Command::Other,
+    }
+}
+
+// Which event a letter and a number are.
+fn numbered(letter: u8, x: u32) -> Command
+    ensures { λ r. ⌜ r ≡ commandOf (withNumber letter (some x)) ⌝ }
+{
+    if letter == b'R' {
+        return Command::Repeat(x);
+    }
+    if letter == b'T' {
+        return Command::Take(x);
+    }
+    if letter == b'A' {
+        return Command::Status(x);
+    }
+    if letter == b'C' {
+        return Command::Copy(x);
+    }
+    if letter == b'Q' {
+        return Command::HandSequencer(x);
+    }
+    Command::Other
+}
+
+// `S i hex`: the payload is laid at the front of the bytes that were lent.
+fn read_submit(a: &[u8], b: &[u8], payload: &mut [u8]) -> Command
+    requires { ⌜ length (now b) ≤ 2 * length (now payload) ⌝ }
+    ensures command { λ r. ⌜ r ≡ commandOf (submitted (numberIn (now (a .entry))) (hexIn (now (b .entry)))) ⌝ }
+    ensures lent { λ _. ⌜ now (payload .exit) ≡ front (payloadOf (submitted (numberIn (now (a .entry))) (hexIn (now (b .entry))))) (now (payload .entry)) ⌝ }
+{
+    let n = number(a);
+    match n {
+        Numeral::Of(i) => {
+            if is_hex(b) {
+                let length = lay_hex(b, payload);
+                Command::Submit { member: i, length }
+            } else {
+                Command::Other
+            }
+        }
+        Numeral::Other => Command::Other,
+    }
+}
+
+// `M k i`
+fn read_hand(a: &[u8], b: &[u8]) -> Command
+    ensures { λ r. ⌜ r ≡ commandOf (handed (numberIn (now (a .entry))) (numberIn (now (b .entry)))) ⌝ }
+{
+    let n = number(a);
+    let m = number(b);
+    match n {
+        Numeral::Of(k) => match m {
+            Numeral::Of(i) => Command::HandMember {
+                packet: k,
+                member: i,
+            },
+            Numeral::Other => Command::Other,
+        },
+        Numeral::Other => Command::Other,
+    }
+}
+
+// A name and two fields: which form they have.
+fn read_two(name: &[u8], a: &[u8], b: &[u8], payload: &mut [u8]) -> Command
+    requires { ⌜ length (now b) ≤ 2 * length (now payload) ⌝ }
+    ensures command { λ r. ⌜ r ≡ commandOf (withTwo (letterOf (now (name .entry))) (now (a .entry)) (now (b .entry))) ⌝ }
+    ensures lent { λ _. ⌜ now (payload .exit) ≡ front (payloadOf (withTwo (letterOf (now (name .entry))) (now (a .entry)) (now (b .entry)))) (now (payload .entry)) ⌝ }
+{
+    let l = letter(name);
+    if l == b'S' {
+        return read_submit(a, b, payload);
+    }
+    if l == b'M' {
+        return read_hand(a, b);
+    }
+    Command::Other
+}
+
+// A line of two fields, the first of which ends at a.
+fn read_short(line: &[u8], a: usize) -> Command
+    requires { ⌜ a < length (now line) ⌝ }
+    ensures { λ r. ⌜ r ≡ commandOf (formOf (partsAt (Parts.Two a) (now (line .entry)))) ⌝ }
+{
+    read_number(&line[..a], &line[a + 1..])
+}
+
+// A line of three fields, which end at a, at b and with the line.
+fn read_long(line: &[u8], a: usize, b: usize, payload: &mut [u8]) -> Command
+    requires { ⌜ (a < b) × (b < length (now line)) ⌝ }
+    requires { ⌜ length (now line) ≤ 2 * length (now payload) ⌝ }
+    ensures command { λ r. ⌜ r ≡ commandOf (formOf (partsAt (Parts.Three a b) (now (line .entry)))) ⌝ }
+    ensures lent { λ _. ⌜ now (payload .exit) ≡ front (payloadOf (formOf (partsAt (Parts.Three a b) (now (line .entry))))) (now (payload .entry)) ⌝ }
+{
+    read_two(&line[..a], &line[a + 1..b], &line[b + 1..], payload)
+}
+
+// One event a line.
+pub fn read_event(line: &[u8], payload: &mut [u8; PAYLOAD_ROOM]) -> Command
+    ensures command { λ r. ⌜ r ≡ commandOf (eventOf (now (line .entry))) ⌝ }
+    ensures lent { λ _. ⌜ now (payload .exit) ≡ front (payloadOf (eventOf (now (line .entry)))) (now (payload .entry)) ⌝ }
+{
+    if LINE_MOST < line.len() {
+        return Command::Other;
+    }
+    let parts = fields(line);
+    match parts {
+        Parts::One => read_alone(line),
+        Parts::Two(a) => read_short(line, a),
+        Parts::Three(a, b) => read_long(line, a, b, payload),
+        Parts::More(_, _, _) => Command::Other,
+    }
+}
+
+// The first line's two numbers, if both are there.
+fn both_numbers(n: Numeral, group: Numeral) -> Opening
+    ensures { λ r. ⌜ r ≡ opened (read n) (read group) ⌝ }
+{
+    match n {
+        Numeral::Of(n) => match group {
+            Numeral::Of(number) => Opening::Group { n, number },
+            Numeral::Other => Opening::Other,
+        },
+        Numeral::Other => Opening::Other,
+    }
+}
+
+// `N n group`
+fn read_group(name: &[u8], a: &[u8], b: &[u8]) -> Opening
+    ensures { λ r. ⌜ r ≡ openingForm (now (name .entry) ∷ now (a .entry) ∷ now (b .entry) ∷ []) ⌝ }
+{
+    if letter(name) == b'N' {
+        let n = number(a);
+        let m = number(b);
+        both_numbers(n, m)
+    } else {
+        Opening::Other
+    }
+}
+
+// A first line of three fields, which end at a, at b and with the line.
+fn read_whole(line: &[u8], a: usize, b: usize) -> Opening
+    requires { ⌜ (a < b) × (b < length (now line)) ⌝ }
+    ensures { λ r. ⌜ r ≡ openingForm (partsAt (Parts.Three a b) (now (line .entry))) ⌝ }
+{
+    read_group(&line[..a], &line[a + 1..b], &line[b + 1..])
+}
+
+// The first line.
+pub fn read_opening(line: &[u8]) -> Opening
+    ensures { λ r. ⌜ r ≡ openingOf (now (line .entry)) ⌝ }
+{
+    if LINE_MOST < line.len() {
+        return Opening::Other;
+    }
+    let parts = fields(line);
+    match parts {
+        Parts::One => Opening::Other,
+        Parts::Two(_) => Opening::Other,
+        Parts::Three(a, b) => read_whole(line, a, b),
+        Parts::More(_, _, _) => Opening::Other,
+    }
+}

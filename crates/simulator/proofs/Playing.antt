@@ -1,0 +1,103 @@
+-- From what a call of an end did to what its event promises: the outcome of the call is read off what it gave back and its
+-- lent output. Assumes nothing.
+use mathlib.Core.Path.{_≡_, refl, ap, _∙_, subst}
+use mathlib.Core.Bool.{false}
+use mathlib.Core.Option.{Option, none, some}
+use mathlib.Core.List.{List}
+use Prim.Native.Nat.{ℕ, _≤_}
+use native.Mathlib.Omega.{arith}
+use borrow.Author.Tests.{lt-ltb}
+use lib.ListN.{length, drop, length-append}
+use lib.Seq.{take-append-seam}
+use Rattle.group.proofs.Choice.{if-true, if-false}
+use Rattle.group.specs.Choice.{if_then_else_, _<?_}
+use Rattle.group.specs.Lent.{front}
+use Rattle.group.specs.Limits.{longestPacket}
+use Rattle.member.specs.Calls as member
+use Rattle.member.specs.declared.Step as memberStep
+use Rattle.model.specs.World.{Event, Group, Happened, missing, withMember, withSequencer, handToMember, happen}
+use Rattle.sequencer.specs.Calls as sequencer
+use Rattle.sequencer.specs.declared.Sequencer.{Sequencer}
+use Rattle.sequencer.specs.declared.Step as sequencerStep
+use Rattle.simulator.specs.Steps.{There, Idle, memberOutcome, sequencerOutcome, Did}
+use Rattle.simulator.specs.Whole.{groupOf, answerOf, Room, Does, zeros, nothing, Plays}
+use Rattle.simulator.specs.declared.Happening.{Happening}
+use Rattle.simulator.specs.declared.Whole.{Whole}
+
+-- the outcome of a call: as many bytes of its lent output as it says
+pub member-outcome : (o : member.Outcome) (step : memberStep.Step) (out : List ℕ) → step ≡ member.stepOf o → out ≡ front (o .bytes) zeros → memberOutcome step out ≡ o
+member-outcome o step out e f = rw (e, f) (λ k. record { member = o .member; answer = o .answer; bytes = take-append-seam (o .bytes) (drop (length (o .bytes)) zeros) k })
+
+pub sequencer-outcome : (o : sequencer.Outcome) (step : sequencerStep.Step) (out : List ℕ) → step ≡ sequencer.stepOf o → out ≡ front (o .bytes) zeros → sequencerOutcome step out ≡ o
+sequencer-outcome o step out e f = rw (e, f) (λ k. record { sequencer = o .sequencer; answer = o .answer; bytes = take-append-seam (o .bytes) (drop (length (o .bytes)) zeros) k })
+
+-- which are no more than there is room for
+front-fits : (bytes out : List ℕ) → out ≡ front bytes zeros → length out ≡ longestPacket → length bytes ≤ longestPacket
+front-fits bytes out e h = omega (arith, simp length-append at (ap length e))
+
+pub member-fits : (o : member.Outcome) (step : memberStep.Step) (out : List ℕ) → (step ≡ member.stepOf o) × (out ≡ front (o .bytes) zeros) → length out ≡ longestPacket → step .written ≤ longestPacket
+member-fits o step out (e, f) h = rw e (front-fits (o .bytes) out f h)
+
+pub sequencer-fits : (o : sequencer.Outcome) (step : sequencerStep.Step) (out : List ℕ) → (step ≡ sequencer.stepOf o) × (out ≡ front (o .bytes) zeros) → length out ≡ longestPacket → step .written ≤ longestPacket
+sequencer-fits o step out (e, f) h = rw e (front-fits (o .bytes) out f h)
+
+module _ (event : Event) (w : Whole) (r : Happening) where
+  plays : Room w → (h : Happened) → h ≡ happen (groupOf w) event → h .group .sequencer .group .n ≡ w .sequencer .group .n → Did h w r → Plays event w r
+  unfolding groupOf
+  plays room h e s d =
+      record {
+        does = λ _. subst (λ (x : Happened). Does x r) e (d .does);
+        stays = λ no. absurd (no room);
+        size = d .size;
+        same = ap (λ (g : Group). g .sequencer .group .n) (d .does .group) ∙ s;
+        most = d .most;
+      }
+
+  -- nothing happened: there is no room, or the event names a packet or member that is not there
+  pub plays-nothing : (Room w → missing (groupOf w) ≡ happen (groupOf w) event) → Idle w r → Plays event w r
+  unfolding answerOf
+  plays-nothing e idle =
+      rw (idle .result)
+      (record {
+        does = λ room. subst (λ (x : Happened). Does x (nothing w)) (e room) (record { group = refl; answer = refl; count = idle .count room });
+        stays = λ _. refl;
+        size = omega arith;
+        same = refl;
+        most = omega arith;
+      })
+
+same-n : (w : Whole) → groupOf w .sequencer .group .n ≡ w .sequencer .group .n
+unfolding groupOf
+same-n w = refl
+
+module _ (w : Whole) (i : ℕ) where
+  -- a call of member i, where `packets` says which packets its outcome has
+  pub plays-member : There w i → (event : Event) (r : Happening) (o : member.Outcome) (packets : member.Outcome → List (List ℕ)) (step : memberStep.Step) (out : List ℕ)
+      → (if i <? length (groupOf w .members) then withMember (groupOf w) i o (packets o) else missing (groupOf w)) ≡ happen (groupOf w) event
+      → (step ≡ member.stepOf o) × (out ≡ front (o .bytes) zeros)
+      → Did (withMember (groupOf w) i (memberOutcome step out) (packets (memberOutcome step out))) w r → Plays event w r
+  plays-member there event r o packets step out e (a, l) did =
+      plays event w r (there .room) (withMember (groupOf w) i (memberOutcome step out) (packets (memberOutcome step out)))
+      (ap (λ (o : member.Outcome). withMember (groupOf w) i o (packets o)) (member-outcome o step out a l)
+      ∙ if-true _ _ _ _ (lt-ltb i (length (groupOf w .members)) (there .member)) refl
+      ∙ e)
+      (same-n w) did
+
+  -- member i is not there; nor is there any packet to hand to it
+  pub no-member : (i <? length (groupOf w .members)) ≡ false → (h : Happened) → missing (groupOf w) ≡ (if i <? length (groupOf w .members) then h else missing (groupOf w))
+  no-member out h = if-false _ _ _ _ out refl
+
+  pub no-receiver : (i <? length (groupOf w .members)) ≡ false → (packet : Option (List ℕ)) → missing (groupOf w) ≡ handToMember (groupOf w) i packet
+  no-receiver out none = refl
+  no-receiver out (some packet) = no-member out _
+
+-- a call of the sequencer, which keeps n
+pub plays-sequencer : (w : Whole) → Room w → (event : Event) (r : Happening) (call : Sequencer → sequencer.Outcome) (step : sequencerStep.Step) (out : List ℕ)
+    → withSequencer (groupOf w) (call (groupOf w .sequencer)) ≡ happen (groupOf w) event
+    → (step ≡ sequencer.stepOf (call (w .sequencer))) × (out ≡ front (call (w .sequencer) .bytes) zeros)
+    → step .sequencer .group .n ≡ w .sequencer .group .n
+    → Did (withSequencer (groupOf w) (sequencerOutcome step out)) w r → Plays event w r
+unfolding groupOf
+plays-sequencer w room event r call step out e (a, l) s did =
+    plays event w r room (withSequencer (groupOf w) (sequencerOutcome step out))
+    (ap (withSequencer (groupOf w)) (sequencer-outcome (call (w .sequencer)) step out a l) ∙ e) s did

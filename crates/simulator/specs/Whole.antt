@@ -1,0 +1,95 @@
+-- The executable group as the group of demand 3: its first n members, and the packets that were written. With room for a
+-- packet, an event does to it what `happen` says.
+use mathlib.Core.Path.{_≡_}
+use mathlib.Core.List.{List, map}
+use Prim.Native.Nat.{ℕ, _+_, _≤_, _<_}
+use lib.ListN.{length, take, replicate}
+use Rattle.group.specs.Limits.{membersMost, longestPacket}
+use Rattle.group.specs.declared.Verdict.{Verdict}
+use Rattle.model.specs.World.{Event, Answer, absent, bySequencer, byMember, Group, Happened, happen, freshMembers, fresh}
+use Rattle.model.specs.declared.Reply.{Reply}
+use Rattle.sequencer.specs.Calls as sequencer
+use Rattle.simulator.specs.declared.Happening.{Happening}
+use Rattle.simulator.specs.declared.Opened.{Opened}
+use Rattle.simulator.specs.declared.Stored.{Stored}
+use Rattle.simulator.specs.declared.Whole.{Whole}
+
+-- the packets that a schedule has room for; `Whole` of the code has the same
+abbrev pub packetsMost : ℕ
+packetsMost = 200
+
+-- a packet that was written
+abbrev pub packetIn : Stored → List ℕ
+packetIn p = take (p .length) (p .bytes)
+
+-- the group that is run
+unfoldable pub groupOf : Whole → Group
+groupOf w =
+    record {
+      sequencer = w .sequencer;
+      members = take (w .sequencer .group .n) (w .members);
+      packets = map packetIn (take (w .count) (w .packets));
+    }
+
+-- the answer, with the bytes that were written
+unfoldable pub answerOf : Reply → List ℕ → Answer
+answerOf Reply.Absent bytes = absent
+answerOf (Reply.Sequencer answer) bytes = bySequencer answer bytes
+answerOf (Reply.Member answer) bytes = byMember answer bytes
+
+-- there is room for one packet more, and for every member
+pub record Room (w : Whole) : Type 0 where
+  pub packets : w .count < packetsMost
+  pub members : w .sequencer .group .n ≤ membersMost
+
+-- what an event of the group gives, the executable group gives; its count is the index of the next packet
+pub record Does (h : Happened) (r : Happening) : Type 0 where
+  pub group : groupOf (r .whole) ≡ h .group
+  pub answer : answerOf (r .reply) (take (r .written) (r .bytes)) ≡ h .answer
+  pub count : r .whole .count ≡ length (h .group .packets)
+
+-- no output: zeros
+abbrev pub zeros : List ℕ
+zeros = replicate longestPacket 0
+
+-- nothing happened: it is answered as an event that names a packet or member not there
+abbrev pub nothing : Whole → Happening
+nothing w = record { whole = w; reply = Reply.Absent; written = 0; bytes = zeros }
+
+-- the promise of each event
+pub record Plays (event : Event) (w : Whole) (r : Happening) : Type 0 where
+  -- with room, what happens to the group
+  pub does : Room w → Does (happen (groupOf w) event) r
+  -- without, nothing
+  pub stays : (Room w → ⊥) → r ≡ nothing w
+  -- the bytes that are said to be written are there
+  pub size : r .written ≤ longestPacket
+  -- n stays, and there is at most one packet more: there is room until `packetsMost` were written
+  pub same : r .whole .sequencer .group .n ≡ w .sequencer .group .n
+  pub most : r .whole .count ≤ w .count + 1
+
+-- no packet
+abbrev pub noPacket : Stored
+noPacket = record { length = 0; bytes = zeros }
+
+-- opening: question 18. A place that no member of the group has is all zero; where n is refused, every place is, and the
+-- sequencer has no member
+unfoldable pub openedOf : ℕ → ℕ → Opened
+openedOf n number =
+    record {
+      whole =
+          record {
+            sequencer = sequencer.freshOf n number .sequencer;
+            members = freshMembers n number 0 membersMost;
+            packets = replicate packetsMost noPacket;
+            count = 0;
+          };
+      verdict = sequencer.freshOf n number .verdict;
+    }
+
+-- the promise of opening
+pub record Opens (n number : ℕ) (r : Opened) : Type 0 where
+  pub result : r ≡ openedOf n number
+  -- where it is accepted, the group is a fresh one, with room
+  pub group : r .verdict ≡ Verdict.Accepted → groupOf (r .whole) ≡ fresh n number .group
+  pub room : Room (r .whole)

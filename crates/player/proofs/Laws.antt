@@ -1,0 +1,183 @@
+-- What is printed part by part is what the whole input prints: a line that is cut tells what the whole line tells, and what is
+-- left of the input begins with the line that has not ended. Assumes nothing.
+use mathlib.Core.Path.{_≡_, refl, sym, ap, _∙_, subst}
+use mathlib.Core.Bool.{Bool, true, false}
+use mathlib.Core.List.{List, [], _∷_, _++_, append-nil, append-assoc}
+use mathlib.Core.Option.{none}
+use Prim.Native.Nat.{ℕ, suc, _+_, _≤_, zero-le}
+use native.Mathlib.Omega.{arith}
+use native.Mathlib.Nat.{zero-add, le-refl}
+use native.Mathlib.Numerals.{add-one}
+use lib.ListN.{length, take, drop}
+use lib.Seq.{length-take-le, take-all, drop-length}
+use Rattle.group.proofs.Choice.{if-eq, if-ne, if-nle}
+use Rattle.group.proofs.Lists.{le-or}
+use Rattle.group.specs.Choice.{if_then_else_, _=?_}
+use borrow.Author.Tests.{eqb-true, eqb-false}
+use Rattle.schedule.proofs.Split.{found-from}
+use Rattle.schedule.specs.Field.{firstFrom, lineEnd, before, linesOf}
+use Rattle.schedule.specs.Line.{eventOf, openingOf}
+use Rattle.schedule.specs.Text.{lineFeed, lineMost}
+use Rattle.schedule.specs.declared.Found.{Found}
+use Rattle.schedule.specs.declared.Found.the-variants.{At, Nothing}
+use Rattle.schedule.specs.declared.Opening.{Opening}
+use Rattle.player.specs.Play.{Stage, opening, running, ended, closed, Told, eventTold, openTold, lineTold, lastOf, linesTold}
+use Rattle.player.specs.Feed.{keptMost, keptOf, State, Fed, fedUpTo, endOf}
+use Rattle.player.specs.Laws.{Prints, ends, feeds, ReadsOn, PrintsPlay}
+use Rattle.player.proofs.Keeping.{kept-kept}
+
+-- a line over 1,000 characters is of another form, cut or not
+event-kept : (line : List ℕ) → eventOf (keptOf line) ≡ eventOf line
+unfolding eventOf
+event-kept line =
+    le-or (length line) keptMost
+    (λ h. ap eventOf (take-all keptMost line h))
+    (λ h.
+    let n = length-take-le keptMost line (omega arith) in
+    sym (if-nle (length (keptOf line)) lineMost none _ _ (omega arith) refl) ∙ if-nle (length line) lineMost none _ _ (omega arith) refl)
+
+opening-kept : (line : List ℕ) → openingOf (keptOf line) ≡ openingOf line
+unfolding openingOf
+opening-kept line =
+    le-or (length line) keptMost
+    (λ h. ap openingOf (take-all keptMost line h))
+    (λ h.
+    let n = length-take-le keptMost line (omega arith) in
+    sym (if-nle (length (keptOf line)) lineMost Opening.Other _ _ (omega arith) refl) ∙ if-nle (length line) lineMost Opening.Other _ _ (omega arith) refl)
+
+told-kept : (stage : Stage) (line : List ℕ) → lineTold stage (keptOf line) ≡ lineTold stage line
+unfolding lineTold
+told-kept opening line = ap openTold (opening-kept line)
+told-kept (running g number) line = ap (eventTold g number) (event-kept line)
+told-kept (ended g) line = refl
+told-kept closed line = refl
+
+-- no line feed stands in it
+unfoldable Open : List ℕ → Type 0
+Open [] = Unit {0}
+Open (c ∷ line) = (c ≡ lineFeed → ⊥) × Open line
+
+open-append : (a b : List ℕ) → Open a → Open b → Open (a ++ b)
+unfolding Open
+open-append [] b p q = q
+open-append (c ∷ a) b p q = (p .0, open-append a b (p .1) q)
+
+-- a line that ends
+line-ends : (line rest : List ℕ) → Open line → linesOf (line ++ (lineFeed ∷ rest)) ≡ line ∷ linesOf rest
+unfolding linesOf Open before
+line-ends [] rest p = sym (if-eq lineFeed lineFeed _ _ _ refl refl)
+line-ends (c ∷ line) rest p =
+    sym (if-ne c lineFeed _ _ _ (p .0) refl) ∙ ap (before c) (line-ends line rest (p .1))
+
+-- a line that has not ended is one at the end of the input, unless it is empty
+line-last : (c : ℕ) (line : List ℕ) → Open (c ∷ line) → linesOf (c ∷ line) ≡ (c ∷ line) ∷ []
+unfolding linesOf Open before
+line-last c [] p = sym (if-ne c lineFeed _ _ _ (p .0) refl)
+line-last c (d ∷ line) p = sym (if-ne c lineFeed _ _ _ (p .0) refl) ∙ ap (before c) (line-last d line (p .1))
+
+nothing≢ : {e : ℕ} → Nothing ≡ At e → ⊥
+nothing≢ h = let z : _≡_ {A = ℕ} 0 1 = cc in omega arith
+
+-- a part up to its first line feed
+record Ends (part : List ℕ) (i e : ℕ) : Type 0 where
+  size : ℕ
+  here : e ≡ i + size
+  shut : Open (take size part)
+  split : part ≡ take size part ++ (lineFeed ∷ drop (suc size) part)
+
+found-at : (part : List ℕ) (i e : ℕ) → firstFrom lineFeed i part ≡ At e → Ends part i e
+unfolding firstFrom Open if_then_else_
+found-at [] i e h = absurd (nothing≢ h)
+found-at (c ∷ part) i e h = go (c =? lineFeed) refl (found-at part (i + 1) e) h
+  where
+    go : (t : Bool) → (c =? lineFeed) ≡ t → (firstFrom lineFeed (i + 1) part ≡ At e → Ends part (i + 1) e) → if t then At i else firstFrom lineFeed (i + 1) part ≡ At e
+        → Ends (c ∷ part) i e
+    go true t further h =
+        let z : i ≡ e = cc in
+        let l = eqb-true c lineFeed t in
+        record { size = 0; here = omega arith; shut = tt; split = ap (λ (x : ℕ). x ∷ part) l }
+    go false t further h =
+        let r = further h in
+        let y = r .here in
+        record {
+          size = suc (r .size);
+          here = omega arith;
+          shut = (eqb-false c lineFeed t, r .shut);
+          split = ap (λ (l : List ℕ). c ∷ l) (r .split);
+        }
+
+found-none : (part : List ℕ) (i : ℕ) → firstFrom lineFeed i part ≡ Nothing → Open part
+unfolding firstFrom Open if_then_else_
+found-none [] i h = tt
+found-none (c ∷ part) i h = go (c =? lineFeed) refl (found-none part (i + 1)) h
+  where
+    go : (t : Bool) → (c =? lineFeed) ≡ t → (firstFrom lineFeed (i + 1) part ≡ Nothing → Open part) → if t then At i else firstFrom lineFeed (i + 1) part ≡ Nothing
+        → Open (c ∷ part)
+    go true t further h = absurd (nothing≢ (sym h))
+    go false t further h = (eqb-false c lineFeed t, further h)
+
+-- a cut line that goes on
+module _ (s : State) (line : List ℕ) (k : s .line ≡ keptOf line) where
+  goes-on : (part : List ℕ) → keptOf (s .line ++ part) ≡ keptOf (line ++ part)
+  goes-on part = ap (λ (l : List ℕ). keptOf (l ++ part)) k ∙ kept-kept line part
+
+  goes-told : (part : List ℕ) → lineTold (s .stage) (keptOf (s .line ++ part)) ≡ lineTold (s .stage) (line ++ part)
+  goes-told part = ap (lineTold (s .stage)) (goes-on part) ∙ told-kept (s .stage) (line ++ part)
+
+  -- the end of the input
+  at-end : Open line → endOf s .text ++ lastOf (endOf s .state .stage) ≡ linesTold (s .stage) (linesOf (line ++ []))
+  unfolding endOf linesTold linesOf
+  at-end o = go line o k
+    where
+      go : (line : List ℕ) → Open line → s .line ≡ keptOf line → endOf s .text ++ lastOf (endOf s .state .stage) ≡ linesTold (s .stage) (linesOf (line ++ []))
+      go [] o k = ap (λ (f : Fed). f .text ++ lastOf (f .state .stage)) (sym (if-eq (length (s .line)) 0 _ _ _ (ap length k) refl))
+      go (c ∷ line) o k =
+          let n : length (s .line) ≡ suc (length (take lineMost line)) = ap length k in
+          let told : lineTold (s .stage) (s .line) ≡ lineTold (s .stage) (c ∷ line) = ap (lineTold (s .stage)) k ∙ told-kept (s .stage) (c ∷ line) in
+          ap (λ (f : Fed). f .text ++ lastOf (f .state .stage)) (sym (if-ne (length (s .line)) 0 _ _ _ (λ z. omega arith) refl))
+          ∙ ap (λ (t : Told). t .text ++ lastOf (t .stage)) told
+          ∙ ap (linesTold (s .stage)) (sym (ap linesOf (append-nil (c ∷ line)) ∙ line-last c line o))
+
+-- what the rest of the input prints, where a line has not ended of which something is kept
+prints : {s : State} {input output : List ℕ} → Prints s input output → (line : List ℕ) → Open line → s .line ≡ keptOf line
+    → output ≡ linesTold (s .stage) (linesOf (line ++ input))
+unfolding fedUpTo linesTold Open
+prints (ends s) line o k = at-end s line k o
+prints (feeds {output} s part rest p) line o k = go (lineEnd part) refl (λ l u v. prints p l u v)
+  where
+    go : (f : Found) → lineEnd part ≡ f
+        → ((l : List ℕ) → Open l → fedUpTo f s part .state .line ≡ keptOf l → output ≡ linesTold (fedUpTo f s part .state .stage) (linesOf (l ++ (drop (fedUpTo f s part .used) part ++ rest))))
+        → fedUpTo f s part .text ++ output ≡ linesTold (s .stage) (linesOf (line ++ (part ++ rest)))
+    go (At e) f h =
+        let r = found-at part 0 e f in
+        let y : e ≡ r .size = r .here ∙ zero-add (r .size) in
+        let shut : Open (take e part) = subst (λ (x : ℕ). Open (take x part)) (sym y) (r .shut) in
+        let split : part ≡ take e part ++ (lineFeed ∷ drop (suc e) part) = subst (λ (x : ℕ). part ≡ take x part ++ (lineFeed ∷ drop (suc x) part)) (sym y) (r .split) in
+        let more = drop (e + 1) part ++ rest in
+        let whole : line ++ (part ++ rest) ≡ (line ++ take e part) ++ (lineFeed ∷ more) =
+        ap (λ (x : List ℕ). line ++ (x ++ rest)) split
+        ∙ ap (λ (x : List ℕ). line ++ x) (append-assoc (take e part) (lineFeed ∷ drop (suc e) part) rest)
+        ∙ sym (append-assoc line (take e part) (lineFeed ∷ (drop (suc e) part ++ rest)))
+        ∙ ap (λ (x : ℕ). (line ++ take e part) ++ (lineFeed ∷ (drop x part ++ rest))) (sym (add-one e)) in
+        let lines : linesOf (line ++ (part ++ rest)) ≡ (line ++ take e part) ∷ linesOf more =
+        ap linesOf whole ∙ line-ends (line ++ take e part) more (open-append line (take e part) o shut) in
+        let told = goes-told s line k (take e part) in
+        ap (λ (x : List ℕ). lineTold (s .stage) (keptOf (s .line ++ take e part)) .text ++ x) (h [] tt refl)
+        ∙ ap (λ (t : Told). t .text ++ linesTold (t .stage) (linesOf more)) told
+        ∙ ap (linesTold (s .stage)) (sym lines)
+    go Nothing f h =
+        h (line ++ part) (open-append line part o (found-none part 0 f)) (goes-on s line k part)
+        ∙ ap (λ (x : List ℕ). linesTold (s .stage) (linesOf ((line ++ part) ++ (x ++ rest)))) (drop-length part)
+        ∙ ap (λ (x : List ℕ). linesTold (s .stage) (linesOf x)) (append-assoc line part rest)
+
+pub prints-play : PrintsPlay
+unfolding Open
+prints-play input output p = prints p [] tt refl
+
+pub reads-on : ReadsOn
+unfolding fedUpTo
+reads-on s part h = go (lineEnd part) refl
+  where
+    go : (f : Found) → lineEnd part ≡ f → (1 ≤ fedUpTo f s part .used) × (fedUpTo f s part .used ≤ length part)
+    go (At e) f = let k = found-from lineFeed part 0 e zero-le f .1 in (omega arith, omega arith)
+    go Nothing f = (h, le-refl (length part))

@@ -1,0 +1,4 @@
+pub mod Telling
+pub mod Opening
+pub mod Keeping
+pub mod Laws

@@ -1,0 +1,94 @@
+-- The first line, a group that is opened, and the state of a player. Assumes nothing.
+use mathlib.Core.Path.{_≡_, refl, sym, ap, _∙_, subst}
+use mathlib.Core.List.{List, [], _++_}
+use Prim.Native.Nat.{ℕ, _+_, _≤_, _<_}
+use native.Mathlib.Omega.{arith}
+use borrow.Author.Tests.{lt-leb}
+use lib.ListN.{length, take}
+use Rattle.group.proofs.Choice.{if-eq, if-ne, if-false, then-fails}
+use Rattle.group.specs.Choice.{if_then_else_, _and_, _≤?_}
+use Rattle.group.specs.Limits.{membersMost}
+use Rattle.group.specs.Opening.{openOf}
+use Rattle.group.specs.Question.{judged}
+use Rattle.group.specs.declared.Opened as group
+use Rattle.group.specs.declared.Refusal.{Refusal}
+use Rattle.group.specs.declared.Verdict.{Verdict}
+use Rattle.model.specs.World.{Group, fresh}
+use Rattle.schedule.specs.Field.{lineEnd}
+use Rattle.schedule.specs.declared.Found.{Found}
+use Rattle.schedule.specs.declared.Found.the-variants.{At, Nothing}
+use Rattle.schedule.specs.declared.Opening.{Opening}
+use Rattle.sequencer.specs.Calls.{freshOf, openedOf}
+use Rattle.simulator.specs.Whole.{packetsMost, groupOf, Opens}
+use Rattle.simulator.specs.declared.Opened.{Opened}
+use Rattle.player.specs.Play.{running, Told, refusedTold, openTold, lineTold}
+use Rattle.player.specs.Feed as feed
+use Rattle.player.specs.Feed.{State, keptOf, toldAs, fedUpTo, fedOf, endOf}
+use Rattle.player.specs.Player.{stageIn, phaseOf, stateOf, Does}
+use Rattle.player.specs.Steps.{Fits, Tells}
+use Rattle.player.specs.declared.Fed.{Fed}
+use Rattle.player.specs.declared.Phase.{Phase}
+use Rattle.player.specs.declared.Phase.the-variants.{Running}
+use Rattle.player.specs.declared.Told as declared
+use Rattle.player.proofs.Telling.{phase-is}
+
+-- question 18 refuses more members than there can be
+many-refused : (n number : ℕ) → membersMost < n → freshOf n number .verdict ≡ Verdict.Refused Refusal.Opening
+unfolding freshOf openOf openedOf
+many-refused n number h =
+    let e : group.Opened.Refused Refusal.Opening ≡ openOf n number =
+    if-false (1 ≤? n and n ≤? membersMost) _ _ _ (then-fails (1 ≤? n) (n ≤? membersMost) (lt-leb n membersMost h)) refl in
+    ap (λ (o : group.Opened). openedOf o .verdict) (sym e)
+
+module _ (n number : ℕ) where
+  pub told-refused : (refusal : Refusal) → freshOf n number .verdict ≡ Verdict.Refused refusal → refusedTold ≡ openTold (Opening.Group n number)
+  unfolding openTold judged
+  told-refused refusal e = ap (λ (v : Verdict). judged v (λ (r : Refusal). refusedTold) (record { text = []; stage = running (fresh n number .group) 1 })) (sym e)
+
+  pub told-many : membersMost < n → refusedTold ≡ openTold (Opening.Group n number)
+  told-many h = told-refused Refusal.Opening (many-refused n number h)
+
+  pub opened-refused : (r : Opened) (refusal : Refusal) → Opens n number r → r .verdict ≡ Verdict.Refused refusal → refusedTold ≡ openTold (Opening.Group n number)
+  unfolding Rattle.simulator.specs.Whole.openedOf
+  opened-refused r refusal o e = told-refused refusal (sym (ap (λ (x : Opened). x .verdict) (o .result)) ∙ e)
+
+  pub opened-group : (r : Opened) (told : declared.Told) (lent : List ℕ) → Opens n number r → r .verdict ≡ Verdict.Accepted
+      → told .whole ≡ r .whole → told .phase ≡ Running → told .number ≡ 1 → told .written ≡ 0
+      → Tells (openTold (Opening.Group n number)) told lent lent
+  unfolding openTold judged stageIn Rattle.simulator.specs.Whole.openedOf
+  opened-group r told lent o e w p k z =
+      let fits : Fits (r .whole) = record { members = o .room .members; packets = let y = o .room .packets in omega arith } in
+      let v : freshOf n number .verdict ≡ Verdict.Accepted = sym (ap (λ (x : Opened). x .verdict) (o .result)) ∙ e in
+      let stage : stageIn (phaseOf (told .whole) (told .phase)) (groupOf (told .whole)) (told .number) ≡ running (fresh n number .group) 1 =
+      ap (λ (x : Phase). stageIn (phaseOf (told .whole) x) (groupOf (told .whole)) (told .number)) p
+      ∙ ap (λ (x : _). stageIn (phaseOf x Running) (groupOf x) (told .number)) w
+      ∙ ap (λ (x : Phase). stageIn x (groupOf (r .whole)) (told .number)) (phase-is (r .whole) Running fits)
+      ∙ ap (λ (g : Group). running g (told .number)) (o .group e)
+      ∙ ap (λ (j : ℕ). running (fresh n number .group) j) k in
+      let t : Tells (record { text = []; stage = running (fresh n number .group) 1 }) told lent lent = record { stage = stage; written = z; output = refl } in
+      subst (λ (x : Told). Tells x told lent lent)
+      (ap (λ (x : Verdict). judged x (λ (r : Refusal). refusedTold) (record { text = []; stage = running (fresh n number .group) 1 })) (sym v)) t
+
+-- the end of the input
+module _ (s : State) (r : Fed) (lent after : List ℕ) where
+  pub ends-none : length (s .line) ≡ 0 → Does (record { text = []; state = s; used = 0 }) r lent after → Does (endOf s) r lent after
+  unfolding endOf
+  ends-none z d = subst (λ (x : feed.Fed). Does x r lent after) (if-eq (length (s .line)) 0 _ _ _ z refl) d
+
+  pub ends-told : (length (s .line) ≡ 0 → ⊥) → Does (toldAs (lineTold (s .stage) (s .line)) 0) r lent after → Does (endOf s) r lent after
+  unfolding endOf
+  ends-told z d = subst (λ (x : feed.Fed). Does x r lent after) (if-ne (length (s .line)) 0 _ _ _ z refl) d
+
+  -- a part of the input
+  pub feeds-line : (part line : List ℕ) (e : ℕ) → lineEnd part ≡ At e → line ≡ keptOf (s .line ++ take e part)
+      → Does (toldAs (lineTold (s .stage) line) (e + 1)) r lent after → Does (fedOf s part) r lent after
+  unfolding fedUpTo
+  feeds-line part line e f l d =
+      let g = rw l at d in
+      subst (λ (x : Found). Does (fedUpTo x s part) r lent after) (sym f) g
+
+  pub feeds-none : (part : List ℕ) → lineEnd part ≡ Nothing
+      → Does (record { text = []; state = record { stage = s .stage; line = keptOf (s .line ++ part) }; used = length part }) r lent after
+      → Does (fedOf s part) r lent after
+  unfolding fedUpTo
+  feeds-none part f d = subst (λ (x : Found). Does (fedUpTo x s part) r lent after) (sym f) d

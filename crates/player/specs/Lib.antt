@@ -1,0 +1,5 @@
+pub mod Play
+pub mod Feed
+pub mod Player
+pub mod Laws
+pub mod Steps

@@ -15,14 +15,19 @@ use Rattle.model.specs.Log.{gather, numberedIn, tookIn, tookAt, messages
 use Rattle.model.specs.World.{happen, run, freshMembers, fresh}
 use Rattle.packet.specs.Number.{numberAt, bytesOf}
 use Rattle.packet.specs.Packet.{headerOf, knownKind, payloadFits, obeys, fieldsVerdict, readOf, headerBytes, packetOf, writeVerdict, writeOf, contentOf, fieldsOf, written}
+use Rattle.history.specs.Ask.{senderVerdict, countVerdict, wantedVerdict}
+use Rattle.history.specs.Note.{largerOf, tableNoted, clearedOf}
+use Rattle.history.specs.Repeat.{oneMore, isOf, findOf}
+use Rattle.history.specs.Sound.{entrySound, keptSound, placeSound, frameSound}
+use Rattle.history.specs.State.{floorOf}
 use Rattle.sequencer.specs.Calls as sequencer
-use Rattle.sequencer.specs.Note.{largerOf, tableNoted, clearedOf, withTable, noteOf}
+use Rattle.sequencer.specs.Note.{withTable, noteOf}
 use Rattle.sequencer.specs.Order.{numberedBy}
-use Rattle.sequencer.specs.Sound.{entrySound, keptSound, placeSound, frameSound, soundOf}
-use Rattle.sequencer.specs.State.{floorOf, freshSequencer}
+use Rattle.sequencer.specs.Sound.{soundOf}
+use Rattle.sequencer.specs.State.{freshSequencer}
 
 pub examples : Examples
-unfolding if_then_else_ all allAbove least openOf judged member.answered member.requestPacket member.gapPacket member.statusPacket member.callVerdict member.submitVerdict member.withWaiting member.submitOf member.repeatOf member.statusOf member.withHeld member.gapUpTo member.keptOf member.broadcastOf member.smallerOf member.pollOf member.contentStep member.readStep member.receiveOf member.isOwn member.withTaken member.tookOf member.takeOf member.openedOf member.freshOf memberSound.placeSound memberSound.waitingSound memberSound.frameSound memberSound.soundOf lowestMissing freshMember allZero messageOf emptyMessage payloadOf zeroBehind isEmpty closeMember closeFrom request broadcast statusOf requested holding gather numberedIn tookIn tookAt tookBy messagesAbove lastNumber above happen run freshMembers fresh numberAt bytesOf headerOf knownKind payloadFits obeys fieldsVerdict readOf headerBytes packetOf writeVerdict writeOf contentOf fieldsOf written sequencer.answered sequencer.broadcastOf sequencer.pollPacket sequencer.oneMore sequencer.repeatedOf sequencer.isOf sequencer.findOf sequencer.oldOf sequencer.againOf sequencer.fullOf sequencer.withMessage sequencer.numberedOf sequencer.requestOf sequencer.gapOf sequencer.senderVerdict sequencer.countVerdict sequencer.wantedVerdict sequencer.contentStep sequencer.readStep sequencer.callVerdict sequencer.receiveOf sequencer.pollOf sequencer.copyOf sequencer.openedOf sequencer.freshOf largerOf tableNoted clearedOf withTable noteOf numberedBy entrySound keptSound placeSound frameSound soundOf floorOf freshSequencer
+unfolding if_then_else_ all allAbove least openOf judged member.answered member.requestPacket member.gapPacket member.statusPacket member.callVerdict member.submitVerdict member.withWaiting member.submitOf member.repeatOf member.statusOf member.withHeld member.gapUpTo member.keptOf member.broadcastOf member.smallerOf member.pollOf member.contentStep member.readStep member.receiveOf member.isOwn member.withTaken member.tookOf member.takeOf member.openedOf member.freshOf memberSound.placeSound memberSound.waitingSound memberSound.frameSound memberSound.soundOf lowestMissing freshMember allZero messageOf emptyMessage payloadOf zeroBehind isEmpty closeMember closeFrom request broadcast statusOf requested holding gather numberedIn tookIn tookAt tookBy messagesAbove lastNumber above happen run freshMembers fresh numberAt bytesOf headerOf knownKind payloadFits obeys fieldsVerdict readOf headerBytes packetOf writeVerdict writeOf contentOf fieldsOf written sequencer.answered sequencer.broadcastOf sequencer.pollPacket oneMore sequencer.repeatedOf isOf findOf sequencer.oldOf sequencer.againOf sequencer.fullOf sequencer.withMessage sequencer.numberedOf sequencer.requestOf sequencer.gapOf senderVerdict countVerdict wantedVerdict sequencer.contentStep sequencer.readStep sequencer.callVerdict sequencer.receiveOf sequencer.pollOf sequencer.copyOf sequencer.openedOf sequencer.freshOf largerOf tableNoted clearedOf withTable noteOf numberedBy entrySound keptSound placeSound frameSound soundOf floorOf freshSequencer
 examples =
     record {
       floor = refl;

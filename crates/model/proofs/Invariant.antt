@@ -10,7 +10,8 @@ use Rattle.message.specs.Order.{Ordered}
 use Rattle.model.specs.Log.{order, taken, submitted}
 use Rattle.model.specs.World.{Group, World, noMember}
 use Rattle.packet.proofs.Facts.{Known}
-use Rattle.sequencer.proofs.Invariant.{SequencerInv, takenIn, countIn}
+use Rattle.history.proofs.Soundness.{takenIn, countIn}
+use Rattle.sequencer.proofs.Invariant.{SequencerInv}
 
 -- the last number that member i took
 abbrev pub takenOf : List Member → ℕ → ℕ

@@ -17,7 +17,8 @@ use Rattle.model.specs.World.{Group, noMember, withMember, withSequencer
 use Rattle.model.proofs.Invariant.{Inv, takenOf}
 use Rattle.packet.proofs.Facts.{Known, KnownBy, known-grows, known-by}
 use Rattle.packet.specs.Packet.{written}
-use Rattle.sequencer.proofs.Invariant.{SequencerGood, takenIn, countIn}
+use Rattle.history.proofs.Soundness.{takenIn, countIn}
+use Rattle.sequencer.proofs.Invariant.{SequencerGood}
 use Rattle.sequencer.specs.Calls as sequencer
 use Rattle.sequencer.specs.Order.{numberedBy}
 

@@ -34,14 +34,15 @@ use Rattle.packet.proofs.RoundTrip.{packet-length}
 use Rattle.packet.specs.Packet.{packetOf, fieldsOf, written}
 use Rattle.packet.specs.declared.Packet.{Packet}
 use Rattle.packet.specs.declared.Packet.the-variants.{Broadcast, Status}
+use Rattle.history.proofs.Soundness.{takenIn}
+use Rattle.history.specs.Note.{largerOf, withTaken, tableNoted}
+use Rattle.history.specs.State.{noAcknowledgement, acknowledgementOf}
+use Rattle.history.specs.declared.Acknowledgement.{Acknowledgement}
 use Rattle.sequencer.proofs.Histories.{broadcast-may}
-use Rattle.sequencer.proofs.Invariant.{takenIn}
 use Rattle.sequencer.proofs.Ordering.{copy-ok}
 use Rattle.sequencer.proofs.Ordering as sequencerOrdering
 use Rattle.sequencer.specs.Calls as sequencer
-use Rattle.sequencer.specs.Note.{largerOf, withTaken, tableNoted, withTable, noteOf}
-use Rattle.sequencer.specs.State.{noAcknowledgement, acknowledgementOf}
-use Rattle.sequencer.specs.declared.Acknowledgement.{Acknowledgement}
+use Rattle.sequencer.specs.Note.{withTable, noteOf}
 use Rattle.sequencer.specs.Order.{numberedBy}
 use Rattle.sequencer.specs.Sound.{soundOf}
 use Rattle.sequencer.specs.declared.Answer.the-variants.{Noted, Sent}

@@ -32,11 +32,13 @@ use Rattle.model.specs.Log.{gather, numberedIn, order, tookIn, acceptedI
 use Rattle.model.specs.World.{Event, submit, repeat, status, poll, copy, handMember, handSequencer, Answer, absent, bySequencer, byMember, Group, Happened, missing, withMember, withSequencer, noMember, atMember, takeAt, handToMember, handToSequencer, happen, World, step, run, freshMembers, fresh}
 use Rattle.model.specs.World as world
 use Rattle.packet.specs.Packet.{written}
+use Rattle.history.proofs.Soundness.{takenIn, countIn}
+use Rattle.history.specs.State.{noAcknowledgement}
 use Rattle.sequencer.proofs.Histories as histories
-use Rattle.sequencer.proofs.Invariant.{SequencerInv, SequencerGood, takenIn, countIn}
+use Rattle.sequencer.proofs.Invariant.{SequencerInv, SequencerGood}
 use Rattle.sequencer.proofs.Ordering as sequencerOrdering
 use Rattle.sequencer.specs.Calls as sequencer
-use Rattle.sequencer.specs.State.{noAcknowledgement, freshSequencer}
+use Rattle.sequencer.specs.State.{freshSequencer}
 
 inv-ext : (n g : ℕ) (w : Group) (ord ord′ : List Ordered) (tk tk′ : ℕ → List Ordered) (sb sb′ : ℕ → List (List ℕ))
     → ord′ ≡ ord → ((j : ℕ) → tk′ j ≡ tk j) → ((j : ℕ) → sb′ j ≡ sb j) → Inv n g w ord tk sb → Inv n g w ord′ tk′ sb′

@@ -8,6 +8,7 @@ use lib.ListN.{length, getD, length-append}
 use lib.Seq.{take-all}
 use Rattle.group.proofs.Lists.{eq-or}
 use Rattle.group.specs.Limits.{membersMost, placesMost, largestNumber}
+use Rattle.history.proofs.Soundness.{takenIn}
 use Rattle.member.specs.declared.Member.{Member}
 use Rattle.model.proofs.Invariant.{WorldInv, takenOf}
 use Rattle.model.proofs.Round.{closes-one}
@@ -17,7 +18,6 @@ use Rattle.model.specs.Claim.{Claim, Demand3}
 use Rattle.model.specs.Closing.{closeMember, closeFrom, closing, closingMost}
 use Rattle.model.specs.Log.{order, messagesAbove}
 use Rattle.model.specs.World.{Event, noMember, World, run, fresh}
-use Rattle.sequencer.proofs.Invariant.{takenIn}
 use Rattle.sequencer.proofs.Ordering.{floor-all}
 use Rattle.sequencer.proofs.Soundness.{sound-of}
 

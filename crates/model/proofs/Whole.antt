@@ -21,9 +21,10 @@ use Rattle.model.specs.Claim.{sum, allButLast}
 use Rattle.model.specs.Log.{order, taken, submitted, accepted, orderedAt, messagesAbove, historyOf, lastNumber, above, owed}
 use Rattle.model.specs.World.{World, noMember}
 use Rattle.packet.proofs.Facts.{ordered}
+use Rattle.history.proofs.Soundness.{countIn}
+use Rattle.history.specs.State.{messageAt}
 use Rattle.sequencer.proofs.Ordering.{floor-below}
-use Rattle.sequencer.proofs.Invariant.{SequencerInv, countIn}
-use Rattle.sequencer.specs.State.{messageAt}
+use Rattle.sequencer.proofs.Invariant.{SequencerInv}
 use Rattle.sequencer.specs.declared.Sequencer.{Sequencer}
 
 -- the messages of l are numbered b + 1, b + 2, ..

@@ -18,9 +18,10 @@ use Rattle.packet.specs.Packet.{packetOf, fieldsOf, readOf, writeOf}
 use Rattle.packet.specs.declared.Packet.{Packet}
 use Rattle.packet.specs.declared.Reading.{Reading}
 use Rattle.packet.specs.declared.Writing.{Writing}
+use Rattle.history.specs.State.{floorOf}
+use Rattle.history.specs.declared.Acknowledgement.{Acknowledgement}
 use Rattle.sequencer.specs.Calls as sequencer
-use Rattle.sequencer.specs.State.{floorOf, freshSequencer}
-use Rattle.sequencer.specs.declared.Acknowledgement.{Acknowledgement}
+use Rattle.sequencer.specs.State.{freshSequencer}
 use Rattle.sequencer.specs.declared.Answer as sequencerAnswer
 use Rattle.sequencer.specs.declared.Sequencer.{Sequencer}
 

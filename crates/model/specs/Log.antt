@@ -6,9 +6,9 @@ use Rattle.member.specs.Order.{tookBy, acceptedBy}
 use Rattle.message.specs.Message.{payloadOf}
 use Rattle.message.specs.Order.{Ordered, Submission, countedFrom}
 use Rattle.message.specs.declared.Message.{Message}
+use Rattle.history.specs.State.{messageAt}
 use Rattle.model.specs.World.{Event, submit, repeat, take, status, poll, copy, handMember, handSequencer, Answer, absent, bySequencer, byMember, Entry, World}
 use Rattle.sequencer.specs.Order.{numberedBy}
-use Rattle.sequencer.specs.State.{messageAt}
 use Rattle.sequencer.specs.declared.Sequencer.{Sequencer}
 
 -- what each entry gives, one after the other

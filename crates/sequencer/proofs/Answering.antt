@@ -19,20 +19,24 @@ use Rattle.packet.proofs.Facts.{Known, ordered}
 use Rattle.packet.proofs.RoundTrip.{header-back, payload-back}
 use Rattle.packet.specs.Packet.{fieldsOf, written}
 use Rattle.packet.specs.declared.Packet.the-variants.{Poll}
-use Rattle.sequencer.specs.Calls.{Outcome, answered, broadcastOf, pollPacket, repeatedOf, findOf, oldOf, againOf, fullOf, withMessage, numberedOf, requestOf, gapOf}
-use Rattle.sequencer.specs.Note.{largerOf, withTable, noteOf}
+use Rattle.history.proofs.Finding.{found-in}
+use Rattle.history.proofs.Soundness.{takenIn, countIn}
+use Rattle.history.specs.Note.{largerOf}
+use Rattle.history.specs.Repeat.{findOf}
+use Rattle.history.specs.declared.Acknowledgement.{Acknowledgement}
+use Rattle.sequencer.specs.Calls.{Outcome, answered, broadcastOf, pollPacket, repeatedOf, oldOf, againOf, fullOf, withMessage, numberedOf, requestOf, gapOf}
+use Rattle.sequencer.specs.Note.{withTable, noteOf}
 use Rattle.sequencer.specs.Order.{numberedBy}
 use Rattle.sequencer.specs.State.{lastCount}
-use Rattle.sequencer.specs.declared.Acknowledgement.{Acknowledgement}
 use Rattle.sequencer.specs.declared.Answer.{Answer}
 use Rattle.sequencer.specs.declared.Answer.the-variants.{Old, Again, Full, Numbered, Noted, Wanted}
 use Rattle.sequencer.specs.declared.Sequencer.{Sequencer}
 use Rattle.sequencer.proofs.Histories.{note-inv, repeated-inv, numbered-inv, broadcast-is, broadcast-may, broadcast-known}
-use Rattle.sequencer.proofs.Invariant.{SequencerInv, SequencerGood, takenIn, countIn}
+use Rattle.sequencer.proofs.Invariant.{SequencerInv, SequencerGood}
 use Rattle.sequencer.proofs.Noting.{noted-count, noted-most}
 use Rattle.sequencer.proofs.Numbering.{counted-each}
 use Rattle.sequencer.proofs.Owning.{own-other, own-next}
-use Rattle.sequencer.proofs.Packets.{poll-allowed, found-in}
+use Rattle.sequencer.proofs.Packets.{poll-allowed}
 use Rattle.sequencer.proofs.Soundness.{Sound, sound-of}
 
 -- the order of the group, what its terminals took and submitted, and the table of acknowledgements before the call

@@ -20,7 +20,9 @@ use Rattle.packet.specs.declared.Header.{Header}
 use Rattle.packet.specs.declared.Packet.{Packet}
 use Rattle.packet.specs.declared.Packet.the-variants.{Request, Broadcast, Gap, Status, Poll}
 use Rattle.packet.specs.declared.Reading.{Reading}
-use Rattle.sequencer.specs.Calls.{Outcome, answered, refused, findOf, oldOf, againOf, fullOf, numberedOf, requestOf, gapOf, senderVerdict, countVerdict, wantedVerdict, contentStep, readStep}
+use Rattle.history.specs.Ask.{senderVerdict, countVerdict, wantedVerdict}
+use Rattle.history.specs.Repeat.{findOf}
+use Rattle.sequencer.specs.Calls.{Outcome, answered, refused, oldOf, againOf, fullOf, numberedOf, requestOf, gapOf, contentStep, readStep}
 use Rattle.sequencer.specs.Laws.{fieldsQuestions}
 use Rattle.sequencer.specs.Note.{noteOf}
 use Rattle.sequencer.specs.State.{lastCount}

@@ -20,17 +20,20 @@ use Rattle.packet.specs.Laws.{Allowed}
 use Rattle.packet.specs.Packet.{fieldsOf, packetOf}
 use Rattle.packet.specs.declared.Packet.{Packet}
 use Rattle.packet.specs.declared.Packet.the-variants.{Broadcast}
+use Rattle.history.proofs.Noting.{cleared-other}
+use Rattle.history.proofs.Soundness.{countIn, floor-most}
+use Rattle.history.specs.State.{noAcknowledgement, messageAt, placeOf}
+use Rattle.history.specs.declared.Acknowledgement.{Acknowledgement}
 use Rattle.sequencer.specs.Calls.{broadcastOf, repeatedOf, withMessage}
 use Rattle.sequencer.specs.Note.{withTable, noteOf}
-use Rattle.sequencer.specs.State.{noAcknowledgement, messageAt, placeOf, freshSequencer}
-use Rattle.sequencer.specs.declared.Acknowledgement.{Acknowledgement}
+use Rattle.sequencer.specs.State.{freshSequencer}
 use Rattle.sequencer.specs.declared.Sequencer.{Sequencer}
-use Rattle.sequencer.proofs.Invariant.{SequencerInv, countIn}
+use Rattle.sequencer.proofs.Invariant.{SequencerInv}
 use Rattle.sequencer.proofs.Keeping.{repeated-typed, repeated-sound}
-use Rattle.sequencer.proofs.Noting.{cleared-other, noted-count, floor-up, note-typed, note-sound}
+use Rattle.sequencer.proofs.Noting.{noted-count, floor-up, note-typed, note-sound}
 use Rattle.sequencer.proofs.Numbering.{counted-same, counted-up, kept-here, kept-other, numbered-typed, numbered-sound}
 use Rattle.sequencer.proofs.Packets.{broadcast-allowed}
-use Rattle.sequencer.proofs.Soundness.{Sound, sound-of, of-sound, floor-most}
+use Rattle.sequencer.proofs.Soundness.{Sound, sound-of, of-sound}
 
 module _ (n g : ℕ) (order : List Ordered) (s : Sequencer) (v : SequencerInv n g s order) where
   sound : Sound s

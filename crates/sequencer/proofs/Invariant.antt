@@ -4,26 +4,20 @@ use mathlib.Core.Bool.{true}
 use mathlib.Core.Option.{some}
 use mathlib.Core.List.{List, _++_}
 use Prim.Native.Nat.{ℕ, _≤_, _<_}
-use lib.ListN.{length, getD, take}
+use lib.ListN.{length, take}
 use Rattle.group.proofs.Lists.{at, All}
 use Rattle.group.specs.Limits.{payloadMost}
 use Rattle.message.specs.Message.{messageOf}
 use Rattle.message.specs.Order.{Ordered, ownOf, countedFrom}
 use Rattle.packet.proofs.Facts.{Known}
+use Rattle.history.specs.State.{messageAt}
+use Rattle.history.specs.declared.Acknowledgement.{Acknowledgement}
+use Rattle.history.proofs.Soundness.{takenIn, countIn}
 use Rattle.sequencer.specs.Calls.{Outcome}
 use Rattle.sequencer.specs.Laws.{Typed}
 use Rattle.sequencer.specs.Order.{numberedBy}
 use Rattle.sequencer.specs.Sound.{soundOf}
-use Rattle.sequencer.specs.State.{noAcknowledgement, messageAt}
-use Rattle.sequencer.specs.declared.Acknowledgement.{Acknowledgement}
 use Rattle.sequencer.specs.declared.Sequencer.{Sequencer}
-
--- member i's entry in a table: the last number known taken, the last count numbered
-abbrev pub takenIn : List Acknowledgement → ℕ → ℕ
-takenIn table i = getD table i noAcknowledgement .taken .0
-
-abbrev pub countIn : List Acknowledgement → ℕ → ℕ
-countIn table i = getD table i noAcknowledgement .count
 
 -- the sequencer of a group of n members numbered g, whose order so far is `order`
 pub record SequencerInv (n g : ℕ) (s : Sequencer) (order : List Ordered) : Type 0 where

@@ -6,16 +6,15 @@ use mathlib.Core.Bool.{true}
 use mathlib.Core.List.{List, []}
 use Prim.Native.Nat.{ℕ, _+_, _-_, _≤_, _<_}
 use native.Mathlib.Omega.{arith}
-use borrow.Author.Tests.{ltb-true, ltb-false, leb-true, eqb-false, lt-leb}
+use borrow.Author.Tests.{ltb-true, ltb-false, eqb-false}
 use lib.ListN.{length}
-use Rattle.group.proofs.Choice.{if-was, says}
+use Rattle.group.proofs.Choice.{says}
 use Rattle.group.proofs.Lists.{if-elim, judged-elim}
-use Rattle.group.proofs.Question.{accepted≢}
 use Rattle.group.specs.Choice.{if_then_else_, _<?_, _≤?_, _=?_}
 use Rattle.group.specs.Limits.{placesMost, payloadMost, largestNumber}
 use Rattle.group.specs.declared.MemberNumber.{MemberNumber}
 use Rattle.group.specs.declared.Refusal.{Refusal}
-use Rattle.group.specs.declared.Refusal.the-variants.{UnknownMember, AcknowledgedAhead, CountAhead, NumbersUsedUp, OtherEnd}
+use Rattle.group.specs.declared.Refusal.the-variants.{OtherEnd}
 use Rattle.group.specs.declared.SequenceNumber.{SequenceNumber}
 use Rattle.group.specs.declared.Verdict.{Verdict}
 use Rattle.packet.proofs.Laws.{read-written}
@@ -24,33 +23,22 @@ use Rattle.packet.specs.declared.Header.{Header}
 use Rattle.packet.specs.declared.Packet.{Packet}
 use Rattle.packet.specs.declared.Packet.the-variants.{Request, Broadcast, Gap, Status, Poll}
 use Rattle.packet.specs.declared.Reading.{Reading}
-use Rattle.sequencer.specs.Calls.{Outcome, answered, refused, broadcastOf, pollPacket, oneMore, repeatedOf, findOf, oldOf, againOf, fullOf, numberedOf, withMessage, requestOf, gapOf, senderVerdict, countVerdict, wantedVerdict, contentStep}
+use Rattle.history.proofs.Finding.{found-in}
+use Rattle.history.specs.Ask.{senderVerdict, countVerdict, wantedVerdict}
+use Rattle.history.specs.Note.{largerOf}
+use Rattle.history.specs.Repeat.{oneMore, findOf}
+use Rattle.history.proofs.Asking.{sender-was, count-was}
+use Rattle.sequencer.specs.Calls.{Outcome, answered, refused, broadcastOf, pollPacket, repeatedOf, oldOf, againOf, fullOf, numberedOf, withMessage, requestOf, gapOf, contentStep}
 use Rattle.sequencer.specs.Laws.{Typed}
-use Rattle.sequencer.specs.Note.{largerOf, withTable, noteOf}
+use Rattle.sequencer.specs.Note.{withTable, noteOf}
 use Rattle.sequencer.specs.State.{lastCount}
 use Rattle.sequencer.specs.declared.Answer.{Answer}
 use Rattle.sequencer.specs.declared.Answer.the-variants.{Noted, Wanted}
 use Rattle.sequencer.specs.declared.Sequencer.{Sequencer}
 use Rattle.sequencer.proofs.Noting.{noted-count, note-typed, note-sound}
 use Rattle.sequencer.proofs.Numbering.{numbered-typed, numbered-sound}
-use Rattle.sequencer.proofs.Packets.{broadcast-allowed, poll-allowed, found-in}
+use Rattle.sequencer.proofs.Packets.{broadcast-allowed, poll-allowed}
 use Rattle.sequencer.proofs.Soundness.{Sound}
-
--- what the questions on a sender and on a request's count asked
-pub sender-was : (n top : ℕ) (sender : MemberNumber) (taken : SequenceNumber) → senderVerdict n top sender taken ≡ Verdict.Accepted
-    → (sender .0 < n) × (taken .0 ≤ top)
-unfolding senderVerdict
-sender-was n top sender taken e =
-    let a = if-was (sender .0 <? n) _ _ Verdict.Accepted e (accepted≢ UnknownMember) in
-    let b = if-was (taken .0 ≤? top) _ _ Verdict.Accepted (a .1) (accepted≢ AcknowledgedAhead) in
-    (ltb-true (sender .0) n (a .0), leb-true (taken .0) top (b .0))
-
-pub count-was : (last top count : ℕ) → countVerdict last top count ≡ Verdict.Accepted → (count ≤ last + 1) × (last < count → top < largestNumber)
-unfolding countVerdict if_then_else_
-count-was last top count e =
-    let a = if-was (count ≤? last + 1) _ _ Verdict.Accepted e (accepted≢ CountAhead) in
-    let b = if-was (if count ≤? last then true else top <? largestNumber) _ _ Verdict.Accepted (a .1) (accepted≢ NumbersUsedUp) in
-    (leb-true count (last + 1) (a .0), λ h. ltb-true top largestNumber (rw (lt-leb count last h) at (b .0)))
 
 -- what a step leaves
 pub record Stays (o : Outcome) : Type 0 where

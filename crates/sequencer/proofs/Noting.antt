@@ -3,67 +3,26 @@
 use mathlib.Core.Path.{_≡_, refl, ap, _∙_}
 use mathlib.Core.Logic.{_≢_}
 use mathlib.Core.List.{List}
-use Prim.Native.Nat.{ℕ, zero, suc, _+_, _-_, _≤_, _<_}
+use Prim.Native.Nat.{ℕ, _+_, _-_, _≤_, _<_}
 use native.Mathlib.Nat.{le-refl, le-trans}
 use native.Mathlib.Omega.{arith}
-use borrow.Author.Tests.{ltb-true, ltb-false}
 use lib.ListN.{length, getD, length-set}
-use lib.Seq.{getD-set-same, getD-set-other}
-use Rattle.group.proofs.Lists.{if-elim, eq-or, le-or, set-each}
-use Rattle.group.specs.Choice.{_<?_}
+use Rattle.group.proofs.Lists.{le-or, set-each}
 use Rattle.group.specs.Limits.{membersMost, placesMost}
 use Rattle.group.specs.declared.MemberNumber.{MemberNumber}
 use Rattle.group.specs.declared.SequenceNumber.{SequenceNumber}
 use Rattle.message.proofs.Kept.{empty-zero}
-use Rattle.message.specs.Message.{emptyMessage, blank, isEmpty}
+use Rattle.message.specs.Message.{isEmpty}
 use Rattle.message.specs.declared.Message.{Message}
+use Rattle.history.proofs.Soundness.{takenIn, countIn, KeptFacts, floor-most, floor-least}
+use Rattle.history.specs.Note.{withTaken, tableNoted}
+use Rattle.history.specs.State.{noAcknowledgement, acknowledgementOf, messageAt, floorOf}
+use Rattle.history.specs.declared.Acknowledgement.{Acknowledgement}
+use Rattle.history.proofs.Noting.{larger-least, larger-new, larger-most, cleared-length, cleared-other, cleared-empty}
 use Rattle.sequencer.specs.Laws.{Typed}
-use Rattle.sequencer.specs.Note.{largerOf, withTaken, tableNoted, clearedOf, withTable, noteOf}
-use Rattle.sequencer.specs.State.{noAcknowledgement, acknowledgementOf, placeOf, messageAt, floorOf}
-use Rattle.sequencer.specs.declared.Acknowledgement.{Acknowledgement}
+use Rattle.sequencer.specs.Note.{withTable, noteOf}
 use Rattle.sequencer.specs.declared.Sequencer.{Sequencer}
-use Rattle.sequencer.proofs.Invariant.{takenIn, countIn}
-use Rattle.sequencer.proofs.Soundness.{KeptFacts, Sound, floor-most, floor-least}
-
-pub larger-least : (a b : ℕ) → a ≤ largerOf a b
-unfolding largerOf
-larger-least a b = if-elim (λ (x : ℕ). a ≤ x) (a <? b) (λ t. let z = ltb-true a b t in omega arith) (λ t. le-refl a)
-
-pub larger-new : (a b : ℕ) → b ≤ largerOf a b
-unfolding largerOf
-larger-new a b = if-elim (λ (x : ℕ). b ≤ x) (a <? b) (λ t. le-refl b) (λ t. ltb-false a b t)
-
-pub larger-most : (a b c : ℕ) → a ≤ c → b ≤ c → largerOf a b ≤ c
-unfolding largerOf
-larger-most a b c h k = if-elim (λ (x : ℕ). x ≤ c) (a <? b) (λ t. k) (λ t. h)
-
--- the history with the k numbers above f cleared
-module _ (history : List Message) (f : ℕ) where
-  pub cleared-length : (k : ℕ) → length (clearedOf history f k) ≡ length history
-  unfolding clearedOf
-  cleared-length zero = refl
-  cleared-length (suc k) = length-set (clearedOf history f k) (placeOf (f + suc k)) emptyMessage ∙ cleared-length k
-
-  -- a number above them keeps its message
-  pub cleared-other : (k number : ℕ) → f + k < number → number ≤ f + placesMost → messageAt (clearedOf history f k) number ≡ messageAt history number
-  unfolding clearedOf
-  cleared-other zero number a b = refl
-  cleared-other (suc k) number a b =
-      getD-set-other (clearedOf history f k) (placeOf (f + suc k)) (placeOf number) emptyMessage blank (omega arith)
-      ∙ cleared-other k number (omega arith) b
-
-  -- a place of one of them is empty
-  pub cleared-empty : length history ≡ placesMost → (k number r : ℕ) → f < r → r ≤ f + k → placeOf number ≡ placeOf r
-      → messageAt (clearedOf history f k) number ≡ emptyMessage
-  unfolding clearedOf
-  cleared-empty l zero number r a b e = absurd (omega arith)
-  cleared-empty l (suc k) number r a b e =
-      let z = cleared-length k in
-      let history′ = clearedOf history f k in
-      let place = placeOf (f + suc k) in
-      eq-or (placeOf number) place (λ q. rw q (getD-set-same history′ place emptyMessage blank (omega arith)))
-      (λ q. getD-set-other history′ place (placeOf number) emptyMessage blank q
-      ∙ cleared-empty l k number r a (le-or r (f + k) (λ h. h) (λ h. let y : r ≡ f + suc k = omega arith in absurd (q (e ∙ ap placeOf y)))) e)
+use Rattle.sequencer.proofs.Soundness.{Sound}
 
 module _ (s : Sequencer) (m : MemberNumber) (taken : SequenceNumber) (typed : Typed s) (sound : Sound s) (member : m .0 < s .group .n) where
   abbrev table : List Acknowledgement

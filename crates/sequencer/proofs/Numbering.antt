@@ -14,13 +14,13 @@ use Rattle.group.specs.declared.MemberNumber.{MemberNumber}
 use Rattle.message.proofs.Kept.{kept-zero}
 use Rattle.message.specs.Message.{messageOf, blank, isEmpty}
 use Rattle.message.specs.declared.Message.{Message}
+use Rattle.history.proofs.Soundness.{takenIn, countIn, KeptFacts, floor-same}
+use Rattle.history.specs.State.{noAcknowledgement, acknowledgementOf, placeOf, messageAt}
+use Rattle.history.specs.declared.Acknowledgement.{Acknowledgement}
 use Rattle.sequencer.specs.Calls.{withMessage}
 use Rattle.sequencer.specs.Laws.{Typed}
-use Rattle.sequencer.specs.State.{noAcknowledgement, acknowledgementOf, placeOf, messageAt}
-use Rattle.sequencer.specs.declared.Acknowledgement.{Acknowledgement}
 use Rattle.sequencer.specs.declared.Sequencer.{Sequencer}
-use Rattle.sequencer.proofs.Invariant.{takenIn, countIn}
-use Rattle.sequencer.proofs.Soundness.{KeptFacts, Sound, floor-same}
+use Rattle.sequencer.proofs.Soundness.{Sound}
 
 -- the member's entry, with the count
 abbrev pub countedEntry : Sequencer → MemberNumber → ℕ → Acknowledgement

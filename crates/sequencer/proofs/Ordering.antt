@@ -27,7 +27,10 @@ use Rattle.packet.specs.Laws.{Allowed}
 use Rattle.packet.specs.Packet.{packetOf, fieldsOf, written}
 use Rattle.packet.specs.declared.Packet.{Packet}
 use Rattle.packet.specs.declared.Packet.the-variants.{Request, Broadcast, Gap, Status, Poll}
-use Rattle.sequencer.specs.Calls.{Outcome, answered, refused, broadcastOf, pollPacket, requestOf, senderVerdict, countVerdict, wantedVerdict, contentStep, readStep, callVerdict, receiveOf, pollOf, copyOf}
+use Rattle.history.proofs.Asking.{sender-was, count-was}
+use Rattle.history.proofs.Soundness.{takenIn, countIn, floor-most, floor-least}
+use Rattle.history.specs.Ask.{senderVerdict, countVerdict, wantedVerdict}
+use Rattle.sequencer.specs.Calls.{Outcome, answered, refused, broadcastOf, pollPacket, requestOf, contentStep, readStep, callVerdict, receiveOf, pollOf, copyOf}
 use Rattle.sequencer.specs.Note.{withTable, noteOf}
 use Rattle.sequencer.specs.Order.{numberedBy}
 use Rattle.sequencer.specs.State.{lastCount}
@@ -35,10 +38,9 @@ use Rattle.sequencer.specs.declared.Answer.{Answer}
 use Rattle.sequencer.specs.declared.Answer.the-variants.{Noted, Sent}
 use Rattle.sequencer.specs.declared.Sequencer.{Sequencer}
 use Rattle.sequencer.proofs.Histories.{broadcast-is}
-use Rattle.sequencer.proofs.Invariant.{SequencerInv, SequencerGood, takenIn, countIn}
-use Rattle.sequencer.proofs.Keeping.{sender-was, count-was}
+use Rattle.sequencer.proofs.Invariant.{SequencerInv, SequencerGood}
 use Rattle.sequencer.proofs.Noting.{noted-count, noted-own, noted-other}
-use Rattle.sequencer.proofs.Soundness.{sound-of, floor-most, floor-least}
+use Rattle.sequencer.proofs.Soundness.{sound-of}
 use Rattle.sequencer.proofs.Answering.{Good, Ready, silent, writing, note-ready, poll-known, copy-known, request-good, gap-good}
 
 -- a state with its invariant

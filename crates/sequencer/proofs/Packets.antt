@@ -1,27 +1,24 @@
--- The packets that a sound sequencer writes may be written: the broadcast of a number of the history, and the poll packet; and
--- a number that was found is one of the history's. Assumes nothing.
+-- The packets that a sound sequencer writes may be written: the broadcast of a number of the history, and the poll packet.
+-- Assumes nothing.
 use mathlib.Core.Path.{_≡_, refl}
-use mathlib.Core.Logic.{_≢_}
-use mathlib.Core.List.{List, []}
-use Prim.Native.Nat.{ℕ, zero, suc, _+_, _≤_, _<_}
+use mathlib.Core.List.{[]}
+use Prim.Native.Nat.{ℕ, _≤_, _<_}
 use native.Mathlib.Omega.{arith}
 use borrow.Author.Tests.{lt-ltb, le-leb, eq-eqb}
 use lib.ListN.{length, length-take}
-use Rattle.group.proofs.Lists.{if-elim}
-use Rattle.group.specs.Choice.{if_then_else_}
 use Rattle.group.specs.Limits.{payloadMost, longestPacket}
 use Rattle.group.specs.declared.MemberNumber.{MemberNumber}
 use Rattle.group.specs.declared.SequenceNumber.{SequenceNumber}
 use Rattle.group.specs.declared.Verdict.{Verdict}
+use Rattle.group.specs.Choice.{if_then_else_}
 use Rattle.message.specs.Message.{payloadOf}
 use Rattle.message.specs.declared.Message.{Message}
 use Rattle.packet.proofs.Verdicts.{accepted}
 use Rattle.packet.specs.Laws.{Allowed}
 use Rattle.packet.specs.Packet.{knownKind, payloadFits, obeys, fieldsVerdict, fieldsOf}
 use Rattle.packet.specs.declared.Packet.the-variants.{Broadcast, Poll}
-use Rattle.sequencer.specs.Calls.{isOf, findOf}
+use Rattle.history.specs.State.{messageAt}
 use Rattle.sequencer.specs.Laws.{Typed}
-use Rattle.sequencer.specs.State.{messageAt}
 use Rattle.sequencer.specs.declared.Sequencer.{Sequencer}
 use Rattle.sequencer.proofs.Soundness.{Sound}
 
@@ -63,12 +60,3 @@ module _ (s : Sequencer) (typed : Typed s) (sound : Sound s) where
     accepted (fieldsOf (s .group .number) (Poll (s .top) (s .floor))) 0 longestPacket
         (record { enough = omega arith; fields = poll-fields (s .group .number) (s .top) (s .floor) (sound .floor-le); short = omega arith }),
   )
-
--- what is found, unless it is 0, is one of the k numbers above floor
-pub found-in : (history : List Message) (m : MemberNumber) (count floor k : ℕ) → findOf history m count floor k ≢ 0
-    → (floor < findOf history m count floor k) × (findOf history m count floor k ≤ floor + k)
-unfolding findOf
-found-in history m count floor zero some = absurd (some refl)
-found-in history m count floor (suc k) some =
-    if-elim (λ (x : ℕ). x ≢ 0 → (floor < x) × (x ≤ floor + suc k)) (isOf m count (messageAt history (floor + suc k))) (λ t q. omega arith)
-    (λ t q. let z = found-in history m count floor k q in omega arith) some

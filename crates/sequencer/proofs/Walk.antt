@@ -1,21 +1,17 @@
--- The law by which a loop goes one number on, for clearing what a floor passes and for finding a message from top downwards.
+-- The law by which a loop goes one number on, for clearing what a floor passes.
 -- Assumes nothing.
-use mathlib.Core.Path.{_≡_, refl, sym, ap, _∙_}
-use mathlib.Core.Bool.{Bool, true, false}
+use mathlib.Core.Path.{_≡_}
 use mathlib.Core.List.{List}
-use Prim.Native.Nat.{ℕ, suc, _+_, _-_, _≤_, _<_}
+use Prim.Native.Nat.{ℕ, suc, _+_, _-_, _≤_}
 use native.Mathlib.Omega.{arith}
 use lib.ListN.{set}
-use Rattle.group.specs.Choice.{if_then_else_}
-use Rattle.group.specs.declared.MemberNumber.{MemberNumber}
 use Rattle.group.specs.declared.SequenceNumber.{SequenceNumber}
-use Rattle.group.proofs.Choice.{if-true-of, if-false-of}
 use Rattle.message.specs.Message.{emptyMessage}
 use Rattle.message.specs.declared.Message.{Message}
-use Rattle.sequencer.specs.State.{placeOf, messageAt}
-use Rattle.sequencer.specs.Note.{clearedOf, withTable}
-use Rattle.sequencer.specs.Calls.{isOf, findOf}
-use Rattle.sequencer.specs.declared.Acknowledgement.{Acknowledgement}
+use Rattle.history.specs.Note.{clearedOf}
+use Rattle.history.specs.State.{placeOf}
+use Rattle.history.specs.declared.Acknowledgement.{Acknowledgement}
+use Rattle.sequencer.specs.Note.{withTable}
 use Rattle.sequencer.specs.declared.Sequencer.{Sequencer}
 
 -- a state whose history is cleared from its floor up to a number, and nothing else changed
@@ -51,27 +47,3 @@ module _ (s t : Sequencer) (passed : ℕ) (low : s .floor .0 ≤ passed) (inv : 
       ≡ withTable s table (floor .0)
   unfolding withTable
   clear-done table floor h k = let e : passed - s .floor .0 ≡ floor .0 - s .floor .0 = omega arith in rw (inv, e)
-
-module _ (history : List Message) (m : MemberNumber) (count floor top number : ℕ)
-    (inv : findOf history m count floor (top - floor) ≡ findOf history m count floor (number - floor)) where
-  find-step : floor < number
-      → findOf history m count floor (top - floor)
-      ≡ if isOf m count (messageAt history number) then number else findOf history m count floor (number - 1 - floor)
-  unfolding findOf
-  find-step h =
-      let e : number - floor ≡ suc (number - 1 - floor) = omega arith in
-      let f : floor + suc (number - 1 - floor) ≡ number = omega arith in
-      inv ∙ ap (findOf history m count floor) e ∙ rw f
-
-  -- a turn of the search: found, on, and the end
-  pub find-found : (r : Bool) → floor < number → r ≡ isOf m count (messageAt history number) → r ≡ true
-      → number ≡ findOf history m count floor (top - floor)
-  find-found r h e t = if-true-of _ r _ _ _ e t refl ∙ sym (find-step h)
-
-  pub find-on : (r : Bool) → floor < number → r ≡ isOf m count (messageAt history number) → r ≡ false
-      → findOf history m count floor (top - floor) ≡ findOf history m count floor (number - 1 - floor)
-  find-on r h e t = find-step h ∙ sym (if-false-of _ r _ _ _ e t refl)
-
-  pub find-end : number ≤ floor → 0 ≡ findOf history m count floor (top - floor)
-  unfolding findOf
-  find-end h = let e : number - floor ≡ 0 = omega arith in sym (inv ∙ ap (findOf history m count floor) e)

@@ -1,31 +1,31 @@
 -- The sequencer's calls: each goes down its questions in their order, and then takes its step.
-use mathlib.Core.Bool.{Bool, true}
 use mathlib.Core.List.{List, []}
-use Prim.Native.Nat.{ℕ, zero, suc, _+_, _-_}
+use Prim.Native.Nat.{ℕ, _+_, _-_}
 use lib.ListN.{length, set}
 use Rattle.group.specs.Choice.{if_then_else_, ask_or_then_, _and_, _<?_, _≤?_, _=?_}
-use Rattle.group.specs.Limits.{placesMost, longestPacket, largestNumber}
+use Rattle.group.specs.Limits.{placesMost, longestPacket}
 use Rattle.group.specs.Opening.{openOf}
 use Rattle.group.specs.Question.{judged}
-use Rattle.group.specs.declared.Group.{Group}
 use Rattle.group.specs.declared.MemberNumber.{MemberNumber}
 use Rattle.group.specs.declared.SequenceNumber.{SequenceNumber}
 use Rattle.group.specs.declared.Opened.{Opened}
 use Rattle.group.specs.declared.Opened.the-variants.{Open}
 use Rattle.group.specs.declared.Refusal.{Refusal}
-use Rattle.group.specs.declared.Refusal.the-variants.{UnsoundState, ShortOutput, OtherGroup, OtherEnd, UnknownMember, AcknowledgedAhead, CountAhead, WantedAhead, NumbersUsedUp, NotInHistory}
+use Rattle.group.specs.declared.Refusal.the-variants.{UnsoundState, ShortOutput, OtherGroup, OtherEnd, NotInHistory}
 use Rattle.group.specs.declared.Verdict.{Verdict}
 use Rattle.message.specs.Message.{messageOf, payloadOf}
-use Rattle.message.specs.declared.Message.{Message}
 use Rattle.packet.specs.Packet.{contentOf, fieldsOf, packetOf, payloadAt, readOf}
 use Rattle.packet.specs.declared.Packet.{Packet}
 use Rattle.packet.specs.declared.Packet.the-variants.{Request, Broadcast, Gap, Status, Poll}
 use Rattle.packet.specs.declared.Reading.{Reading}
 use Rattle.packet.specs.declared.Reading.the-variants.{Fields}
-use Rattle.sequencer.specs.Note.{largerOf, noteOf}
+use Rattle.history.specs.Note.{largerOf}
+use Rattle.history.specs.State.{acknowledgementOf, placeOf, messageAt}
+use Rattle.history.specs.Repeat.{oneMore, findOf}
+use Rattle.history.specs.Ask.{senderVerdict, countVerdict, wantedVerdict}
+use Rattle.sequencer.specs.Note.{noteOf}
 use Rattle.sequencer.specs.Sound.{soundOf}
-use Rattle.sequencer.specs.State.{acknowledgementOf, lastCount, placeOf, messageAt, freshSequencer}
-use Rattle.sequencer.specs.declared.Acknowledgement.{Acknowledgement}
+use Rattle.sequencer.specs.State.{lastCount, freshSequencer}
 use Rattle.sequencer.specs.declared.Answer.{Answer}
 use Rattle.sequencer.specs.declared.Answer.the-variants.{Old, Again, Full, Numbered, Noted, Wanted, Sent}
 use Rattle.sequencer.specs.declared.Opening.{Opening}
@@ -62,10 +62,6 @@ broadcastOf s number =
 unfoldable pub pollPacket : Sequencer → List ℕ
 pollPacket s = packetOf (fieldsOf (s .group .number) (Poll (s .top) (s .floor))) []
 
--- one repeat more; the count stays at the largest number once there
-unfoldable pub oneMore : ℕ → ℕ
-oneMore repeats = if repeats <? largestNumber then repeats + 1 else repeats
-
 unfoldable pub repeatedOf : Sequencer → Sequencer
 repeatedOf s =
     record {
@@ -76,17 +72,6 @@ repeatedOf s =
       history = s .history;
       repeats = oneMore (s .repeats);
     }
-
--- a message of that originator and count
-unfoldable pub isOf : MemberNumber → ℕ → Message → Bool
-isOf m count message = message .originator .0 =? m .0 and message .count =? count
-
--- the highest of the k numbers above floor whose message has that originator and count; 0: there is none
-unfoldable pub findOf : List Message → MemberNumber → ℕ → ℕ → ℕ → ℕ
-findOf history m count floor zero = 0
-findOf history m count floor (suc k) =
-    if isOf m count (messageAt history (floor + suc k)) then floor + suc k else
-    findOf history m count floor k
 
 -- Old
 unfoldable pub oldOf : Sequencer → Outcome
@@ -136,24 +121,6 @@ unfoldable pub gapOf : Sequencer → SequenceNumber → SequenceNumber → Outco
 gapOf s first last =
     if last .0 ≤? s .floor .0 then answered s Noted else
     answered s (Wanted (record { 0 = largerOf (first .0) (s .floor .0 + 1) }) last)
-
--- questions 9 and 10 of a sender and the number it acknowledges
-unfoldable pub senderVerdict : ℕ → ℕ → MemberNumber → SequenceNumber → Verdict
-senderVerdict n top sender taken =
-    ask sender .0 <? n or Verdict.Refused UnknownMember then
-    ask taken .0 ≤? top or Verdict.Refused AcknowledgedAhead then
-    Verdict.Accepted
-
--- questions 11 and 16 of a request's count: it is at most p + 1, and if it is p + 1 a next number is left
-unfoldable pub countVerdict : ℕ → ℕ → ℕ → Verdict
-countVerdict last top count =
-    ask count ≤? last + 1 or Verdict.Refused CountAhead then
-    ask (if count ≤? last then true else top <? largestNumber) or Verdict.Refused NumbersUsedUp then
-    Verdict.Accepted
-
--- question 12 of a gap
-unfoldable pub wantedVerdict : ℕ → SequenceNumber → Verdict
-wantedVerdict top last = ask last .0 ≤? top or Verdict.Refused WantedAhead then Verdict.Accepted
 
 -- what a packet of our group says: kinds 1, 3 and 4 are for this end (question 8); each is asked its questions, then A is noted
 unfoldable pub contentStep : Sequencer → Packet → List ℕ → Outcome

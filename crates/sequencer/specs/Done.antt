@@ -7,8 +7,9 @@ use Rattle.group.specs.Lent.{front}
 use Rattle.group.specs.Limits.{membersMost, payloadMost, longestPacket, largestNumber}
 use Rattle.group.specs.declared.MemberNumber.{MemberNumber}
 use Rattle.message.specs.declared.Message.{Message}
+use Rattle.history.specs.State.{messageAt}
 use Rattle.sequencer.specs.Calls.{Outcome, stepOf}
-use Rattle.sequencer.specs.State.{lastCount, messageAt}
+use Rattle.sequencer.specs.State.{lastCount}
 use Rattle.sequencer.specs.declared.Sequencer.{Sequencer}
 use Rattle.sequencer.specs.declared.Step.{Step}
 

@@ -1,6 +1,6 @@
 -- What is proved of the sequencer's meaning. `proofs/` has a proof of each statement.
 use mathlib.Core.Path.{_≡_}
-use mathlib.Core.Bool.{Bool, true}
+use mathlib.Core.Bool.{true}
 use mathlib.Core.List.{List, [], _∷_, _++_}
 use mathlib.Core.Logic.{_⊎_}
 use Prim.Native.Nat.{ℕ, _+_, _≤_}
@@ -8,7 +8,6 @@ use lib.ListN.{length, getD}
 use Rattle.group.specs.Choice.{if_then_else_, _and_, _<?_, _≤?_, _=?_}
 use Rattle.group.specs.Limits.{membersMost, placesMost, longestPacket, largestNumber}
 use Rattle.group.specs.Question.{Question, firstNo}
-use Rattle.group.specs.declared.MemberNumber.{MemberNumber}
 use Rattle.group.specs.declared.Refusal.{Refusal}
 use Rattle.group.specs.declared.SequenceNumber.{SequenceNumber}
 use Rattle.group.specs.declared.Verdict.{Verdict}
@@ -16,9 +15,10 @@ use Rattle.packet.specs.Laws.{readQuestions}
 use Rattle.packet.specs.Packet.{requestKind, gapKind, statusKind, headerOf, readOf}
 use Rattle.packet.specs.declared.Header.{Header}
 use Rattle.packet.specs.declared.Reading.{Reading}
+use Rattle.history.specs.State.{noAcknowledgement}
 use Rattle.sequencer.specs.Calls.{Outcome, refused, receiveOf, pollOf, copyOf}
 use Rattle.sequencer.specs.Sound.{soundOf}
-use Rattle.sequencer.specs.State.{noAcknowledgement, lastCount}
+use Rattle.sequencer.specs.State.{lastCount}
 use Rattle.sequencer.specs.declared.Answer.{Answer}
 use Rattle.sequencer.specs.declared.Sequencer.{Sequencer}
 

@@ -5,32 +5,26 @@ use group::Opened;
 use group::Refusal;
 use group::SequenceNumber;
 use group::Verdict;
+use history::Acknowledgement;
 use message::Message;
 use packet::Header;
 use packet::Packet;
 use packet::Reading;
-ghost use mathlib.Core.Bool.{true};
 ghost use mathlib.Core.Path.{_≡_};
 ghost use mathlib.Core.List.{[]};
-ghost use Prim.Native.Nat.{_+_, _-_, _<_, _≤_};
+ghost use Prim.Native.Nat.{_-_, _<_, _≤_};
 ghost use lib.ListN.{length};
-ghost use Rattle.group.specs.Choice.{if_then_else_, _<?_, _≤?_, _=?_};
-ghost use Rattle.group.specs.Fold.{all, allAbove};
+ghost use Rattle.group.specs.Choice.{if_then_else_, _=?_};
 ghost use Rattle.group.specs.Lent.{front};
 ghost use Rattle.group.specs.Limits.{membersMost, payloadMost, placesMost, longestPacket, largestNumber};
-ghost use Rattle.message.specs.Message.{payloadOf, isEmpty};
+ghost use Rattle.history.specs.Repeat.{findOf};
+ghost use Rattle.message.specs.Message.{payloadOf};
 ghost use Rattle.packet.specs.Packet.{fieldsOf, packetOf};
-ghost use Rattle.sequencer.specs.State.{placeOf, floorOf, freshSequencer};
-ghost use Rattle.sequencer.specs.Sound.{entrySound, keptSound, placeSound, frameSound, soundOf};
-ghost use Rattle.sequencer.specs.Note.{largerOf, tableNoted, withTable, noteOf};
-ghost use Rattle.sequencer.specs.Calls.{stepOf, answered, broadcastOf, oneMore, isOf, findOf, oldOf, againOf, fullOf, withMessage, numberedOf, requestOf, gapOf, senderVerdict, countVerdict, wantedVerdict, contentStep, readStep, callVerdict, receiveOf, pollOf, copyOf, freshOf};
+ghost use Rattle.sequencer.specs.State.{freshSequencer};
+ghost use Rattle.sequencer.specs.Sound.{soundOf};
+ghost use Rattle.sequencer.specs.Note.{withTable, noteOf};
+ghost use Rattle.sequencer.specs.Calls.{stepOf, answered, broadcastOf, oldOf, againOf, fullOf, withMessage, numberedOf, requestOf, gapOf, contentStep, readStep, callVerdict, receiveOf, pollOf, copyOf, freshOf};
 ghost use Rattle.sequencer.specs.Done.{Laid, Done, Quiet, Short, Next, Ready, Sized};
-
-// What is known of a member: the last number that it is known to have taken, and its last own count that was numbered.
-pub struct Acknowledgement {
-    pub taken: SequenceNumber,
-    pub count: u32,
-}
 
 pub struct Sequencer {
     pub group: Group,
@@ -66,221 +60,6 @@ pub struct Opening {
     pub verdict: Verdict,
 }
 
-// The message numbered s lies in place s modulo 32.
-fn place(number: u64) -> usize
-    ensures { λ r. ⌜ r ≡ placeOf number ⌝ }
-{
-    (number as usize) % Group::PLACES
-}
-
-fn smaller(a: u32, b: u32) -> u32
-    ensures { λ r. ⌜ r ≡ (if a <? b then a else b) ⌝ }
-{
-    if a < b { a } else { b }
-}
-
-// Floor is the smallest of the n acknowledgements.
-fn smallest(n: u8, table: [Acknowledgement; Group::MEMBERS]) -> SequenceNumber
-    requires { ⌜ n ≤ membersMost ⌝ }
-    ensures { λ r. ⌜ r .0 ≡ floorOf n table ⌝ }
-{
-    let mut low = Group::LARGEST;
-    let mut i: usize = 0;
-    while i < (n as usize) {
-        let entry = table[i];
-        low = smaller(entry.taken.0, low);
-        i += 1;
-    }
-    SequenceNumber(low)
-}
-
-// Whether an entry is at most top, or zero where no member has it.
-fn entry_sound(n: u8, top: SequenceNumber, i: usize, entry: Acknowledgement) -> bool
-    ensures { λ r. ⌜ r ≡ entrySound n (top .0) i entry ⌝ }
-{
-    if i < (n as usize) {
-        return entry.taken.0 <= top.0;
-    }
-    if entry.taken.0 != 0 {
-        return false;
-    }
-    entry.count == 0
-}
-
-fn entries_sound(n: u8, table: [Acknowledgement; Group::MEMBERS], top: SequenceNumber) -> bool
-    ensures { λ r. ⌜ r ≡ all (entrySound n (top .0)) 0 table ⌝ }
-{
-    let mut i: usize = 0;
-    while i < Group::MEMBERS {
-        if entry_sound(n, top, i, table[i]) {
-            i += 1;
-        } else {
-            return false;
-        }
-    }
-    true
-}
-
-fn kept_sound(n: u8, table: [Acknowledgement; Group::MEMBERS], m: Message) -> bool
-    requires { ⌜ n ≤ membersMost ⌝ }
-    ensures { λ r. ⌜ r ≡ keptSound n table m ⌝ }
-{
-    if n <= m.originator.0 {
-        return false;
-    }
-    if m.count < 1 {
-        return false;
-    }
-    let at = m.originator.0 as usize;
-    let entry = table[at];
-    if entry.count < m.count {
-        return false;
-    }
-    if Group::PAYLOAD < m.length {
-        return false;
-    }
-    m.zero_behind()
-}
-
-// Whether what lies in a number's place is a message where the number is at most top, and else is empty.
-fn place_sound(
-    n: u8,
-    table: [Acknowledgement; Group::MEMBERS],
-    top: SequenceNumber,
-    number: u64,
-    m: Message,
-) -> bool
-    requires { ⌜ n ≤ membersMost ⌝ }
-    ensures { λ r. ⌜ r ≡ (if number ≤? top .0 then keptSound n table m else isEmpty m) ⌝ }
-{
-    if number <= (top.0 as u64) {
-        return kept_sound(n, table, m);
-    }
-    m.is_empty()
-}
-
-// Whether the history is exactly floor + 1 to top.
-fn history_sound(
-    n: u8,
-    table: [Acknowledgement; Group::MEMBERS],
-    history: [Message; Group::PLACES],
-    floor: SequenceNumber,
-    top: SequenceNumber,
-) -> bool
-    requires { ⌜ n ≤ membersMost ⌝ }
-    ensures { λ r. ⌜ r ≡ allAbove (placeSound n table history (top .0)) (floor .0) placesMost ⌝ }
-{
-    let mut i: usize = 0;
-    while i < Group::PLACES {
-        let number = (floor.0 as u64) + (i as u64) + 1;
-        let at = place(number);
-        if place_sound(n, table, top, number, history[at]) {
-            i += 1;
-        } else {
-            return false;
-        }
-    }
-    true
-}
-
-fn frame_sound(
-    n: u8,
-    table: [Acknowledgement; Group::MEMBERS],
-    floor: SequenceNumber,
-    top: SequenceNumber,
-) -> bool
-    ensures { λ r. ⌜ r ≡ frameSound n table (floor .0) (top .0) ⌝ }
-{
-    if n < 1 {
-        return false;
-    }
-    if Group::MEMBERS < (n as usize) {
-        return false;
-    }
-    if smallest(n, table).0 != floor.0 {
-        return false;
-    }
-    if top.0 < floor.0 {
-        return false;
-    }
-    ((top.0 - floor.0) as usize) <= Group::PLACES
-}
-
-fn larger(a: u32, b: u32) -> u32
-    ensures { λ r. ⌜ r ≡ largerOf a b ⌝ }
-{
-    if a < b { b } else { a }
-}
-
-// The table with the sender's entry at the larger of old and new.
-fn table_noted(
-    mut table: [Acknowledgement; Group::MEMBERS],
-    sender: MemberNumber,
-    taken: SequenceNumber,
-) -> [Acknowledgement; Group::MEMBERS]
-    requires { ⌜ sender .0 < membersMost ⌝ }
-    ensures { λ r. ⌜ r ≡ tableNoted table sender taken ⌝ }
-{
-    let at = sender.0 as usize;
-    let entry = table[at];
-    let most = SequenceNumber(larger(entry.taken.0, taken.0));
-    table[at] = Acknowledgement {
-        taken: most,
-        count: entry.count,
-    };
-    table
-}
-
-fn is_of(sender: MemberNumber, count: u32, m: Message) -> bool
-    ensures { λ r. ⌜ r ≡ isOf sender count m ⌝ }
-{
-    if m.originator.0 != sender.0 {
-        return false;
-    }
-    m.count == count
-}
-
-// The highest number above floor whose message has that originator and count; 0: there is none.
-fn find(
-    history: [Message; Group::PLACES],
-    sender: MemberNumber,
-    count: u32,
-    floor: SequenceNumber,
-    top: SequenceNumber,
-) -> SequenceNumber
-    ensures { λ r. ⌜ r .0 ≡ findOf history sender count (floor .0) (top .0 - floor .0) ⌝ }
-{
-    let mut number = top.0;
-    while floor.0 < number {
-        let at = place(number as u64);
-        if is_of(sender, count, history[at]) {
-            return SequenceNumber(number);
-        }
-        number -= 1;
-    }
-    SequenceNumber(0)
-}
-
-// How many numbers the history holds.
-fn kept(floor: SequenceNumber, top: SequenceNumber) -> usize
-    ensures { λ r. ⌜ r ≡ top .0 - floor .0 ⌝ }
-{
-    if floor.0 < top.0 {
-        return (top.0 - floor.0) as usize;
-    }
-    0
-}
-
-fn one_more(repeats: u32) -> u32
-    ensures { λ r. ⌜ r ≡ oneMore repeats ⌝ }
-{
-    if repeats < Group::LARGEST {
-        repeats + 1
-    } else {
-        repeats
-    }
-}
-
 // Writes the broadcast of a message with today's floor.
 fn send(
     group: u32,
@@ -314,52 +93,6 @@ fn send_poll(group: u32, top: SequenceNumber, floor: SequenceNumber, out: &mut [
     packet.put(group, &none, out)
 }
 
-// Questions 9 and 10 of a sender and the number it acknowledges.
-fn ask_sender(n: u8, top: SequenceNumber, sender: MemberNumber, taken: SequenceNumber) -> Verdict
-    ensures { λ r. ⌜ r ≡ senderVerdict n (top .0) sender taken ⌝ }
-{
-    if n <= sender.0 {
-        return Verdict::Refused(Refusal::UnknownMember);
-    }
-    if top.0 < taken.0 {
-        return Verdict::Refused(Refusal::AcknowledgedAhead);
-    }
-    Verdict::Accepted
-}
-
-// Whether a next number is left, where a count wants one.
-fn number_left(last: u32, top: SequenceNumber, count: u32) -> bool
-    ensures { λ r. ⌜ r ≡ (if count ≤? last then true else top .0 <? largestNumber) ⌝ }
-{
-    if count <= last {
-        return true;
-    }
-    top.0 < Group::LARGEST
-}
-
-// Questions 11 and 16 of a request's count.
-fn ask_count(last: u32, top: SequenceNumber, count: u32) -> Verdict
-    ensures { λ r. ⌜ r ≡ countVerdict last (top .0) count ⌝ }
-{
-    if (last as u64) + 1 < (count as u64) {
-        return Verdict::Refused(Refusal::CountAhead);
-    }
-    if number_left(last, top, count) {
-        return Verdict::Accepted;
-    }
-    Verdict::Refused(Refusal::NumbersUsedUp)
-}
-
-// Question 12 of a gap.
-fn ask_wanted(top: SequenceNumber, last: SequenceNumber) -> Verdict
-    ensures { λ r. ⌜ r ≡ wantedVerdict (top .0) last ⌝ }
-{
-    if top.0 < last.0 {
-        return Verdict::Refused(Refusal::WantedAhead);
-    }
-    Verdict::Accepted
-}
-
 impl Sequencer {
     // Fresh: all zero but n and group.
     fn empty(group: Group) -> Self
@@ -391,9 +124,9 @@ impl Sequencer {
         let history = self.history;
         let floor = self.floor;
         let top = self.top;
-        if frame_sound(n, table, floor, top) {
-            if entries_sound(n, table, top) {
-                return history_sound(n, table, history, floor, top);
+        if history::frame_sound(n, table, floor, top) {
+            if history::entries_sound(n, table, top) {
+                return history::history_sound(n, table, history, floor, top);
             }
             return false;
         }
@@ -420,7 +153,7 @@ impl Sequencer {
         let mut passed = self.floor.0;
         while passed < floor.0 {
             passed += 1;
-            let at = place(passed as u64);
+            let at = history::place(passed as u64);
             let none = Message::empty();
             self.history[at] = none;
         }
@@ -435,8 +168,8 @@ impl Sequencer {
         ensures { λ r. ⌜ r ≡ noteOf self sender taken ⌝ }
     {
         let old = self.acknowledgements;
-        let table = table_noted(old, sender, taken);
-        let floor = smallest(self.group.n, table);
+        let table = history::table_noted(old, sender, taken);
+        let floor = history::smallest(self.group.n, table);
         self.under(table, floor)
     }
 
@@ -461,7 +194,7 @@ impl Sequencer {
     fn old(mut self) -> Step
         ensures { λ r. ⌜ Quiet (oldOf self) r ⌝ }
     {
-        let repeats = one_more(self.repeats);
+        let repeats = history::one_more(self.repeats);
         self.repeats = repeats;
         let answer = Answer::Old;
         self.answered(answer)
@@ -472,7 +205,7 @@ impl Sequencer {
         requires { ⌜ Short (self .history) × (longestPacket ≤ length (now out)) ⌝ }
         ensures { λ r. ⌜ Laid (broadcastOf self (number .0)) r (now (out .entry)) (now (out .exit)) ⌝ }
     {
-        let at = place(number.0 as u64);
+        let at = history::place(number.0 as u64);
         let m = self.history[at];
         let floor = self.floor;
         send(self.group.number, floor, number, m, out)
@@ -487,7 +220,7 @@ impl Sequencer {
             return self.old();
         }
         let written = self.broadcast(number, out);
-        let repeats = one_more(self.repeats);
+        let repeats = history::one_more(self.repeats);
         self.repeats = repeats;
         let answer = Answer::Again(number);
         Step {
@@ -520,7 +253,7 @@ impl Sequencer {
     {
         let number = SequenceNumber(self.top.0 + 1);
         let m = Message::keep(sender, count, payload);
-        let at = place(number.0 as u64);
+        let at = history::place(number.0 as u64);
         self.history[at] = m;
         self.top = number;
         let member = sender.0 as usize;
@@ -552,7 +285,7 @@ impl Sequencer {
         requires { ⌜ Next self sender (length (now payload)) (length (now out)) ⌝ }
         ensures { λ r. ⌜ Done (if self .top .0 - self .floor .0 =? placesMost then fullOf self else numberedOf self sender count (now (payload .entry))) r (now (out .entry)) (now (out .exit)) ⌝ }
     {
-        if kept(self.floor, self.top) == Group::PLACES {
+        if history::kept(self.floor, self.top) == Group::PLACES {
             return self.full(out);
         }
         self.numbered(sender, count, payload, out)
@@ -565,7 +298,7 @@ impl Sequencer {
         let history = self.history;
         let floor = self.floor;
         let top = self.top;
-        find(history, sender, count, floor, top)
+        history::find(history, sender, count, floor, top)
     }
 
     // A request with a count from its sender, once A is noted.
@@ -593,7 +326,7 @@ impl Sequencer {
             let answer = Answer::Noted;
             return self.answered(answer);
         }
-        let from = SequenceNumber(larger(first.0, self.floor.0 + 1));
+        let from = SequenceNumber(history::larger(first.0, self.floor.0 + 1));
         let answer = Answer::Wanted(from, last);
         self.answered(answer)
     }
@@ -610,12 +343,12 @@ impl Sequencer {
         ensures { λ r. ⌜ Done (contentStep self (Packet.Request sender taken count) (now (payload .entry))) r (now (out .entry)) (now (out .exit)) ⌝ }
     {
         let top = self.top;
-        let v = ask_sender(self.group.n, top, sender, taken);
+        let v = history::ask_sender(self.group.n, top, sender, taken);
         match v {
             Verdict::Accepted => {
                 let at = sender.0 as usize;
                 let entry = self.acknowledgements[at];
-                let w = ask_count(entry.count, top, count);
+                let w = history::ask_count(entry.count, top, count);
                 match w {
                     Verdict::Accepted => {
                         let s = self.noted(sender, taken);
@@ -639,10 +372,10 @@ impl Sequencer {
         ensures { λ r. ⌜ Quiet (contentStep self (Packet.Gap sender taken first last) []) r ⌝ }
     {
         let top = self.top;
-        let v = ask_sender(self.group.n, top, sender, taken);
+        let v = history::ask_sender(self.group.n, top, sender, taken);
         match v {
             Verdict::Accepted => {
-                let w = ask_wanted(top, last);
+                let w = history::ask_wanted(top, last);
                 match w {
                     Verdict::Accepted => {
                         let s = self.noted(sender, taken);
@@ -660,7 +393,7 @@ impl Sequencer {
         ensures { λ r. ⌜ Quiet (contentStep self (Packet.Status sender taken) []) r ⌝ }
     {
         let top = self.top;
-        let v = ask_sender(self.group.n, top, sender, taken);
+        let v = history::ask_sender(self.group.n, top, sender, taken);
         match v {
             Verdict::Accepted => {
                 let answer = Answer::Noted;

@@ -12,7 +12,8 @@ use Rattle.packet.specs.declared.Packet.{Packet}
 use Rattle.packet.specs.declared.Packet.the-variants.{Request, Broadcast, Gap, Status, Poll}
 use Rattle.packet.specs.declared.Reading.{Reading}
 use Rattle.packet.specs.declared.Reading.the-variants.{Fields}
-use Rattle.sequencer.specs.Calls.{Outcome, answered, repeatedOf, oldOf, againOf, fullOf, withMessage, numberedOf, requestOf, gapOf, senderVerdict, countVerdict, wantedVerdict, contentStep, readStep, callVerdict, receiveOf, pollOf, copyOf}
+use Rattle.history.specs.Ask.{senderVerdict, countVerdict, wantedVerdict}
+use Rattle.sequencer.specs.Calls.{Outcome, answered, repeatedOf, oldOf, againOf, fullOf, withMessage, numberedOf, requestOf, gapOf, contentStep, readStep, callVerdict, receiveOf, pollOf, copyOf}
 use Rattle.sequencer.specs.Note.{withTable, noteOf}
 use Rattle.sequencer.specs.State.{lastCount}
 use Rattle.sequencer.specs.declared.Sequencer.{Sequencer}

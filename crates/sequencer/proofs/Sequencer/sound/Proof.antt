@@ -2,8 +2,8 @@
 -- Assumes nothing.
 use mathlib.Core.Path.{sym, _∙_}
 use Rattle.group.proofs.Choice.{choices}
+use Rattle.history.proofs.Sizes.{frame-members}
 use Rattle.sequencer.specs.Sound.{soundOf}
-use Rattle.sequencer.proofs.Owed.{frame-members}
 use borrow.Author.Needs.{needs}
 use Rattle.sequencer.proofs.Sequencer.sound.Statement.{statement}
 use Rattle.sequencer.proofs.Sequencer.sound.Tie as tie

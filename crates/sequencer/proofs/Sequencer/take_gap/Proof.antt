@@ -4,7 +4,7 @@ use mathlib.Core.Path.{sym, _∙_}
 use native.Mathlib.Nat.{lt-of-lt-of-le}
 use Rattle.sequencer.specs.Calls.{contentStep}
 use Rattle.sequencer.proofs.Outcomes.{quiet-as, judged-yes, judged-no}
-use Rattle.sequencer.proofs.Owed.{sender-asked}
+use Rattle.history.proofs.Asking.{sender-was}
 use borrow.Author.Needs.{needs}
 use Rattle.sequencer.proofs.Sequencer.take_gap.Statement.{statement}
 use Rattle.sequencer.proofs.Sequencer.take_gap.Tie as tie
@@ -22,7 +22,7 @@ enum-told-2 : tie.Need-enum-told-2
 enum-told-2 c = search needs
 
 noted-requires : tie.Need-noted-requires
-noted-requires c κs = (c .before .before .before .before .before .before .before .pre, lt-of-lt-of-le (sender-asked _ _ _ _ (sym (c .before .before .before .before .before .ask-sender .ensures) ∙ c .before .before .before .enum-told .given .1)) (c .before .before .before .before .before .before .before .pre))
+noted-requires c κs = (c .before .before .before .before .before .before .before .pre, lt-of-lt-of-le (sender-was _ _ _ _ (sym (c .before .before .before .before .before .ask-sender .ensures) ∙ c .before .before .before .enum-told .given .1) .0) (c .before .before .before .before .before .before .before .pre))
 
 gap-requires : tie.Need-gap-requires
 gap-requires c κs = search needs

@@ -6,7 +6,8 @@ use native.Mathlib.Nat.{lt-of-lt-of-le}
 use lib.ListN.{length}
 use Rattle.sequencer.specs.Calls.{contentStep}
 use Rattle.sequencer.proofs.Outcomes.{done-as, lent-as-was, judged-yes, judged-no}
-use Rattle.sequencer.proofs.Owed.{sender-asked, note-ready}
+use Rattle.history.proofs.Asking.{sender-was}
+use Rattle.sequencer.proofs.Owed.{note-ready}
 use borrow.Author.Needs.{needs}
 use Rattle.sequencer.proofs.Sequencer.take_request.Statement.{statement}
 use Rattle.sequencer.proofs.Sequencer.take_request.Tie as tie
@@ -24,7 +25,7 @@ mul-entry : tie.Need-mul-entry
 mul-entry c = search needs
 
 element-copy-out-entry : tie.Need-element-copy-out-entry
-element-copy-out-entry c = lt-of-lt-of-le (sender-asked _ _ _ _ (sym (c .before .before .before .ask-sender .ensures) ∙ c .before .enum-told .given .1)) (c .before .before .before .before .before .before .before .pre .members)
+element-copy-out-entry c = lt-of-lt-of-le (sender-was _ _ _ _ (sym (c .before .before .before .ask-sender .ensures) ∙ c .before .enum-told .given .1) .0) (c .before .before .before .before .before .before .before .pre .members)
 
 ask-count-requires : tie.Need-ask-count-requires
 ask-count-requires c κs = search needs
@@ -33,7 +34,7 @@ enum-told-2 : tie.Need-enum-told-2
 enum-told-2 c = search needs
 
 noted-requires : tie.Need-noted-requires
-noted-requires c κs = (c .before .before .before .before .before .before .before .before .before .before .before .pre .members, lt-of-lt-of-le (sender-asked _ _ _ _ (sym (c .before .before .before .before .before .before .before .ask-sender .ensures) ∙ c .before .before .before .before .before .enum-told .given .1)) (c .before .before .before .before .before .before .before .before .before .before .before .pre .members))
+noted-requires c κs = (c .before .before .before .before .before .before .before .before .before .before .before .pre .members, lt-of-lt-of-le (sender-was _ _ _ _ (sym (c .before .before .before .before .before .before .before .ask-sender .ensures) ∙ c .before .before .before .before .before .enum-told .given .1) .0) (c .before .before .before .before .before .before .before .before .before .before .before .pre .members))
 
 request-requires : tie.Need-request-requires
 request-requires c κs =

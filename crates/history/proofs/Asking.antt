@@ -1,0 +1,29 @@
+-- What the questions on a packet's numbers asked, where they were accepted. Assumes nothing.
+use mathlib.Core.Path.{_≡_}
+use mathlib.Core.Bool.{true}
+use Prim.Native.Nat.{ℕ, _+_, _≤_, _<_}
+use borrow.Author.Tests.{ltb-true, leb-true, lt-leb}
+use Rattle.group.proofs.Choice.{if-was}
+use Rattle.group.proofs.Question.{accepted≢}
+use Rattle.group.specs.Choice.{if_then_else_, _<?_, _≤?_}
+use Rattle.group.specs.Limits.{largestNumber}
+use Rattle.group.specs.declared.MemberNumber.{MemberNumber}
+use Rattle.group.specs.declared.Refusal.the-variants.{UnknownMember, AcknowledgedAhead, CountAhead, NumbersUsedUp}
+use Rattle.group.specs.declared.SequenceNumber.{SequenceNumber}
+use Rattle.group.specs.declared.Verdict.{Verdict}
+use Rattle.history.specs.Ask.{senderVerdict, countVerdict}
+
+pub sender-was : (n top : ℕ) (sender : MemberNumber) (taken : SequenceNumber) → senderVerdict n top sender taken ≡ Verdict.Accepted
+    → (sender .0 < n) × (taken .0 ≤ top)
+unfolding senderVerdict
+sender-was n top sender taken e =
+    let a = if-was (sender .0 <? n) _ _ Verdict.Accepted e (accepted≢ UnknownMember) in
+    let b = if-was (taken .0 ≤? top) _ _ Verdict.Accepted (a .1) (accepted≢ AcknowledgedAhead) in
+    (ltb-true (sender .0) n (a .0), leb-true (taken .0) top (b .0))
+
+pub count-was : (last top count : ℕ) → countVerdict last top count ≡ Verdict.Accepted → (count ≤ last + 1) × (last < count → top < largestNumber)
+unfolding countVerdict if_then_else_
+count-was last top count e =
+    let a = if-was (count ≤? last + 1) _ _ Verdict.Accepted e (accepted≢ CountAhead) in
+    let b = if-was (if count ≤? last then true else top <? largestNumber) _ _ Verdict.Accepted (a .1) (accepted≢ NumbersUsedUp) in
+    (leb-true count (last + 1) (a .0), λ h. ltb-true top largestNumber (rw (lt-leb count last h) at (b .0)))

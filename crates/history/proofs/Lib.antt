@@ -1,0 +1,5 @@
+pub mod Soundness
+pub mod Noting
+pub mod Finding
+pub mod Asking
+pub mod Sizes

@@ -1,0 +1,22 @@
+-- Each test is one of the definition's.
+-- Assumes nothing.
+use Rattle.group.proofs.Choice.{choices}
+use Rattle.history.specs.Sound.{entrySound}
+use borrow.Author.Needs.{needs}
+use Rattle.history.proofs.entry_sound.Statement.{statement}
+use Rattle.history.proofs.entry_sound.Tie as tie
+
+returns : tie.Need-returns
+unfolding entrySound
+returns c = search (choices, needs) depth 9
+
+returns-2 : tie.Need-returns-2
+unfolding entrySound
+returns-2 c = search (choices, needs) depth 9
+
+returns-3 : tie.Need-returns-3
+unfolding entrySound
+returns-3 c = search (choices, needs) depth 9
+
+pub entry-sound-spec : {M : Type 1} → statement M
+entry-sound-spec = tie.close (tie.spec returns returns-2 returns-3)

@@ -1,0 +1,5 @@
+pub mod State
+pub mod Sound
+pub mod Note
+pub mod Repeat
+pub mod Ask

@@ -1,0 +1,29 @@
+-- What is known of each member, and the history's 32 places.
+use mathlib.Core.List.{List}
+use Prim.Native.Nat.{ℕ, _%_}
+use lib.ListN.{getD, take}
+use Rattle.group.specs.Fold.{least}
+use Rattle.group.specs.Limits.{placesMost, largestNumber}
+use Rattle.group.specs.declared.MemberNumber.{MemberNumber}
+use Rattle.message.specs.Message.{blank}
+use Rattle.message.specs.declared.Message.{Message}
+use Rattle.history.specs.declared.Acknowledgement.{Acknowledgement}
+
+-- of a member of whom nothing is known yet
+abbrev pub noAcknowledgement : Acknowledgement
+noAcknowledgement = record { taken = record { 0 = 0 }; count = 0 }
+
+-- what is known of member m
+abbrev pub acknowledgementOf : List Acknowledgement → MemberNumber → Acknowledgement
+acknowledgementOf table m = getD table (m .0) noAcknowledgement
+
+-- the message numbered s lies in place s modulo 32
+abbrev pub placeOf : ℕ → ℕ
+placeOf number = number % placesMost
+
+abbrev pub messageAt : List Message → ℕ → Message
+messageAt history number = getD history (placeOf number) blank
+
+-- floor is the smallest of the n acknowledgements
+unfoldable pub floorOf : ℕ → List Acknowledgement → ℕ
+floorOf n table = least (λ a. a .taken .0) largestNumber (take n table)

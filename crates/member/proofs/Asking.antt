@@ -3,7 +3,7 @@
 use mathlib.Core.Path.{_≡_, refl, sym, ap, _∙_}
 use mathlib.Core.Bool.{Bool, true, false}
 use mathlib.Core.List.{List, [], _∷_, _++_}
-use Prim.Native.Nat.{ℕ, zero, suc, _+_, _-_, _≤_, _<_}
+use Prim.Native.Nat.{ℕ, zero, suc, _+_, _-_, _≤_}
 use native.Mathlib.Omega.{arith}
 use borrow.Author.Tests.{lt-ltb}
 use lib.ListN.{length}
@@ -23,7 +23,7 @@ use Rattle.packet.proofs.Laws.{read-first-no}
 use Rattle.packet.proofs.Verdicts.{askable, readable}
 use Rattle.member.specs.Calls.{Outcome, answered, refused, requestPacket, statusPacket, callVerdict, submitVerdict, withWaiting, submitOf, repeatOf, statusOf, gapUpTo, keptOf, broadcastOf, pollOf, contentStep, readStep, receiveOf, tookOf, takeOf}
 use Rattle.member.specs.Laws.{callQuestions, fieldsQuestions, submitQuestions, repeatQuestions, receiveQuestions, FirstNo, SubmitFirstNo, RepeatFirstNo, StatusFirstNo, TakeFirstNo, ReceiveFirstNo}
-use Rattle.member.specs.State.{isHeld, lowestMissing}
+use Rattle.window.specs.Places.{isHeld, lowestMissing}
 use Rattle.member.specs.declared.Answer.{Answer}
 use Rattle.member.specs.declared.Answer.the-variants.{Refused, Sent, Old, Kept, KeptGap, Beyond, BeyondGap, Gap, Status, None, Took}
 use Rattle.member.specs.declared.Member.{Member}

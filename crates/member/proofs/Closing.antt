@@ -21,18 +21,20 @@ use Rattle.message.specs.Order.{Ordered, ownOf, countedFrom}
 use Rattle.packet.specs.Laws.{Allowed}
 use Rattle.packet.specs.Packet.{obeys, fieldsOf, packetOf}
 use Rattle.packet.specs.declared.Packet.{Packet}
-use Rattle.packet.specs.declared.Packet.the-variants.{Request, Broadcast, Gap, Status, Poll}
+use Rattle.packet.specs.declared.Packet.the-variants.{Broadcast, Status}
 use Rattle.packet.proofs.Facts.{Known}
 use Rattle.packet.proofs.Laws.{read-written, content-fields, fields-group}
 use Rattle.packet.proofs.Verdicts.{askable, writable}
 use Rattle.member.specs.Calls.{Outcome, answered, statusPacket, callVerdict, statusOf, withHeld, gapUpTo, keptOf, broadcastOf, contentStep, readStep, receiveOf, withTaken, tookOf, takeOf}
 use Rattle.member.specs.Sound.{soundOf}
-use Rattle.member.specs.State.{messageAt, isHeld, lowestMissing, freshMember}
+use Rattle.window.specs.Places.{messageAt, isHeld, lowestMissing}
+use Rattle.member.specs.State.{freshMember}
 use Rattle.member.specs.declared.Answer.{Answer}
 use Rattle.member.specs.declared.Member.{Member}
 use Rattle.member.proofs.Invariant.{Terminal}
-use Rattle.member.proofs.Keeping.{empty-none, fresh-none, fresh-typed, fresh-sound}
-use Rattle.member.proofs.Missing.{held-same}
+use Rattle.window.proofs.Keeping.{empty-none}
+use Rattle.member.proofs.Keeping.{fresh-none, fresh-typed, fresh-sound}
+use Rattle.window.proofs.Missing.{held-same}
 use Rattle.member.proofs.Soundness.{sound-of, of-sound}
 use Rattle.member.proofs.Writes.{status-allowed}
 

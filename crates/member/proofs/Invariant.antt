@@ -13,7 +13,7 @@ use Rattle.packet.proofs.Facts.{KnownBy}
 use Rattle.member.specs.Calls.{Outcome}
 use Rattle.member.specs.Laws.{Typed}
 use Rattle.member.specs.Sound.{soundOf}
-use Rattle.member.specs.State.{messageAt}
+use Rattle.window.specs.Places.{messageAt}
 use Rattle.member.specs.declared.Member.{Member}
 
 -- terminal i: `acknowledged` and `count` are its entry at the sequencer, `took` what it took, `submitted` the payloads that it

@@ -10,20 +10,18 @@ use Rattle.group.specs.Choice.{if_then_else_}
 use Rattle.group.specs.Limits.{membersMost, heldMost, payloadMost, largestNumber}
 use Rattle.group.specs.declared.Group.{Group}
 use Rattle.group.specs.declared.MemberNumber.{MemberNumber}
-use Rattle.message.specs.Message.{messageOf, emptyMessage, isEmpty, blank}
+use Rattle.message.specs.Message.{messageOf, emptyMessage, blank}
 use Rattle.message.specs.declared.Message.{Message}
 use Rattle.message.proofs.Kept.{kept-zero, empty-zero}
 use Rattle.member.specs.Calls.{withWaiting, withHeld, withTaken, isOwn}
 use Rattle.member.specs.Laws.{Typed}
-use Rattle.member.specs.State.{placeOf, messageAt, freshMember}
+use Rattle.window.specs.Places.{placeOf, messageAt}
+use Rattle.member.specs.State.{freshMember}
 use Rattle.member.specs.declared.Member.{Member}
-use Rattle.member.proofs.Missing.{place-one, place-near, set-length, held-each}
-use Rattle.member.proofs.Soundness.{HeldSound, WaitingSound, Sound}
-
--- the empty message is not held
-pub empty-none : 1 ≤ emptyMessage .count → ⊥
-unfolding emptyMessage
-empty-none c = omega arith
+use Rattle.window.proofs.Keeping.{empty-none, held-places, taken-places}
+use Rattle.window.proofs.Missing.{set-length}
+use Rattle.window.proofs.Soundness.{HeldSound, WaitingSound}
+use Rattle.member.proofs.Soundness.{Sound}
 
 module _ (m : Member) (typed : Typed m) where
   -- a message waits
@@ -60,17 +58,7 @@ module _ (m : Member) (typed : Typed m) where
           n-most = s .n-most;
           number-lt = s .number-lt;
           waiting = s .waiting;
-          places =
-              record {
-                holds = λ j a b.
-                    held-each (m .held) (typed .held) k x (λ (y : Message). 1 ≤ y .count → HeldSound (m .group .n) j y) j
-                    (λ e c. rw (place-one (m .taken .0) k j lo hi a b e) h)
-                    (λ e. s .places .holds j a b);
-                free = λ j a b.
-                    held-each (m .held) (typed .held) k x (λ (y : Message). y .count ≡ 0 → isEmpty y ≡ true) j
-                    (λ e c. absurd (omega arith))
-                    (λ e. s .places .free j a b);
-              };
+          places = held-places (m .group .n) (m .taken .0) (m .held) (typed .held) (s .places) k x lo hi some h;
         }
 
   -- number t + 1 is taken
@@ -94,17 +82,7 @@ module _ (m : Member) (typed : Typed m) where
           n-most = s .n-most;
           number-lt = s .number-lt;
           waiting = own-waiting (isOwn m message) (s .waiting);
-          places =
-              record {
-                holds = λ j a b.
-                    held-each (m .held) (typed .held) (m .taken .0 + 1) emptyMessage (λ (y : Message). 1 ≤ y .count → HeldSound (m .group .n) j y) j
-                    (λ e c. absurd (empty-none c))
-                    (λ e. s .places .holds j (omega arith) (place-near (m .taken .0) j a b e));
-                free = λ j a b.
-                    held-each (m .held) (typed .held) (m .taken .0 + 1) emptyMessage (λ (y : Message). y .count ≡ 0 → isEmpty y ≡ true) j
-                    (λ e c. empty-zero)
-                    (λ e. s .places .free j (omega arith) (place-near (m .taken .0) j a b e));
-              };
+          places = taken-places (m .group .n) (m .taken .0) (m .held) (typed .held) (s .places);
         }
 
 -- a fresh state

@@ -29,7 +29,8 @@ use Rattle.packet.proofs.Verdicts.{readable, askable}
 use Rattle.member.specs.Calls.{Outcome, answered, requestPacket, statusPacket, callVerdict, submitVerdict, withWaiting, submitOf, repeatOf, statusOf, readStep, receiveOf, withTaken, tookOf, takeOf}
 use Rattle.member.specs.Laws.{Typed, Keeps, WritesPacket, SubmitKeeps, RepeatKeeps, StatusKeeps, ReceiveKeeps, TakeKeeps}
 use Rattle.member.specs.Sound.{soundOf}
-use Rattle.member.specs.State.{messageAt, isHeld, acknowledgedOf}
+use Rattle.window.specs.Places.{messageAt, isHeld}
+use Rattle.member.specs.State.{acknowledgedOf}
 use Rattle.member.specs.declared.Answer.{Answer}
 use Rattle.member.specs.declared.Member.{Member}
 use Rattle.member.proofs.Keeping.{waiting-typed, waiting-sound, held-typed, held-sound, taken-typed, taken-sound}

@@ -1,6 +1,5 @@
 pub mod Invariant
 pub mod Soundness
-pub mod Missing
 pub mod Keeping
 pub mod Writes
 pub mod Receiving
@@ -9,6 +8,4 @@ pub mod Asking
 pub mod Ordering
 pub mod Taking
 pub mod Closing
-pub mod Places
-pub mod Scan
 pub mod Outcomes

@@ -34,7 +34,7 @@ use Rattle.member.specs.declared.Member.{Member}
 use Rattle.member.proofs.Invariant.{Terminal, MemberGood}
 use Rattle.member.proofs.Keeping.{waiting-typed, waiting-sound}
 use Rattle.member.proofs.Laws.{Right, submittable, read-keepable}
-use Rattle.member.proofs.Missing.{place-one, held-each}
+use Rattle.window.proofs.Missing.{place-one, held-each}
 use Rattle.member.proofs.Receiving.{Keepable, read-heard}
 use Rattle.member.proofs.Soundness.{Sound, sound-of, of-sound}
 use Rattle.member.proofs.Writes.{Own, request-own, status-own}

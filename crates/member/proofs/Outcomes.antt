@@ -1,7 +1,7 @@
 -- What a step was promised, carried up to the call that took it; and what a verdict's yes says. Assumes nothing.
 use mathlib.Core.Path.{_≡_, refl, sym, ap, _∙_, subst}
 use mathlib.Core.Bool.{Bool, true, false}
-use mathlib.Core.List.{List, []}
+use mathlib.Core.List.{List}
 use Prim.Native.Nat.{ℕ, _+_, _-_, _≤_, _<_}
 use native.Mathlib.Omega.{arith}
 use borrow.Author.Tests.{leb-true, ltb-true, lt-ltb}
@@ -22,9 +22,11 @@ use Rattle.packet.specs.declared.Header.{Header}
 use Rattle.packet.specs.declared.Reading.{Reading}
 use Rattle.packet.specs.declared.Reading.the-variants.{Fields}
 use Rattle.member.specs.Calls.{Outcome, stepOf, answered, callVerdict, refused, submitVerdict, isOwn, contentStep, readStep}
-use Rattle.member.specs.Sound.{placeSound, waitingSound, soundOf}
-use Rattle.member.specs.State.{messageAt}
-use Rattle.member.specs.Steps.{Done, Laid}
+use Rattle.window.specs.Sound.{placeSound, waitingSound}
+use Rattle.member.specs.Sound.{soundOf}
+use Rattle.window.specs.Places.{messageAt}
+use Rattle.window.specs.Steps.{Laid}
+use Rattle.member.specs.Steps.{Done}
 use Rattle.member.specs.declared.Answer.{Answer}
 use Rattle.member.specs.declared.Member.{Member}
 use Rattle.member.specs.declared.Step.{Step}

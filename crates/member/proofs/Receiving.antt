@@ -17,12 +17,12 @@ use Rattle.packet.specs.declared.Header.{Header}
 use Rattle.packet.specs.declared.Packet.{Packet}
 use Rattle.packet.specs.declared.Packet.the-variants.{Request, Broadcast, Gap, Status, Poll}
 use Rattle.packet.specs.declared.Reading.{Reading}
-use Rattle.member.specs.Calls.{Outcome, answered, withHeld, gapUpTo, keptOf, broadcastOf, smallerOf, pollOf, contentStep, readStep}
+use Rattle.window.specs.Places.{smallerOf, isHeld, lowestMissing}
+use Rattle.member.specs.Calls.{Outcome, answered, withHeld, gapUpTo, keptOf, broadcastOf, pollOf, contentStep, readStep}
 use Rattle.member.specs.Laws.{Typed}
-use Rattle.member.specs.State.{isHeld, lowestMissing}
 use Rattle.member.specs.declared.Answer.{Answer}
 use Rattle.member.specs.declared.Member.{Member}
-use Rattle.member.proofs.Missing.{lowest-is}
+use Rattle.window.proofs.Missing.{lowest-is}
 use Rattle.member.proofs.Soundness.{Sound}
 use Rattle.member.proofs.Writes.{Own, gap-own, status-own}
 

@@ -1,48 +1,16 @@
 -- What the test of question 1 says of a member's state, as facts by name: the test gives the facts, and the facts the test.
 -- Assumes nothing.
-use mathlib.Core.Path.{_≡_, refl, _∙_}
-use mathlib.Core.Bool.{Bool, true, false}
-use mathlib.Core.List.{List}
-use Prim.Native.Nat.{ℕ, _+_, _≤_, _<_}
-use native.Mathlib.Omega.{arith}
-use borrow.Author.Tests.{lt-ltb, le-ltb, le-leb, eq-eqb, ltb-true, ltb-false}
-use Rattle.group.specs.Choice.{if_then_else_}
+use mathlib.Core.Path.{_≡_}
+use mathlib.Core.Bool.{true}
+use Prim.Native.Nat.{_≤_, _<_}
+use borrow.Author.Tests.{lt-ltb, le-leb}
 use Rattle.group.specs.Fold.{allAbove}
-use Rattle.group.specs.Limits.{membersMost, heldMost, payloadMost, largestNumber}
-use Rattle.group.specs.declared.MemberNumber.{MemberNumber}
-use Rattle.group.proofs.Choice.{if-true, if-false, both-hold, says}
-use Rattle.group.proofs.Fold.{above-each, above-all}
-use Rattle.group.proofs.Lists.{if-elim}
-use Rattle.message.specs.Message.{zeroBehind, isEmpty}
-use Rattle.message.specs.declared.Message.{Message}
-use Rattle.member.specs.Sound.{placeSound, waitingSound, frameSound, soundOf}
-use Rattle.member.specs.State.{messageAt, isHeld}
+use Rattle.group.specs.Limits.{membersMost, heldMost}
+use Rattle.group.proofs.Choice.{both-hold, says}
+use Rattle.window.specs.Sound.{placeSound, waitingSound, frameSound}
+use Rattle.member.specs.Sound.{soundOf}
 use Rattle.member.specs.declared.Member.{Member}
-
--- a message that a member of a group of n holds under number k
-pub record HeldSound (n k : ℕ) (message : Message) : Type 0 where
-  pub originator-lt : message .originator .0 < n
-  pub short : message .length ≤ payloadMost
-  pub zero-behind : zeroBehind message ≡ true
-  pub number-le : k ≤ largestNumber
-
--- the waiting message of member `number`, whose u is `submitted`
-pub record WaitsSound (number submitted : ℕ) (message : Message) : Type 0 where
-  pub submitted-pos : 1 ≤ submitted
-  pub originator-is : message .originator .0 ≡ number
-  pub count-is : message .count ≡ submitted
-  pub short : message .length ≤ payloadMost
-  pub zero-behind : zeroBehind message ≡ true
-
--- the waiting message, or the empty one where none waits
-pub record WaitingSound (number submitted : ℕ) (waiting : Bool) (message : Message) : Type 0 where
-  pub waits : waiting ≡ true → WaitsSound number submitted message
-  pub idle : waiting ≡ false → isEmpty message ≡ true
-
--- the places for numbers t + 1 to t + 8
-pub record PlacesSound (n t : ℕ) (held : List Message) : Type 0 where
-  pub holds : (k : ℕ) → t < k → k ≤ t + heldMost → 1 ≤ messageAt held k .count → HeldSound n k (messageAt held k)
-  pub free : (k : ℕ) → t < k → k ≤ t + heldMost → messageAt held k .count ≡ 0 → isEmpty (messageAt held k) ≡ true
+use Rattle.window.proofs.Soundness.{WaitingSound, PlacesSound, waiting-of, of-waiting, places-of, of-places}
 
 pub record Sound (m : Member) : Type 0 where
   pub n-pos : 1 ≤ m .group .n
@@ -51,56 +19,17 @@ pub record Sound (m : Member) : Type 0 where
   pub waiting : WaitingSound (m .number .0) (m .submitted) (m .waiting) (m .message)
   pub places : PlacesSound (m .group .n) (m .taken .0) (m .held)
 
-module _ (n : ℕ) (held : List Message) (k : ℕ) where
-  held-of : placeSound n held k ≡ true → 1 ≤ messageAt held k .count → HeldSound n k (messageAt held k)
-  unfolding placeSound
-  held-of e c =
-      let a = if-true (isHeld held k) _ _ (isEmpty (messageAt held k)) (lt-ltb 0 (messageAt held k .count) c) refl ∙ e in
-      record { originator-lt = search says; short = search says; zero-behind = search says; number-le = search says }
-
-  free-of : placeSound n held k ≡ true → messageAt held k .count ≡ 0 → isEmpty (messageAt held k) ≡ true
-  unfolding placeSound
-  free-of e c = if-false (isHeld held k) _ _ _ (le-ltb 0 (messageAt held k .count) (omega arith)) refl ∙ e
-
-  of-place : (1 ≤ messageAt held k .count → HeldSound n k (messageAt held k))
-      → (messageAt held k .count ≡ 0 → isEmpty (messageAt held k) ≡ true) → placeSound n held k ≡ true
-  unfolding placeSound
-  of-place f g =
-      if-elim (λ (b : Bool). b ≡ true) (isHeld held k)
-      (λ t. let h = f (ltb-true 0 (messageAt held k .count) t) in
-      both-hold _ _ (lt-ltb _ _ (h .originator-lt)) (both-hold _ _ (le-leb _ _ (h .short)) (both-hold _ _ (h .zero-behind) (le-leb _ _ (h .number-le)))))
-      (λ t. g (let z = ltb-false 0 (messageAt held k .count) t in omega arith))
-
-module _ (number : MemberNumber) (submitted : ℕ) where
-  waiting-of : (waiting : Bool) (message : Message) → waitingSound number submitted waiting message ≡ true → WaitingSound (number .0) submitted waiting message
-  unfolding waitingSound if_then_else_
-  waiting-of true message e =
-      record {
-        waits = λ _. record { submitted-pos = search says; originator-is = search says; count-is = search says; short = search says; zero-behind = search says };
-        idle = λ z. let y : _≡_ {A = ℕ} 0 1 = cc in absurd (omega arith);
-      }
-  waiting-of false message e = record { waits = λ z. let y : _≡_ {A = ℕ} 0 1 = cc in absurd (omega arith); idle = λ _. e }
-
-  of-waiting : (waiting : Bool) (message : Message) → WaitingSound (number .0) submitted waiting message → waitingSound number submitted waiting message ≡ true
-  unfolding waitingSound
-  of-waiting waiting message w =
-      if-elim (λ (b : Bool). b ≡ true) waiting
-      (λ t. let h = w .waits t in
-      both-hold _ _ (le-leb _ _ (h .submitted-pos)) (both-hold _ _ (eq-eqb _ _ (h .originator-is)) (both-hold _ _ (eq-eqb _ _ (h .count-is)) (both-hold _ _ (le-leb _ _ (h .short)) (h .zero-behind)))))
-      (w .idle)
-
 pub sound-of : (m : Member) → soundOf m ≡ true → Sound m
 unfolding soundOf frameSound
 sound-of m e =
     let w : waitingSound (m .number) (m .submitted) (m .waiting) (m .message) ≡ true = search says in
     let p : allAbove (placeSound (m .group .n) (m .held)) (m .taken .0) heldMost ≡ true = search says in
-    let each = above-each (placeSound (m .group .n) (m .held)) (m .taken .0) heldMost p in
     record {
       n-pos = search says;
       n-most = search says;
       number-lt = search says;
       waiting = waiting-of (m .number) (m .submitted) (m .waiting) (m .message) w;
-      places = record { holds = λ k lo hi. held-of (m .group .n) (m .held) k (each k lo hi); free = λ k lo hi. free-of (m .group .n) (m .held) k (each k lo hi) };
+      places = places-of (m .group .n) (m .held) (m .taken .0) p;
     }
 
 pub of-sound : (m : Member) → Sound m → soundOf m ≡ true
@@ -108,5 +37,4 @@ unfolding soundOf frameSound
 of-sound m s =
     both-hold _ _ (both-hold _ _ (le-leb _ _ (s .n-pos)) (both-hold _ _ (le-leb _ _ (s .n-most)) (lt-ltb _ _ (s .number-lt))))
     (both-hold _ _ (of-waiting (m .number) (m .submitted) (m .waiting) (m .message) (s .waiting))
-    (above-all (placeSound (m .group .n) (m .held)) (m .taken .0) heldMost
-    (λ k lo hi. of-place (m .group .n) (m .held) k (s .places .holds k lo hi) (s .places .free k lo hi))))
+    (of-places (m .group .n) (m .held) (m .taken .0) (s .places)))

@@ -20,12 +20,13 @@ use Rattle.message.proofs.Kept.{kept-payload}
 use Rattle.packet.proofs.Facts.{ordered}
 use Rattle.member.specs.Calls.{Outcome, answered, callVerdict, isOwn, withTaken, tookOf, takeOf}
 use Rattle.member.specs.Order.{tookBy}
-use Rattle.member.specs.State.{messageAt, isHeld}
+use Rattle.window.specs.Places.{messageAt, isHeld}
 use Rattle.member.specs.declared.Answer.{Answer}
 use Rattle.member.specs.declared.Member.{Member}
 use Rattle.member.proofs.Invariant.{Terminal, MemberGood}
-use Rattle.member.proofs.Keeping.{empty-none, taken-typed, taken-sound}
-use Rattle.member.proofs.Missing.{place-near, held-each}
+use Rattle.window.proofs.Keeping.{empty-none}
+use Rattle.member.proofs.Keeping.{taken-typed, taken-sound}
+use Rattle.window.proofs.Missing.{place-near, held-each}
 use Rattle.member.proofs.Soundness.{sound-of, of-sound}
 
 module _ (n g i acknowledged count : ℕ) (order took : List Ordered) (submitted : List (List ℕ)) (m : Member) (h : Terminal n g i acknowledged count m order took submitted) where

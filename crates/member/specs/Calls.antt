@@ -7,7 +7,6 @@ use Rattle.group.specs.Choice.{if_then_else_, ask_or_then_, _and_, _<?_, _≤?_
 use Rattle.group.specs.Limits.{heldMost, payloadMost, longestPacket, largestNumber}
 use Rattle.group.specs.Opening.{openOf}
 use Rattle.group.specs.Question.{judged}
-use Rattle.group.specs.declared.Group.{Group}
 use Rattle.group.specs.declared.MemberNumber.{MemberNumber}
 use Rattle.group.specs.declared.SequenceNumber.{SequenceNumber}
 use Rattle.group.specs.declared.Opened.{Opened}
@@ -21,7 +20,8 @@ use Rattle.packet.specs.declared.Packet.{Packet}
 use Rattle.packet.specs.declared.Reading.{Reading}
 use Rattle.packet.specs.declared.Reading.the-variants.{Fields}
 use Rattle.member.specs.Sound.{soundOf}
-use Rattle.member.specs.State.{placeOf, messageAt, isHeld, lowestMissing, acknowledgedOf, freshMember}
+use Rattle.window.specs.Places.{smallerOf, placeOf, messageAt, isHeld, lowestMissing}
+use Rattle.member.specs.State.{acknowledgedOf, freshMember}
 use Rattle.member.specs.declared.Answer.{Answer}
 use Rattle.member.specs.declared.Member.{Member}
 use Rattle.member.specs.declared.Opening.{Opening}
@@ -137,10 +137,6 @@ broadcastOf m originator number count payload =
     if number ≤? m .taken .0 + heldMost
     then if isHeld (m .held) number then answered m Answer.Old else keptOf m originator number count payload
     else gapUpTo m (m .taken .0 + heldMost) Answer.BeyondGap (answered m Answer.Beyond)
-
--- the smaller of two numbers
-unfoldable pub smallerOf : ℕ → ℕ → ℕ
-smallerOf a b = if a <? b then a else b
 
 -- poll with top A: Gap up to the smaller of A and t + 8, else Status with kind 4
 unfoldable pub pollOf : Member → SequenceNumber → Outcome

@@ -1,16 +1,15 @@
 -- What is proved of the member's meaning. `proofs/` has a proof of each statement.
 use mathlib.Core.Path.{_≡_}
-use mathlib.Core.Bool.{Bool, true, false}
+use mathlib.Core.Bool.{true, false}
 use mathlib.Core.List.{List, [], _∷_, _++_}
 use mathlib.Core.Logic.{_⊎_}
 use Prim.Native.Nat.{ℕ, _≤_}
-use lib.ListN.{length, getD}
+use lib.ListN.{length}
 use Rattle.group.specs.Choice.{if_then_else_, _<?_, _≤?_, _=?_}
 use Rattle.group.specs.Limits.{heldMost, payloadMost, longestPacket, largestNumber}
 use Rattle.group.specs.Question.{Question, firstNo}
 use Rattle.group.specs.declared.Refusal.{Refusal}
 use Rattle.group.specs.declared.Verdict.{Verdict}
-use Rattle.message.specs.Message.{blank}
 use Rattle.packet.specs.Laws.{readQuestions}
 use Rattle.packet.specs.Packet.{broadcastKind, pollKind, headerOf, readOf}
 use Rattle.packet.specs.declared.Header.{Header}

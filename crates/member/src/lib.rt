@@ -11,18 +11,16 @@ use packet::Packet;
 use packet::Reading;
 ghost use mathlib.Core.Path.{_≡_};
 ghost use mathlib.Core.List.{[]};
-ghost use Prim.Native.Nat.{_+_, _-_, _≤_, _<_};
+ghost use Prim.Native.Nat.{_≤_, _<_};
 ghost use lib.ListN.{length};
-ghost use Rattle.group.specs.Choice.{_and_, _=?_};
-ghost use Rattle.group.specs.Fold.{allAbove};
 ghost use Rattle.group.specs.Lent.{front};
-ghost use Rattle.group.specs.Limits.{heldMost, payloadMost, longestPacket, largestNumber};
-ghost use Rattle.message.specs.Message.{payloadOf};
+ghost use Rattle.group.specs.Limits.{payloadMost, longestPacket, largestNumber};
 ghost use Rattle.packet.specs.Packet.{fieldsOf, packetOf};
-ghost use Rattle.member.specs.State.{placeOf, lowestMissing, acknowledgedOf, freshMember};
-ghost use Rattle.member.specs.Sound.{placeSound, waitingSound, frameSound, soundOf};
-ghost use Rattle.member.specs.Calls.{stepOf, answered, refused, requestPacket, gapPacket, statusPacket, callVerdict, submitVerdict, withWaiting, submitOf, repeatOf, statusOf, withHeld, gapUpTo, keptOf, broadcastOf, smallerOf, pollOf, contentStep, receiveOf, isOwn, withTaken, tookOf, takeOf, freshOf};
-ghost use Rattle.member.specs.Steps.{Done, Laid, messageSound};
+ghost use Rattle.window.specs.Steps.{Laid};
+ghost use Rattle.member.specs.State.{acknowledgedOf, freshMember};
+ghost use Rattle.member.specs.Sound.{soundOf};
+ghost use Rattle.member.specs.Calls.{stepOf, answered, refused, requestPacket, gapPacket, statusPacket, callVerdict, submitVerdict, withWaiting, submitOf, repeatOf, statusOf, withHeld, gapUpTo, keptOf, broadcastOf, pollOf, contentStep, receiveOf, isOwn, withTaken, tookOf, takeOf, freshOf};
+ghost use Rattle.member.specs.Steps.{Done};
 
 pub struct Member {
     pub group: Group,
@@ -67,108 +65,6 @@ pub struct Opening {
     pub verdict: Verdict,
 }
 
-// Number s lies in place s modulo 8: the place of the number that lies `ahead` above a number, which may pass the largest.
-fn place(number: SequenceNumber, ahead: usize) -> usize
-    requires { ⌜ ahead ≤ heldMost ⌝ }
-    ensures { λ r. ⌜ r ≡ placeOf (number .0 + ahead) ⌝ }
-{
-    (number.0 as usize + ahead) % Group::HELD
-}
-
-// The lowest number above the last taken, up to `last`, that is missing; 0 if none is.
-fn lowest_missing(
-    held: [Message; Group::HELD],
-    taken: SequenceNumber,
-    last: SequenceNumber,
-) -> SequenceNumber
-    ensures { λ r. ⌜ r .0 ≡ lowestMissing held (taken .0) (last .0 - taken .0) ⌝ }
-{
-    let mut number = taken;
-    while number.0 < last.0 {
-        let at = place(number, 1);
-        let next = SequenceNumber(number.0 + 1);
-        if held[at].count == 0 {
-            return next;
-        }
-        number = next;
-    }
-    SequenceNumber(0)
-}
-
-// n is 1 to 16, and the member's number is below n.
-fn frame_sound(n: u8, number: MemberNumber) -> bool
-    ensures { λ r. ⌜ r ≡ frameSound n number ⌝ }
-{
-    if n < 1 {
-        return false;
-    }
-    if Group::MEMBERS < (n as usize) {
-        return false;
-    }
-    number.0 < n
-}
-
-// A message waits only as the member's own last one; else its place is all zero.
-fn waiting_sound(number: MemberNumber, submitted: u32, waiting: bool, message: Message) -> bool
-    ensures { λ r. ⌜ r ≡ waitingSound number submitted waiting message ⌝ }
-{
-    if waiting {
-        if submitted < 1 {
-            return false;
-        }
-        if message.originator.0 != number.0 {
-            return false;
-        }
-        if message.count != submitted {
-            return false;
-        }
-        if Group::PAYLOAD < message.length {
-            return false;
-        }
-        message.zero_behind()
-    } else {
-        message.is_empty()
-    }
-}
-
-// A held message has a member of the group as its originator, a length in the limit and a number in the limit; else its
-// place is all zero. The number lies `ahead` above the last taken.
-fn message_sound(n: u8, message: Message, taken: SequenceNumber, ahead: usize) -> bool
-    requires { ⌜ ahead ≤ heldMost ⌝ }
-    ensures { λ r. ⌜ r ≡ messageSound n message (taken .0 + ahead) ⌝ }
-{
-    if 0 < message.count {
-        if n <= message.originator.0 {
-            return false;
-        }
-        if Group::PAYLOAD < message.length {
-            return false;
-        }
-        if message.zero_behind() {
-            return (taken.0 as usize) + ahead <= (Group::LARGEST as usize);
-        }
-        return false;
-    }
-    message.is_empty()
-}
-
-// The places of the numbers above the last taken are sound.
-fn held_sound(n: u8, held: [Message; Group::HELD], taken: SequenceNumber) -> bool
-    ensures { λ r. ⌜ r ≡ allAbove (placeSound n held) (taken .0) heldMost ⌝ }
-{
-    let mut i: usize = 0;
-    while i < Group::HELD {
-        let at = place(taken, i + 1);
-        let message = held[at];
-        if message_sound(n, message, taken, i + 1) {
-            i += 1;
-        } else {
-            return false;
-        }
-    }
-    true
-}
-
 // Lays a packet without payload at the front of the output, and gives its length.
 fn put_bare(packet: Packet, group: u32, out: &mut [u8]) -> usize
     requires { ⌜ longestPacket ≤ length (now out) ⌝ }
@@ -176,40 +72,6 @@ fn put_bare(packet: Packet, group: u32, out: &mut [u8]) -> usize
 {
     let none = [0u8; 0];
     packet.put(group, &none, out)
-}
-
-// Lays the payload of a message at the front of the output, and gives its length.
-fn put_payload(message: Message, out: &mut [u8]) -> usize
-    requires { ⌜ (message .length ≤ payloadMost) × (longestPacket ≤ length (now out)) ⌝ }
-    ensures { λ r. ⌜ Laid (payloadOf message) r (now (out .entry)) (now (out .exit)) ⌝ }
-{
-    let length = message.length;
-    let payload = message.payload;
-    message::copy(&payload[..length], out);
-    length
-}
-
-// The smaller of a poll's top and the last number that a place is for.
-fn reach(top: SequenceNumber, taken: SequenceNumber) -> SequenceNumber
-    ensures { λ r. ⌜ r .0 ≡ smallerOf (top .0) (taken .0 + heldMost) ⌝ }
-{
-    if (top.0 as usize) < (taken.0 as usize) + Group::HELD {
-        return top;
-    }
-    SequenceNumber(taken.0 + (Group::HELD as u32))
-}
-
-// Whether a message is the one that waits, of the member of that number after so many submissions.
-fn own(number: MemberNumber, submitted: u32, waiting: bool, message: Message) -> bool
-    ensures { λ r. ⌜ r ≡ (waiting and message .originator .0 =? number .0 and message .count =? submitted) ⌝ }
-{
-    if waiting {
-        if message.originator.0 != number.0 {
-            return false;
-        }
-        return message.count == submitted;
-    }
-    false
 }
 
 impl Member {
@@ -266,11 +128,11 @@ impl Member {
         ensures { λ r. ⌜ r ≡ soundOf self ⌝ }
     {
         let number = self.number;
-        if frame_sound(self.group.n, number) {
+        if window::frame_sound(self.group.n, number) {
             let message = self.message;
-            if waiting_sound(number, self.submitted, self.waiting, message) {
+            if window::waiting_sound(number, self.submitted, self.waiting, message) {
                 let held = self.held;
-                held_sound(self.group.n, held, self.taken)
+                window::held_sound(self.group.n, held, self.taken)
             } else {
                 false
             }
@@ -401,7 +263,7 @@ impl Member {
         ensures { λ r. ⌜ Done (gapUpTo self (last .0) gapped (answered self whole)) r (now (out .entry)) (now (out .exit)) ⌝ }
     {
         let held = self.held;
-        let first = lowest_missing(held, self.taken, last);
+        let first = window::lowest_missing(held, self.taken, last);
         if first.0 == 0 {
             return self.answered(whole);
         }
@@ -426,7 +288,7 @@ impl Member {
     fn with_held(mut self, number: SequenceNumber, message: Message) -> Self
         ensures { λ r. ⌜ r ≡ withHeld self (number .0) message ⌝ }
     {
-        let at = place(number, 0);
+        let at = window::place(number, 0);
         self.held[at] = message;
         self
     }
@@ -436,11 +298,11 @@ impl Member {
         requires { ⌜ self .taken .0 < largestNumber ⌝ }
         ensures { λ r. ⌜ r ≡ withTaken self message ⌝ }
     {
-        let at = place(self.taken, 1);
+        let at = window::place(self.taken, 1);
         let empty = Message::empty();
         self.held[at] = empty;
         self.taken.0 = self.taken.0 + 1;
-        if own(self.number, self.submitted, self.waiting, message) {
+        if window::own(self.number, self.submitted, self.waiting, message) {
             self.waiting = false;
             self.message = empty;
             return self;
@@ -519,7 +381,7 @@ impl Member {
         let v = self.ask(out.len());
         match v {
             Verdict::Accepted => {
-                let at = place(self.taken, 1);
+                let at = window::place(self.taken, 1);
                 let message = self.held[at];
                 if 0 < message.count {
                     return self.took(message, out);
@@ -535,9 +397,9 @@ impl Member {
         requires { ⌜ (message .length ≤ payloadMost) × (self .taken .0 < largestNumber) × (longestPacket ≤ length (now out)) ⌝ }
         ensures { λ r. ⌜ Done (tookOf self message) r (now (out .entry)) (now (out .exit)) ⌝ }
     {
-        let at = place(self.taken, 2);
+        let at = window::place(self.taken, 2);
         let more = 0 < self.held[at].count;
-        let written = put_payload(message, out);
+        let written = window::put_payload(message, out);
         let member = self.with_taken(message);
         let originator = message.originator;
         Step {
@@ -590,7 +452,7 @@ impl Member {
             let last = SequenceNumber(taken.0 + (Group::HELD as u32));
             return self.gap_up_to(last, Answer::BeyondGap, Answer::Beyond, out);
         }
-        let at = place(number, 0);
+        let at = window::place(number, 0);
         if 0 < self.held[at].count {
             return self.answered(Answer::Old);
         }
@@ -603,8 +465,8 @@ impl Member {
         ensures { λ r. ⌜ Done (pollOf self top) r (now (out .entry)) (now (out .exit)) ⌝ }
     {
         let held = self.held;
-        let last = reach(top, self.taken);
-        let first = lowest_missing(held, self.taken, last);
+        let last = window::reach(top, self.taken);
+        let first = window::lowest_missing(held, self.taken, last);
         if first.0 == 0 {
             return self.report(Answer::Status, out);
         }

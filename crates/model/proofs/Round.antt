@@ -18,7 +18,7 @@ use Rattle.group.specs.declared.SequenceNumber.{SequenceNumber}
 use Rattle.member.proofs.Closing.{HandOk, hand-ok, take-ok, status-is, status-ok}
 use Rattle.member.specs.Calls as member
 use Rattle.member.specs.Sound as memberSound
-use Rattle.member.specs.State.{messageAt}
+use Rattle.window.specs.Places.{messageAt}
 use Rattle.member.specs.declared.Answer as memberAnswer
 use Rattle.member.specs.declared.Member.{Member}
 use Rattle.message.specs.Order.{Ordered}

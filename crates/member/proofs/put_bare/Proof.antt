@@ -1,6 +1,6 @@
 -- What is laid is a packet without payload.
 -- Assumes nothing.
-use mathlib.Core.Path.{_≡_, sym, _∙_}
+use mathlib.Core.Path.{sym, _∙_}
 use mathlib.Core.List.{[]}
 use Rattle.packet.proofs.RoundTrip.{packet-length}
 use borrow.Author.Needs.{needs}

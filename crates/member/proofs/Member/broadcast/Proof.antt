@@ -6,7 +6,7 @@ use native.Mathlib.Omega.{arith}
 use denote.Ref.{now}
 use Rattle.group.proofs.Choice.{choices}
 use Rattle.member.specs.Calls.{broadcastOf}
-use Rattle.member.specs.State.{messageAt}
+use Rattle.window.specs.Places.{messageAt}
 use Rattle.member.proofs.Outcomes.{done-as, quiet}
 use borrow.Author.Needs.{needs}
 use Rattle.member.proofs.Member.broadcast.Statement.{statement}

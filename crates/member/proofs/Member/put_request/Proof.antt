@@ -1,6 +1,6 @@
 -- What is laid is the request, with the waiting message's payload.
 -- Assumes nothing.
-use mathlib.Core.Path.{_≡_, refl, sym, ap, _∙_}
+use mathlib.Core.Path.{_≡_, sym, _∙_}
 use native.Mathlib.Omega.{arith}
 use lib.ListN.{length, length-take}
 use Rattle.group.specs.Limits.{payloadMost}

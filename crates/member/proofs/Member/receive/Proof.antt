@@ -7,11 +7,6 @@ use Rattle.packet.proofs.Verdicts.{readable}
 use Rattle.member.specs.Calls.{receiveOf, readStep}
 use Rattle.member.proofs.Outcomes.{promised, quiet, judged-yes, judged-no, asked, ours, others, behind}
 use borrow.Author.Needs.{needs}
-use mathlib.Core.Path.{_≡_, refl, sym, _∙_}
-use native.Mathlib.Omega.{arith}
-use lib.ListN.{length, length-take, length-drop}
-use Rattle.group.proofs.Choice.{if-eq, if-ne}
-use Rattle.member.proofs.Outcomes.{promised, quiet, judged-yes, judged-no, asked, behind}
 use Rattle.member.proofs.Member.receive.Statement.{statement}
 use Rattle.member.proofs.Member.receive.Tie as tie
 

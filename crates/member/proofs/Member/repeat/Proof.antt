@@ -1,9 +1,8 @@
 -- Questions 1, 2 and 15, then the request.
 -- Assumes nothing.
-use mathlib.Core.Path.{sym, _∙_}
+use mathlib.Core.Path.{sym, _∙_, refl}
 use denote.Ref.{now}
 use Rattle.group.proofs.Choice.{if-true, if-false}
-use mathlib.Core.Path.{refl}
 use Rattle.member.specs.Calls.{repeatOf}
 use Rattle.member.proofs.Outcomes.{promised, quiet, judged-yes, judged-no, asked, waiting-short}
 use borrow.Author.Needs.{needs}

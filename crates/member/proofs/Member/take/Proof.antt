@@ -5,7 +5,7 @@ use Prim.Native.Nat.{_+_, _≤_, _<_}
 use native.Mathlib.Omega.{arith}
 use denote.Ref.{now}
 use Rattle.group.proofs.Choice.{if-lt, if-nlt}
-use Rattle.member.specs.State.{messageAt}
+use Rattle.window.specs.Places.{messageAt}
 use lib.ListN.{length}
 use Rattle.member.specs.Calls.{takeOf}
 use Rattle.member.proofs.Outcomes.{promised, quiet, judged-yes, judged-no, asked, next-short}

@@ -5,8 +5,6 @@ use Rattle.group.specs.Choice.{if_then_else_}
 use Rattle.member.specs.Calls.{withTaken}
 use Rattle.member.proofs.Outcomes.{own-is}
 use borrow.Author.Needs.{needs}
-use Rattle.group.proofs.Choice.{choices}
-use Rattle.member.specs.Calls.{withTaken, isOwn}
 use Rattle.member.proofs.Member.with_taken.Statement.{statement}
 use Rattle.member.proofs.Member.with_taken.Tie as tie
 

@@ -1,15 +1,15 @@
 -- The loop's invariant: what is looked for is the lowest missing above the numbers passed.
 -- Assumes nothing.
-use mathlib.Core.Path.{_≡_, refl, sym}
+use mathlib.Core.Path.{_≡_, refl}
 use Prim.Native.Nat.{_-_}
 use native.Mathlib.Omega.{arith}
 use lib.ListN.{length}
 use Rattle.group.specs.Limits.{heldMost}
-use Rattle.member.specs.State.{lowestMissing}
-use Rattle.member.proofs.Scan.{missing-on, missing-found, missing-none}
+use Rattle.window.specs.Places.{lowestMissing}
+use Rattle.window.proofs.Scan.{missing-on, missing-found, missing-none}
 use borrow.Author.Needs.{needs}
-use Rattle.member.proofs.lowest_missing.Statement.{statement}
-use Rattle.member.proofs.lowest_missing.Tie as tie
+use Rattle.window.proofs.lowest_missing.Statement.{statement}
+use Rattle.window.proofs.lowest_missing.Tie as tie
 
 abbrev Inv-loop : tie.InvT-loop
 Inv-loop last held number₀ number = (length held ≡ heldMost) × (lowestMissing held (number₀ .0) (last .0 - number₀ .0) ≡ lowestMissing held (number .0) (last .0 - number .0))

@@ -1,13 +1,13 @@
 -- What is laid is as long as the message says.
 -- Assumes nothing.
-use mathlib.Core.Path.{_≡_, sym}
+use mathlib.Core.Path.{_≡_}
 use native.Mathlib.Omega.{arith}
 use lib.ListN.{length, length-take}
 use Rattle.group.specs.Limits.{payloadMost}
 use Rattle.message.specs.Message.{payloadOf}
 use borrow.Author.Needs.{needs}
-use Rattle.member.proofs.put_payload.Statement.{statement}
-use Rattle.member.proofs.put_payload.Tie as tie
+use Rattle.window.proofs.put_payload.Statement.{statement}
+use Rattle.window.proofs.put_payload.Tie as tie
 
 array-share-prefix-payload : tie.Need-array-share-prefix-payload
 array-share-prefix-payload c =

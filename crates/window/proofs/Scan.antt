@@ -6,7 +6,7 @@ use native.Mathlib.Omega.{arith}
 use Rattle.group.specs.Choice.{if_then_else_}
 use Rattle.group.proofs.Choice.{if-lt, if-nlt}
 use Rattle.message.specs.declared.Message.{Message}
-use Rattle.member.specs.State.{messageAt, isHeld, lowestMissing}
+use Rattle.window.specs.Places.{messageAt, isHeld, lowestMissing}
 
 -- the scan for `found`, from the number above `number` up to `last`
 module _ (held : List Message) (last number found : ℕ) (inv : found ≡ lowestMissing held number (last - number)) where

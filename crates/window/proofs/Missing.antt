@@ -12,7 +12,7 @@ use Rattle.group.specs.Limits.{heldMost}
 use Rattle.group.proofs.Lists.{if-elim, eq-or}
 use Rattle.message.specs.Message.{blank}
 use Rattle.message.specs.declared.Message.{Message}
-use Rattle.member.specs.State.{placeOf, messageAt, isHeld, lowestMissing}
+use Rattle.window.specs.Places.{placeOf, messageAt, isHeld, lowestMissing}
 
 -- the lowest missing of the k numbers above t
 pub record Lowest (held : List Message) (t k low : ℕ) : Type 0 where

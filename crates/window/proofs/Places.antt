@@ -7,9 +7,9 @@ use native.Mathlib.Omega.{arith}
 use lib.ListN.{getD}
 use Rattle.message.specs.Message.{blank}
 use Rattle.message.specs.declared.Message.{Message}
-use Rattle.member.specs.Sound.{placeSound}
-use Rattle.member.specs.State.{placeOf, messageAt}
-use Rattle.member.specs.Steps.{messageSound}
+use Rattle.window.specs.Sound.{placeSound}
+use Rattle.window.specs.Places.{placeOf, messageAt}
+use Rattle.window.specs.Steps.{messageSound}
 
 same : (n : ℕ) (held : List Message) (number : ℕ) → messageSound n (messageAt held number) number ≡ placeSound n held number
 unfolding messageSound placeSound

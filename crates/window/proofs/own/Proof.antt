@@ -1,22 +1,18 @@
 -- Each test is one of the definition's.
 -- Assumes nothing.
 use Rattle.group.proofs.Choice.{choices}
-use Rattle.member.specs.Sound.{frameSound}
 use borrow.Author.Needs.{needs}
-use Rattle.member.proofs.frame_sound.Statement.{statement}
-use Rattle.member.proofs.frame_sound.Tie as tie
+use Rattle.window.proofs.own.Statement.{statement}
+use Rattle.window.proofs.own.Tie as tie
 
 returns : tie.Need-returns
-unfolding frameSound
 returns c = search (choices, needs) depth 9
 
 returns-2 : tie.Need-returns-2
-unfolding frameSound
 returns-2 c = search (choices, needs) depth 9
 
 returns-3 : tie.Need-returns-3
-unfolding frameSound
 returns-3 c = search (choices, needs) depth 9
 
-pub frame-sound-spec : {M : Type 1} → statement M
-frame-sound-spec = tie.close (tie.spec returns returns-2 returns-3)
+pub own-spec : {M : Type 1} → statement M
+own-spec = tie.close (tie.spec returns returns-2 returns-3)

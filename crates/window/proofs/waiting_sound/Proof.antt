@@ -1,10 +1,10 @@
 -- Each test is one of the definition's.
 -- Assumes nothing.
 use Rattle.group.proofs.Choice.{choices}
-use Rattle.member.specs.Sound.{waitingSound}
+use Rattle.window.specs.Sound.{waitingSound}
 use borrow.Author.Needs.{needs}
-use Rattle.member.proofs.waiting_sound.Statement.{statement}
-use Rattle.member.proofs.waiting_sound.Tie as tie
+use Rattle.window.proofs.waiting_sound.Statement.{statement}
+use Rattle.window.proofs.waiting_sound.Tie as tie
 
 returns : tie.Need-returns
 unfolding waitingSound

@@ -1,10 +1,10 @@
 -- The smaller of the two, by the definition's test.
 -- Assumes nothing.
 use Rattle.group.proofs.Choice.{choices}
-use Rattle.member.specs.Calls.{smallerOf}
+use Rattle.window.specs.Places.{smallerOf}
 use borrow.Author.Needs.{needs}
-use Rattle.member.proofs.reach.Statement.{statement}
-use Rattle.member.proofs.reach.Tie as tie
+use Rattle.window.proofs.reach.Statement.{statement}
+use Rattle.window.proofs.reach.Tie as tie
 
 cast-if1 : tie.Need-cast-if1
 cast-if1 c = search needs

@@ -1,18 +1,17 @@
 -- The loop's invariant: all are sound exactly if those above the numbers passed are.
 -- Assumes nothing.
-use mathlib.Core.Path.{_≡_, refl, ap, _∙_}
-use mathlib.Core.Bool.{Bool}
-use Prim.Native.Nat.{ℕ, _+_, _-_, _<_}
+use mathlib.Core.Path.{_≡_}
+use Prim.Native.Nat.{_+_, _-_}
 use native.Mathlib.Omega.{arith}
-use lib.ListN.{length, getD}
+use lib.ListN.{length}
 use Rattle.group.specs.Fold.{allAbove}
 use Rattle.group.specs.Limits.{heldMost}
 use Rattle.group.proofs.Fold.{above-on, above-off, above-done}
-use Rattle.member.specs.Sound.{placeSound}
-use Rattle.member.proofs.Places.{place-sound}
+use Rattle.window.specs.Sound.{placeSound}
+use Rattle.window.proofs.Places.{place-sound}
 use borrow.Author.Needs.{needs}
-use Rattle.member.proofs.held_sound.Statement.{statement}
-use Rattle.member.proofs.held_sound.Tie as tie
+use Rattle.window.proofs.held_sound.Statement.{statement}
+use Rattle.window.proofs.held_sound.Tie as tie
 
 abbrev Inv-loop : tie.InvT-loop
 Inv-loop n taken held i₀ i = (length held ≡ heldMost) × (allAbove (placeSound n held) (taken .0) heldMost ≡ allAbove (placeSound n held) (taken .0 + i) (heldMost - i))

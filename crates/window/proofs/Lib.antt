@@ -1,0 +1,5 @@
+pub mod Soundness
+pub mod Missing
+pub mod Keeping
+pub mod Places
+pub mod Scan

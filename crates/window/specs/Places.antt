@@ -1,0 +1,29 @@
+-- The 8 places of a member, for numbers t + 1 to t + 8.
+use mathlib.Core.Bool.{Bool}
+use mathlib.Core.List.{List}
+use Prim.Native.Nat.{ℕ, zero, suc, _+_, _%_}
+use lib.ListN.{getD}
+use Rattle.group.specs.Choice.{if_then_else_, _<?_}
+use Rattle.group.specs.Limits.{heldMost}
+use Rattle.message.specs.Message.{blank}
+use Rattle.message.specs.declared.Message.{Message}
+
+-- number s lies in place s modulo 8
+abbrev pub placeOf : ℕ → ℕ
+placeOf number = number % heldMost
+
+abbrev pub messageAt : List Message → ℕ → Message
+messageAt held number = getD held (placeOf number) blank
+
+-- a place is empty exactly if its count is 0
+abbrev pub isHeld : List Message → ℕ → Bool
+isHeld held number = 0 <? messageAt held number .count
+
+-- "missing" means above t and not held: the lowest missing of the k numbers above t; 0: none is
+unfoldable pub lowestMissing : List Message → ℕ → ℕ → ℕ
+lowestMissing held t zero = 0
+lowestMissing held t (suc k) = if isHeld held (t + 1) then lowestMissing held (t + 1) k else t + 1
+
+-- the smaller of two numbers
+unfoldable pub smallerOf : ℕ → ℕ → ℕ
+smallerOf a b = if a <? b then a else b

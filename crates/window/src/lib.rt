@@ -1,0 +1,152 @@
+// The window of a member: its 8 places for the numbers above the last taken, and the tests and choices on plain numbers and on
+// one message that its calls are made of.
+use group::Group;
+use group::MemberNumber;
+use group::SequenceNumber;
+use message::Message;
+ghost use mathlib.Core.Path.{_≡_};
+ghost use Prim.Native.Nat.{_+_, _-_, _≤_};
+ghost use lib.ListN.{length};
+ghost use Rattle.group.specs.Choice.{_and_, _=?_};
+ghost use Rattle.group.specs.Fold.{allAbove};
+ghost use Rattle.group.specs.Limits.{heldMost, payloadMost, longestPacket};
+ghost use Rattle.message.specs.Message.{payloadOf};
+ghost use Rattle.window.specs.Places.{placeOf, lowestMissing, smallerOf};
+ghost use Rattle.window.specs.Sound.{placeSound, waitingSound, frameSound};
+ghost use Rattle.window.specs.Steps.{Laid, messageSound};
+
+// Number s lies in place s modulo 8: the place of the number that lies `ahead` above a number, which may pass the largest.
+pub fn place(number: SequenceNumber, ahead: usize) -> usize
+    requires { ⌜ ahead ≤ heldMost ⌝ }
+    ensures { λ r. ⌜ r ≡ placeOf (number .0 + ahead) ⌝ }
+{
+    (number.0 as usize + ahead) % Group::HELD
+}
+
+// The lowest number above the last taken, up to `last`, that is missing; 0 if none is.
+pub fn lowest_missing(
+    held: [Message; Group::HELD],
+    taken: SequenceNumber,
+    last: SequenceNumber,
+) -> SequenceNumber
+    ensures { λ r. ⌜ r .0 ≡ lowestMissing held (taken .0) (last .0 - taken .0) ⌝ }
+{
+    let mut number = taken;
+    while number.0 < last.0 {
+        let at = place(number, 1);
+        let next = SequenceNumber(number.0 + 1);
+        if held[at].count == 0 {
+            return next;
+        }
+        number = next;
+    }
+    SequenceNumber(0)
+}
+
+// n is 1 to 16, and the member's number is below n.
+pub fn frame_sound(n: u8, number: MemberNumber) -> bool
+    ensures { λ r. ⌜ r ≡ frameSound n number ⌝ }
+{
+    if n < 1 {
+        return false;
+    }
+    if Group::MEMBERS < (n as usize) {
+        return false;
+    }
+    number.0 < n
+}
+
+// A message waits only as the member's own last one; else its place is all zero.
+pub fn waiting_sound(number: MemberNumber, submitted: u32, waiting: bool, message: Message) -> bool
+    ensures { λ r. ⌜ r ≡ waitingSound number submitted waiting message ⌝ }
+{
+    if waiting {
+        if submitted < 1 {
+            return false;
+        }
+        if message.originator.0 != number.0 {
+            return false;
+        }
+        if message.count != submitted {
+            return false;
+        }
+        if Group::PAYLOAD < message.length {
+            return false;
+        }
+        message.zero_behind()
+    } else {
+        message.is_empty()
+    }
+}
+
+// A held message has a member of the group as its originator, a length in the limit and a number in the limit; else its
+// place is all zero. The number lies `ahead` above the last taken.
+fn message_sound(n: u8, message: Message, taken: SequenceNumber, ahead: usize) -> bool
+    requires { ⌜ ahead ≤ heldMost ⌝ }
+    ensures { λ r. ⌜ r ≡ messageSound n message (taken .0 + ahead) ⌝ }
+{
+    if 0 < message.count {
+        if n <= message.originator.0 {
+            return false;
+        }
+        if Group::PAYLOAD < message.length {
+            return false;
+        }
+        if message.zero_behind() {
+            return (taken.0 as usize) + ahead <= (Group::LARGEST as usize);
+        }
+        return false;
+    }
+    message.is_empty()
+}
+
+// The places of the numbers above the last taken are sound.
+pub fn held_sound(n: u8, held: [Message; Group::HELD], taken: SequenceNumber) -> bool
+    ensures { λ r. ⌜ r ≡ allAbove (placeSound n held) (taken .0) heldMost ⌝ }
+{
+    let mut i: usize = 0;
+    while i < Group::HELD {
+        let at = place(taken, i + 1);
+        let message = held[at];
+        if message_sound(n, message, taken, i + 1) {
+            i += 1;
+        } else {
+            return false;
+        }
+    }
+    true
+}
+
+// Lays the payload of a message at the front of the output, and gives its length.
+pub fn put_payload(message: Message, out: &mut [u8]) -> usize
+    requires { ⌜ (message .length ≤ payloadMost) × (longestPacket ≤ length (now out)) ⌝ }
+    ensures { λ r. ⌜ Laid (payloadOf message) r (now (out .entry)) (now (out .exit)) ⌝ }
+{
+    let length = message.length;
+    let payload = message.payload;
+    message::copy(&payload[..length], out);
+    length
+}
+
+// The smaller of a poll's top and the last number that a place is for.
+pub fn reach(top: SequenceNumber, taken: SequenceNumber) -> SequenceNumber
+    ensures { λ r. ⌜ r .0 ≡ smallerOf (top .0) (taken .0 + heldMost) ⌝ }
+{
+    if (top.0 as usize) < (taken.0 as usize) + Group::HELD {
+        return top;
+    }
+    SequenceNumber(taken.0 + (Group::HELD as u32))
+}
+
+// Whether a message is the one that waits, of the member of that number after so many submissions.
+pub fn own(number: MemberNumber, submitted: u32, waiting: bool, message: Message) -> bool
+    ensures { λ r. ⌜ r ≡ (waiting and message .originator .0 =? number .0 and message .count =? submitted) ⌝ }
+{
+    if waiting {
+        if message.originator.0 != number.0 {
+            return false;
+        }
+        return message.count == submitted;
+    }
+    false
+}

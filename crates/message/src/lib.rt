@@ -2,9 +2,10 @@
 use group::Group;
 use group::MemberNumber;
 ghost use mathlib.Core.Path.{_≡_};
-ghost use Prim.Native.Nat.{_≤_};
+ghost use mathlib.Core.Bool.{true};
+ghost use Prim.Native.Nat.{_-_, _≤_};
 ghost use lib.ListN.{length, drop};
-ghost use Rattle.group.specs.Choice.{_=?_, _and_};
+ghost use Rattle.group.specs.Choice.{if_then_else_, _=?_, _and_};
 ghost use Rattle.group.specs.Limits.{payloadMost};
 ghost use Rattle.group.specs.Lent.{front};
 ghost use Rattle.message.specs.Message.{allZero, padded, messageOf, emptyMessage, zeroBehind, isEmpty};
@@ -31,27 +32,36 @@ fn larger(a: u8, b: u8) -> u8
     if a < b { b } else { a }
 }
 
-// Whether every byte is zero: the largest is, which a loop finds without leaving early.
-fn all_zero(bytes: &[u8]) -> bool
-    ensures { λ r. ⌜ r ≡ allZero (now (bytes .entry)) ⌝ }
+fn smaller(a: u8, b: u8) -> u8
+    ensures { λ r. ⌜ (r =? 0) ≡ if a =? 0 then true else (b =? 0) ⌝ }
 {
-    let mut largest: u8 = 0;
-    let mut i: usize = 0;
-    while i < bytes.len() {
-        largest = larger(largest, bytes[i]);
-        i += 1;
-    }
-    largest == 0
+    if a < b { a } else { b }
 }
 
-// Whether every byte from an index on is zero.
+// How far a number lies above another; 0 if it does not.
+fn above(number: u8, other: u8) -> u8
+    ensures { λ r. ⌜ r ≡ number - other ⌝ }
+{
+    if number < other { 0 } else { number - other }
+}
+
+// Whether every byte from an index on is zero: the largest is, where a byte before the index counts as zero. The loop looks at
+// all bytes and has no test but those of numbers of a byte's width, so that it becomes a few vector instructions.
 fn zero_from(payload: [u8; Group::PAYLOAD], from: usize) -> bool
     ensures { λ r. ⌜ r ≡ allZero (drop from payload) ⌝ }
 {
     if Group::PAYLOAD < from {
         return true;
     }
-    all_zero(&payload[from..])
+    let start = from as u8;
+    let mut largest: u8 = 0;
+    let mut i: usize = 0;
+    while i < Group::PAYLOAD {
+        let behind = above(i as u8 + 1, start);
+        largest = larger(largest, smaller(payload[i], behind));
+        i += 1;
+    }
+    largest == 0
 }
 
 // The payload with zeros behind it.

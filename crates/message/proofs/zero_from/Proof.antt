@@ -1,36 +1,89 @@
--- Past the end there is no byte; up to it, the part is what `all_zero` is asked of.
+-- The loop's invariant: the largest byte that counts is zero and the rest is, exactly if all from the index on are.
 -- Assumes nothing.
-use mathlib.Core.Path.{_≡_, ap, _∙_}
-use Prim.Native.Nat.{_-_}
+use mathlib.Core.Path.{_≡_, refl}
+use Prim.Native.Nat.{_+_, _-_, _≤_}
 use native.Mathlib.Omega.{arith}
-use lib.ListN.{length, drop, length-drop, drop-of-length-le}
-use lib.Seq.{take-all}
+use lib.ListN.{length, drop, drop-of-length-le}
+use Rattle.group.specs.Choice.{if_then_else_, _and_, _=?_}
 use Rattle.group.specs.Limits.{payloadMost}
 use Rattle.message.specs.Message.{allZero}
+use Rattle.message.proofs.Zero.{zero-on, zero-done}
 use borrow.Author.Needs.{needs}
-use mathlib.Core.Path.{ap, _∙_}
 use Rattle.message.proofs.zero_from.Statement.{statement}
 use Rattle.message.proofs.zero_from.Tie as tie
 
-returns : tie.Need-returns
+abbrev Inv-loop : tie.InvT-loop
+Inv-loop from payload start largest₀ i₀ largest i = (length payload ≡ payloadMost) × (largest =? 0 and allZero (drop (i + (from - i)) payload) ≡ allZero (drop from payload))
+
+abbrev μ-loop : tie.MeasureT-loop
+μ-loop from payload start largest₀ i₀ largest i = payloadMost - i
+
+returns : tie.Need-returns Inv-loop μ-loop
 unfolding allZero
 returns c = rw (drop-of-length-le (c .before .args .t1) {i = c .before .args .from} (search needs))
 
-part-all-zero-start : tie.Need-part-all-zero-start
-part-all-zero-start c = search needs
+cast-start : tie.Need-cast-start Inv-loop μ-loop
+cast-start c = search needs
 
-part-all-zero-end : tie.Need-part-all-zero-end
-part-all-zero-end c = search needs
+loop-holds : tie.Need-loop-holds Inv-loop μ-loop
+unfolding if_then_else_
+loop-holds c =
+    let a = c .before .args in
+    let e : 0 + (a .from - 0) ≡ a .from = omega arith in
+    (search needs, rw e)
 
-all-zero-requires : tie.Need-all-zero-requires
-all-zero-requires c κs = search needs
+cast-above : tie.Need-cast-above Inv-loop μ-loop
+cast-above c = search needs
 
-returns-2 : tie.Need-returns-2
+add-above : tie.Need-add-above Inv-loop μ-loop
+add-above c = search needs
+
+above-requires : tie.Need-above-requires Inv-loop μ-loop
+above-requires c κs = search needs
+
+array-read-smaller : tie.Need-array-read-smaller Inv-loop μ-loop
+array-read-smaller c = omega arith
+
+smaller-requires : tie.Need-smaller-requires Inv-loop μ-loop
+smaller-requires c κs = search needs
+
+larger-requires : tie.Need-larger-requires Inv-loop μ-loop
+larger-requires c κs = search needs
+
+add-i : tie.Need-add-i Inv-loop μ-loop
+add-i c = search needs
+
+loop-less : tie.Need-loop-less Inv-loop μ-loop
+loop-less c = omega arith
+
+loop-again : tie.Need-loop-again Inv-loop μ-loop
+loop-again c =
+    let l = c .before .before .before .before .loop in
+    let a = c .before .before .before .before .before .before .args in
+    (l .inv .0, zero-on (a .t1) (a .from) (l .largest) (l .i) (l .inv .1) (c .larger .result) (c .before .smaller .result) (omega arith) (rw (c .before .before .above .ensures) at (c .before .smaller .ensures)) (c .larger .ensures))
+
+returns-2 : tie.Need-returns-2 Inv-loop μ-loop
 returns-2 c =
-    let a = c .before .before .before .before .args in
-    let n : length (a .t1) ≡ payloadMost = search needs in
-    c .all-zero .ensures ∙ ap allZero (take-all (payloadMost - a .from) (drop (a .from) (a .t1)) (simp (length-drop, n) (omega arith)))
+    let l = c .before .loop in
+    let a = c .before .before .before .args in
+    zero-done (a .t1) (a .from) (l .largest) (l .i) (l .inv .1) (omega arith)
 
 pub zero-from-spec : {M : Type 1} → statement M
 zero-from-spec =
-    tie.close (tie.spec returns part-all-zero-start part-all-zero-end all-zero-requires returns-2)
+    tie.close
+    (tie.spec
+    Inv-loop
+    μ-loop
+    returns
+    cast-start
+    loop-holds
+    cast-above
+    add-above
+    above-requires
+    array-read-smaller
+    smaller-requires
+    larger-requires
+    add-i
+    loop-less
+    loop-again
+    returns-2)

@@ -5,7 +5,7 @@ use crate::group::{Event, Group, Outcome};
 use std::io::{self, BufRead, BufReader, BufWriter, Read, Write};
 
 /// Packets written, at most.
-const PACKETS: usize = 200;
+pub const PACKETS: usize = 200;
 /// Characters of a line, at most.
 const LINE: usize = 1000;
 
@@ -77,6 +77,16 @@ fn closing_line(group: &Group, output: &mut impl Write) -> io::Result<()> {
         write!(output, " {}", member.taken)?;
     }
     writeln!(output)
+}
+
+/// Reads a first line, given without its line feed: n and the group number.
+pub fn opening(line: &[u8]) -> Option<(u32, u32)> {
+    Line(line).opening()
+}
+
+/// Reads the line of an event, given without its line feed.
+pub fn event(line: &[u8]) -> Option<Event> {
+    Line(line).event()
 }
 
 /// Lines of an input, at most one of them in memory, and that cut off.

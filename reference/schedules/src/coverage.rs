@@ -1,0 +1,279 @@
+//! What a schedule reaches: every answer of both ends, every refusal and
+//! every way in which the events can end.
+
+use model::Answer;
+use model::group::{Event, Group, Outcome};
+use model::packet;
+use model::play::{self, PACKETS};
+use std::collections::BTreeMap;
+
+/// Everything that `play` can reach. Questions 1 to 7, 9 to 12 and 16 never
+/// answer no here: the group's states are sound, its packets are of its own
+/// making, and 200 of them use up no numbers.
+pub const REACHABLE: [&str; 63] = [
+    "opening: missing",
+    "opening: bad line",
+    "opening: refused 18, n below 1",
+    "opening: refused 18, n above 16",
+    "opening: n 1",
+    "opening: n 16",
+    "end: with a line feed",
+    "end: without a line feed",
+    "end: no space",
+    "end: bad line",
+    "end: bad line, 200 packets",
+    "end: 200 packets",
+    "submit: sent",
+    "submit: sent, payload of 0",
+    "submit: sent, payload of 96",
+    "submit: refused 13",
+    "submit: refused 13, one waiting",
+    "submit: refused 14",
+    "submit: absent",
+    "submit: absent, payload over 96",
+    "repeat: sent",
+    "repeat: refused 15",
+    "repeat: absent",
+    "take: took, more",
+    "take: took, last",
+    "take: took its own",
+    "take: took an empty payload",
+    "take: none, nothing held",
+    "take: none, a number above held",
+    "take: absent",
+    "status: sent",
+    "status: absent",
+    "poll: sent",
+    "copy: sent",
+    "copy: refused 17, at floor or below",
+    "copy: refused 17, above top",
+    "request: numbered",
+    "request: numbered in a place it freed",
+    "request: again",
+    "request: old, below the last count, kept",
+    "request: old, below the last count, purged",
+    "request: old, the last count, purged",
+    "request: full",
+    "gap: wanted from B",
+    "gap: wanted from above floor",
+    "gap: noted",
+    "status packet: noted, floor grows",
+    "status packet: noted, floor stays",
+    "status packet: noted, late",
+    "sequencer: refused 8",
+    "sequencer: absent packet",
+    "broadcast: kept",
+    "broadcast: keptgap",
+    "broadcast: old, taken",
+    "broadcast: old, held",
+    "broadcast: beyond",
+    "broadcast: beyondgap",
+    "poll packet: gap",
+    "poll packet: status",
+    "member: refused 8",
+    "member: absent packet",
+    "member: absent member",
+    "member: absent packet and member",
+];
+
+/// How often each thing was reached.
+pub type Counts = BTreeMap<&'static str, u64>;
+
+/// Counts what a schedule reaches.
+pub fn count(text: &[u8], counts: &mut Counts) {
+    let mut reached = |what: &'static str| *counts.entry(what).or_default() += 1;
+    let mut lines = text.split_inclusive(|&byte| byte == b'\n');
+    let Some(first) = lines.next() else {
+        return reached("opening: missing");
+    };
+    let Some((n, group)) = play::opening(bare(first)) else {
+        return reached("opening: bad line");
+    };
+    let Ok(mut group) = Group::fresh(n, group) else {
+        return reached(if n < 1 {
+            "opening: refused 18, n below 1"
+        } else {
+            "opening: refused 18, n above 16"
+        });
+    };
+    match n {
+        1 => reached("opening: n 1"),
+        16 => reached("opening: n 16"),
+        _ => (),
+    }
+    for line in lines {
+        let full = group.packets.len() >= PACKETS;
+        let Some(event) = play::event(bare(line)) else {
+            return reached(if full {
+                "end: bad line, 200 packets"
+            } else {
+                "end: bad line"
+            });
+        };
+        if full {
+            return reached("end: no space");
+        }
+        let before = group.clone();
+        let outcome = group.step(&event);
+        each(&before, &event, outcome.as_ref(), &group, &mut reached);
+    }
+    if group.packets.len() >= PACKETS {
+        reached("end: 200 packets");
+    }
+    reached(if text.ends_with(b"\n") {
+        "end: with a line feed"
+    } else {
+        "end: without a line feed"
+    });
+}
+
+fn bare(line: &[u8]) -> &[u8] {
+    line.strip_suffix(b"\n").unwrap_or(line)
+}
+
+fn each(
+    before: &Group,
+    event: &Event,
+    outcome: Option<&Outcome>,
+    after: &Group,
+    reached: &mut impl FnMut(&'static str),
+) {
+    let answer = outcome.map(|outcome| outcome.answer);
+    let question = match answer {
+        Some(Answer::Refused(refusal)) => refusal.number(),
+        _ => 0,
+    };
+    match *event {
+        Event::Submit {
+            member,
+            ref payload,
+        } => match (answer, question) {
+            (None, _) => {
+                reached("submit: absent");
+                if payload.len() > 96 {
+                    reached("submit: absent, payload over 96");
+                }
+            }
+            (_, 13) => reached(if before.members[member].waiting {
+                "submit: refused 13, one waiting"
+            } else {
+                "submit: refused 13"
+            }),
+            (_, 14) => reached("submit: refused 14"),
+            _ => {
+                reached("submit: sent");
+                match payload.len() {
+                    0 => reached("submit: sent, payload of 0"),
+                    96 => reached("submit: sent, payload of 96"),
+                    _ => (),
+                }
+            }
+        },
+        Event::Repeat { .. } => reached(match (answer, question) {
+            (None, _) => "repeat: absent",
+            (_, 15) => "repeat: refused 15",
+            _ => "repeat: sent",
+        }),
+        Event::Take { member } => match answer {
+            None => reached("take: absent"),
+            Some(Answer::Took { more, .. }) => {
+                reached(if more {
+                    "take: took, more"
+                } else {
+                    "take: took, last"
+                });
+                if before.members[member].waiting && !after.members[member].waiting {
+                    reached("take: took its own");
+                }
+                if outcome.is_some_and(|outcome| outcome.payload.is_empty()) {
+                    reached("take: took an empty payload");
+                }
+            }
+            _ => reached(if before.members[member].held == 0 {
+                "take: none, nothing held"
+            } else {
+                "take: none, a number above held"
+            }),
+        },
+        Event::Status { .. } => reached(match answer {
+            None => "status: absent",
+            _ => "status: sent",
+        }),
+        Event::Poll => reached("poll: sent"),
+        Event::Copy { number } => reached(match question {
+            17 if number <= before.sequencer.floor => "copy: refused 17, at floor or below",
+            17 => "copy: refused 17, above top",
+            _ => "copy: sent",
+        }),
+        Event::ToSequencer { packet } => match before.packets.get(packet) {
+            None => reached("sequencer: absent packet"),
+            Some(_) if question == 8 => reached("sequencer: refused 8"),
+            Some(bytes) => at_sequencer(before, bytes, answer, after, reached),
+        },
+        Event::ToMember { packet, member } => {
+            let (packet, state) = (before.packets.get(packet), before.members.get(member));
+            reached(match (packet, state) {
+                (None, None) => "member: absent packet and member",
+                (None, _) => "member: absent packet",
+                (_, None) => "member: absent member",
+                (Some(bytes), Some(state)) => at_member(bytes, state.taken, answer),
+            });
+        }
+    }
+}
+
+fn at_sequencer(
+    before: &Group,
+    bytes: &[u8],
+    answer: Option<Answer>,
+    after: &Group,
+    reached: &mut impl FnMut(&'static str),
+) {
+    let header = packet::read(bytes).expect("a packet of the group");
+    let member = usize::from(header.member);
+    let (old, new) = (&before.sequencer, &after.sequencer);
+    let is_full = old.top - old.floor == 32;
+    reached(match (header.kind, answer) {
+        (packet::REQUEST, Some(Answer::Numbered(_))) if is_full => {
+            "request: numbered in a place it freed"
+        }
+        (packet::REQUEST, Some(Answer::Numbered(_))) => "request: numbered",
+        (packet::REQUEST, Some(Answer::Again(_))) => "request: again",
+        (packet::REQUEST, Some(Answer::Full)) => "request: full",
+        (packet::REQUEST, _) if header.b == new.counts[member] => {
+            "request: old, the last count, purged"
+        }
+        (packet::REQUEST, _) => {
+            let is_kept = new
+                .history
+                .iter()
+                .any(|place| place.originator == header.member && place.count == header.b);
+            if is_kept {
+                "request: old, below the last count, kept"
+            } else {
+                "request: old, below the last count, purged"
+            }
+        }
+        (packet::GAP, Some(Answer::Wanted(first, _))) if first == header.b => "gap: wanted from B",
+        (packet::GAP, Some(Answer::Wanted(..))) => "gap: wanted from above floor",
+        (packet::GAP, _) => "gap: noted",
+        _ if header.a < old.acknowledged[member] => "status packet: noted, late",
+        _ if new.floor > old.floor => "status packet: noted, floor grows",
+        _ => "status packet: noted, floor stays",
+    });
+}
+
+fn at_member(bytes: &[u8], taken: u32, answer: Option<Answer>) -> &'static str {
+    let header = packet::read(bytes).expect("a packet of the group");
+    match answer {
+        Some(Answer::Kept) => "broadcast: kept",
+        Some(Answer::KeptGap) => "broadcast: keptgap",
+        Some(Answer::Old) if header.a <= taken => "broadcast: old, taken",
+        Some(Answer::Old) => "broadcast: old, held",
+        Some(Answer::Beyond) => "broadcast: beyond",
+        Some(Answer::BeyondGap) => "broadcast: beyondgap",
+        Some(Answer::Gap) => "poll packet: gap",
+        Some(Answer::Status) => "poll packet: status",
+        _ => "member: refused 8",
+    }
+}

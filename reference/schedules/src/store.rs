@@ -1,0 +1,103 @@
+//! The files of the stored schedules: each schedule is a file of
+//! `crates/schedules/data`, named by its number, and `crates/schedules/stdout`
+//! has what they print, one behind the other. `crates/play` has the document's
+//! own schedule.
+
+use crate::{Schedule, all, played};
+use std::fmt::Write as _;
+use std::path::{Path, PathBuf};
+use std::{fs, io};
+
+/// The root of the repository.
+fn root() -> PathBuf {
+    Path::new(env!("CARGO_MANIFEST_DIR")).join("../..")
+}
+
+/// A schedule's file name: three digits.
+pub fn name(number: usize) -> String {
+    format!("{number:03}")
+}
+
+/// Every file that is kept, and what it has to hold. The input of `play` is
+/// given and not kept; without that crate there is nothing to hold.
+fn files(schedules: &[Schedule]) -> io::Result<Vec<(PathBuf, Vec<u8>)>> {
+    let root = root();
+    let crates = root.join("crates");
+    let data = crates.join("schedules/data");
+    let mut files: Vec<(PathBuf, Vec<u8>)> = schedules
+        .iter()
+        .enumerate()
+        .map(|(number, schedule)| (data.join(name(number)), schedule.text.clone()))
+        .collect();
+    let outputs: Vec<u8> = schedules.iter().flat_map(Schedule::played).collect();
+    files.push((crates.join("schedules/stdout"), outputs));
+    files.push((root.join("reference/schedules/TABLE.md"), table(schedules)));
+    let play = crates.join("play");
+    if play.exists() {
+        let output = played(&fs::read(play.join("stdin"))?);
+        files.push((play.join("stdout"), output));
+    }
+    Ok(files)
+}
+
+/// What each schedule shows, as a table.
+fn table(schedules: &[Schedule]) -> Vec<u8> {
+    let mut table = String::from(
+        "# Stored schedules\n\n\
+         What each file of `crates/schedules/data` shows. Written by `schedules write`.\n\n\
+         | File | Lines | Shows |\n|---|---|---|\n",
+    );
+    for (number, schedule) in schedules.iter().enumerate() {
+        let lines = schedule.text.split_inclusive(|&byte| byte == b'\n').count();
+        let shows = schedule.shows.replace('`', "back quote");
+        writeln!(table, "| `{}` | {lines} | {shows} |", name(number)).expect("writing to memory");
+    }
+    table.into_bytes()
+}
+
+/// Writes every file; how many schedules there are.
+pub fn write() -> io::Result<usize> {
+    let schedules = all();
+    let data = root().join("crates/schedules/data");
+    if data.exists() {
+        fs::remove_dir_all(&data)?;
+    }
+    fs::create_dir_all(&data)?;
+    for (path, bytes) in files(&schedules)? {
+        fs::write(path, bytes)?;
+    }
+    Ok(schedules.len())
+}
+
+/// What is wrong with the files; empty if nothing is.
+///
+/// The schedules are read from their files, so that the outputs belong to
+/// what is stored; then the files are compared with what is written today.
+pub fn check() -> io::Result<Vec<String>> {
+    let schedules = all();
+    let mut wrong = Vec::new();
+    for (path, bytes) in files(&schedules)? {
+        let named = path.strip_prefix(root()).unwrap_or(&path).display();
+        match fs::read(&path) {
+            Ok(stored) if stored == bytes => (),
+            Ok(_) => wrong.push(format!("{named}: not what the reference writes")),
+            Err(error) => wrong.push(format!("{named}: {error}")),
+        }
+    }
+    let data = root().join("crates/schedules/data");
+    let mut stored: Vec<PathBuf> = fs::read_dir(data)?
+        .map(|entry| Ok(entry?.path()))
+        .collect::<io::Result<_>>()?;
+    stored.sort();
+    if stored.len() != schedules.len() {
+        wrong.push(format!("{} files in crates/schedules/data", stored.len()));
+    }
+    let mut outputs = Vec::new();
+    for path in &stored {
+        outputs.extend(played(&fs::read(path)?));
+    }
+    if fs::read(root().join("crates/schedules/stdout"))? != outputs {
+        wrong.push("crates/schedules/stdout: not the outputs of the stored schedules".into());
+    }
+    Ok(wrong)
+}

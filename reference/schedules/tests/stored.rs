@@ -1,0 +1,54 @@
+//! The stored schedules: their files, what they reach, and the answers that
+//! were written by hand.
+
+use schedules::coverage::{self, Counts, REACHABLE};
+use schedules::{all, store};
+use std::collections::BTreeSet;
+
+#[test]
+fn files_are_up_to_date() {
+    assert_eq!(store::check().unwrap(), Vec::<String>::new());
+}
+
+#[test]
+fn answers_are_the_documents() {
+    for (number, schedule) in all().iter().enumerate() {
+        if let Some(expected) = &schedule.expected {
+            let played = String::from_utf8(schedule.played()).unwrap();
+            assert_eq!(&played, expected, "{number:03}: {}", schedule.shows);
+        }
+    }
+}
+
+#[test]
+fn everything_is_reached() {
+    let mut counts = Counts::new();
+    for schedule in all() {
+        coverage::count(&schedule.text, &mut counts);
+    }
+    let reached: BTreeSet<&str> = counts.keys().copied().collect();
+    assert_eq!(reached, BTreeSet::from(REACHABLE));
+}
+
+#[test]
+fn names_and_sizes() {
+    let schedules = all();
+    assert!(schedules.len() <= 1000);
+    let data: usize = schedules.iter().map(|schedule| schedule.text.len()).sum();
+    let outputs: usize = schedules
+        .iter()
+        .map(|schedule| schedule.played().len())
+        .sum();
+    assert!(data + outputs < 1_000_000, "{data} + {outputs}");
+}
+
+/// Each schedule is there for a reason of its own.
+#[test]
+fn none_is_there_twice() {
+    let schedules = all();
+    let texts: BTreeSet<&[u8]> = schedules.iter().map(|s| s.text.as_slice()).collect();
+    assert_eq!(texts.len(), schedules.len());
+    let shows: BTreeSet<&str> = schedules.iter().map(|s| s.shows.as_str()).collect();
+    assert_eq!(shows.len(), schedules.len());
+    assert_eq!(store::name(7), "007");
+}

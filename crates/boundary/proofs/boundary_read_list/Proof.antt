@@ -1,0 +1,80 @@
+-- The loop's invariant: the index stays in the list.
+-- Assumes nothing.
+use Prim.Native.Nat.{_-_, _≤_}
+use lib.ListN.{length}
+use borrow.Author.Needs.{needs}
+use Rattle.boundary.proofs.boundary_read_list.Statement.{statement}
+use Rattle.boundary.proofs.boundary_read_list.Tie as tie
+
+abbrev Inv-loop : tie.InvT-loop
+Inv-loop sum packets total₀ at₀ total at = at ≤ length packets
+
+abbrev μ-loop : tie.MeasureT-loop
+μ-loop sum packets total₀ at₀ total at = length packets - at
+
+loop-holds : tie.Need-loop-holds Inv-loop μ-loop
+loop-holds c = search needs
+
+add-start : tie.Need-add-start Inv-loop μ-loop
+add-start c = search needs
+
+shared-slice-read-wide : tie.Need-shared-slice-read-wide Inv-loop μ-loop
+shared-slice-read-wide c = search needs
+
+wide-requires : tie.Need-wide-requires Inv-loop μ-loop
+wide-requires c κs = search needs
+
+sub-if1 : tie.Need-sub-if1 Inv-loop μ-loop
+sub-if1 c = search needs
+
+returns : tie.Need-returns Inv-loop μ-loop
+returns c = search needs
+
+add-end : tie.Need-add-end Inv-loop μ-loop
+add-end c = search needs
+
+sub-read : tie.Need-sub-read Inv-loop μ-loop
+sub-read c = search needs
+
+part-read-start : tie.Need-part-read-start Inv-loop μ-loop
+part-read-start c = search needs
+
+part-read-end : tie.Need-part-read-end Inv-loop μ-loop
+part-read-end c = search needs
+
+read-requires : tie.Need-read-requires Inv-loop μ-loop
+read-requires c κs = search needs
+
+reading-sum-requires : tie.Need-reading-sum-requires Inv-loop μ-loop
+reading-sum-requires c κs = search needs
+
+loop-less : tie.Need-loop-less Inv-loop μ-loop
+loop-less c = search needs
+
+loop-again : tie.Need-loop-again Inv-loop μ-loop
+loop-again c = search needs
+
+returns-2 : tie.Need-returns-2 Inv-loop μ-loop
+returns-2 c = search needs
+
+pub boundary-read-list-spec : {M : Type 1} → statement M
+boundary-read-list-spec =
+    tie.close
+    (tie.spec
+    Inv-loop
+    μ-loop
+    loop-holds
+    add-start
+    shared-slice-read-wide
+    wide-requires
+    sub-if1
+    returns
+    add-end
+    sub-read
+    part-read-start
+    part-read-end
+    read-requires
+    reading-sum-requires
+    loop-less
+    loop-again
+    returns-2)

@@ -1,0 +1,367 @@
+//! Random packets, packet lists and schedules through the proved library and
+//! through the reference. A difference is printed with its seed, shrunk.
+
+use boundary::shrink::{plain, shrink};
+use boundary::{list, proved, reference};
+use model::limits::{HEADER, LARGEST, PACKET, PAYLOAD};
+use model::packet::{self, Header};
+use model::sequencer::Sequencer;
+use schedules::random::Random;
+use std::process::ExitCode;
+use std::time::Instant;
+
+struct Options {
+    packets: u64,
+    lists: u64,
+    seed: u64,
+}
+
+fn options() -> Option<Options> {
+    let mut options = Options {
+        packets: 300_000,
+        lists: 20_000,
+        seed: 1,
+    };
+    let mut words = std::env::args().skip(1);
+    while let Some(word) = words.next() {
+        let value = words.next()?.parse().ok()?;
+        match word.as_str() {
+            "--packets" => options.packets = value,
+            "--lists" => options.lists = value,
+            "--seed" => options.seed = value,
+            _ => return None,
+        }
+    }
+    Some(options)
+}
+
+fn main() -> ExitCode {
+    let Some(options) = options() else {
+        eprintln!("usage: fuzz [--packets N] [--lists N] [--seed N]");
+        return ExitCode::FAILURE;
+    };
+    let mut differences = 0;
+    let mut run = |name: &str, cases: u64, case: fn(u64) -> Option<String>| {
+        let start = Instant::now();
+        for seed in (options.seed..).take(cases as usize) {
+            if let Some(difference) = case(seed) {
+                differences += 1;
+                println!("{name}, seed {seed}: {difference}");
+            }
+        }
+        let seconds = start.elapsed().as_secs_f64();
+        println!("{cases} {name} in {seconds:.1} s");
+    };
+    run("packets read", options.packets, reading);
+    run("packets written", options.packets, writing);
+    run("lists to a sequencer", options.lists, sequencing);
+    run("lists to a member", options.lists, membership);
+    println!("{differences} differences");
+    if differences == 0 {
+        ExitCode::SUCCESS
+    } else {
+        ExitCode::FAILURE
+    }
+}
+
+/// A number that is likely to lie at an edge.
+fn number(random: &mut Random) -> u32 {
+    match random.below(8) {
+        0 => 0,
+        1 => 1,
+        2 => LARGEST,
+        3 => LARGEST - 1,
+        4 => random.bits() as u32,
+        _ => random.below(10) as u32,
+    }
+}
+
+fn header(random: &mut Random) -> Header {
+    let kind = random.one(&[0, 1, 1, 1, 2, 2, 2, 3, 3, 4, 4, 5, 5, 6, 255]);
+    let [mut a, mut b, mut c] = [(); 3].map(|()| number(random));
+    // Two thirds of the fields obey their kind.
+    if random.below(3) > 0 {
+        match kind {
+            1 => (b, c) = (b.max(1), 0),
+            2 => (a, b, c) = (a.max(1), b.max(1), c.min(a.max(1) - 1)),
+            3 => {
+                a = a.min(LARGEST - 1);
+                b = b.max(a + 1);
+                c = c.max(b);
+            }
+            4 => (b, c) = (0, 0),
+            _ => (b, c) = (0, c.min(a)),
+        }
+    }
+    let member = match random.below(4) {
+        0 => random.bits() as u8,
+        1 => random.below(17) as u8,
+        _ => 0,
+    };
+    Header {
+        kind,
+        member,
+        group: number(random),
+        a,
+        b,
+        c,
+    }
+}
+
+/// A packet: laid out by hand, so that it need not be an allowed one, and
+/// then left alone, damaged, cut or made longer; or any bytes.
+fn bytes(random: &mut Random) -> Vec<u8> {
+    if random.percent(10) {
+        let length = random.below(201);
+        return random.bytes(length);
+    }
+    let header = header(random);
+    let length = match random.below(6) {
+        0..3 => 0,
+        3 => random.one(&[1, PAYLOAD - 1, PAYLOAD, PAYLOAD + 1]),
+        _ => random.below(181),
+    };
+    let mut packet = vec![header.kind, header.member];
+    packet.extend((length as u16).to_be_bytes());
+    for word in [header.group, header.a, header.b, header.c] {
+        packet.extend(word.to_be_bytes());
+    }
+    packet.extend(random.bytes(length));
+    match random.below(8) {
+        0 => {
+            let at = random.below(packet.len());
+            packet[at] ^= 1 << random.below(8);
+        }
+        1 => packet.truncate(random.below(packet.len() + 1)),
+        2 => {
+            let more = random.below(20);
+            packet.extend(random.bytes(more));
+        }
+        3 => {
+            let at = random.below(HEADER);
+            packet[at] = random.bits() as u8;
+        }
+        _ => (),
+    }
+    packet
+}
+
+fn reading(seed: u64) -> Option<String> {
+    let differs = |packet: &[u8]| proved::read(packet) != reference::read(packet);
+    let packet = bytes(&mut Random::seeded(seed));
+    if !differs(&packet) {
+        return None;
+    }
+    let packet = plain(&shrink(&packet, differs), &0, differs);
+    let (here, there) = (proved::read(&packet), reference::read(&packet));
+    Some(format!(
+        "{packet:02x?} is {here:?}, in the reference {there:?}"
+    ))
+}
+
+fn writing(seed: u64) -> Option<String> {
+    let random = &mut Random::seeded(seed);
+    let header = header(random);
+    let length = match random.below(4) {
+        0 => 0,
+        1 => random.one(&[1, PAYLOAD - 1, PAYLOAD, PAYLOAD + 1]),
+        _ => random.below(201),
+    };
+    let payload = random.bytes(length);
+    let room = match random.below(4) {
+        0 => random.below(201),
+        1 => random.one(&[0, PACKET - 1, PACKET, PACKET + 1]),
+        _ => PACKET + random.below(40),
+    };
+    let lent = random.bytes(room);
+    let written = |payload: &[u8]| {
+        let (mut here, mut there) = (lent.clone(), lent.clone());
+        let answers = (
+            proved::write(&header, payload, &mut here),
+            reference::write(&header, payload, &mut there),
+        );
+        (answers, here, there)
+    };
+    let differs = |payload: &[u8]| {
+        let ((answer, other), here, there) = written(payload);
+        answer != other || here != there
+    };
+    if !differs(&payload) {
+        return None;
+    }
+    let payload = plain(&shrink(&payload, differs), &0, differs);
+    let ((answer, other), ..) = written(&payload);
+    Some(format!(
+        "{header:?} {payload:02x?} to {room} bytes is {answer:?}, in the reference {other:?}"
+    ))
+}
+
+/// A lent output: mostly with enough room.
+fn lent(random: &mut Random) -> Vec<u8> {
+    let room = if random.percent(5) {
+        random.below(PACKET)
+    } else {
+        PACKET + random.below(10)
+    };
+    random.bytes(room)
+}
+
+fn laid(kind: u8, member: u8, group: u32, [a, b, c]: [u32; 3], payload: &[u8]) -> Vec<u8> {
+    let header = Header {
+        kind,
+        member,
+        group,
+        a,
+        b,
+        c,
+    };
+    let mut out = [0; PACKET];
+    let length = packet::write(&header, payload, &mut out).unwrap_or(0);
+    out[..length].to_vec()
+}
+
+/// A number near another one.
+fn near(random: &mut Random, number: u32) -> u32 {
+    match random.below(10) {
+        0 => number.saturating_add(1),
+        1 => number.saturating_sub(1),
+        2 => random.below(40) as u32,
+        3 => random.bits() as u32,
+        _ => number,
+    }
+}
+
+fn payload(random: &mut Random) -> Vec<u8> {
+    let length = random.one(&[0, 0, 1, 2, 30, PAYLOAD]);
+    random.bytes(length)
+}
+
+/// Packets as its members might send them, and others.
+fn requests(random: &mut Random, n: u8, group: u32) -> Vec<Vec<u8>> {
+    let mut state = Sequencer::fresh(n.into(), group).expect("an allowed opening");
+    let many = random.below(90);
+    (0..many)
+        .map(|_| {
+            let member = random.below(usize::from(n)) as u8;
+            let count = state.counts[usize::from(member)];
+            let taken = random.one(&[state.floor, state.floor, state.top, 0, state.floor + 1]);
+            let packet = match random.below(20) {
+                0 => bytes(random),
+                1 => laid(4, member, near(random, group), [taken, 0, 0], &[]),
+                2..4 => laid(4, member, group, [near(random, taken), 0, 0], &[]),
+                4..6 => {
+                    let first = near(random, taken.saturating_add(1));
+                    let last = near(random, state.top);
+                    laid(3, member, group, [taken, first, last], &[])
+                }
+                6 => laid(2, member, group, [1, 1, 0], &[]),
+                7 => laid(1, near(random, n.into()) as u8, group, [0, 1, 0], &[]),
+                _ => {
+                    let next = near(random, count.saturating_add(1));
+                    laid(1, member, group, [taken, next, 0], &payload(random))
+                }
+            };
+            state.receive(&packet, &mut [0; PACKET]);
+            packet
+        })
+        .collect()
+}
+
+fn sequencing(seed: u64) -> Option<String> {
+    let random = &mut Random::seeded(seed);
+    let n = 1 + random.below(16) as u8;
+    let group = number(random);
+    let lent = lent(random);
+    let packets = requests(random, n, group);
+    let differs = |packets: &[Vec<u8>]| {
+        let list = list(packets);
+        let (mut here, mut there) = (lent.clone(), lent.clone());
+        let heard = &[];
+        let sum = proved::Sequencer { n, group, heard }.receive(&list, 1, &mut here);
+        let other = reference::Sequencer { n, group, heard }.receive(&list, 1, &mut there);
+        sum != other || here != there
+    };
+    // Every list that ends earlier too, for a few ends.
+    let cut = random.below(packets.len() + 1);
+    let packets = [&packets[..cut], &packets]
+        .into_iter()
+        .find(|packets| differs(packets))?;
+    let fewer = shrink(packets, differs);
+    Some(format!("n {n}, group {group}, packets {fewer:02x?}"))
+}
+
+/// Packets as its sequencer might send them, and others.
+fn broadcasts(random: &mut Random, n: u8, group: u32) -> Vec<Vec<u8>> {
+    let many = random.below(30);
+    (0..many)
+        .map(|_| {
+            let member = random.below(usize::from(n)) as u8;
+            let ahead = 1 + random.below(10) as u32;
+            match random.below(12) {
+                0 => bytes(random),
+                1 => laid(2, member, near(random, group), [ahead, 1, 0], &[]),
+                2 => laid(2, near(random, n.into()) as u8, group, [ahead, 1, 0], &[]),
+                3 => laid(random.one(&[1, 3, 4]), member, group, [0, 1, 1], &[]),
+                4..6 => laid(5, 0, group, [near(random, ahead), 0, 0], &[]),
+                _ => {
+                    let number = near(random, ahead).max(1);
+                    let count = near(random, number).max(1);
+                    laid(2, member, group, [number, count, 0], &payload(random))
+                }
+            }
+        })
+        .collect()
+}
+
+fn membership(seed: u64) -> Option<String> {
+    let random = &mut Random::seeded(seed);
+    let n = 1 + random.below(16) as u8;
+    let number_of = random.below(usize::from(n)) as u8;
+    let group = number(random);
+    let lent = lent(random);
+    let text = payload(random);
+    let packets = broadcasts(random, n, group);
+    let differs = |packets: &[Vec<u8>]| {
+        let list = list(packets);
+        let (mut here, mut there) = (lent.clone(), lent.clone());
+        let member = proved::Member {
+            n,
+            number: number_of,
+            group,
+            heard: &[],
+        };
+        let other = reference::Member {
+            n,
+            number: number_of,
+            group,
+            heard: &[],
+        };
+        if member.receive(&list, 1, &mut here) != other.receive(&list, 1, &mut there) {
+            return true;
+        }
+        let member = proved::Member {
+            heard: &list,
+            ..member
+        };
+        let other = reference::Member {
+            heard: &list,
+            ..other
+        };
+        // Each call that is not for packets, in the state after the list.
+        member.take(9, 1, &mut here) != other.take(9, 1, &mut there)
+            || here != there
+            || member.submit(&text, 1, &mut here) != other.submit(&text, 1, &mut there)
+            || here != there
+            || member.repeat(&text, 1, &mut here) != other.repeat(&text, 1, &mut there)
+            || here != there
+            || member.status(1, &mut here) != other.status(1, &mut there)
+            || here != there
+    };
+    if !differs(&packets) {
+        return None;
+    }
+    let fewer = shrink(&packets, differs);
+    Some(format!(
+        "n {n}, member {number_of}, group {group}, packets {fewer:02x?}"
+    ))
+}

@@ -1,0 +1,23 @@
+//! The proved library from Rust, and beside it the same rounds of calls on
+//! the reference.
+//!
+//! [`proved`] wraps every function that crosses the boundary in a safe one;
+//! [`reference`] has a function of the same shape for each. Both sum up the
+//! answers in the same way, so equal sums mean equal answers.
+
+pub mod proved;
+pub mod reference;
+pub mod shrink;
+
+/// A list of packets as both sides take it: a byte with its length stands
+/// before each. Longer ones are cut at 255 bytes.
+pub fn list(packets: impl IntoIterator<Item = impl AsRef<[u8]>>) -> Vec<u8> {
+    let mut list = Vec::new();
+    for packet in packets {
+        let packet = packet.as_ref();
+        let packet = &packet[..packet.len().min(255)];
+        list.push(packet.len() as u8);
+        list.extend(packet);
+    }
+    list
+}

@@ -1,0 +1,377 @@
+//! The functions of the proved library.
+//!
+//! A slice crosses as its address and its length, an array as its address.
+//! No function keeps an address, and each is proved to read and write within
+//! the slices that it is lent.
+
+use model::packet::Header;
+
+mod ffi {
+    unsafe extern "C" {
+        pub fn boundary_read(packet: *const u8, size: usize, fields: *mut [u32; 6]) -> u8;
+        pub fn boundary_write(
+            kind: u8,
+            member: u8,
+            group: u32,
+            a: u32,
+            b: u32,
+            c: u32,
+            payload: *const u8,
+            size: usize,
+            out: *mut u8,
+            room: usize,
+        ) -> usize;
+        pub fn boundary_read_list(sum: u64, packets: *const u8, size: usize) -> u64;
+        pub fn boundary_write_rounds(
+            kind: u8,
+            b: u32,
+            c: u32,
+            payload: *const u8,
+            size: usize,
+            rounds: u32,
+            out: *mut u8,
+            room: usize,
+        ) -> u64;
+        pub fn boundary_sequencer_receive(
+            n: u8,
+            group: u32,
+            heard: *const u8,
+            heard_size: usize,
+            packets: *const u8,
+            size: usize,
+            rounds: u32,
+            out: *mut u8,
+            room: usize,
+        ) -> u64;
+        pub fn boundary_sequencer_poll(
+            n: u8,
+            group: u32,
+            heard: *const u8,
+            heard_size: usize,
+            rounds: u32,
+            out: *mut u8,
+            room: usize,
+        ) -> u64;
+        pub fn boundary_sequencer_copy(
+            n: u8,
+            group: u32,
+            heard: *const u8,
+            heard_size: usize,
+            number: u32,
+            rounds: u32,
+            out: *mut u8,
+            room: usize,
+        ) -> u64;
+        pub fn boundary_member_receive(
+            n: u8,
+            number: u8,
+            group: u32,
+            heard: *const u8,
+            heard_size: usize,
+            packets: *const u8,
+            size: usize,
+            rounds: u32,
+            out: *mut u8,
+            room: usize,
+        ) -> u64;
+        pub fn boundary_member_submit(
+            n: u8,
+            number: u8,
+            group: u32,
+            heard: *const u8,
+            heard_size: usize,
+            payload: *const u8,
+            size: usize,
+            rounds: u32,
+            out: *mut u8,
+            room: usize,
+        ) -> u64;
+        pub fn boundary_member_repeat(
+            n: u8,
+            number: u8,
+            group: u32,
+            heard: *const u8,
+            heard_size: usize,
+            payload: *const u8,
+            size: usize,
+            rounds: u32,
+            out: *mut u8,
+            room: usize,
+        ) -> u64;
+        pub fn boundary_member_take(
+            n: u8,
+            number: u8,
+            group: u32,
+            heard: *const u8,
+            heard_size: usize,
+            calls: u32,
+            rounds: u32,
+            out: *mut u8,
+            room: usize,
+        ) -> u64;
+        pub fn boundary_member_status(
+            n: u8,
+            number: u8,
+            group: u32,
+            heard: *const u8,
+            heard_size: usize,
+            rounds: u32,
+            out: *mut u8,
+            room: usize,
+        ) -> u64;
+    }
+}
+
+/// Reads a packet: its fields, or the number of the refusal.
+pub fn read(packet: &[u8]) -> Result<Header, u8> {
+    let mut fields = [0; 6];
+    // SAFETY: the slice and the array live through the call.
+    let refusal = unsafe { ffi::boundary_read(packet.as_ptr(), packet.len(), &mut fields) };
+    if refusal != 0 {
+        return Err(refusal);
+    }
+    let [kind, member, group, a, b, c] = fields;
+    Ok(Header {
+        kind: kind as u8,
+        member: member as u8,
+        group,
+        a,
+        b,
+        c,
+    })
+}
+
+/// Writes a packet: how many bytes, or the number of the refusal.
+pub fn write(header: &Header, payload: &[u8], out: &mut [u8]) -> Result<usize, u8> {
+    let Header {
+        kind,
+        member,
+        group,
+        a,
+        b,
+        c,
+    } = *header;
+    // SAFETY: the slices live through the call, and the lent one is not the other.
+    let written = unsafe {
+        ffi::boundary_write(
+            kind,
+            member,
+            group,
+            a,
+            b,
+            c,
+            payload.as_ptr(),
+            payload.len(),
+            out.as_mut_ptr(),
+            out.len(),
+        )
+    };
+    // A packet has at least 20 bytes; the numbers of refusals end at 18.
+    if written < 20 {
+        Err(written as u8)
+    } else {
+        Ok(written)
+    }
+}
+
+/// Reads a list of packets so many times.
+pub fn read_rounds(packets: &[u8], rounds: u32) -> u64 {
+    (0..rounds).fold(0, |sum, _| {
+        // SAFETY: the slice lives through the call.
+        unsafe { ffi::boundary_read_list(sum, packets.as_ptr(), packets.len()) }
+    })
+}
+
+/// Writes a packet so many times, with A from `rounds` down to 1.
+pub fn write_rounds(
+    kind: u8,
+    [b, c]: [u32; 2],
+    payload: &[u8],
+    rounds: u32,
+    out: &mut [u8],
+) -> u64 {
+    // SAFETY: the slices live through the call, and the lent one is not the other.
+    unsafe {
+        ffi::boundary_write_rounds(
+            kind,
+            b,
+            c,
+            payload.as_ptr(),
+            payload.len(),
+            rounds,
+            out.as_mut_ptr(),
+            out.len(),
+        )
+    }
+}
+
+/// A sequencer that has heard a list of packets since it was fresh.
+#[derive(Clone, Copy, Debug)]
+pub struct Sequencer<'a> {
+    /// Members of the group.
+    pub n: u8,
+    /// The group number.
+    pub group: u32,
+    /// What it has heard.
+    pub heard: &'a [u8],
+}
+
+impl Sequencer<'_> {
+    /// Rounds of handing it a list of packets, each time in the same state.
+    pub fn receive(self, packets: &[u8], rounds: u32, out: &mut [u8]) -> u64 {
+        // SAFETY: the slices live through the call, and the lent one is not another.
+        unsafe {
+            ffi::boundary_sequencer_receive(
+                self.n,
+                self.group,
+                self.heard.as_ptr(),
+                self.heard.len(),
+                packets.as_ptr(),
+                packets.len(),
+                rounds,
+                out.as_mut_ptr(),
+                out.len(),
+            )
+        }
+    }
+
+    /// Rounds of the poll call.
+    pub fn poll(self, rounds: u32, out: &mut [u8]) -> u64 {
+        // SAFETY: as above.
+        unsafe {
+            ffi::boundary_sequencer_poll(
+                self.n,
+                self.group,
+                self.heard.as_ptr(),
+                self.heard.len(),
+                rounds,
+                out.as_mut_ptr(),
+                out.len(),
+            )
+        }
+    }
+
+    /// Rounds of the copy call.
+    pub fn copy(self, number: u32, rounds: u32, out: &mut [u8]) -> u64 {
+        // SAFETY: as above.
+        unsafe {
+            ffi::boundary_sequencer_copy(
+                self.n,
+                self.group,
+                self.heard.as_ptr(),
+                self.heard.len(),
+                number,
+                rounds,
+                out.as_mut_ptr(),
+                out.len(),
+            )
+        }
+    }
+}
+
+/// A member that has heard a list of packets since it was fresh.
+#[derive(Clone, Copy, Debug)]
+pub struct Member<'a> {
+    /// Members of the group.
+    pub n: u8,
+    /// Its number.
+    pub number: u8,
+    /// The group number.
+    pub group: u32,
+    /// What it has heard.
+    pub heard: &'a [u8],
+}
+
+impl Member<'_> {
+    /// Rounds of handing it a list of packets, each time in the same state.
+    pub fn receive(self, packets: &[u8], rounds: u32, out: &mut [u8]) -> u64 {
+        // SAFETY: the slices live through the call, and the lent one is not another.
+        unsafe {
+            ffi::boundary_member_receive(
+                self.n,
+                self.number,
+                self.group,
+                self.heard.as_ptr(),
+                self.heard.len(),
+                packets.as_ptr(),
+                packets.len(),
+                rounds,
+                out.as_mut_ptr(),
+                out.len(),
+            )
+        }
+    }
+
+    /// Rounds of the submit call, each time in the same state; then a status call.
+    pub fn submit(self, payload: &[u8], rounds: u32, out: &mut [u8]) -> u64 {
+        // SAFETY: as above.
+        unsafe {
+            ffi::boundary_member_submit(
+                self.n,
+                self.number,
+                self.group,
+                self.heard.as_ptr(),
+                self.heard.len(),
+                payload.as_ptr(),
+                payload.len(),
+                rounds,
+                out.as_mut_ptr(),
+                out.len(),
+            )
+        }
+    }
+
+    /// Submits once, then rounds of the repeat call.
+    pub fn repeat(self, payload: &[u8], rounds: u32, out: &mut [u8]) -> u64 {
+        // SAFETY: as above.
+        unsafe {
+            ffi::boundary_member_repeat(
+                self.n,
+                self.number,
+                self.group,
+                self.heard.as_ptr(),
+                self.heard.len(),
+                payload.as_ptr(),
+                payload.len(),
+                rounds,
+                out.as_mut_ptr(),
+                out.len(),
+            )
+        }
+    }
+
+    /// Rounds of so many take calls, each round in the same state.
+    pub fn take(self, calls: u32, rounds: u32, out: &mut [u8]) -> u64 {
+        // SAFETY: as above.
+        unsafe {
+            ffi::boundary_member_take(
+                self.n,
+                self.number,
+                self.group,
+                self.heard.as_ptr(),
+                self.heard.len(),
+                calls,
+                rounds,
+                out.as_mut_ptr(),
+                out.len(),
+            )
+        }
+    }
+
+    /// Rounds of the status call.
+    pub fn status(self, rounds: u32, out: &mut [u8]) -> u64 {
+        // SAFETY: as above.
+        unsafe {
+            ffi::boundary_member_status(
+                self.n,
+                self.number,
+                self.group,
+                self.heard.as_ptr(),
+                self.heard.len(),
+                rounds,
+                out.as_mut_ptr(),
+                out.len(),
+            )
+        }
+    }
+}

@@ -1,0 +1,241 @@
+//! The same rounds of calls on the reference. The state stands behind a
+//! black box at each call, so that no work is drawn out of a loop.
+
+use model::packet::{self, Header};
+use model::{Answer, member, sequencer};
+use std::hint::black_box;
+
+/// Takes a value into a running sum.
+fn mix(sum: u64, value: u64) -> u64 {
+    sum.wrapping_mul(3).wrapping_add(value)
+}
+
+/// An answer as a number.
+fn code(answer: Answer) -> u64 {
+    match answer {
+        Answer::Refused(refusal) => refusal.number().into(),
+        Answer::Old => 32,
+        Answer::Full => 33,
+        Answer::Noted => 34,
+        Answer::Sent => 35,
+        Answer::Again(number) => mix(36, number.into()),
+        Answer::Numbered(number) => mix(37, number.into()),
+        Answer::Wanted(first, last) => mix(mix(38, first.into()), last.into()),
+        Answer::Kept => 48,
+        Answer::KeptGap => 49,
+        Answer::Beyond => 50,
+        Answer::BeyondGap => 51,
+        Answer::Gap => 52,
+        Answer::Status => 53,
+        Answer::None => 54,
+        Answer::Took {
+            number,
+            originator,
+            count,
+            more,
+        } => [number, originator.into(), count, more.into()]
+            .iter()
+            .fold(55, |sum, &value| mix(sum, value.into())),
+    }
+}
+
+fn summed(sum: u64, (answer, written): (Answer, usize)) -> u64 {
+    mix(mix(sum, code(answer)), written as u64)
+}
+
+/// The packets of a list; a last one that is cut off is left out.
+fn packets(mut list: &[u8]) -> impl Iterator<Item = &[u8]> {
+    std::iter::from_fn(move || {
+        let (&size, rest) = list.split_first()?;
+        let (packet, rest) = rest.split_at_checked(size.into())?;
+        list = rest;
+        Some(packet)
+    })
+}
+
+/// Reads a packet: its fields, or the number of the refusal.
+pub fn read(packet: &[u8]) -> Result<Header, u8> {
+    packet::read(packet).map_err(|refusal| refusal.number())
+}
+
+/// Writes a packet: how many bytes, or the number of the refusal.
+pub fn write(header: &Header, payload: &[u8], out: &mut [u8]) -> Result<usize, u8> {
+    packet::write(header, payload, out).map_err(|refusal| refusal.number())
+}
+
+#[inline(never)]
+fn read_list(sum: u64, list: &[u8]) -> u64 {
+    packets(list).fold(sum, |sum, packet| match packet::read(packet) {
+        Ok(header) => [
+            header.kind.into(),
+            header.member.into(),
+            header.group,
+            header.a,
+            header.b,
+            header.c,
+        ]
+        .iter()
+        .fold(sum, |sum, &field: &u32| mix(sum, field.into())),
+        Err(refusal) => mix(sum, refusal.number().into()),
+    })
+}
+
+/// Reads a list of packets so many times.
+pub fn read_rounds(packets: &[u8], rounds: u32) -> u64 {
+    (0..rounds).fold(0, |sum, _| read_list(sum, black_box(packets)))
+}
+
+/// Writes a packet so many times, with A from `rounds` down to 1.
+#[inline(never)]
+pub fn write_rounds(
+    kind: u8,
+    [b, c]: [u32; 2],
+    payload: &[u8],
+    rounds: u32,
+    out: &mut [u8],
+) -> u64 {
+    (1..=rounds).rev().fold(0, |sum, a| {
+        let header = Header {
+            kind,
+            member: 0,
+            group: 7,
+            a,
+            b,
+            c,
+        };
+        let written = write(&header, payload, out);
+        mix(sum, written.map_or_else(u64::from, |bytes| bytes as u64))
+    })
+}
+
+/// A sequencer that has heard a list of packets since it was fresh.
+#[derive(Clone, Copy, Debug)]
+pub struct Sequencer<'a> {
+    /// Members of the group.
+    pub n: u8,
+    /// The group number.
+    pub group: u32,
+    /// What it has heard.
+    pub heard: &'a [u8],
+}
+
+impl Sequencer<'_> {
+    fn state(self, out: &mut [u8]) -> sequencer::Sequencer {
+        let mut state = sequencer::Sequencer::fresh(self.n.into(), self.group).unwrap();
+        for packet in packets(self.heard) {
+            state.receive(packet, out);
+        }
+        state
+    }
+
+    /// Rounds of handing it a list of packets, each time in the same state.
+    #[inline(never)]
+    pub fn receive(self, list: &[u8], rounds: u32, out: &mut [u8]) -> u64 {
+        let start = self.state(out);
+        let mut state = start.clone();
+        let mut sum = 0;
+        for _ in 0..rounds {
+            state.clone_from(&start);
+            for packet in packets(list) {
+                sum = summed(sum, black_box(&mut state).receive(packet, out));
+            }
+        }
+        sum
+    }
+
+    /// Rounds of the poll call.
+    #[inline(never)]
+    pub fn poll(self, rounds: u32, out: &mut [u8]) -> u64 {
+        let state = self.state(out);
+        (0..rounds).fold(0, |sum, _| summed(sum, black_box(&state).poll(out)))
+    }
+
+    /// Rounds of the copy call.
+    #[inline(never)]
+    pub fn copy(self, number: u32, rounds: u32, out: &mut [u8]) -> u64 {
+        let state = self.state(out);
+        (0..rounds).fold(0, |sum, _| summed(sum, black_box(&state).copy(number, out)))
+    }
+}
+
+/// A member that has heard a list of packets since it was fresh.
+#[derive(Clone, Copy, Debug)]
+pub struct Member<'a> {
+    /// Members of the group.
+    pub n: u8,
+    /// Its number.
+    pub number: u8,
+    /// The group number.
+    pub group: u32,
+    /// What it has heard.
+    pub heard: &'a [u8],
+}
+
+impl Member<'_> {
+    fn state(self, out: &mut [u8]) -> member::Member {
+        let (n, number) = (self.n.into(), self.number.into());
+        let mut state = member::Member::fresh(n, number, self.group).unwrap();
+        for packet in packets(self.heard) {
+            state.receive(packet, out);
+        }
+        state
+    }
+
+    /// Rounds of handing it a list of packets, each time in the same state.
+    #[inline(never)]
+    pub fn receive(self, list: &[u8], rounds: u32, out: &mut [u8]) -> u64 {
+        let start = self.state(out);
+        let mut state = start.clone();
+        let mut sum = 0;
+        for _ in 0..rounds {
+            state.clone_from(&start);
+            for packet in packets(list) {
+                sum = summed(sum, black_box(&mut state).receive(packet, out));
+            }
+        }
+        sum
+    }
+
+    /// Rounds of the submit call, each time in the same state; then a status call.
+    #[inline(never)]
+    pub fn submit(self, payload: &[u8], rounds: u32, out: &mut [u8]) -> u64 {
+        let start = self.state(out);
+        let mut state = start.clone();
+        let mut sum = 0;
+        for _ in 0..rounds {
+            state.clone_from(&start);
+            sum = summed(sum, black_box(&mut state).submit(payload, out));
+        }
+        summed(sum, state.status(out))
+    }
+
+    /// Submits once, then rounds of the repeat call.
+    #[inline(never)]
+    pub fn repeat(self, payload: &[u8], rounds: u32, out: &mut [u8]) -> u64 {
+        let mut state = self.state(out);
+        state.submit(payload, out);
+        (0..rounds).fold(0, |sum, _| summed(sum, black_box(&state).repeat(out)))
+    }
+
+    /// Rounds of so many take calls, each round in the same state.
+    #[inline(never)]
+    pub fn take(self, calls: u32, rounds: u32, out: &mut [u8]) -> u64 {
+        let start = self.state(out);
+        let mut state = start.clone();
+        let mut sum = 0;
+        for _ in 0..rounds {
+            state.clone_from(&start);
+            for _ in 0..calls {
+                sum = summed(sum, black_box(&mut state).take(out));
+            }
+        }
+        sum
+    }
+
+    /// Rounds of the status call.
+    #[inline(never)]
+    pub fn status(self, rounds: u32, out: &mut [u8]) -> u64 {
+        let state = self.state(out);
+        (0..rounds).fold(0, |sum, _| summed(sum, black_box(&state).status(out)))
+    }
+}

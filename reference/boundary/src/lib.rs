@@ -9,6 +9,30 @@ pub mod proved;
 pub mod reference;
 pub mod shrink;
 
+/// A sequencer that has heard a list of packets since it was fresh.
+#[derive(Clone, Copy, Debug)]
+pub struct Sequencer<'a> {
+    /// Members of the group.
+    pub n: u8,
+    /// The group number.
+    pub group: u32,
+    /// What it has heard.
+    pub heard: &'a [u8],
+}
+
+/// A member that has heard a list of packets since it was fresh.
+#[derive(Clone, Copy, Debug)]
+pub struct Member<'a> {
+    /// Members of the group.
+    pub n: u8,
+    /// Its number.
+    pub number: u8,
+    /// The group number.
+    pub group: u32,
+    /// What it has heard.
+    pub heard: &'a [u8],
+}
+
 /// A list of packets as both sides take it: a byte with its length stands
 /// before each. Longer ones are cut at 255 bytes.
 pub fn list(packets: impl IntoIterator<Item = impl AsRef<[u8]>>) -> Vec<u8> {

@@ -4,6 +4,7 @@
 //! No function keeps an address, and each is proved to read and write within
 //! the slices that it is lent.
 
+use crate::{Member, Sequencer};
 use model::packet::Header;
 
 mod ffi {
@@ -205,173 +206,145 @@ pub fn write_rounds(
     }
 }
 
-/// A sequencer that has heard a list of packets since it was fresh.
-#[derive(Clone, Copy, Debug)]
-pub struct Sequencer<'a> {
-    /// Members of the group.
-    pub n: u8,
-    /// The group number.
-    pub group: u32,
-    /// What it has heard.
-    pub heard: &'a [u8],
-}
-
-impl Sequencer<'_> {
-    /// Rounds of handing it a list of packets, each time in the same state.
-    pub fn receive(self, packets: &[u8], rounds: u32, out: &mut [u8]) -> u64 {
-        // SAFETY: the slices live through the call, and the lent one is not another.
-        unsafe {
-            ffi::boundary_sequencer_receive(
-                self.n,
-                self.group,
-                self.heard.as_ptr(),
-                self.heard.len(),
-                packets.as_ptr(),
-                packets.len(),
-                rounds,
-                out.as_mut_ptr(),
-                out.len(),
-            )
-        }
-    }
-
-    /// Rounds of the poll call.
-    pub fn poll(self, rounds: u32, out: &mut [u8]) -> u64 {
-        // SAFETY: as above.
-        unsafe {
-            ffi::boundary_sequencer_poll(
-                self.n,
-                self.group,
-                self.heard.as_ptr(),
-                self.heard.len(),
-                rounds,
-                out.as_mut_ptr(),
-                out.len(),
-            )
-        }
-    }
-
-    /// Rounds of the copy call.
-    pub fn copy(self, number: u32, rounds: u32, out: &mut [u8]) -> u64 {
-        // SAFETY: as above.
-        unsafe {
-            ffi::boundary_sequencer_copy(
-                self.n,
-                self.group,
-                self.heard.as_ptr(),
-                self.heard.len(),
-                number,
-                rounds,
-                out.as_mut_ptr(),
-                out.len(),
-            )
-        }
+/// Rounds of handing a sequencer a list of packets, each time in the same state.
+pub fn sequencer_receive(end: Sequencer<'_>, packets: &[u8], rounds: u32, out: &mut [u8]) -> u64 {
+    // SAFETY: the slices live through the call, and the lent one is not another.
+    unsafe {
+        ffi::boundary_sequencer_receive(
+            end.n,
+            end.group,
+            end.heard.as_ptr(),
+            end.heard.len(),
+            packets.as_ptr(),
+            packets.len(),
+            rounds,
+            out.as_mut_ptr(),
+            out.len(),
+        )
     }
 }
 
-/// A member that has heard a list of packets since it was fresh.
-#[derive(Clone, Copy, Debug)]
-pub struct Member<'a> {
-    /// Members of the group.
-    pub n: u8,
-    /// Its number.
-    pub number: u8,
-    /// The group number.
-    pub group: u32,
-    /// What it has heard.
-    pub heard: &'a [u8],
+/// Rounds of the poll call.
+pub fn sequencer_poll(end: Sequencer<'_>, rounds: u32, out: &mut [u8]) -> u64 {
+    // SAFETY: as above.
+    unsafe {
+        ffi::boundary_sequencer_poll(
+            end.n,
+            end.group,
+            end.heard.as_ptr(),
+            end.heard.len(),
+            rounds,
+            out.as_mut_ptr(),
+            out.len(),
+        )
+    }
 }
 
-impl Member<'_> {
-    /// Rounds of handing it a list of packets, each time in the same state.
-    pub fn receive(self, packets: &[u8], rounds: u32, out: &mut [u8]) -> u64 {
-        // SAFETY: the slices live through the call, and the lent one is not another.
-        unsafe {
-            ffi::boundary_member_receive(
-                self.n,
-                self.number,
-                self.group,
-                self.heard.as_ptr(),
-                self.heard.len(),
-                packets.as_ptr(),
-                packets.len(),
-                rounds,
-                out.as_mut_ptr(),
-                out.len(),
-            )
-        }
+/// Rounds of the copy call.
+pub fn sequencer_copy(end: Sequencer<'_>, number: u32, rounds: u32, out: &mut [u8]) -> u64 {
+    // SAFETY: as above.
+    unsafe {
+        ffi::boundary_sequencer_copy(
+            end.n,
+            end.group,
+            end.heard.as_ptr(),
+            end.heard.len(),
+            number,
+            rounds,
+            out.as_mut_ptr(),
+            out.len(),
+        )
     }
+}
 
-    /// Rounds of the submit call, each time in the same state; then a status call.
-    pub fn submit(self, payload: &[u8], rounds: u32, out: &mut [u8]) -> u64 {
-        // SAFETY: as above.
-        unsafe {
-            ffi::boundary_member_submit(
-                self.n,
-                self.number,
-                self.group,
-                self.heard.as_ptr(),
-                self.heard.len(),
-                payload.as_ptr(),
-                payload.len(),
-                rounds,
-                out.as_mut_ptr(),
-                out.len(),
-            )
-        }
+/// Rounds of handing a member a list of packets, each time in the same state.
+pub fn member_receive(end: Member<'_>, packets: &[u8], rounds: u32, out: &mut [u8]) -> u64 {
+    // SAFETY: the slices live through the call, and the lent one is not another.
+    unsafe {
+        ffi::boundary_member_receive(
+            end.n,
+            end.number,
+            end.group,
+            end.heard.as_ptr(),
+            end.heard.len(),
+            packets.as_ptr(),
+            packets.len(),
+            rounds,
+            out.as_mut_ptr(),
+            out.len(),
+        )
     }
+}
 
-    /// Submits once, then rounds of the repeat call.
-    pub fn repeat(self, payload: &[u8], rounds: u32, out: &mut [u8]) -> u64 {
-        // SAFETY: as above.
-        unsafe {
-            ffi::boundary_member_repeat(
-                self.n,
-                self.number,
-                self.group,
-                self.heard.as_ptr(),
-                self.heard.len(),
-                payload.as_ptr(),
-                payload.len(),
-                rounds,
-                out.as_mut_ptr(),
-                out.len(),
-            )
-        }
+/// Rounds of the submit call, each time in the same state; then a status call.
+pub fn member_submit(end: Member<'_>, payload: &[u8], rounds: u32, out: &mut [u8]) -> u64 {
+    // SAFETY: as above.
+    unsafe {
+        ffi::boundary_member_submit(
+            end.n,
+            end.number,
+            end.group,
+            end.heard.as_ptr(),
+            end.heard.len(),
+            payload.as_ptr(),
+            payload.len(),
+            rounds,
+            out.as_mut_ptr(),
+            out.len(),
+        )
     }
+}
 
-    /// Rounds of so many take calls, each round in the same state.
-    pub fn take(self, calls: u32, rounds: u32, out: &mut [u8]) -> u64 {
-        // SAFETY: as above.
-        unsafe {
-            ffi::boundary_member_take(
-                self.n,
-                self.number,
-                self.group,
-                self.heard.as_ptr(),
-                self.heard.len(),
-                calls,
-                rounds,
-                out.as_mut_ptr(),
-                out.len(),
-            )
-        }
+/// Submits once, then rounds of the repeat call.
+pub fn member_repeat(end: Member<'_>, payload: &[u8], rounds: u32, out: &mut [u8]) -> u64 {
+    // SAFETY: as above.
+    unsafe {
+        ffi::boundary_member_repeat(
+            end.n,
+            end.number,
+            end.group,
+            end.heard.as_ptr(),
+            end.heard.len(),
+            payload.as_ptr(),
+            payload.len(),
+            rounds,
+            out.as_mut_ptr(),
+            out.len(),
+        )
     }
+}
 
-    /// Rounds of the status call.
-    pub fn status(self, rounds: u32, out: &mut [u8]) -> u64 {
-        // SAFETY: as above.
-        unsafe {
-            ffi::boundary_member_status(
-                self.n,
-                self.number,
-                self.group,
-                self.heard.as_ptr(),
-                self.heard.len(),
-                rounds,
-                out.as_mut_ptr(),
-                out.len(),
-            )
-        }
+/// Rounds of so many take calls, each round in the same state.
+pub fn member_take(end: Member<'_>, calls: u32, rounds: u32, out: &mut [u8]) -> u64 {
+    // SAFETY: as above.
+    unsafe {
+        ffi::boundary_member_take(
+            end.n,
+            end.number,
+            end.group,
+            end.heard.as_ptr(),
+            end.heard.len(),
+            calls,
+            rounds,
+            out.as_mut_ptr(),
+            out.len(),
+        )
+    }
+}
+
+/// Rounds of the status call.
+pub fn member_status(end: Member<'_>, rounds: u32, out: &mut [u8]) -> u64 {
+    // SAFETY: as above.
+    unsafe {
+        ffi::boundary_member_status(
+            end.n,
+            end.number,
+            end.group,
+            end.heard.as_ptr(),
+            end.heard.len(),
+            rounds,
+            out.as_mut_ptr(),
+            out.len(),
+        )
     }
 }

@@ -1,6 +1,7 @@
 //! The same rounds of calls on the reference. The state stands behind a
 //! black box at each call, so that no work is drawn out of a loop.
 
+use crate::{Member, Sequencer};
 use model::packet::{self, Header};
 use model::{Answer, member, sequencer};
 use std::hint::black_box;
@@ -108,134 +109,106 @@ pub fn write_rounds(
     })
 }
 
-/// A sequencer that has heard a list of packets since it was fresh.
-#[derive(Clone, Copy, Debug)]
-pub struct Sequencer<'a> {
-    /// Members of the group.
-    pub n: u8,
-    /// The group number.
-    pub group: u32,
-    /// What it has heard.
-    pub heard: &'a [u8],
+fn sequencer_state(end: Sequencer<'_>, out: &mut [u8]) -> sequencer::Sequencer {
+    let mut state = sequencer::Sequencer::fresh(end.n.into(), end.group).unwrap();
+    for packet in packets(end.heard) {
+        state.receive(packet, out);
+    }
+    state
 }
 
-impl Sequencer<'_> {
-    fn state(self, out: &mut [u8]) -> sequencer::Sequencer {
-        let mut state = sequencer::Sequencer::fresh(self.n.into(), self.group).unwrap();
-        for packet in packets(self.heard) {
-            state.receive(packet, out);
+/// Rounds of handing a sequencer a list of packets, each time in the same state.
+#[inline(never)]
+pub fn sequencer_receive(end: Sequencer<'_>, list: &[u8], rounds: u32, out: &mut [u8]) -> u64 {
+    let start = sequencer_state(end, out);
+    let mut state = start.clone();
+    let mut sum = 0;
+    for _ in 0..rounds {
+        state.clone_from(&start);
+        for packet in packets(list) {
+            sum = summed(sum, black_box(&mut state).receive(packet, out));
         }
-        state
     }
-
-    /// Rounds of handing it a list of packets, each time in the same state.
-    #[inline(never)]
-    pub fn receive(self, list: &[u8], rounds: u32, out: &mut [u8]) -> u64 {
-        let start = self.state(out);
-        let mut state = start.clone();
-        let mut sum = 0;
-        for _ in 0..rounds {
-            state.clone_from(&start);
-            for packet in packets(list) {
-                sum = summed(sum, black_box(&mut state).receive(packet, out));
-            }
-        }
-        sum
-    }
-
-    /// Rounds of the poll call.
-    #[inline(never)]
-    pub fn poll(self, rounds: u32, out: &mut [u8]) -> u64 {
-        let state = self.state(out);
-        (0..rounds).fold(0, |sum, _| summed(sum, black_box(&state).poll(out)))
-    }
-
-    /// Rounds of the copy call.
-    #[inline(never)]
-    pub fn copy(self, number: u32, rounds: u32, out: &mut [u8]) -> u64 {
-        let state = self.state(out);
-        (0..rounds).fold(0, |sum, _| summed(sum, black_box(&state).copy(number, out)))
-    }
+    sum
 }
 
-/// A member that has heard a list of packets since it was fresh.
-#[derive(Clone, Copy, Debug)]
-pub struct Member<'a> {
-    /// Members of the group.
-    pub n: u8,
-    /// Its number.
-    pub number: u8,
-    /// The group number.
-    pub group: u32,
-    /// What it has heard.
-    pub heard: &'a [u8],
+/// Rounds of the poll call.
+#[inline(never)]
+pub fn sequencer_poll(end: Sequencer<'_>, rounds: u32, out: &mut [u8]) -> u64 {
+    let state = sequencer_state(end, out);
+    (0..rounds).fold(0, |sum, _| summed(sum, black_box(&state).poll(out)))
 }
 
-impl Member<'_> {
-    fn state(self, out: &mut [u8]) -> member::Member {
-        let (n, number) = (self.n.into(), self.number.into());
-        let mut state = member::Member::fresh(n, number, self.group).unwrap();
-        for packet in packets(self.heard) {
-            state.receive(packet, out);
+/// Rounds of the copy call.
+#[inline(never)]
+pub fn sequencer_copy(end: Sequencer<'_>, number: u32, rounds: u32, out: &mut [u8]) -> u64 {
+    let state = sequencer_state(end, out);
+    (0..rounds).fold(0, |sum, _| summed(sum, black_box(&state).copy(number, out)))
+}
+
+fn member_state(end: Member<'_>, out: &mut [u8]) -> member::Member {
+    let (n, number) = (end.n.into(), end.number.into());
+    let mut state = member::Member::fresh(n, number, end.group).unwrap();
+    for packet in packets(end.heard) {
+        state.receive(packet, out);
+    }
+    state
+}
+
+/// Rounds of handing a member a list of packets, each time in the same state.
+#[inline(never)]
+pub fn member_receive(end: Member<'_>, list: &[u8], rounds: u32, out: &mut [u8]) -> u64 {
+    let start = member_state(end, out);
+    let mut state = start.clone();
+    let mut sum = 0;
+    for _ in 0..rounds {
+        state.clone_from(&start);
+        for packet in packets(list) {
+            sum = summed(sum, black_box(&mut state).receive(packet, out));
         }
-        state
     }
+    sum
+}
 
-    /// Rounds of handing it a list of packets, each time in the same state.
-    #[inline(never)]
-    pub fn receive(self, list: &[u8], rounds: u32, out: &mut [u8]) -> u64 {
-        let start = self.state(out);
-        let mut state = start.clone();
-        let mut sum = 0;
-        for _ in 0..rounds {
-            state.clone_from(&start);
-            for packet in packets(list) {
-                sum = summed(sum, black_box(&mut state).receive(packet, out));
-            }
+/// Rounds of the submit call, each time in the same state; then a status call.
+#[inline(never)]
+pub fn member_submit(end: Member<'_>, payload: &[u8], rounds: u32, out: &mut [u8]) -> u64 {
+    let start = member_state(end, out);
+    let mut state = start.clone();
+    let mut sum = 0;
+    for _ in 0..rounds {
+        state.clone_from(&start);
+        sum = summed(sum, black_box(&mut state).submit(payload, out));
+    }
+    summed(sum, state.status(out))
+}
+
+/// Submits once, then rounds of the repeat call.
+#[inline(never)]
+pub fn member_repeat(end: Member<'_>, payload: &[u8], rounds: u32, out: &mut [u8]) -> u64 {
+    let mut state = member_state(end, out);
+    state.submit(payload, out);
+    (0..rounds).fold(0, |sum, _| summed(sum, black_box(&state).repeat(out)))
+}
+
+/// Rounds of so many take calls, each round in the same state.
+#[inline(never)]
+pub fn member_take(end: Member<'_>, calls: u32, rounds: u32, out: &mut [u8]) -> u64 {
+    let start = member_state(end, out);
+    let mut state = start.clone();
+    let mut sum = 0;
+    for _ in 0..rounds {
+        state.clone_from(&start);
+        for _ in 0..calls {
+            sum = summed(sum, black_box(&mut state).take(out));
         }
-        sum
     }
+    sum
+}
 
-    /// Rounds of the submit call, each time in the same state; then a status call.
-    #[inline(never)]
-    pub fn submit(self, payload: &[u8], rounds: u32, out: &mut [u8]) -> u64 {
-        let start = self.state(out);
-        let mut state = start.clone();
-        let mut sum = 0;
-        for _ in 0..rounds {
-            state.clone_from(&start);
-            sum = summed(sum, black_box(&mut state).submit(payload, out));
-        }
-        summed(sum, state.status(out))
-    }
-
-    /// Submits once, then rounds of the repeat call.
-    #[inline(never)]
-    pub fn repeat(self, payload: &[u8], rounds: u32, out: &mut [u8]) -> u64 {
-        let mut state = self.state(out);
-        state.submit(payload, out);
-        (0..rounds).fold(0, |sum, _| summed(sum, black_box(&state).repeat(out)))
-    }
-
-    /// Rounds of so many take calls, each round in the same state.
-    #[inline(never)]
-    pub fn take(self, calls: u32, rounds: u32, out: &mut [u8]) -> u64 {
-        let start = self.state(out);
-        let mut state = start.clone();
-        let mut sum = 0;
-        for _ in 0..rounds {
-            state.clone_from(&start);
-            for _ in 0..calls {
-                sum = summed(sum, black_box(&mut state).take(out));
-            }
-        }
-        sum
-    }
-
-    /// Rounds of the status call.
-    #[inline(never)]
-    pub fn status(self, rounds: u32, out: &mut [u8]) -> u64 {
-        let state = self.state(out);
-        (0..rounds).fold(0, |sum, _| summed(sum, black_box(&state).status(out)))
-    }
+/// Rounds of the status call.
+#[inline(never)]
+pub fn member_status(end: Member<'_>, rounds: u32, out: &mut [u8]) -> u64 {
+    let state = member_state(end, out);
+    (0..rounds).fold(0, |sum, _| summed(sum, black_box(&state).status(out)))
 }

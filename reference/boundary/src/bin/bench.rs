@@ -1,1 +1,449 @@
-fn main() {}
+//! Times every call of the proved library beside the same call of the
+//! reference, in turns, and prints the medians.
+
+use boundary::{Member, Sequencer, list, proved, reference};
+use model::limits::{HISTORY, PACKET, WINDOW};
+use model::packet::{self, BROADCAST, GAP, Header, POLL, REQUEST, STATUS};
+use std::collections::BTreeMap;
+use std::hint::black_box;
+use std::process::ExitCode;
+use std::time::{Duration, Instant};
+
+const GROUP: u32 = 7;
+/// Packets of a list that leave the state as it is.
+const SAME: usize = 32;
+/// How long the rounds of a sample take, at least.
+const SAMPLE: Duration = Duration::from_micros(300);
+
+/// The proved library or the reference.
+#[derive(Clone, Copy)]
+enum Side {
+    Here,
+    There,
+}
+
+/// A call of a side.
+macro_rules! on {
+    ($side:expr, $call:ident($($word:expr),*)) => {
+        match $side {
+            Side::Here => proved::$call($($word),*),
+            Side::There => reference::$call($($word),*),
+        }
+    };
+}
+
+/// Rounds of a call: how many, and a lent output; the sum of the answers.
+type Rounds = Box<dyn Fn(Side, u32, &mut [u8]) -> u64>;
+
+struct Case {
+    call: &'static str,
+    with: String,
+    /// Calls of a round.
+    calls: usize,
+    rounds: Rounds,
+}
+
+struct Options {
+    samples: usize,
+    only: String,
+    table: bool,
+}
+
+fn options() -> Option<Options> {
+    let mut options = Options {
+        samples: 25,
+        only: String::new(),
+        table: false,
+    };
+    let mut words = std::env::args().skip(1);
+    while let Some(word) = words.next() {
+        match word.as_str() {
+            "--samples" => options.samples = words.next()?.parse().ok()?,
+            "--only" => options.only = words.next()?,
+            "--table" => options.table = true,
+            _ => return None,
+        }
+    }
+    Some(options)
+}
+
+fn main() -> ExitCode {
+    let Some(options) = options() else {
+        eprintln!("usage: bench [--samples N] [--only CALL] [--table]");
+        return ExitCode::FAILURE;
+    };
+    let mut cases = packets();
+    for n in [4, 16] {
+        for payload in [0, 30, 96] {
+            for kept in [0, HISTORY / 2, HISTORY] {
+                cases.extend(sequencer(n, payload, kept));
+            }
+            for held in [0, WINDOW / 2, WINDOW] {
+                cases.extend(member(n, payload, held));
+            }
+        }
+    }
+    let mut calls: BTreeMap<&str, Vec<Times>> = BTreeMap::new();
+    for case in cases
+        .iter()
+        .filter(|case| case.call.contains(&options.only))
+    {
+        let times = case.times(options.samples);
+        let Times { here, there, ratio } = times;
+        if !options.table {
+            let Case { call, with, .. } = case;
+            println!("{call:34} {with:32} {here:8.1} {there:8.1} {ratio:6.2}");
+        }
+        calls.entry(case.call).or_default().push(times);
+    }
+    table(&calls);
+    let worst = calls.values().flatten().map(|times| times.ratio);
+    println!("worst ratio {:.2}", worst.fold(0.0, f64::max));
+    ExitCode::SUCCESS
+}
+
+/// The table of the document: a line a call, over all that it was called with.
+fn table(calls: &BTreeMap<&str, Vec<Times>>) {
+    println!();
+    println!("| Call | Here, ns | Reference, ns | Ratio, median | Ratio, worst |");
+    println!("|---|---|---|---|---|");
+    for (call, times) in calls {
+        let here = span(times.iter().map(|times| times.here));
+        let there = span(times.iter().map(|times| times.there));
+        let mut ratios: Vec<f64> = times.iter().map(|times| times.ratio).collect();
+        let median = median(&mut ratios);
+        let worst = ratios.last().expect("a call was timed");
+        println!("| {call} | {here} | {there} | {median:.2} | {worst:.2} |");
+    }
+    println!();
+}
+
+fn span(values: impl Iterator<Item = f64> + Clone) -> String {
+    let low = values.clone().fold(f64::INFINITY, f64::min);
+    let high = values.fold(0.0, f64::max);
+    format!("{low:.0} to {high:.0}")
+}
+
+fn median(values: &mut [f64]) -> f64 {
+    values.sort_by(f64::total_cmp);
+    values[values.len() / 2]
+}
+
+/// Nanoseconds of a call, and how the two compare.
+#[derive(Clone, Copy)]
+struct Times {
+    here: f64,
+    there: f64,
+    /// The median of the ratios of samples that were taken one behind the
+    /// other, so that both saw the machine in the same mood.
+    ratio: f64,
+}
+
+impl Case {
+    /// The medians of samples taken in turns.
+    fn times(&self, samples: usize) -> Times {
+        let sums = [Side::Here, Side::There].map(|side| (self.rounds)(side, 3, &mut [0; PACKET]));
+        assert_eq!(
+            sums[0], sums[1],
+            "{} {}: other answers",
+            self.call, self.with
+        );
+        let sides = [Side::Here, Side::There].map(|side| (side, self.enough(side)));
+        let mut times: [Vec<f64>; 3] = Default::default();
+        for _ in 0..samples {
+            let [here, there] = sides.map(|(side, many)| self.sample(side, many));
+            for (times, time) in times.iter_mut().zip([here, there, here / there]) {
+                times.push(time);
+            }
+        }
+        let [here, there, ratio] = times.each_mut().map(|times| median(times));
+        Times { here, there, ratio }
+    }
+
+    fn time(&self, side: Side, many: u32) -> Duration {
+        let mut out = [0; PACKET];
+        let start = Instant::now();
+        black_box((self.rounds)(side, black_box(many), black_box(&mut out)));
+        start.elapsed()
+    }
+
+    /// So many rounds that they take long enough.
+    fn enough(&self, side: Side) -> u32 {
+        let mut many = 8;
+        while many < 1 << 24 {
+            let before = self.time(side, 0);
+            if self.time(side, many).saturating_sub(before) >= SAMPLE {
+                break;
+            }
+            many *= 2;
+        }
+        many
+    }
+
+    /// Nanoseconds of a call, without what comes before the first round.
+    fn sample(&self, side: Side, many: u32) -> f64 {
+        let before = self.time(side, 0);
+        let all = self.time(side, many).saturating_sub(before);
+        all.as_nanos() as f64 / f64::from(many) / self.calls as f64
+    }
+}
+
+fn laid(kind: u8, member: u8, group: u32, [a, b, c]: [u32; 3], payload: &[u8]) -> Vec<u8> {
+    let header = Header {
+        kind,
+        member,
+        group,
+        a,
+        b,
+        c,
+    };
+    let mut out = [0; PACKET];
+    let length = packet::write(&header, payload, &mut out).expect("an allowed packet");
+    out[..length].to_vec()
+}
+
+fn payload(length: usize) -> Vec<u8> {
+    (1..=length).map(|byte| byte as u8).collect()
+}
+
+fn same(packet: Vec<u8>) -> Vec<Vec<u8>> {
+    vec![packet; SAME]
+}
+
+/// Reading and writing.
+fn packets() -> Vec<Case> {
+    let mut cases = Vec::new();
+    let mut reading = |call, with: &str, packet: Vec<u8>| {
+        let packets = list(same(packet));
+        cases.push(Case {
+            call,
+            with: with.into(),
+            calls: SAME,
+            rounds: Box::new(move |side, rounds, _| on!(side, read_rounds(&packets, rounds))),
+        });
+    };
+    for length in [0, 30, 96] {
+        let packet = laid(REQUEST, 0, GROUP, [5, 1, 0], &payload(length));
+        reading("read", &format!("request, payload {length}"), packet);
+        let packet = laid(BROADCAST, 0, GROUP, [5, 1, 0], &payload(length));
+        reading("read", &format!("broadcast, payload {length}"), packet);
+    }
+    reading("read", "gap", laid(GAP, 0, GROUP, [5, 6, 7], &[]));
+    reading("read", "status", laid(STATUS, 0, GROUP, [5, 0, 0], &[]));
+    reading("read", "poll", laid(POLL, 0, GROUP, [5, 0, 0], &[]));
+    reading("read refused", "3", vec![1; 19]);
+    reading("read refused", "4", vec![0; 20]);
+    reading("read refused", "5", vec![1; 20]);
+    reading("read refused", "6", [&[1], &[0; 19][..]].concat());
+
+    let mut writing = |call, with: &str, kind, fields, length| {
+        let payload = payload(length);
+        cases.push(Case {
+            call,
+            with: with.into(),
+            calls: 1,
+            rounds: Box::new(move |side, rounds, out| {
+                on!(side, write_rounds(kind, fields, &payload, rounds, out))
+            }),
+        });
+    };
+    for length in [0, 30, 96] {
+        let with = format!("request, payload {length}");
+        writing("write", &with, REQUEST, [1, 0], length);
+        let with = format!("broadcast, payload {length}");
+        writing("write", &with, BROADCAST, [1, 0], length);
+    }
+    writing("write", "gap", GAP, [u32::MAX, u32::MAX], 0);
+    writing("write", "status", STATUS, [0, 0], 0);
+    writing("write", "poll", POLL, [0, 0], 0);
+    writing("write refused", "4", 0, [0, 0], 0);
+    writing("write refused", "13", REQUEST, [1, 0], 97);
+    cases
+}
+
+/// Every call of a sequencer that keeps so many messages above number 32.
+fn sequencer(n: u8, length: usize, kept: usize) -> Vec<Case> {
+    let payload = payload(length);
+    let before = HISTORY as u32;
+    let top = before + kept as u32;
+    let request = |number: u32, taken: u32| {
+        let member = ((number - 1) % u32::from(n)) as u8;
+        let count = (number - 1) / u32::from(n) + 1;
+        laid(REQUEST, member, GROUP, [taken, count, 0], &payload)
+    };
+    let status = |member: u8, taken: u32| laid(STATUS, member, GROUP, [taken, 0, 0], &[]);
+    let gap = |fields| laid(GAP, 0, GROUP, fields, &[]);
+
+    // 32 messages that all have taken, then the kept ones.
+    let mut heard: Vec<Vec<u8>> = (1..=before).map(|number| request(number, 0)).collect();
+    heard.extend((0..n).map(|member| status(member, before)));
+    heard.extend((before + 1..=top).map(|number| request(number, before)));
+    // Here all members but the first have taken all.
+    let mut others = heard.clone();
+    others.extend((1..n).map(|member| status(member, top)));
+    let (heard, others) = (list(heard), list(others));
+
+    let mut cases = Vec::new();
+    let with = format!("n {n}, payload {length}, history {kept}");
+    let mut case = |call, calls, heard: &[u8], rounds: SequencerRounds| {
+        let heard = heard.to_vec();
+        cases.push(Case {
+            call,
+            with: with.clone(),
+            calls,
+            rounds: Box::new(move |side, many, out| {
+                let (group, heard) = (GROUP, &heard[..]);
+                rounds(side, Sequencer { n, group, heard }, many, out)
+            }),
+        });
+    };
+    let mut receiving = |call, heard: &[u8], packets: Vec<Vec<u8>>| {
+        let (calls, packets) = (packets.len(), list(packets));
+        case(
+            call,
+            calls,
+            heard,
+            Box::new(move |side, end, rounds, out| {
+                on!(side, sequencer_receive(end, &packets, rounds, out))
+            }),
+        );
+    };
+    if kept < HISTORY {
+        let next = (top + 1..=before + HISTORY as u32).map(|number| request(number, before));
+        receiving("sequencer.receive numbered", &heard, next.collect());
+    } else {
+        let next = same(request(top + 1, before));
+        receiving("sequencer.receive full", &heard, next);
+    }
+    if kept > 0 {
+        // The last message of the member that spoke longest ago.
+        let number = (top + 1).saturating_sub(n.into()).max(before + 1);
+        let again = same(request(number, before));
+        receiving("sequencer.receive again", &heard, again);
+        let wanted = same(gap([before, before + 1, top]));
+        receiving("sequencer.receive wanted", &heard, wanted);
+        let freeing = (before + 1..=top).map(|taken| status(0, taken));
+        receiving("sequencer.receive noted, frees", &others, freeing.collect());
+    } else {
+        let purged = same(request(top, before));
+        receiving("sequencer.receive old, purged", &heard, purged);
+    }
+    receiving("sequencer.receive old", &heard, same(request(1, 0)));
+    let noted = same(status(0, before));
+    receiving("sequencer.receive noted", &heard, noted);
+    let noted = same(gap([before - 2, before - 1, before]));
+    receiving("sequencer.receive noted, gap", &heard, noted);
+    let other_group = laid(STATUS, 0, GROUP + 1, [0, 0, 0], &[]);
+    receiving("sequencer.receive refused", &heard, same(other_group));
+    case(
+        "sequencer.poll",
+        1,
+        &heard,
+        Box::new(|side, end, rounds, out| on!(side, sequencer_poll(end, rounds, out))),
+    );
+    let copy = if kept > 0 {
+        "sequencer.copy"
+    } else {
+        "sequencer.copy refused"
+    };
+    case(
+        copy,
+        1,
+        &heard,
+        Box::new(move |side, end, rounds, out| on!(side, sequencer_copy(end, top, rounds, out))),
+    );
+    cases
+}
+
+/// Rounds of a sequencer's call.
+type SequencerRounds = Box<dyn Fn(Side, Sequencer<'_>, u32, &mut [u8]) -> u64>;
+/// Rounds of a member's call.
+type MemberRounds = Box<dyn Fn(Side, Member<'_>, u32, &mut [u8]) -> u64>;
+
+/// Every call of a member that holds so many messages from number 1 on.
+fn member(n: u8, length: usize, held: usize) -> Vec<Case> {
+    let text = payload(length);
+    let broadcast = |number: u32| laid(BROADCAST, 0, GROUP, [number, number, 0], &text);
+    let poll = |top: u32| laid(POLL, 0, GROUP, [top, 0, 0], &[]);
+    let window = WINDOW as u32;
+    let last = held as u32;
+    let heard = list((1..=last).map(broadcast));
+
+    let mut cases = Vec::new();
+    let with = format!("n {n}, payload {length}, held {held}");
+    let mut case = |call, calls, rounds: MemberRounds| {
+        let heard = heard.clone();
+        cases.push(Case {
+            call,
+            with: with.clone(),
+            calls,
+            rounds: Box::new(move |side, many, out| {
+                let (number, group, heard) = (1, GROUP, &heard[..]);
+                let end = Member {
+                    n,
+                    number,
+                    group,
+                    heard,
+                };
+                rounds(side, end, many, out)
+            }),
+        });
+    };
+    let mut receiving = |call, packets: Vec<Vec<u8>>| {
+        let (calls, packets) = (packets.len(), list(packets));
+        case(
+            call,
+            calls,
+            Box::new(move |side, end, rounds, out| {
+                on!(side, member_receive(end, &packets, rounds, out))
+            }),
+        );
+    };
+    if held < WINDOW {
+        let next = (last + 1..=window).map(broadcast).collect();
+        receiving("member.receive kept", next);
+        let above = (last + 2..=window).rev().map(broadcast).collect();
+        receiving("member.receive keptgap", above);
+        let beyond = same(broadcast(window + 1));
+        receiving("member.receive beyondgap", beyond);
+        receiving("member.receive gap", same(poll(window)));
+    } else {
+        receiving("member.receive beyond", same(broadcast(window + 1)));
+    }
+    if held > 0 {
+        receiving("member.receive old", same(broadcast(last)));
+    }
+    receiving("member.receive status", same(poll(last)));
+    let other_group = laid(POLL, 0, GROUP + 1, [0, 0, 0], &[]);
+    receiving("member.receive refused", same(other_group));
+
+    let submitted = text.clone();
+    case(
+        "member.submit",
+        1,
+        Box::new(move |side, end, rounds, out| {
+            on!(side, member_submit(end, &submitted, rounds, out))
+        }),
+    );
+    case(
+        "member.repeat",
+        1,
+        Box::new(move |side, end, rounds, out| on!(side, member_repeat(end, &text, rounds, out))),
+    );
+    case(
+        "member.status",
+        1,
+        Box::new(|side, end, rounds, out| on!(side, member_status(end, rounds, out))),
+    );
+    let (take, calls) = if held > 0 {
+        ("member.take", last)
+    } else {
+        ("member.take none", window)
+    };
+    case(
+        take,
+        calls as usize,
+        Box::new(move |side, end, rounds, out| on!(side, member_take(end, calls, rounds, out))),
+    );
+    cases
+}

@@ -2,13 +2,21 @@
 //! through the reference. A difference is printed with its seed, shrunk.
 
 use boundary::shrink::{plain, shrink};
-use boundary::{list, proved, reference};
+use boundary::{Member, Sequencer, list, proved, reference};
 use model::limits::{HEADER, LARGEST, PACKET, PAYLOAD};
 use model::packet::{self, Header};
-use model::sequencer::Sequencer;
+use model::sequencer;
 use schedules::random::Random;
+use std::collections::BTreeMap;
 use std::process::ExitCode;
 use std::time::Instant;
+
+/// A case by its seed: the refusal that the reference answers, 0 for none,
+/// and a difference.
+type Case = fn(u64) -> (u8, Option<String>);
+
+/// Differences that are printed.
+const PRINTED: u64 = 20;
 
 struct Options {
     packets: u64,
@@ -40,22 +48,34 @@ fn main() -> ExitCode {
         eprintln!("usage: fuzz [--packets N] [--lists N] [--seed N]");
         return ExitCode::FAILURE;
     };
-    let mut differences = 0;
-    let mut run = |name: &str, cases: u64, case: fn(u64) -> Option<String>| {
+    let mut differences = 0u64;
+    let mut run = |name: &str, cases: u64, case: Case| {
         let start = Instant::now();
+        let mut answers: BTreeMap<u8, u64> = BTreeMap::new();
         for seed in (options.seed..).take(cases as usize) {
-            if let Some(difference) = case(seed) {
+            let (answer, difference) = case(seed);
+            *answers.entry(answer).or_default() += 1;
+            if let Some(difference) = difference {
                 differences += 1;
-                println!("{name}, seed {seed}: {difference}");
+                if differences <= PRINTED {
+                    println!("{name}, seed {seed}: {difference}");
+                }
             }
         }
         let seconds = start.elapsed().as_secs_f64();
         println!("{cases} {name} in {seconds:.1} s");
+        if answers.len() > 1 {
+            println!("  by refusal, 0 for none: {answers:?}");
+        }
     };
     run("packets read", options.packets, reading);
     run("packets written", options.packets, writing);
-    run("lists to a sequencer", options.lists, sequencing);
-    run("lists to a member", options.lists, membership);
+    run("lists to a sequencer", options.lists, |seed| {
+        (0, sequencing(seed))
+    });
+    run("lists to a member", options.lists, |seed| {
+        (0, membership(seed))
+    });
     println!("{differences} differences");
     if differences == 0 {
         ExitCode::SUCCESS
@@ -146,20 +166,20 @@ fn bytes(random: &mut Random) -> Vec<u8> {
     packet
 }
 
-fn reading(seed: u64) -> Option<String> {
+fn reading(seed: u64) -> (u8, Option<String>) {
     let differs = |packet: &[u8]| proved::read(packet) != reference::read(packet);
     let packet = bytes(&mut Random::seeded(seed));
+    let refusal = reference::read(&packet).err().unwrap_or(0);
     if !differs(&packet) {
-        return None;
+        return (refusal, None);
     }
     let packet = plain(&shrink(&packet, differs), &0, differs);
     let (here, there) = (proved::read(&packet), reference::read(&packet));
-    Some(format!(
-        "{packet:02x?} is {here:?}, in the reference {there:?}"
-    ))
+    let difference = format!("{packet:02x?} is {here:?}, in the reference {there:?}");
+    (refusal, Some(difference))
 }
 
-fn writing(seed: u64) -> Option<String> {
+fn writing(seed: u64) -> (u8, Option<String>) {
     let random = &mut Random::seeded(seed);
     let header = header(random);
     let length = match random.below(4) {
@@ -186,14 +206,16 @@ fn writing(seed: u64) -> Option<String> {
         let ((answer, other), here, there) = written(payload);
         answer != other || here != there
     };
+    let refusal = written(&payload).0.1.err().unwrap_or(0);
     if !differs(&payload) {
-        return None;
+        return (refusal, None);
     }
     let payload = plain(&shrink(&payload, differs), &0, differs);
     let ((answer, other), ..) = written(&payload);
-    Some(format!(
+    let difference = format!(
         "{header:?} {payload:02x?} to {room} bytes is {answer:?}, in the reference {other:?}"
-    ))
+    );
+    (refusal, Some(difference))
 }
 
 /// A lent output: mostly with enough room.
@@ -238,7 +260,7 @@ fn payload(random: &mut Random) -> Vec<u8> {
 
 /// Packets as its members might send them, and others.
 fn requests(random: &mut Random, n: u8, group: u32) -> Vec<Vec<u8>> {
-    let mut state = Sequencer::fresh(n.into(), group).expect("an allowed opening");
+    let mut state = sequencer::Sequencer::fresh(n.into(), group).expect("an allowed opening");
     let many = random.below(90);
     (0..many)
         .map(|_| {
@@ -277,8 +299,9 @@ fn sequencing(seed: u64) -> Option<String> {
         let list = list(packets);
         let (mut here, mut there) = (lent.clone(), lent.clone());
         let heard = &[];
-        let sum = proved::Sequencer { n, group, heard }.receive(&list, 1, &mut here);
-        let other = reference::Sequencer { n, group, heard }.receive(&list, 1, &mut there);
+        let end = Sequencer { n, group, heard };
+        let sum = proved::sequencer_receive(end, &list, 1, &mut here);
+        let other = reference::sequencer_receive(end, &list, 1, &mut there);
         sum != other || here != there
     };
     // Every list that ends earlier too, for a few ends.
@@ -324,38 +347,25 @@ fn membership(seed: u64) -> Option<String> {
     let differs = |packets: &[Vec<u8>]| {
         let list = list(packets);
         let (mut here, mut there) = (lent.clone(), lent.clone());
-        let member = proved::Member {
+        let end = |heard| Member {
             n,
             number: number_of,
             group,
-            heard: &[],
+            heard,
         };
-        let other = reference::Member {
-            n,
-            number: number_of,
-            group,
-            heard: &[],
-        };
-        if member.receive(&list, 1, &mut here) != other.receive(&list, 1, &mut there) {
-            return true;
+        let (fresh, after) = (end(&[]), end(&list));
+        macro_rules! differs {
+            ($call:ident($($word:expr),*)) => {{
+                let sum = proved::$call($($word,)* &mut here);
+                sum != reference::$call($($word,)* &mut there) || here != there
+            }};
         }
-        let member = proved::Member {
-            heard: &list,
-            ..member
-        };
-        let other = reference::Member {
-            heard: &list,
-            ..other
-        };
-        // Each call that is not for packets, in the state after the list.
-        member.take(9, 1, &mut here) != other.take(9, 1, &mut there)
-            || here != there
-            || member.submit(&text, 1, &mut here) != other.submit(&text, 1, &mut there)
-            || here != there
-            || member.repeat(&text, 1, &mut here) != other.repeat(&text, 1, &mut there)
-            || here != there
-            || member.status(1, &mut here) != other.status(1, &mut there)
-            || here != there
+        // The list, and then each other call in the state after it.
+        differs!(member_receive(fresh, &list, 1))
+            || differs!(member_take(after, 9, 1))
+            || differs!(member_submit(after, &text, 1))
+            || differs!(member_repeat(after, &text, 1))
+            || differs!(member_status(after, 1))
     };
     if !differs(&packets) {
         return None;

@@ -4,11 +4,11 @@ use mathlib.Core.Path.{_≡_, refl, sym, ap, _∙_, subst}
 use mathlib.Core.Bool.{Bool, true, false}
 use mathlib.Core.List.{List, [], _∷_, _++_, append-nil, append-assoc}
 use mathlib.Core.Option.{none}
-use Prim.Native.Nat.{ℕ, suc, _+_, _≤_, zero-le}
+use Prim.Native.Nat.{ℕ, suc, _+_, _-_, _≤_, _<_, zero-le}
 use native.Mathlib.Omega.{arith}
 use native.Mathlib.Nat.{zero-add, le-refl}
 use native.Mathlib.Numerals.{add-one}
-use lib.ListN.{length, take, drop}
+use lib.ListN.{length, take, drop, length-drop}
 use lib.Seq.{length-take-le, take-all, drop-length}
 use Rattle.group.proofs.Choice.{if-eq, if-ne, if-nle}
 use Rattle.group.proofs.Lists.{le-or}
@@ -22,7 +22,7 @@ use Rattle.schedule.specs.declared.Found.{Found}
 use Rattle.schedule.specs.declared.Found.the-variants.{At, Nothing}
 use Rattle.schedule.specs.declared.Opening.{Opening}
 use Rattle.player.specs.Play.{Stage, opening, running, ended, closed, Told, eventTold, openTold, lineTold, lastOf, linesTold}
-use Rattle.player.specs.Feed.{keptMost, keptOf, State, Fed, fedUpTo, endOf}
+use Rattle.player.specs.Feed.{keptMost, keptOf, State, Fed, fedUpTo, fedOf, endOf}
 use Rattle.player.specs.Laws.{Prints, ends, feeds, ReadsOn, PrintsPlay}
 use Rattle.player.proofs.Keeping.{kept-kept}
 
@@ -181,3 +181,14 @@ reads-on s part h = go (lineEnd part) refl
     go : (f : Found) → lineEnd part ≡ f → (1 ≤ fedUpTo f s part .used) × (fedUpTo f s part .used ≤ length part)
     go (At e) f = let k = found-from lineFeed part 0 e zero-le f .1 in (omega arith, omega arith)
     go Nothing f = (h, le-refl (length part))
+
+-- what is read of the rest of an input lies within it
+pub reads-within : (s : State) (part rest : List ℕ) (from used : ℕ) → rest ≡ take (length part - from) (drop from part) → from < length part → used ≡ fedOf s rest .used
+    → (1 ≤ used) × (from + used ≤ length part)
+reads-within s part rest from used r h e =
+    let d = length-drop from part in
+    let n : length rest ≡ length part - from = ap length r ∙ length-take-le (length part - from) (drop from part) (omega arith) in
+    let k = reads-on s rest (omega arith) in
+    let lo = k .0 in
+    let hi = k .1 in
+    (omega arith, omega arith)

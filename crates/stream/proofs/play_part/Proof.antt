@@ -4,7 +4,7 @@ use mathlib.Core.Path.{refl}
 use Prim.Native.Nat.{_+_, _-_, _≤_}
 use denote.Ref.{now}
 use lib.ListN.{length}
-use Rattle.stream.proofs.Reading.{within}
+use Rattle.player.proofs.Laws.{reads-within}
 use borrow.Author.Needs.{needs}
 use Rattle.stream.proofs.play_part.Statement.{statement}
 use Rattle.stream.proofs.play_part.Tie as tie
@@ -35,15 +35,15 @@ write-requires c κs = search needs
 
 add-from : tie.Need-add-from Inv-loop μ-loop
 add-from c =
-    let w = within _ (now (c .before .before .before .before .before .before .before .before .before .before .args .part)) _ (c .before .before .before .before .before .before .before .before .loop .from) _ refl (c .before .before .before .before .before .before .before .loop-test .taken) (c .before .before .before .before .feed .ensures .used) .1 in let y : c .before .before .before .before .before .before .before .before .loop .from + c .before .before .before .before .feed .result .used ≤ length (now (c .before .before .before .before .before .before .before .before .before .before .args .part)) = w in search needs
+    let w = reads-within _ (now (c .before .before .before .before .before .before .before .before .before .before .args .part)) _ (c .before .before .before .before .before .before .before .before .loop .from) _ refl (c .before .before .before .before .before .before .before .loop-test .taken) (c .before .before .before .before .feed .ensures .used) .1 in let y : c .before .before .before .before .before .before .before .before .loop .from + c .before .before .before .before .feed .result .used ≤ length (now (c .before .before .before .before .before .before .before .before .before .before .args .part)) = w in search needs
 
 loop-less : tie.Need-loop-less Inv-loop μ-loop
 loop-less c =
-    let w = within _ (now (c .before .before .before .before .before .before .before .before .before .before .args .part)) _ (c .before .before .before .before .before .before .before .before .loop .from) _ refl (c .before .before .before .before .before .before .before .loop-test .taken) (c .before .before .before .before .feed .ensures .used) in let y : c .before .before .before .before .before .before .before .before .loop .from + c .before .before .before .before .feed .result .used ≤ length (now (c .before .before .before .before .before .before .before .before .before .before .args .part)) = w .1 in let z : 1 ≤ c .before .before .before .before .feed .result .used = w .0 in search needs
+    let w = reads-within _ (now (c .before .before .before .before .before .before .before .before .before .before .args .part)) _ (c .before .before .before .before .before .before .before .before .loop .from) _ refl (c .before .before .before .before .before .before .before .loop-test .taken) (c .before .before .before .before .feed .ensures .used) in let y : c .before .before .before .before .before .before .before .before .loop .from + c .before .before .before .before .feed .result .used ≤ length (now (c .before .before .before .before .before .before .before .before .before .before .args .part)) = w .1 in let z : 1 ≤ c .before .before .before .before .feed .result .used = w .0 in search needs
 
 loop-again : tie.Need-loop-again Inv-loop μ-loop
 loop-again c =
-    within _ (now (c .before .before .before .before .before .before .before .before .before .before .args .part)) _ (c .before .before .before .before .before .before .before .before .loop .from) _ refl (c .before .before .before .before .before .before .before .loop-test .taken) (c .before .before .before .before .feed .ensures .used) .1
+    reads-within _ (now (c .before .before .before .before .before .before .before .before .before .before .args .part)) _ (c .before .before .before .before .before .before .before .before .loop .from) _ refl (c .before .before .before .before .before .before .before .loop-test .taken) (c .before .before .before .before .feed .ensures .used) .1
 
 returns : tie.Need-returns Inv-loop μ-loop
 returns c = search needs

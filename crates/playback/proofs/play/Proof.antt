@@ -1,0 +1,100 @@
+-- What the rest of the input prints goes behind what is shown.
+-- Assumes nothing.
+use mathlib.Core.Path.{_≡_, refl, sym, ap}
+use mathlib.Core.List.{List, [], _++_}
+use Prim.Native.Nat.{ℕ, _+_, _-_, _≤_, _<_}
+use native.Mathlib.Omega.{arith}
+use denote.Ref.{now}
+use lib.ListN.{length, take, drop, drop-of-length-le}
+use Rattle.player.proofs.Laws.{prints-play, reads-within}
+use Rattle.player.specs.Feed.{start, fedOf}
+use Rattle.player.specs.Laws.{Prints, ends}
+use Rattle.player.specs.Player.{stateOf}
+use Rattle.playback.specs.Shown.{Shows}
+use Rattle.playback.proofs.Showing.{laid-front, feeds-on, shows-none, as-shown, prints-from, prints-rest}
+use borrow.Author.Needs.{needs}
+use Rattle.playback.proofs.play.Statement.{statement}
+use Rattle.playback.proofs.play.Tie as tie
+
+abbrev Inv-loop : tie.InvT-loop
+Inv-loop input out₀ player₀ from₀ at₀ out player from at = (from ≤ length input) × (at ≤ length out) × (length out ≡ length out₀) × ((printed : List ℕ) × Shows printed out₀ out at × ((output : List ℕ) → Prints (stateOf player) (drop from input) output → Prints start input (printed ++ output)))
+
+abbrev μ-loop : tie.MeasureT-loop
+μ-loop input out₀ player₀ from₀ at₀ out player from at = length input - from
+
+fresh-requires : tie.Need-fresh-requires Inv-loop μ-loop
+fresh-requires c κs = search needs
+
+loop-holds : tie.Need-loop-holds Inv-loop μ-loop
+loop-holds c =
+    (search needs, search needs, refl, ([], shows-none _, λ output p. prints-from (c .fresh .ensures) p))
+
+sub-feed : tie.Need-sub-feed Inv-loop μ-loop
+sub-feed c = search needs
+
+part-feed-start : tie.Need-part-feed-start Inv-loop μ-loop
+part-feed-start c = search needs
+
+part-feed-end : tie.Need-part-feed-end Inv-loop μ-loop
+part-feed-end c = search needs
+
+feed-requires : tie.Need-feed-requires Inv-loop μ-loop
+feed-requires c κs = search needs
+
+put-requires : tie.Need-put-requires Inv-loop μ-loop
+put-requires c κs = search needs
+
+add-from : tie.Need-add-from Inv-loop μ-loop
+add-from c =
+    let w = reads-within _ (now (c .before .before .before .before .before .before .before .before .before .before .before .before .before .before .args .input)) _ (c .before .before .before .before .before .before .before .before .before .before .loop .from) _ refl (c .before .before .before .before .before .before .before .before .before .loop-test .taken) (c .before .before .before .before .before .before .feed .ensures .used) .1 in let y : c .before .before .before .before .before .before .before .before .before .before .loop .from + c .before .before .before .before .before .before .feed .result .used ≤ length (now (c .before .before .before .before .before .before .before .before .before .before .before .before .before .before .args .input)) = w in let g = c .before .before .before .before .before .before .before .before .before .before .before .before .before .before .good .0 in let z : c .before .before .before .before .before .before .before .before .before .before .loop .from + c .before .before .before .before .before .before .feed .result .used < 18446744073709551616 = omega arith in record { fits = z }
+
+loop-less : tie.Need-loop-less Inv-loop μ-loop
+loop-less c =
+    let w = reads-within _ (now (c .before .before .before .before .before .before .before .before .before .before .before .before .before .before .args .input)) _ (c .before .before .before .before .before .before .before .before .before .before .loop .from) _ refl (c .before .before .before .before .before .before .before .before .before .loop-test .taken) (c .before .before .before .before .before .before .feed .ensures .used) in let y : c .before .before .before .before .before .before .before .before .before .before .loop .from + c .before .before .before .before .before .before .feed .result .used ≤ length (now (c .before .before .before .before .before .before .before .before .before .before .before .before .before .before .args .input)) = w .1 in let z : 1 ≤ c .before .before .before .before .before .before .feed .result .used = w .0 in search needs
+
+loop-again : tie.Need-loop-again Inv-loop μ-loop
+loop-again c =
+    let l = c .before .before .before .before .before .before .before .before .before .before .loop in
+    let w = reads-within _ (now (c .before .before .before .before .before .before .before .before .before .before .before .before .before .before .args .input)) _ (c .before .before .before .before .before .before .before .before .before .before .loop .from) _ refl (c .before .before .before .before .before .before .before .before .before .loop-test .taken) (c .before .before .before .before .before .before .feed .ensures .used) in
+    let d = c .before .before .before .before .before .before .feed .ensures in
+    let t = laid-front (fedOf (stateOf (l .player)) (take (length (now (c .before .before .before .before .before .before .before .before .before .before .before .before .before .before .args .input)) - l .from) (drop (l .from) (now (c .before .before .before .before .before .before .before .before .before .before .before .before .before .before .args .input)))) .text) _ _ _ (d .output) (d .written) in
+    let k = l .inv .3 in
+    let s = as-shown (ap (λ (x : List ℕ). k .0 ++ x) t) (c .before .before .before .before .put .ensures .0 (k .0) _ (k .1)) in
+    let f = feeds-on (now (c .before .before .before .before .before .before .before .before .before .before .before .before .before .before .args .input)) _ (k .0) (stateOf (l .player)) (l .from) _ refl (d .used) (c .before .before .before .before .before .before .before .before .before .loop-test .taken) (k .2) in
+    (w .1, c .before .before .before .before .put .ensures .1, search needs, (_, s, λ output p. f output (prints-from (d .state) p)))
+
+finish-requires : tie.Need-finish-requires Inv-loop μ-loop
+finish-requires c κs = search needs
+
+same-length : tie.Need-same-length Inv-loop μ-loop
+same-length c = search needs
+
+returns : tie.Need-returns Inv-loop μ-loop
+returns c =
+    let a = c .before .before .before .before .before .before .before .before .before .args in
+    let l = c .before .before .before .before .before .loop in
+    let k = l .inv .3 in
+    let none : drop (l .from) (now (a .input)) ≡ [] = drop-of-length-le (now (a .input)) {i = l .from} (c .before .before .before .before .loop-test .left) in
+    let p = k .2 _ (prints-rest (sym none) (ends (stateOf (l .player)))) in
+    let s = as-shown (prints-play (now (a .input)) _ p) (c .before .before .finish .ensures (k .0) _ (k .1)) in
+    (s .size, s .text)
+
+pub play-spec : {M : Type 1} → statement M
+play-spec =
+    tie.close
+    (tie.spec
+    Inv-loop
+    μ-loop
+    fresh-requires
+    loop-holds
+    sub-feed
+    part-feed-start
+    part-feed-end
+    feed-requires
+    put-requires
+    add-from
+    loop-less
+    loop-again
+    finish-requires
+    same-length
+    returns)

@@ -65,9 +65,9 @@ fn mix(sum: u64, value: u64) -> u64 {
     std::num::wrapping_add_u64(std::num::wrapping_add_u64(twice, sum), value)
 }
 
-// The answer of a sequencer's call as a number.
-fn sequencer_code(answer: sequencer::Answer) -> u64 {
-    match answer {
+// Takes what a sequencer's call answers into a running sum.
+fn sequencer_sum(sum: u64, answer: sequencer::Answer, written: usize) -> u64 {
+    let code = match answer {
         sequencer::Answer::Refused(q) => q.number() as u64,
         sequencer::Answer::Old => 32,
         sequencer::Answer::Full => 33,
@@ -76,12 +76,13 @@ fn sequencer_code(answer: sequencer::Answer) -> u64 {
         sequencer::Answer::Again(s) => mix(36, s.0 as u64),
         sequencer::Answer::Numbered(s) => mix(37, s.0 as u64),
         sequencer::Answer::Wanted(first, last) => mix(mix(38, first.0 as u64), last.0 as u64),
-    }
+    };
+    mix(mix(sum, code), written as u64)
 }
 
-// The answer of a member's call as a number.
-fn member_code(answer: member::Answer) -> u64 {
-    match answer {
+// Takes what a member's call answers into a running sum.
+fn member_sum(sum: u64, answer: member::Answer, written: usize) -> u64 {
+    let code = match answer {
         member::Answer::Refused(q) => q.number() as u64,
         member::Answer::Old => 32,
         member::Answer::Sent => 35,
@@ -104,7 +105,8 @@ fn member_code(answer: member::Answer) -> u64 {
             ),
             more as u64,
         ),
-    }
+    };
+    mix(mix(sum, code), written as u64)
 }
 
 fn wide(x: u8) -> usize {
@@ -121,14 +123,6 @@ struct Sequencing {
 struct Membership {
     member: Member,
     sum: u64,
-}
-
-fn sequencer_sum(sum: u64, answer: sequencer::Answer, written: usize) -> u64 {
-    mix(mix(sum, sequencer_code(answer)), written as u64)
-}
-
-fn member_sum(sum: u64, answer: member::Answer, written: usize) -> u64 {
-    mix(mix(sum, member_code(answer)), written as u64)
 }
 
 // Hands a sequencer each packet of a list, in which a byte with its length stands before each.
@@ -396,7 +390,7 @@ pub extern "C" fn boundary_member_status(
     sum
 }
 
-// The sum of all that reading a packet gives.
+// Takes all that reading a packet gives into a running sum.
 fn reading_sum(sum: u64, reading: Reading) -> u64 {
     match reading {
         Reading::Fields(h) => {
@@ -412,38 +406,17 @@ fn reading_sum(sum: u64, reading: Reading) -> u64 {
 
 // Reads each packet of a list, in which a byte with its length stands before each.
 #[no_mangle]
-pub extern "C" fn boundary_read_list(sum: u64, packets: &[u8]) -> u64 {
-    let mut total = sum;
+pub extern "C" fn boundary_read_list(mut sum: u64, packets: &[u8]) -> u64 {
     let mut at: usize = 0;
     while at < packets.len() {
         let start = at + 1;
         let size = wide(packets[at]);
         if packets.len() - start < size {
-            return total;
+            return sum;
         }
         let end = start + size;
-        total = reading_sum(total, packet::read(&packets[start..end]));
+        sum = reading_sum(sum, packet::read(&packets[start..end]));
         at = end;
-    }
-    total
-}
-
-// Rounds of writing a packet, whose A falls from round to round.
-#[no_mangle]
-pub extern "C" fn boundary_write_rounds(
-    kind: u8,
-    b: u32,
-    c: u32,
-    payload: &[u8],
-    rounds: u32,
-    out: &mut [u8],
-) -> u64 {
-    let mut sum: u64 = 0;
-    let mut left = rounds;
-    while 0 < left {
-        let written = boundary_write(kind, 0, 7, left, b, c, payload, out);
-        sum = mix(sum, written as u64);
-        left -= 1;
     }
     sum
 }

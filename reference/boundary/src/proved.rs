@@ -23,16 +23,6 @@ mod ffi {
             room: usize,
         ) -> usize;
         pub fn boundary_read_list(sum: u64, packets: *const u8, size: usize) -> u64;
-        pub fn boundary_write_rounds(
-            kind: u8,
-            b: u32,
-            c: u32,
-            payload: *const u8,
-            size: usize,
-            rounds: u32,
-            out: *mut u8,
-            room: usize,
-        ) -> u64;
         pub fn boundary_sequencer_receive(
             n: u8,
             group: u32,
@@ -175,35 +165,12 @@ pub fn write(header: &Header, payload: &[u8], out: &mut [u8]) -> Result<usize, u
     }
 }
 
-/// Reads a list of packets so many times.
+/// Rounds of reading a list of packets.
 pub fn read_rounds(packets: &[u8], rounds: u32) -> u64 {
     (0..rounds).fold(0, |sum, _| {
         // SAFETY: the slice lives through the call.
         unsafe { ffi::boundary_read_list(sum, packets.as_ptr(), packets.len()) }
     })
-}
-
-/// Writes a packet so many times, with A from `rounds` down to 1.
-pub fn write_rounds(
-    kind: u8,
-    [b, c]: [u32; 2],
-    payload: &[u8],
-    rounds: u32,
-    out: &mut [u8],
-) -> u64 {
-    // SAFETY: the slices live through the call, and the lent one is not the other.
-    unsafe {
-        ffi::boundary_write_rounds(
-            kind,
-            b,
-            c,
-            payload.as_ptr(),
-            payload.len(),
-            rounds,
-            out.as_mut_ptr(),
-            out.len(),
-        )
-    }
 }
 
 /// Rounds of handing a sequencer a list of packets, each time in the same state.

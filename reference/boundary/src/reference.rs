@@ -55,11 +55,13 @@ fn packets(mut list: &[u8]) -> impl Iterator<Item = &[u8]> {
 }
 
 /// Reads a packet: its fields, or the number of the refusal.
+#[inline(never)]
 pub fn read(packet: &[u8]) -> Result<Header, u8> {
     packet::read(packet).map_err(|refusal| refusal.number())
 }
 
 /// Writes a packet: how many bytes, or the number of the refusal.
+#[inline(never)]
 pub fn write(header: &Header, payload: &[u8], out: &mut [u8]) -> Result<usize, u8> {
     packet::write(header, payload, out).map_err(|refusal| refusal.number())
 }
@@ -67,46 +69,20 @@ pub fn write(header: &Header, payload: &[u8], out: &mut [u8]) -> Result<usize, u
 #[inline(never)]
 fn read_list(sum: u64, list: &[u8]) -> u64 {
     packets(list).fold(sum, |sum, packet| match packet::read(packet) {
-        Ok(header) => [
-            header.kind.into(),
-            header.member.into(),
-            header.group,
-            header.a,
-            header.b,
-            header.c,
-        ]
-        .iter()
-        .fold(sum, |sum, &field: &u32| mix(sum, field.into())),
+        Ok(header) => {
+            let Header { kind, member, .. } = header;
+            let Header { group, a, b, c, .. } = header;
+            [kind.into(), member.into(), group, a, b, c]
+                .iter()
+                .fold(sum, |sum, &field: &u32| mix(sum, field.into()))
+        }
         Err(refusal) => mix(sum, refusal.number().into()),
     })
 }
 
-/// Reads a list of packets so many times.
+/// Rounds of reading a list of packets.
 pub fn read_rounds(packets: &[u8], rounds: u32) -> u64 {
     (0..rounds).fold(0, |sum, _| read_list(sum, black_box(packets)))
-}
-
-/// Writes a packet so many times, with A from `rounds` down to 1.
-#[inline(never)]
-pub fn write_rounds(
-    kind: u8,
-    [b, c]: [u32; 2],
-    payload: &[u8],
-    rounds: u32,
-    out: &mut [u8],
-) -> u64 {
-    (1..=rounds).rev().fold(0, |sum, a| {
-        let header = Header {
-            kind,
-            member: 0,
-            group: 7,
-            a,
-            b,
-            c,
-        };
-        let written = write(&header, payload, out);
-        mix(sum, written.map_or_else(u64::from, |bytes| bytes as u64))
-    })
 }
 
 fn sequencer_state(end: Sequencer<'_>, out: &mut [u8]) -> sequencer::Sequencer {

@@ -65,6 +65,8 @@ fn odd_slices() {
             proved::sequencer_receive(end, packets, 3, &mut []),
             reference::sequencer_receive(end, packets, 3, &mut [])
         );
+    }
+    for packets in [&[][..], &[0], &[5], &[20, 1, 2], &[1, 9, 0]] {
         assert_eq!(
             proved::read_rounds(packets, 3),
             reference::read_rounds(packets, 3)
@@ -120,6 +122,6 @@ fn rounds_of_every_call() {
     same!(member_take(end, 3, 5));
     same!(member_status(end, 5));
     for kind in 0..7 {
-        same!(write_rounds(kind, [1, 0], b"ab", 5));
+        same!(write(&Header { kind, ..HEADER }, b"ab"));
     }
 }

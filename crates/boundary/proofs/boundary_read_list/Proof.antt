@@ -7,10 +7,10 @@ use Rattle.boundary.proofs.boundary_read_list.Statement.{statement}
 use Rattle.boundary.proofs.boundary_read_list.Tie as tie
 
 abbrev Inv-loop : tie.InvT-loop
-Inv-loop sum packets total₀ at₀ total at = at ≤ length packets
+Inv-loop sum₀ packets at₀ sum at = at ≤ length packets
 
 abbrev μ-loop : tie.MeasureT-loop
-μ-loop sum packets total₀ at₀ total at = length packets - at
+μ-loop sum₀ packets at₀ sum at = length packets - at
 
 loop-holds : tie.Need-loop-holds Inv-loop μ-loop
 loop-holds c = search needs

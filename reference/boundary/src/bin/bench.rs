@@ -243,7 +243,21 @@ fn packets() -> Vec<Case> {
             with: with.into(),
             calls: 1,
             rounds: Box::new(move |side, rounds, out| {
-                on!(side, write_rounds(kind, fields, &payload, rounds, out))
+                let [b, c] = fields;
+                (0..rounds).fold(0, |sum, a| {
+                    let header = Header {
+                        kind,
+                        member: 0,
+                        group: GROUP,
+                        a: 1 + a % 8,
+                        b,
+                        c,
+                    };
+                    sum + match on!(side, write(black_box(&header), black_box(&payload), out)) {
+                        Ok(bytes) => bytes as u64,
+                        Err(refusal) => u64::from(refusal),
+                    }
+                })
             }),
         });
     };

@@ -22,6 +22,7 @@ mod ffi {
             out: *mut u8,
             room: usize,
         ) -> usize;
+        pub fn boundary_play(input: *const u8, size: usize, out: *mut u8, room: usize) -> usize;
         pub fn boundary_read_list(sum: u64, packets: *const u8, size: usize) -> u64;
         pub fn boundary_sequencer_receive(
             n: u8,
@@ -163,6 +164,12 @@ pub fn write(header: &Header, payload: &[u8], out: &mut [u8]) -> Result<usize, u
     } else {
         Ok(written)
     }
+}
+
+/// Plays a schedule to the front of the output; how many bytes it printed.
+pub fn play(input: &[u8], out: &mut [u8]) -> usize {
+    // SAFETY: the slices live through the call, and the lent one is not the other.
+    unsafe { ffi::boundary_play(input.as_ptr(), input.len(), out.as_mut_ptr(), out.len()) }
 }
 
 /// Rounds of reading a list of packets.

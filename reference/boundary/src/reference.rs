@@ -66,6 +66,14 @@ pub fn write(header: &Header, payload: &[u8], out: &mut [u8]) -> Result<usize, u
     packet::write(header, payload, out).map_err(|refusal| refusal.number())
 }
 
+/// Plays a schedule to the front of the output; how many bytes it printed.
+pub fn play(input: &[u8], out: &mut [u8]) -> usize {
+    let room = out.len();
+    let mut rest = out;
+    model::play::play(input, &mut rest).expect("room for what is printed");
+    room - rest.len()
+}
+
 #[inline(never)]
 fn read_list(sum: u64, list: &[u8]) -> u64 {
     packets(list).fold(sum, |sum, packet| match packet::read(packet) {

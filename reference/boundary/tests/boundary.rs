@@ -125,3 +125,15 @@ fn rounds_of_every_call() {
         same!(write(&Header { kind, ..HEADER }, b"ab"));
     }
 }
+
+/// Every stored schedule.
+#[test]
+fn stored_schedules() {
+    for schedule in schedules::all() {
+        let expected = schedule.played();
+        let mut out = vec![0xaa; expected.len() + 1];
+        let length = proved::play(&schedule.text, &mut out);
+        assert_eq!(out[..length], expected, "{}", schedule.shows);
+        assert_eq!(out[length..], [0xaa], "{}", schedule.shows);
+    }
+}

@@ -149,7 +149,7 @@ fn damage(random: &mut Random, text: &mut Vec<u8>) {
             let length = text[start..].iter().position(|&byte| byte == b'\n');
             if let (Some(length), 2..) = (length, length.unwrap_or(0)) {
                 let total = random.one(&[999, 1000, 1000, 1001]);
-                let zeros = vec![b'0'; total - length];
+                let zeros = vec![b'0'; usize::saturating_sub(total, length)];
                 text.splice(start + 2..start + 2, zeros);
             }
         }

@@ -83,6 +83,7 @@ fn main() -> ExitCode {
             }
         }
     }
+    cases.extend(schedules());
     let mut calls: BTreeMap<&str, Vec<Times>> = BTreeMap::new();
     for case in cases
         .iter()
@@ -458,6 +459,38 @@ fn member(n: u8, length: usize, held: usize) -> Vec<Case> {
         take,
         calls as usize,
         Box::new(move |side, end, rounds, out| on!(side, member_take(end, calls, rounds, out))),
+    );
+    cases
+}
+
+/// Whole schedules; what is timed is an event.
+fn schedules() -> Vec<Case> {
+    let mut cases = Vec::new();
+    let mut case = |with: &str, text: Vec<u8>| {
+        let events = text.iter().filter(|&&byte| byte == b'\n').count() - 1;
+        cases.push(Case {
+            call: "play, an event",
+            with: with.into(),
+            calls: events,
+            rounds: Box::new(move |side, rounds, _| {
+                let mut out = vec![0; 250 * (events + 2)];
+                (0..rounds).fold(0, |sum, _| {
+                    let length = on!(side, play(black_box(&text), &mut out));
+                    sum + length as u64 + u64::from(out[length / 2])
+                })
+            }),
+        });
+    };
+    for (with, seed) in [("random, seed 5", 5), ("random, seed 6", 6)] {
+        case(with, schedules::random::schedule(seed, 400));
+    }
+    case(
+        "takes alone",
+        [b"N 4 7\n".to_vec(), b"T 1\n".repeat(400)].concat(),
+    );
+    case(
+        "polls alone",
+        [b"N 4 7\n".to_vec(), b"P\n".repeat(200)].concat(),
     );
     cases
 }

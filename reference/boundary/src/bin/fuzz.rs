@@ -21,6 +21,7 @@ const PRINTED: u64 = 20;
 struct Options {
     packets: u64,
     lists: u64,
+    schedules: u64,
     seed: u64,
 }
 
@@ -28,6 +29,7 @@ fn options() -> Option<Options> {
     let mut options = Options {
         packets: 300_000,
         lists: 20_000,
+        schedules: 2_000,
         seed: 1,
     };
     let mut words = std::env::args().skip(1);
@@ -36,6 +38,7 @@ fn options() -> Option<Options> {
         match word.as_str() {
             "--packets" => options.packets = value,
             "--lists" => options.lists = value,
+            "--schedules" => options.schedules = value,
             "--seed" => options.seed = value,
             _ => return None,
         }
@@ -45,7 +48,7 @@ fn options() -> Option<Options> {
 
 fn main() -> ExitCode {
     let Some(options) = options() else {
-        eprintln!("usage: fuzz [--packets N] [--lists N] [--seed N]");
+        eprintln!("usage: fuzz [--packets N] [--lists N] [--schedules N] [--seed N]");
         return ExitCode::FAILURE;
     };
     let mut differences = 0u64;
@@ -76,6 +79,7 @@ fn main() -> ExitCode {
     run("lists to a member", options.lists, |seed| {
         (0, membership(seed))
     });
+    run("schedules", options.schedules, |seed| (0, playing(seed)));
     println!("{differences} differences");
     if differences == 0 {
         ExitCode::SUCCESS
@@ -373,5 +377,51 @@ fn membership(seed: u64) -> Option<String> {
     let fewer = shrink(&packets, differs);
     Some(format!(
         "n {n}, member {number_of}, group {group}, packets {fewer:02x?}"
+    ))
+}
+
+/// Room for what a schedule prints: an event's line has at most 250 characters.
+fn room(schedule: &[u8]) -> usize {
+    let lines = schedule.iter().filter(|&&byte| byte == b'\n').count() + 2;
+    250 * lines
+}
+
+/// What both sides print.
+fn printed(schedule: &[u8]) -> [Vec<u8>; 2] {
+    [proved::play, reference::play].map(|play| {
+        let mut out = vec![0; room(schedule)];
+        let length = play(schedule, &mut out);
+        out.truncate(length);
+        out
+    })
+}
+
+/// One in four schedules is damaged, one in a thousand has a line of a million characters.
+fn playing(seed: u64) -> Option<String> {
+    let random = &mut Random::seeded(seed);
+    let events = random.one(&[5, 20, 60, 200, 600]);
+    let mut text = if random.percent(25) {
+        schedules::random::damaged(random.bits(), events)
+    } else {
+        schedules::random::schedule(random.bits(), events)
+    };
+    if random.below(1000) == 0 {
+        text.extend(b"T ");
+        text.extend(vec![random.one(b"0 a\0"); 1_000_000]);
+        text.extend(b"\nP\n");
+    }
+    let lines: Vec<&[u8]> = text.split_inclusive(|&byte| byte == b'\n').collect();
+    let differs = |lines: &[&[u8]]| {
+        let [here, there] = printed(&lines.concat());
+        here != there
+    };
+    if !differs(&lines) {
+        return None;
+    }
+    let text = shrink(&lines, differs).concat();
+    let [here, there] = printed(&text).map(|text| String::from_utf8_lossy(&text).into_owned());
+    let text = String::from_utf8_lossy(&text);
+    Some(format!(
+        "{text:?}\nprints {here:?}\nand in the reference {there:?}"
     ))
 }

@@ -170,7 +170,7 @@ impl Case {
 
     /// So many rounds that they take long enough.
     fn enough(&self, side: Side) -> u32 {
-        let mut many = 8;
+        let mut many = 1;
         while many < 1 << 24 {
             let before = self.time(side, 0);
             if self.time(side, many).saturating_sub(before) >= SAMPLE {

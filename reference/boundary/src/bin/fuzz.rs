@@ -29,7 +29,7 @@ fn options() -> Option<Options> {
     let mut options = Options {
         packets: 300_000,
         lists: 20_000,
-        schedules: 2_000,
+        schedules: 500,
         seed: 1,
     };
     let mut words = std::env::args().skip(1);

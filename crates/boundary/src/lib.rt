@@ -6,12 +6,13 @@ use member::Member;
 use packet::Header;
 use packet::Reading;
 use packet::Writing;
-use player::Player;
 use sequencer::Sequencer;
 ghost use mathlib.Core.Path.{_≡_};
 ghost use lib.ListN.{length};
 ghost use Rattle.group.specs.Lent.{front};
 ghost use Rattle.packet.specs.Packet.{readOf, writeOf};
+ghost use Rattle.playback.specs.Shown.{shownOf};
+ghost use Rattle.player.specs.Play.{playOf};
 ghost use Rattle.boundary.specs.Codes.{readCode, fieldsAfter, writeCode, headerWith};
 
 // Reads a packet: 0 and its fields (kind, member, group, A, B, C), or the number of the refusal.
@@ -422,44 +423,11 @@ pub extern "C" fn boundary_read_list(mut sum: u64, packets: &[u8]) -> u64 {
     sum
 }
 
-// Lays what was printed behind what already stands in the output, where there is room.
-fn print(text: [u8; Player::OUTPUT], size: usize, printed: usize, out: &mut [u8]) -> usize {
-    if out.len() < printed {
-        return printed;
-    }
-    if out.len() - printed < size {
-        return printed;
-    }
-    if Player::OUTPUT < size {
-        return printed;
-    }
-    message::copy(&text[..size], &mut out[printed..]);
-    printed + size
-}
-
-// Plays a schedule: what it prints goes to the front of the output; how many bytes that are.
+// Plays a schedule: what it prints goes to the front of the output, as much as has room; how many bytes that are.
 #[no_mangle]
-pub extern "C" fn boundary_play(input: &[u8], out: &mut [u8]) -> usize {
-    let mut player = Player::fresh();
-    let mut text = [0u8; Player::OUTPUT];
-    let mut printed: usize = 0;
-    let mut from: usize = 0;
-    while from < input.len() {
-        let fed = player.feed(&input[from..], &mut text);
-        player = fed.player;
-        let used = fed.used;
-        printed = print(text, fed.written, printed, out);
-        if used < 1 {
-            return printed;
-        }
-        if input.len() - from < used {
-            return printed;
-        }
-        from += used;
-    }
-    let fed = player.end(&mut text);
-    printed = print(text, fed.written, printed, out);
-    let last = fed.player;
-    let size = last.last(&mut text);
-    print(text, size, printed, out)
+pub extern "C" fn boundary_play(input: &[u8], out: &mut [u8]) -> usize
+    ensures size { λ r. ⌜ r ≡ length (shownOf (playOf (now (input .entry))) (length (now (out .entry)))) ⌝ }
+    ensures lent { λ _. ⌜ now (out .exit) ≡ front (shownOf (playOf (now (input .entry))) (length (now (out .entry)))) (now (out .entry)) ⌝ }
+{
+    playback::play(input, out)
 }

@@ -1,55 +1,172 @@
 -- What a step was promised, carried up to the call that took it; and what a verdict's yes says. Assumes nothing.
 use mathlib.Core.Path.{_≡_, refl, sym, ap, _∙_, subst}
 use mathlib.Core.Bool.{Bool, true, false}
-use mathlib.Core.List.{List}
+use mathlib.Core.List.{List, [], _∷_}
 use Prim.Native.Nat.{ℕ, _+_, _-_, _≤_, _<_}
 use native.Mathlib.Omega.{arith}
 use borrow.Author.Tests.{leb-true, ltb-true, lt-ltb}
-use lib.ListN.{length, take, drop, length-drop}
+use lib.ListN.{length, getD, set, take, drop, length-drop}
 use lib.Seq.{take-all}
 use Rattle.group.specs.Choice.{if_then_else_, _and_, _≤?_, _<?_, _=?_}
 use Rattle.group.specs.Fold.{allAbove}
 use Rattle.group.specs.Lent.{front}
-use Rattle.group.specs.Limits.{headerSize, payloadMost, longestPacket, largestNumber}
+use Rattle.group.specs.Limits.{heldMost, headerSize, payloadMost, longestPacket, largestNumber}
 use Rattle.group.specs.Question.{judged}
+use Rattle.group.specs.declared.MemberNumber.{MemberNumber}
 use Rattle.group.specs.declared.Refusal.{Refusal}
 use Rattle.group.specs.declared.Verdict.{Verdict}
 use Rattle.group.specs.declared.Verdict.the-variants.{Accepted, Refused}
-use Rattle.group.proofs.Choice.{if-true, if-eq, if-ne, if-was, both-first, both-then, says}
+use Rattle.group.proofs.Choice.{if-true, if-false, if-eq, if-ne, if-eq-of, if-was, both-first, both-then, says}
+use Rattle.message.specs.Message.{messageOf, emptyMessage, payloadOf, blank}
 use Rattle.message.specs.declared.Message.{Message}
 use Rattle.packet.specs.Packet.{contentOf}
+use Rattle.packet.proofs.RoundTrip.{packet-length}
 use Rattle.packet.specs.declared.Header.{Header}
 use Rattle.packet.specs.declared.Reading.{Reading}
 use Rattle.packet.specs.declared.Reading.the-variants.{Fields}
-use Rattle.member.specs.Calls.{Outcome, stepOf, answered, callVerdict, refused, submitVerdict, isOwn, contentStep, readStep}
+use Rattle.member.specs.Calls.{Outcome, stepOf, answered, gapPacket, callVerdict, refused, submitVerdict, withHeld, gapUpTo, keptOf, isOwn, withTaken, tookOf, contentStep, readStep}
 use Rattle.window.specs.Sound.{placeSound, waitingSound}
 use Rattle.member.specs.Sound.{soundOf}
-use Rattle.window.specs.Places.{messageAt}
+use Rattle.window.specs.Places.{placeOf, messageAt, lowestMissing}
+use Rattle.window.proofs.Missing.{lowest-other}
 use Rattle.window.specs.Steps.{Laid}
-use Rattle.member.specs.Steps.{Done}
+use Rattle.member.specs.Steps.{Spoken, Replied, withPlace, Hears}
 use Rattle.member.specs.declared.Answer.{Answer}
 use Rattle.member.specs.declared.Member.{Member}
+use Rattle.member.specs.declared.Heard.{Heard}
+use Rattle.member.specs.declared.Reply.{Reply}
 use Rattle.member.specs.declared.Step.{Step}
 
-module _ {r : Step} {x y : List ℕ} where
-  -- what was done of an outcome was done of every outcome that is equal to it
-  pub done-as : {o p : Outcome} → o ≡ p → Done o r x y → Done p r x y
-  done-as e d = subst (λ (o : Outcome). Done o r x y) e d
+module _ {m : Member} {x y : List ℕ} where
+  -- what was said of an outcome was said of every outcome that is equal to it
+  pub replied-as : {r : Reply} {o p : Outcome} → o ≡ p → Replied m o r x y → Replied m p r x y
+  replied-as {r} e d = subst (λ (o : Outcome). Replied m o r x y) e d
 
-  -- the two promises of a call
-  pub promised : {o p : Outcome} → o ≡ p → Done o r x y → (r ≡ stepOf p) × (y ≡ front (p .bytes) x)
-  promised e d = let z = done-as e d in (z .answer, z .lent)
+  pub hears-as : {r : Heard} {o p : Outcome} → o ≡ p → Hears m o r x y → Hears m p r x y
+  hears-as {r} e d = subst (λ (o : Outcome). Hears m o r x y) e d
+
+-- the two promises of a call: of an outcome, beside the state that it leaves
+pub promised : (o : Outcome) (m : Member) (r : Reply) (x y : List ℕ) → o .member ≡ m → Spoken (o .answer) (o .bytes) r x y
+    → (record { member = m; answer = r .answer; written = r .written } ≡ stepOf o) × (y ≡ front (o .bytes) x)
+promised o m r x y e s = (λ j. record { member = sym e j; answer = s .answer-is j; written = s .written-is j }, s .lent)
+
+-- the same of a reply that stands beside a state
+pub stepped : (p : Outcome) {o : Outcome} (m : Member) (r : Reply) (s : Step) (x y : List ℕ) → o ≡ p → Replied m o r x y
+    → s ≡ record { member = m; answer = r .answer; written = r .written } → (s ≡ stepOf p) × (y ≡ front (p .bytes) x)
+stepped p m r s x y e d z =
+    let k = replied-as e d in
+    let q = promised p m r x y (k .same) (k .spoken) in
+    (z ∙ q .0, q .1)
 
 -- an answer that writes nothing
-pub quiet : (m : Member) (answer : Answer) (r : Step) (x : List ℕ) → r ≡ stepOf (answered m answer) → Done (answered m answer) r x x
+pub quiet : (m : Member) (answer : Answer) (r : Reply) (x : List ℕ) → r ≡ record { answer = answer; written = 0 } → Replied m (answered m answer) r x x
 unfolding answered
-quiet m answer r x e = record { answer = e; lent = refl }
+quiet m answer r x e =
+    record { same = refl; spoken = record { answer-is = ap (λ (r : Reply). r .answer) e; written-is = ap (λ (r : Reply). r .written) e; lent = refl } }
 
 -- an answer with bytes that were laid
+pub spoken : (answer : Answer) (bytes : List ℕ) (written : ℕ) (x y : List ℕ) → Laid bytes written x y
+    → Spoken answer bytes (record { answer = answer; written = written }) x y
+spoken answer bytes written x y l = record { answer-is = refl; written-is = l .size; lent = l .lent }
+
 pub sent : (m : Member) (answer : Answer) (bytes : List ℕ) (written : ℕ) (x y : List ℕ) → Laid bytes written x y
-    → Done (record { member = m; answer = answer; bytes = bytes }) (record { member = m; answer = answer; written = written }) x y
-sent m answer bytes written x y l =
-    record { answer = ap (λ (w : ℕ). record { member = m; answer = answer; written = w }) (l .size); lent = l .lent }
+    → Replied m (record { member = m; answer = answer; bytes = bytes }) (record { answer = answer; written = written }) x y
+sent m answer bytes written x y l = record { same = refl; spoken = spoken answer bytes written x y l }
+
+-- a message put where it lies leaves the table as it is
+set-same : (held : List Message) → set held 0 (getD held 0 blank) ≡ held
+set-same [] = refl
+set-same (message ∷ rest) = refl
+
+-- a reply that leaves the places as they are
+pub hears-same : (m : Member) (o : Outcome) (reply : Reply) (r : Heard) (x y : List ℕ) → Replied m o reply x y
+    → r ≡ record { answer = reply .answer; written = reply .written; at = 0; message = getD (m .held) 0 blank } → Hears m o r x y
+unfolding withPlace
+hears-same m o reply r x y d e =
+    subst (λ (r : Heard). Hears m o r x y) (sym e)
+    (record {
+      inside = omega arith;
+      kept = d .same
+          ∙ (λ j. record { group = m .group; number = m .number; taken = m .taken; submitted = m .submitted; waiting = m .waiting; message = m .message; held = sym (set-same (m .held)) j });
+      spoken = d .spoken;
+    })
+
+-- what the lowest missing number, found as `first`, decides
+module _ (m : Member) (last first : ℕ) (e : first ≡ lowestMissing (m .held) (m .taken .0) (last - m .taken .0)) (gapped : Answer) (whole : Outcome) where
+  pub none-missing : first ≡ 0 → whole ≡ gapUpTo m last gapped whole
+  unfolding gapUpTo
+  none-missing z = if-eq-of _ 0 first _ _ _ e z refl
+
+  pub some-missing : (first ≡ 0 → ⊥) → record { member = m; answer = gapped; bytes = gapPacket m first last } ≡ gapUpTo m last gapped whole
+  unfolding gapUpTo
+  some-missing n = rw (← e) (if-ne first 0 _ _ _ n refl)
+
+-- a gap packet is not empty
+gap-long : (m : Member) (first last : ℕ) → length (gapPacket m first last) ≡ headerSize
+unfolding gapPacket
+gap-long m first last = packet-length _ [] ∙ (let e : headerSize + 0 ≡ headerSize = omega arith in e)
+
+-- whether a gap was written tells whether a number is missing, so that another outcome may stand where none is
+module _ (m : Member) (last : ℕ) (gapped alone : Answer) (whole : Outcome) (r : Reply) (x y : List ℕ) (d : Replied m (gapUpTo m last gapped (answered m alone)) r x y) where
+  abbrev low : ℕ
+  low = lowestMissing (m .held) (m .taken .0) (last - m .taken .0)
+
+  abbrev gap : Outcome
+  gap = record { member = m; answer = gapped; bytes = gapPacket m low last }
+
+  replied-of : {o : Outcome} → o ≡ (if low =? 0 then answered m alone else gap) → Replied m o r x y
+  unfolding gapUpTo
+  replied-of e = subst (λ (o : Outcome). Replied m o r x y) (sym e) d
+
+  pub unwritten : r .written ≡ 0 → (whole ≡ gapUpTo m last gapped whole) × (x ≡ y)
+  unfolding gapUpTo answered
+  unwritten z = go (low =? 0) refl
+    where
+      go : (b : Bool) → (low =? 0) ≡ b → (whole ≡ gapUpTo m last gapped whole) × (x ≡ y)
+      go true e = (if-true (low =? 0) whole whole gap e refl, sym (replied-of (if-true (low =? 0) (answered m alone) _ _ e refl) .spoken .lent))
+      go false e =
+          let k = replied-of (if-false (low =? 0) gap _ _ e refl) .spoken .written-is in
+          let g = gap-long m low last in
+          absurd (omega arith)
+
+  pub written : (r .written ≡ 0 → ⊥) → Replied m (gapUpTo m last gapped whole) r x y
+  unfolding gapUpTo answered
+  written n = go (low =? 0) refl
+    where
+      go : (b : Bool) → (low =? 0) ≡ b → Replied m (gapUpTo m last gapped whole) r x y
+      go true e = absurd (n (replied-of (if-true (low =? 0) (answered m alone) _ _ e refl) .spoken .written-is))
+      go false e = replied-as (if-false (low =? 0) gap whole gap e refl) (replied-of (if-false (low =? 0) gap _ _ e refl))
+
+-- a message that is kept: what is below it is missing or not whether it is held or not
+pub hears-kept : (m : Member) (originator : MemberNumber) (number count : ℕ) (payload : List ℕ) (at : ℕ) (reply : Reply) (x y : List ℕ)
+    → m .taken .0 < number → number ≤ m .taken .0 + heldMost → at ≡ placeOf number
+    → Replied m (gapUpTo m (number - 1) Answer.KeptGap (answered m Answer.Kept)) reply x y
+    → Hears m (keptOf m originator number count payload) (record { answer = reply .answer; written = reply .written; at = at; message = messageOf originator count payload }) x y
+unfolding keptOf gapUpTo answered withHeld withPlace gapPacket
+hears-kept m originator number count payload at reply x y lo hi e d =
+    let z : lowestMissing (set (m .held) (placeOf number) message) (m .taken .0) (number - 1 - m .taken .0) ≡ below = lowest-other (m .held) (m .taken .0) (number - 1 - m .taken .0) number message (omega arith) hi in
+    rw (e, z) (go (below =? 0) refl)
+  where
+    message : Message
+    message = messageOf originator count payload
+
+    below : ℕ
+    below = lowestMissing (m .held) (m .taken .0) (number - 1 - m .taken .0)
+
+    left : Member
+    left = withHeld m number message
+
+    result : Heard
+    result = record { answer = reply .answer; written = reply .written; at = placeOf number; message = message }
+
+    go : (b : Bool) → (below =? 0) ≡ b
+        → Hears m (if below =? 0 then answered left Answer.Kept else record { member = left; answer = Answer.KeptGap; bytes = gapPacket left below (number - 1) }) result x y
+    go true q =
+        let k = subst (λ (o : Outcome). Replied m o reply x y) (sym (if-true (below =? 0) (answered m Answer.Kept) _ _ q refl)) d in
+        hears-as (if-true (below =? 0) (answered left Answer.Kept) _ _ q refl) (record { inside = omega arith; kept = refl; spoken = k .spoken })
+    go false q =
+        let k = subst (λ (o : Outcome). Replied m o reply x y) (sym (if-false (below =? 0) (record { member = m; answer = Answer.KeptGap; bytes = gapPacket m below (number - 1) }) _ _ q refl)) d in
+        hears-as (if-false (below =? 0) (record { member = left; answer = Answer.KeptGap; bytes = gapPacket left below (number - 1) }) _ _ q refl) (record { inside = omega arith; kept = refl; spoken = k .spoken })
 
 module _ {A : Type 0} (v : Verdict) (refused : Refusal → A) (accepted : A) where
   -- what a verdict that is known comes to
@@ -113,6 +230,27 @@ pub own-is : (m : Member) (message : Message) (r b : Bool) → r ≡ (m .waiting
     → isOwn m message ≡ b
 unfolding isOwn
 own-is m message r b e t = sym e ∙ t
+
+-- the state after a take, with the place and the empty message as the code has them
+module _ (m : Member) (message empty : Message) (at : ℕ) (z : empty ≡ emptyMessage) (e : at ≡ placeOf (m .taken .0 + 1)) where
+  pub taken-own : isOwn m message ≡ true
+      → withTaken m message
+      ≡ record { group = m .group; number = m .number; taken = record { 0 = m .taken .0 + 1 }; submitted = m .submitted; waiting = false; message = empty; held = set (m .held) at empty }
+  unfolding withTaken if_then_else_
+  taken-own o = rw (z, e, o)
+
+  pub taken-other : isOwn m message ≡ false
+      → withTaken m message
+      ≡ record { group = m .group; number = m .number; taken = record { 0 = m .taken .0 + 1 }; submitted = m .submitted; waiting = m .waiting; message = m .message; held = set (m .held) at empty }
+  unfolding withTaken if_then_else_
+  taken-other o = rw (z, e, o)
+
+-- what a take comes to, where the code looks at the place of the number after it
+pub took : (m m′ : Member) (message : Message) (next : ℕ) (reply : Reply) (x y : List ℕ) → withTaken m message ≡ m′ → next ≡ placeOf (m .taken .0 + 2)
+    → Spoken (Answer.Took (record { 0 = m .taken .0 + 1 }) (message .originator) (message .count) (0 <? getD (m .held) next blank .count)) (payloadOf message) reply x y
+    → Replied m′ (tookOf m message) reply x y
+unfolding tookOf
+took m m′ message next reply x y e n s = record { same = e; spoken = rw n at s }
 
 module _ (m : Member) (reading : Reading) (h : Header) (payload : List ℕ) (e : reading ≡ Fields h) where
   -- fields that were read are of our group, or they are not

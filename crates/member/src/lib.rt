@@ -11,16 +11,17 @@ use packet::Packet;
 use packet::Reading;
 ghost use mathlib.Core.Path.{_≡_};
 ghost use mathlib.Core.List.{[]};
-ghost use Prim.Native.Nat.{_≤_, _<_};
-ghost use lib.ListN.{length};
+ghost use Prim.Native.Nat.{_+_, _≤_, _<_};
+ghost use lib.ListN.{length, getD};
 ghost use Rattle.group.specs.Lent.{front};
-ghost use Rattle.group.specs.Limits.{payloadMost, longestPacket, largestNumber};
+ghost use Rattle.group.specs.Limits.{heldMost, payloadMost, longestPacket, largestNumber};
+ghost use Rattle.message.specs.Message.{payloadOf, blank};
 ghost use Rattle.packet.specs.Packet.{fieldsOf, packetOf};
 ghost use Rattle.window.specs.Steps.{Laid};
 ghost use Rattle.member.specs.State.{acknowledgedOf, freshMember};
 ghost use Rattle.member.specs.Sound.{soundOf};
-ghost use Rattle.member.specs.Calls.{stepOf, answered, refused, requestPacket, gapPacket, statusPacket, callVerdict, submitVerdict, withWaiting, submitOf, repeatOf, statusOf, withHeld, gapUpTo, keptOf, broadcastOf, pollOf, contentStep, receiveOf, isOwn, withTaken, tookOf, takeOf, freshOf};
-ghost use Rattle.member.specs.Steps.{Done};
+ghost use Rattle.member.specs.Calls.{stepOf, answered, requestPacket, statusPacket, callVerdict, submitVerdict, submitOf, repeatOf, statusOf, gapUpTo, keptOf, broadcastOf, pollOf, contentStep, receiveOf, takeOf, freshOf};
+ghost use Rattle.member.specs.Steps.{Spoken, Replied, Hears};
 
 pub struct Member {
     pub group: Group,
@@ -59,6 +60,20 @@ pub struct Step {
     pub written: usize,
 }
 
+// What a call says beside the state that it leaves: its answer, and how many bytes it wrote.
+struct Reply {
+    answer: Answer,
+    written: usize,
+}
+
+// What a packet comes to: a reply, and the message that a place holds after it.
+struct Heard {
+    answer: Answer,
+    written: usize,
+    at: usize,
+    message: Message,
+}
+
 // What opening gives back. Where it is refused, the state is all zero, and no call accepts it.
 pub struct Opening {
     pub member: Member,
@@ -72,6 +87,34 @@ fn put_bare(packet: Packet, group: u32, out: &mut [u8]) -> usize
 {
     let none = [0u8; 0];
     packet.put(group, &none, out)
+}
+
+// A no: nothing is written.
+fn refused(refusal: Refusal) -> Reply
+    ensures { λ r. ⌜ r ≡ record { answer = Answer.Refused refusal; written = 0 } ⌝ }
+{
+    Reply {
+        answer: Answer::Refused(refusal),
+        written: 0,
+    }
+}
+
+// A message handed out, as the number that follows the last taken: its payload goes to the front of the output.
+fn handed(taken: SequenceNumber, message: Message, more: bool, out: &mut [u8]) -> Reply
+    requires { ⌜ (message .length ≤ payloadMost) × (taken .0 < largestNumber) × (longestPacket ≤ length (now out)) ⌝ }
+    ensures { λ r. ⌜ Spoken (Answer.Took (record { 0 = taken .0 + 1 }) (message .originator) (message .count) more) (payloadOf message) r (now (out .entry)) (now (out .exit)) ⌝ }
+{
+    let written = window::put_payload(message, out);
+    let originator = message.originator;
+    Reply {
+        answer: Answer::Took {
+            number: SequenceNumber(taken.0 + 1),
+            originator,
+            count: message.count,
+            more,
+        },
+        written,
+    }
 }
 
 impl Member {
@@ -171,22 +214,30 @@ impl Member {
         Verdict::Refused(Refusal::NumbersUsedUp)
     }
 
-    // An answer that writes nothing.
-    fn answered(self, answer: Answer) -> Step
-        ensures { λ r. ⌜ r ≡ stepOf (answered self answer) ⌝ }
+    // The state as it is, beside a reply.
+    fn replied(self, reply: Reply) -> Step
+        ensures { λ r. ⌜ r ≡ record { member = self; answer = reply .answer; written = reply .written } ⌝ }
     {
+        let answer = reply.answer;
         Step {
             member: self,
             answer,
-            written: 0,
+            written: reply.written,
         }
     }
 
-    // A no: the state is the same and nothing is written.
-    fn refused(self, refusal: Refusal) -> Step
-        ensures { λ r. ⌜ r ≡ stepOf (refused self refusal) ⌝ }
+    // The places as they are, beside a reply.
+    fn same(self, reply: Reply) -> Heard
+        ensures { λ r. ⌜ r ≡ record { answer = reply .answer; written = reply .written; at = 0; message = getD (self .held) 0 blank } ⌝ }
     {
-        self.answered(Answer::Refused(refusal))
+        let answer = reply.answer;
+        let message = self.held[0];
+        Heard {
+            answer,
+            written: reply.written,
+            at: 0,
+            message,
+        }
     }
 
     // The number that every packet of the member acknowledges.
@@ -214,33 +265,31 @@ impl Member {
         packet.put(self.group.number, &payload[..length], out)
     }
 
-    // An answer with the status packet.
-    fn report(self, answer: Answer, out: &mut [u8]) -> Step
+    // The answer with the status packet.
+    fn report(self, answer: Answer, out: &mut [u8]) -> Reply
         requires { ⌜ longestPacket ≤ length (now out) ⌝ }
-        ensures { λ r. ⌜ Done (record { member = self; answer = answer; bytes = statusPacket self }) r (now (out .entry)) (now (out .exit)) ⌝ }
+        ensures { λ r. ⌜ Replied self (record { member = self; answer = answer; bytes = statusPacket self }) r (now (out .entry)) (now (out .exit)) ⌝ }
     {
         let sender = self.number;
         let taken = self.acknowledged();
         let packet = Packet::Status { sender, taken };
         let written = put_bare(packet, self.group.number, out);
-        Step {
-            member: self,
-            answer,
-            written,
-        }
+        Reply { answer, written }
     }
 
-    // An answer with the gap packet of those numbers.
-    fn gap(
-        self,
-        first: SequenceNumber,
-        last: SequenceNumber,
-        answer: Answer,
-        out: &mut [u8],
-    ) -> Step
+    // Where a number up to `last` is missing: the answer with a gap packet from the lowest missing; else the other, alone.
+    fn gap_up_to(self, last: SequenceNumber, gapped: Answer, whole: Answer, out: &mut [u8]) -> Reply
         requires { ⌜ longestPacket ≤ length (now out) ⌝ }
-        ensures { λ r. ⌜ Done (record { member = self; answer = answer; bytes = gapPacket self (first .0) (last .0) }) r (now (out .entry)) (now (out .exit)) ⌝ }
+        ensures { λ r. ⌜ Replied self (gapUpTo self (last .0) gapped (answered self whole)) r (now (out .entry)) (now (out .exit)) ⌝ }
     {
+        let held = self.held;
+        let first = window::lowest_missing(window::counts(held), self.taken, last);
+        if first.0 == 0 {
+            return Reply {
+                answer: whole,
+                written: 0,
+            };
+        }
         let sender = self.number;
         let taken = self.acknowledged();
         let packet = Packet::Gap {
@@ -250,186 +299,23 @@ impl Member {
             last,
         };
         let written = put_bare(packet, self.group.number, out);
-        Step {
-            member: self,
-            answer,
+        Reply {
+            answer: gapped,
             written,
         }
     }
 
-    // Where a number up to `last` is missing: an answer with a gap packet from the lowest missing; else the other answer.
-    fn gap_up_to(self, last: SequenceNumber, gapped: Answer, whole: Answer, out: &mut [u8]) -> Step
+    // A poll: what is missing up to its top, or the status where nothing is.
+    fn poll(self, top: SequenceNumber, out: &mut [u8]) -> Reply
         requires { ⌜ longestPacket ≤ length (now out) ⌝ }
-        ensures { λ r. ⌜ Done (gapUpTo self (last .0) gapped (answered self whole)) r (now (out .entry)) (now (out .exit)) ⌝ }
+        ensures { λ r. ⌜ Replied self (pollOf self top) r (now (out .entry)) (now (out .exit)) ⌝ }
     {
-        let held = self.held;
-        let first = window::lowest_missing(held, self.taken, last);
-        if first.0 == 0 {
-            return self.answered(whole);
+        let last = window::reach(top, self.taken);
+        let reply = self.gap_up_to(last, Answer::Gap, Answer::Status, out);
+        if reply.written == 0 {
+            return self.report(Answer::Status, out);
         }
-        self.gap(first, last, gapped, out)
-    }
-
-    // The state in which one more message waits.
-    fn with_waiting(mut self, payload: &[u8]) -> Self
-        requires { ⌜ (length (now payload) ≤ payloadMost) × (self .submitted < largestNumber) ⌝ }
-        ensures { λ r. ⌜ r ≡ withWaiting self (now (payload .entry)) ⌝ }
-    {
-        let number = self.number;
-        let count = self.submitted + 1;
-        let message = Message::keep(number, count, payload);
-        self.submitted = count;
-        self.waiting = true;
-        self.message = message;
-        self
-    }
-
-    // The state in which a message is held under its number.
-    fn with_held(mut self, number: SequenceNumber, message: Message) -> Self
-        ensures { λ r. ⌜ r ≡ withHeld self (number .0) message ⌝ }
-    {
-        let at = window::place(number, 0);
-        self.held[at] = message;
-        self
-    }
-
-    // The state in which the following number is taken, which is that message's.
-    fn with_taken(mut self, message: Message) -> Self
-        requires { ⌜ self .taken .0 < largestNumber ⌝ }
-        ensures { λ r. ⌜ r ≡ withTaken self message ⌝ }
-    {
-        let at = window::place(self.taken, 1);
-        let empty = Message::empty();
-        self.held[at] = empty;
-        self.taken.0 = self.taken.0 + 1;
-        if window::own(self.number, self.submitted, self.waiting, message) {
-            self.waiting = false;
-            self.message = empty;
-            return self;
-        }
-        self
-    }
-
-    // Submits a message: its request is written.
-    pub fn submit(self, payload: &[u8], out: &mut [u8]) -> Step
-        ensures answer { λ r. ⌜ r ≡ stepOf (submitOf self (now (payload .entry)) (length (now (out .entry)))) ⌝ }
-        ensures lent { λ _. ⌜ now (out .exit) ≡ front (submitOf self (now (payload .entry)) (length (now (out .entry))) .bytes) (now (out .entry)) ⌝ }
-    {
-        let v = self.ask(out.len());
-        match v {
-            Verdict::Accepted => {
-                let w = self.ask_submission(payload.len());
-                match w {
-                    Verdict::Accepted => {
-                        let member = self.with_waiting(payload);
-                        member.request(out)
-                    }
-                    Verdict::Refused(q) => self.refused(q),
-                }
-            }
-            Verdict::Refused(q) => self.refused(q),
-        }
-    }
-
-    // The answer with the request of the waiting message.
-    fn request(self, out: &mut [u8]) -> Step
-        requires { ⌜ (self .message .length ≤ payloadMost) × (longestPacket ≤ length (now out)) ⌝ }
-        ensures { λ r. ⌜ Done (record { member = self; answer = Answer.Sent; bytes = requestPacket self }) r (now (out .entry)) (now (out .exit)) ⌝ }
-    {
-        let written = self.put_request(out);
-        Step {
-            member: self,
-            answer: Answer::Sent,
-            written,
-        }
-    }
-
-    // Writes the waiting request again, with the last number taken by then: question 15.
-    pub fn repeat(self, out: &mut [u8]) -> Step
-        ensures answer { λ r. ⌜ r ≡ stepOf (repeatOf self (length (now (out .entry)))) ⌝ }
-        ensures lent { λ _. ⌜ now (out .exit) ≡ front (repeatOf self (length (now (out .entry))) .bytes) (now (out .entry)) ⌝ }
-    {
-        let v = self.ask(out.len());
-        match v {
-            Verdict::Accepted => {
-                if self.waiting {
-                    return self.request(out);
-                }
-                self.refused(Refusal::NothingWaiting)
-            }
-            Verdict::Refused(q) => self.refused(q),
-        }
-    }
-
-    // Writes a status packet.
-    pub fn status(self, out: &mut [u8]) -> Step
-        ensures answer { λ r. ⌜ r ≡ stepOf (statusOf self (length (now (out .entry)))) ⌝ }
-        ensures lent { λ _. ⌜ now (out .exit) ≡ front (statusOf self (length (now (out .entry))) .bytes) (now (out .entry)) ⌝ }
-    {
-        let v = self.ask(out.len());
-        match v {
-            Verdict::Accepted => self.report(Answer::Sent, out),
-            Verdict::Refused(q) => self.refused(q),
-        }
-    }
-
-    // Hands out the following number, if it is held.
-    pub fn take(self, out: &mut [u8]) -> Step
-        ensures answer { λ r. ⌜ r ≡ stepOf (takeOf self (length (now (out .entry)))) ⌝ }
-        ensures lent { λ _. ⌜ now (out .exit) ≡ front (takeOf self (length (now (out .entry))) .bytes) (now (out .entry)) ⌝ }
-    {
-        let v = self.ask(out.len());
-        match v {
-            Verdict::Accepted => {
-                let at = window::place(self.taken, 1);
-                let message = self.held[at];
-                if 0 < message.count {
-                    return self.took(message, out);
-                }
-                self.answered(Answer::None)
-            }
-            Verdict::Refused(q) => self.refused(q),
-        }
-    }
-
-    // A message handed out: its payload goes to the front of the output.
-    fn took(self, message: Message, out: &mut [u8]) -> Step
-        requires { ⌜ (message .length ≤ payloadMost) × (self .taken .0 < largestNumber) × (longestPacket ≤ length (now out)) ⌝ }
-        ensures { λ r. ⌜ Done (tookOf self message) r (now (out .entry)) (now (out .exit)) ⌝ }
-    {
-        let at = window::place(self.taken, 2);
-        let more = 0 < self.held[at].count;
-        let written = window::put_payload(message, out);
-        let member = self.with_taken(message);
-        let originator = message.originator;
-        Step {
-            member,
-            answer: Answer::Took {
-                number: SequenceNumber(self.taken.0 + 1),
-                originator,
-                count: message.count,
-                more,
-            },
-            written,
-        }
-    }
-
-    // A number that is neither taken nor held, and for which there is a place: it is kept.
-    fn kept(
-        self,
-        originator: MemberNumber,
-        number: SequenceNumber,
-        count: u32,
-        payload: &[u8],
-        out: &mut [u8],
-    ) -> Step
-        requires { ⌜ (1 ≤ number .0) × (length (now payload) ≤ payloadMost) × (longestPacket ≤ length (now out)) ⌝ }
-        ensures { λ r. ⌜ Done (keptOf self originator (number .0) count (now (payload .entry))) r (now (out .entry)) (now (out .exit)) ⌝ }
-    {
-        let message = Message::keep(originator, count, payload);
-        let member = self.with_held(number, message);
-        let last = SequenceNumber(number.0 - 1);
-        member.gap_up_to(last, Answer::KeptGap, Answer::Kept, out)
+        reply
     }
 
     // A broadcast. Its floor is read and not yet acted on.
@@ -440,43 +326,62 @@ impl Member {
         count: u32,
         payload: &[u8],
         out: &mut [u8],
-    ) -> Step
+    ) -> Heard
         requires { ⌜ (length (now payload) ≤ payloadMost) × (longestPacket ≤ length (now out)) ⌝ }
-        ensures { λ r. ⌜ Done (broadcastOf self originator (number .0) count (now (payload .entry))) r (now (out .entry)) (now (out .exit)) ⌝ }
+        ensures { λ r. ⌜ Hears self (broadcastOf self originator (number .0) count (now (payload .entry))) r (now (out .entry)) (now (out .exit)) ⌝ }
     {
         let taken = self.taken;
         if number.0 <= taken.0 {
-            return self.answered(Answer::Old);
+            return self.same(Reply {
+                answer: Answer::Old,
+                written: 0,
+            });
         }
         if (taken.0 as usize) + Group::HELD < (number.0 as usize) {
             let last = SequenceNumber(taken.0 + (Group::HELD as u32));
-            return self.gap_up_to(last, Answer::BeyondGap, Answer::Beyond, out);
+            return self.same(self.gap_up_to(last, Answer::BeyondGap, Answer::Beyond, out));
         }
+        let held = self.held;
+        let counts = window::counts(held);
         let at = window::place(number, 0);
-        if 0 < self.held[at].count {
-            return self.answered(Answer::Old);
+        if 0 < counts[at] {
+            return self.same(Reply {
+                answer: Answer::Old,
+                written: 0,
+            });
         }
         self.kept(originator, number, count, payload, out)
     }
 
-    // A poll: what is missing up to its top, or the status.
-    fn poll(self, top: SequenceNumber, out: &mut [u8]) -> Step
-        requires { ⌜ longestPacket ≤ length (now out) ⌝ }
-        ensures { λ r. ⌜ Done (pollOf self top) r (now (out .entry)) (now (out .exit)) ⌝ }
+    // A number that is neither taken nor held, and for which there is a place: it is kept.
+    fn kept(
+        self,
+        originator: MemberNumber,
+        number: SequenceNumber,
+        count: u32,
+        payload: &[u8],
+        out: &mut [u8],
+    ) -> Heard
+        requires { ⌜ (self .taken .0 < number .0) × (number .0 ≤ self .taken .0 + heldMost) × (length (now payload) ≤ payloadMost) × (longestPacket ≤ length (now out)) ⌝ }
+        ensures { λ r. ⌜ Hears self (keptOf self originator (number .0) count (now (payload .entry))) r (now (out .entry)) (now (out .exit)) ⌝ }
     {
-        let held = self.held;
-        let last = window::reach(top, self.taken);
-        let first = window::lowest_missing(held, self.taken, last);
-        if first.0 == 0 {
-            return self.report(Answer::Status, out);
+        let message = Message::keep(originator, count, payload);
+        let at = window::place(number, 0);
+        let last = SequenceNumber(number.0 - 1);
+        let reply = self.gap_up_to(last, Answer::KeptGap, Answer::Kept, out);
+        let answer = reply.answer;
+        Heard {
+            answer,
+            written: reply.written,
+            at,
+            message,
         }
-        self.gap(first, last, Answer::Gap, out)
     }
 
     // What a packet of our group says: questions 8 and 9.
-    fn heard(self, content: Packet, payload: &[u8], out: &mut [u8]) -> Step
+    fn content(self, content: Packet, payload: &[u8], out: &mut [u8]) -> Heard
         requires { ⌜ (length (now payload) ≤ payloadMost) × (longestPacket ≤ length (now out)) ⌝ }
-        ensures { λ r. ⌜ Done (contentStep self content (now (payload .entry))) r (now (out .entry)) (now (out .exit)) ⌝ }
+        ensures { λ r. ⌜ Hears self (contentStep self content (now (payload .entry))) r (now (out .entry)) (now (out .exit)) ⌝ }
     {
         match content {
             Packet::Broadcast {
@@ -488,31 +393,30 @@ impl Member {
                 if originator.0 < self.group.n {
                     return self.broadcast(originator, number, count, payload, out);
                 }
-                self.refused(Refusal::UnknownMember)
+                self.same(refused(Refusal::UnknownMember))
             }
-            Packet::Poll { top, floor: _ } => self.poll(top, out),
+            Packet::Poll { top, floor: _ } => self.same(self.poll(top, out)),
             Packet::Request {
                 sender: _,
                 taken: _,
                 count: _,
-            } => self.refused(Refusal::OtherEnd),
+            } => self.same(refused(Refusal::OtherEnd)),
             Packet::Gap {
                 sender: _,
                 taken: _,
                 first: _,
                 last: _,
-            } => self.refused(Refusal::OtherEnd),
+            } => self.same(refused(Refusal::OtherEnd)),
             Packet::Status {
                 sender: _,
                 taken: _,
-            } => self.refused(Refusal::OtherEnd),
+            } => self.same(refused(Refusal::OtherEnd)),
         }
     }
 
-    // The call for packets.
-    pub fn receive(self, packet: &[u8], out: &mut [u8]) -> Step
-        ensures answer { λ r. ⌜ r ≡ stepOf (receiveOf self (now (packet .entry)) (length (now (out .entry)))) ⌝ }
-        ensures lent { λ _. ⌜ now (out .exit) ≡ front (receiveOf self (now (packet .entry)) (length (now (out .entry))) .bytes) (now (out .entry)) ⌝ }
+    // What a packet comes to: questions 1 to 9, then the step.
+    fn heard(self, packet: &[u8], out: &mut [u8]) -> Heard
+        ensures { λ r. ⌜ Hears self (receiveOf self (now (packet .entry)) (length (now (out .entry)))) r (now (out .entry)) (now (out .exit)) ⌝ }
     {
         let v = self.ask(out.len());
         match v {
@@ -521,14 +425,151 @@ impl Member {
                 match r {
                     Reading::Fields(h) => {
                         if h.group == self.group.number {
-                            return self.heard(Packet::of(h), &packet[Group::HEADER..], out);
+                            return self.content(Packet::of(h), &packet[Group::HEADER..], out);
                         }
-                        self.refused(Refusal::OtherGroup)
+                        self.same(refused(Refusal::OtherGroup))
                     }
-                    Reading::Refused(q) => self.refused(q),
+                    Reading::Refused(q) => self.same(refused(q)),
                 }
             }
-            Verdict::Refused(q) => self.refused(q),
+            Verdict::Refused(q) => self.same(refused(q)),
+        }
+    }
+
+    // The reply to a status call.
+    fn reported(self, out: &mut [u8]) -> Reply
+        ensures { λ r. ⌜ Replied self (statusOf self (length (now (out .entry)))) r (now (out .entry)) (now (out .exit)) ⌝ }
+    {
+        let v = self.ask(out.len());
+        match v {
+            Verdict::Accepted => self.report(Answer::Sent, out),
+            Verdict::Refused(q) => refused(q),
+        }
+    }
+
+    // The reply to a repeat: question 15.
+    fn repeated(self, out: &mut [u8]) -> Reply
+        ensures { λ r. ⌜ Replied self (repeatOf self (length (now (out .entry)))) r (now (out .entry)) (now (out .exit)) ⌝ }
+    {
+        let v = self.ask(out.len());
+        match v {
+            Verdict::Accepted => {
+                if self.waiting {
+                    let written = self.put_request(out);
+                    return Reply {
+                        answer: Answer::Sent,
+                        written,
+                    };
+                }
+                refused(Refusal::NothingWaiting)
+            }
+            Verdict::Refused(q) => refused(q),
+        }
+    }
+
+    // Submits a message: its request is written.
+    pub fn submit(mut self, payload: &[u8], out: &mut [u8]) -> Step
+        ensures answer { λ r. ⌜ r ≡ stepOf (submitOf self (now (payload .entry)) (length (now (out .entry)))) ⌝ }
+        ensures lent { λ _. ⌜ now (out .exit) ≡ front (submitOf self (now (payload .entry)) (length (now (out .entry))) .bytes) (now (out .entry)) ⌝ }
+    {
+        let v = self.ask(out.len());
+        match v {
+            Verdict::Accepted => {
+                let w = self.ask_submission(payload.len());
+                match w {
+                    Verdict::Accepted => {
+                        let number = self.number;
+                        let count = self.submitted + 1;
+                        let message = Message::keep(number, count, payload);
+                        self.submitted = count;
+                        self.waiting = true;
+                        self.message = message;
+                        let written = self.put_request(out);
+                        self.replied(Reply {
+                            answer: Answer::Sent,
+                            written,
+                        })
+                    }
+                    Verdict::Refused(q) => self.replied(refused(q)),
+                }
+            }
+            Verdict::Refused(q) => self.replied(refused(q)),
+        }
+    }
+
+    // Writes the waiting request again, with the last number taken by then.
+    pub fn repeat(self, out: &mut [u8]) -> Step
+        ensures answer { λ r. ⌜ r ≡ stepOf (repeatOf self (length (now (out .entry)))) ⌝ }
+        ensures lent { λ _. ⌜ now (out .exit) ≡ front (repeatOf self (length (now (out .entry))) .bytes) (now (out .entry)) ⌝ }
+    {
+        let reply = self.repeated(out);
+        self.replied(reply)
+    }
+
+    // Writes a status packet.
+    pub fn status(self, out: &mut [u8]) -> Step
+        ensures answer { λ r. ⌜ r ≡ stepOf (statusOf self (length (now (out .entry)))) ⌝ }
+        ensures lent { λ _. ⌜ now (out .exit) ≡ front (statusOf self (length (now (out .entry))) .bytes) (now (out .entry)) ⌝ }
+    {
+        let reply = self.reported(out);
+        self.replied(reply)
+    }
+
+    // Hands out the following number, if it is held: its place is cleared, and if it is the member's own waiting message nothing
+    // waits any more.
+    pub fn take(mut self, out: &mut [u8]) -> Step
+        ensures answer { λ r. ⌜ r ≡ stepOf (takeOf self (length (now (out .entry)))) ⌝ }
+        ensures lent { λ _. ⌜ now (out .exit) ≡ front (takeOf self (length (now (out .entry))) .bytes) (now (out .entry)) ⌝ }
+    {
+        let v = self.ask(out.len());
+        match v {
+            Verdict::Accepted => {
+                let at = window::place(self.taken, 1);
+                let message = self.held[at];
+                if 0 < message.count {
+                    let next = window::place(self.taken, 2);
+                    let more = 0 < self.held[next].count;
+                    let reply = handed(self.taken, message, more, out);
+                    let empty = Message::empty();
+                    self.held[at] = empty;
+                    self.taken.0 = self.taken.0 + 1;
+                    let originator = message.originator;
+                    if window::own(
+                        self.number,
+                        self.submitted,
+                        self.waiting,
+                        originator,
+                        message.count,
+                    ) {
+                        self.waiting = false;
+                        self.message = empty;
+                        return self.replied(reply);
+                    }
+                    return self.replied(reply);
+                }
+                self.replied(Reply {
+                    answer: Answer::None,
+                    written: 0,
+                })
+            }
+            Verdict::Refused(q) => self.replied(refused(q)),
+        }
+    }
+
+    // The call for packets.
+    pub fn receive(mut self, packet: &[u8], out: &mut [u8]) -> Step
+        ensures answer { λ r. ⌜ r ≡ stepOf (receiveOf self (now (packet .entry)) (length (now (out .entry)))) ⌝ }
+        ensures lent { λ _. ⌜ now (out .exit) ≡ front (receiveOf self (now (packet .entry)) (length (now (out .entry))) .bytes) (now (out .entry)) ⌝ }
+    {
+        let heard = self.heard(packet, out);
+        let answer = heard.answer;
+        let at = heard.at;
+        let message = heard.message;
+        self.held[at] = message;
+        Step {
+            member: self,
+            answer,
+            written: heard.written,
         }
     }
 }

@@ -1,19 +1,24 @@
 -- What the steps inside the code promise, in terms of the meaning. No call's promise speaks of these.
 use mathlib.Core.Path.{_≡_}
 use mathlib.Core.Bool.{Bool}
-use mathlib.Core.List.{List}
-use Prim.Native.Nat.{ℕ}
-use lib.ListN.{length}
+use mathlib.Core.List.{List, [], _∷_}
+use Prim.Native.Nat.{ℕ, zero, suc, _+_, _-_, _%_}
+use lib.ListN.{length, getD}
 use Rattle.group.specs.Choice.{if_then_else_, _and_, _<?_, _≤?_}
 use Rattle.group.specs.Lent.{front}
-use Rattle.group.specs.Limits.{payloadMost, largestNumber}
-use Rattle.message.specs.Message.{zeroBehind, isEmpty}
+use Rattle.group.specs.Limits.{heldMost, payloadMost, largestNumber}
+use Rattle.message.specs.Message.{zeroBehind, isEmpty, blank}
 use Rattle.message.specs.declared.Message.{Message}
+use Rattle.window.specs.Places.{placeOf}
 
 -- bytes were laid at the front of the lent output, and they are as many as was said
 pub record Laid (bytes : List ℕ) (written : ℕ) (before after : List ℕ) : Type 0 where
   pub size : written ≡ length bytes
   pub lent : after ≡ front bytes before
+
+-- the number that place `at` is for, of the eight above t
+abbrev pub numberIn : ℕ → ℕ → ℕ
+numberIn t at = t + 1 + (at + heldMost - (t + 1) % heldMost) % heldMost
 
 -- whether the place of a number is sound, of the message that lies in it
 unfoldable pub messageSound : ℕ → Message → ℕ → Bool
@@ -24,3 +29,21 @@ messageSound n message number =
     and zeroBehind message
     and number ≤? largestNumber
     else isEmpty message
+
+-- the counts of the eight places
+abbrev pub countsOf : List Message → List ℕ
+countsOf held =
+    getD held 0 blank .count
+    ∷ getD held 1 blank .count
+    ∷ getD held 2 blank .count
+    ∷ getD held 3 blank .count
+    ∷ getD held 4 blank .count
+    ∷ getD held 5 blank .count
+    ∷ getD held 6 blank .count
+    ∷ getD held 7 blank .count
+    ∷ []
+
+-- the lowest missing of the k numbers above t, by the counts of the places; 0: none is
+unfoldable pub lowestUncounted : List ℕ → ℕ → ℕ → ℕ
+lowestUncounted counts t zero = 0
+lowestUncounted counts t (suc k) = if 0 <? getD counts (placeOf (t + 1)) 0 then lowestUncounted counts (t + 1) k else t + 1

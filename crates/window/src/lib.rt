@@ -5,15 +5,15 @@ use group::MemberNumber;
 use group::SequenceNumber;
 use message::Message;
 ghost use mathlib.Core.Path.{_≡_};
-ghost use Prim.Native.Nat.{_+_, _-_, _≤_};
+ghost use Prim.Native.Nat.{_+_, _-_, _≤_, _<_};
 ghost use lib.ListN.{length};
 ghost use Rattle.group.specs.Choice.{_and_, _=?_};
 ghost use Rattle.group.specs.Fold.{allAbove};
 ghost use Rattle.group.specs.Limits.{heldMost, payloadMost, longestPacket};
 ghost use Rattle.message.specs.Message.{payloadOf};
-ghost use Rattle.window.specs.Places.{placeOf, lowestMissing, smallerOf};
+ghost use Rattle.window.specs.Places.{placeOf, smallerOf};
 ghost use Rattle.window.specs.Sound.{placeSound, waitingSound, frameSound};
-ghost use Rattle.window.specs.Steps.{Laid, messageSound};
+ghost use Rattle.window.specs.Steps.{Laid, numberIn, messageSound, countsOf, lowestUncounted};
 
 // Number s lies in place s modulo 8: the place of the number that lies `ahead` above a number, which may pass the largest.
 pub fn place(number: SequenceNumber, ahead: usize) -> usize
@@ -23,19 +23,35 @@ pub fn place(number: SequenceNumber, ahead: usize) -> usize
     (number.0 as usize + ahead) % Group::HELD
 }
 
-// The lowest number above the last taken, up to `last`, that is missing; 0 if none is.
+// The counts of the places, by which a place is held or empty.
+pub fn counts(held: [Message; Group::HELD]) -> [u32; Group::HELD]
+    ensures { λ r. ⌜ r ≡ countsOf held ⌝ }
+{
+    [
+        held[0].count,
+        held[1].count,
+        held[2].count,
+        held[3].count,
+        held[4].count,
+        held[5].count,
+        held[6].count,
+        held[7].count,
+    ]
+}
+
+// The lowest number above the last taken, up to `last`, that is missing by the counts of the places; 0 if none is.
 pub fn lowest_missing(
-    held: [Message; Group::HELD],
+    counts: [u32; Group::HELD],
     taken: SequenceNumber,
     last: SequenceNumber,
 ) -> SequenceNumber
-    ensures { λ r. ⌜ r .0 ≡ lowestMissing held (taken .0) (last .0 - taken .0) ⌝ }
+    ensures { λ r. ⌜ r .0 ≡ lowestUncounted counts (taken .0) (last .0 - taken .0) ⌝ }
 {
     let mut number = taken;
     while number.0 < last.0 {
         let at = place(number, 1);
         let next = SequenceNumber(number.0 + 1);
-        if held[at].count == 0 {
+        if counts[at] == 0 {
             return next;
         }
         number = next;
@@ -79,11 +95,20 @@ pub fn waiting_sound(number: MemberNumber, submitted: u32, waiting: bool, messag
     }
 }
 
+// The number that a place is for, of the eight above the last taken.
+fn number_in(taken: SequenceNumber, at: usize) -> usize
+    requires { ⌜ at < heldMost ⌝ }
+    ensures { λ r. ⌜ r ≡ numberIn (taken .0) at ⌝ }
+{
+    let first = taken.0 as usize + 1;
+    first + (at + Group::HELD - first % Group::HELD) % Group::HELD
+}
+
 // A held message has a member of the group as its originator, a length in the limit and a number in the limit; else its
-// place is all zero. The number lies `ahead` above the last taken.
-fn message_sound(n: u8, message: Message, taken: SequenceNumber, ahead: usize) -> bool
-    requires { ⌜ ahead ≤ heldMost ⌝ }
-    ensures { λ r. ⌜ r ≡ messageSound n message (taken .0 + ahead) ⌝ }
+// place is all zero.
+fn message_sound(n: u8, message: Message, taken: SequenceNumber, at: usize) -> bool
+    requires { ⌜ at < heldMost ⌝ }
+    ensures { λ r. ⌜ r ≡ messageSound n message (numberIn (taken .0) at) ⌝ }
 {
     if 0 < message.count {
         if n <= message.originator.0 {
@@ -93,28 +118,26 @@ fn message_sound(n: u8, message: Message, taken: SequenceNumber, ahead: usize) -
             return false;
         }
         if message.zero_behind() {
-            return (taken.0 as usize) + ahead <= (Group::LARGEST as usize);
+            return number_in(taken, at) <= (Group::LARGEST as usize);
         }
         return false;
     }
     message.is_empty()
 }
 
-// The places of the numbers above the last taken are sound.
+// The places of the eight numbers above the last taken are sound. Each is looked at by its own index, so that no copy of the
+// table is made.
 pub fn held_sound(n: u8, held: [Message; Group::HELD], taken: SequenceNumber) -> bool
     ensures { λ r. ⌜ r ≡ allAbove (placeSound n held) (taken .0) heldMost ⌝ }
 {
-    let mut i: usize = 0;
-    while i < Group::HELD {
-        let at = place(taken, i + 1);
-        let message = held[at];
-        if message_sound(n, message, taken, i + 1) {
-            i += 1;
-        } else {
-            return false;
-        }
-    }
-    true
+    message_sound(n, held[0], taken, 0)
+        & message_sound(n, held[1], taken, 1)
+        & message_sound(n, held[2], taken, 2)
+        & message_sound(n, held[3], taken, 3)
+        & message_sound(n, held[4], taken, 4)
+        & message_sound(n, held[5], taken, 5)
+        & message_sound(n, held[6], taken, 6)
+        & message_sound(n, held[7], taken, 7)
 }
 
 // Lays the payload of a message at the front of the output, and gives its length.
@@ -138,15 +161,21 @@ pub fn reach(top: SequenceNumber, taken: SequenceNumber) -> SequenceNumber
     SequenceNumber(taken.0 + (Group::HELD as u32))
 }
 
-// Whether a message is the one that waits, of the member of that number after so many submissions.
-pub fn own(number: MemberNumber, submitted: u32, waiting: bool, message: Message) -> bool
-    ensures { λ r. ⌜ r ≡ (waiting and message .originator .0 =? number .0 and message .count =? submitted) ⌝ }
+// Whether that count of that originator is the one that waits, of the member of that number after so many submissions.
+pub fn own(
+    number: MemberNumber,
+    submitted: u32,
+    waiting: bool,
+    originator: MemberNumber,
+    count: u32,
+) -> bool
+    ensures { λ r. ⌜ r ≡ (waiting and originator .0 =? number .0 and count =? submitted) ⌝ }
 {
     if waiting {
-        if message.originator.0 != number.0 {
+        if originator.0 != number.0 {
             return false;
         }
-        return message.count == submitted;
+        return count == submitted;
     }
     false
 }

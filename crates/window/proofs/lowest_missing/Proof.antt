@@ -5,17 +5,17 @@ use Prim.Native.Nat.{_-_}
 use native.Mathlib.Omega.{arith}
 use lib.ListN.{length}
 use Rattle.group.specs.Limits.{heldMost}
-use Rattle.window.specs.Places.{lowestMissing}
+use Rattle.window.specs.Steps.{lowestUncounted}
 use Rattle.window.proofs.Scan.{missing-on, missing-found, missing-none}
 use borrow.Author.Needs.{needs}
 use Rattle.window.proofs.lowest_missing.Statement.{statement}
 use Rattle.window.proofs.lowest_missing.Tie as tie
 
 abbrev Inv-loop : tie.InvT-loop
-Inv-loop last held number₀ number = (length held ≡ heldMost) × (lowestMissing held (number₀ .0) (last .0 - number₀ .0) ≡ lowestMissing held (number .0) (last .0 - number .0))
+Inv-loop last counts number₀ number = (length counts ≡ heldMost) × (lowestUncounted counts (number₀ .0) (last .0 - number₀ .0) ≡ lowestUncounted counts (number .0) (last .0 - number .0))
 
 abbrev μ-loop : tie.MeasureT-loop
-μ-loop last held number₀ number = last .0 - number .0
+μ-loop last counts number₀ number = last .0 - number .0
 
 loop-holds : tie.Need-loop-holds Inv-loop μ-loop
 loop-holds c = (search needs, refl)
@@ -29,8 +29,8 @@ add-if2 c = omega arith
 mul-if2 : tie.Need-mul-if2 Inv-loop μ-loop
 mul-if2 c = omega arith
 
-element-copy-out-if2 : tie.Need-element-copy-out-if2 Inv-loop μ-loop
-element-copy-out-if2 c = omega arith
+array-read-if2 : tie.Need-array-read-if2 Inv-loop μ-loop
+array-read-if2 c = omega arith
 
 returns : tie.Need-returns Inv-loop μ-loop
 returns c =
@@ -60,7 +60,7 @@ lowest-missing-spec =
     place-requires
     add-if2
     mul-if2
-    element-copy-out-if2
+    array-read-if2
     returns
     loop-less
     loop-again

@@ -17,18 +17,15 @@ returns-2 c = search (choices, needs) depth 9
 zero-behind-requires : tie.Need-zero-behind-requires
 zero-behind-requires c κs = search needs
 
+number-in-requires : tie.Need-number-in-requires
+number-in-requires c κs = search needs
+
 cast-result : tie.Need-cast-result
 cast-result c = search needs
 
-add-result : tie.Need-add-result
-add-result c = search needs
-
-cast-result-2 : tie.Need-cast-result-2
-cast-result-2 c = search needs
-
 returns-3 : tie.Need-returns-3
 unfolding messageSound
-returns-3 c = search (choices, needs) depth 9
+returns-3 c = rw (← c .number-in .ensures) (search (choices, needs) depth 9)
 
 returns-4 : tie.Need-returns-4
 unfolding messageSound
@@ -48,9 +45,8 @@ message-sound-spec =
     returns
     returns-2
     zero-behind-requires
+    number-in-requires
     cast-result
-    add-result
-    cast-result-2
     returns-3
     returns-4
     is-empty-requires

@@ -1,96 +1,125 @@
--- The kinds are told apart as in the definition; question 9 is asked of a broadcast.
+-- Questions 1 and 2, then those of reading, then 7; the part behind the header is handed on.
 -- Assumes nothing.
+use mathlib.Core.Path.{sym, _∙_}
 use denote.Ref.{now}
-use Rattle.group.proofs.Choice.{choices}
-use Rattle.member.specs.Calls.{contentStep}
-use Rattle.member.proofs.Outcomes.{done-as, quiet}
+use lib.ListN.{length}
+use Rattle.packet.proofs.Verdicts.{readable}
+use Rattle.member.specs.Calls.{receiveOf, readStep}
+use Rattle.member.proofs.Outcomes.{hears-as, hears-same, quiet, judged-yes, judged-no, asked, ours, others, behind}
 use borrow.Author.Needs.{needs}
 use Rattle.member.proofs.Member.heard.Statement.{statement}
 use Rattle.member.proofs.Member.heard.Tie as tie
 
-enum-known-content : tie.Need-enum-known-content
-enum-known-content c = search needs
+ask-requires : tie.Need-ask-requires
+ask-requires c κs = search needs
 
-broadcast-requires : tie.Need-broadcast-requires
-broadcast-requires c κs = search needs
+enum-told : tie.Need-enum-told
+enum-told c = search needs
+
+read-requires : tie.Need-read-requires
+read-requires c κs = search needs
+
+enum-known-r : tie.Need-enum-known-r
+enum-known-r c = search needs
+
+of-requires : tie.Need-of-requires
+of-requires c κs = search needs
+
+sub-content : tie.Need-sub-content
+sub-content c = readable _ _ (sym (c .before .before .before .before .before .before .before .read .ensures) ∙ c .before .before .before .before .before .r .given .1) .long
+
+part-content-start : tie.Need-part-content-start
+part-content-start c = readable _ _ (sym (c .before .before .before .before .before .before .before .read .ensures) ∙ c .before .before .before .before .before .r .given .1) .long
+
+part-content-end : tie.Need-part-content-end
+part-content-end c = search needs
+
+content-requires : tie.Need-content-requires
+content-requires c κs =
+    let w = readable _ _ (sym (c .before .before .before .before .before .before .before .before .before .read .ensures) ∙ c .before .before .before .before .before .before .before .r .given .1) in
+    let s = asked _ _ (sym (c .before .before .before .before .before .before .before .before .before .before .before .before .ask .ensures) ∙ c .before .before .before .before .before .before .before .before .before .before .enum-told .given .1) in
+    (rw behind (w .payload), s .1)
 
 same-length : tie.Need-same-length
 same-length c = search needs
 
 returns : tie.Need-returns
-unfolding contentStep
-returns c = done-as (rw (c .before .before .before .before .before .before .before .before .content .given .1) (search (choices, needs) depth 9)) (c .before .before .broadcast .ensures)
+unfolding receiveOf
+returns c =
+    let a = c .before .before .before .before .before .before .before .before .before .before .before .before .before .before .before .before .before .before .args in
+    let s = judged-yes _ _ _ (sym (c .before .before .before .before .before .before .before .before .before .before .before .before .before .before .before .ask .ensures) ∙ c .before .before .before .before .before .before .before .before .before .before .before .before .before .enum-told .given .1) in
+    let o = ours (a .self) _ _ _ (sym (c .before .before .before .before .before .before .before .before .before .before .before .before .read .ensures) ∙ c .before .before .before .before .before .before .before .before .before .before .r .given .1) (c .before .before .before .before .before .before .if1 .taken) in
+    hears-as {p = receiveOf (a .self) (now (a .packet)) (length (now (a .out)))} (rw (behind, c .before .before .before .before .before .of .ensures) (o ∙ s)) (c .before .before .content .ensures)
 
 refused-requires : tie.Need-refused-requires
 refused-requires c κs = search needs
 
-enum-known-content-2 : tie.Need-enum-known-content-2
-enum-known-content-2 c = search needs
+same-requires : tie.Need-same-requires
+same-requires c κs = search needs
 
-poll-requires : tie.Need-poll-requires
-poll-requires c κs = search needs
-
-enum-told : tie.Need-enum-told
-enum-told c = search needs
+enum-known-r-2 : tie.Need-enum-known-r-2
+enum-known-r-2 c = search needs
 
 refused-requires-2 : tie.Need-refused-requires-2
 refused-requires-2 c κs = search needs
 
-enum-told-2 : tie.Need-enum-told-2
-enum-told-2 c = search needs
+same-requires-2 : tie.Need-same-requires-2
+same-requires-2 c κs = search needs
+
+enum-known-v : tie.Need-enum-known-v
+enum-known-v c = search needs
 
 refused-requires-3 : tie.Need-refused-requires-3
 refused-requires-3 c κs = search needs
 
-enum-told-3 : tie.Need-enum-told-3
-enum-told-3 c = search needs
-
-refused-requires-4 : tie.Need-refused-requires-4
-refused-requires-4 c κs = search needs
+same-requires-3 : tie.Need-same-requires-3
+same-requires-3 c κs = search needs
 
 returns-2 : tie.Need-returns-2
-unfolding contentStep
-returns-2 c = done-as (rw (c .before .before .before .before .before .content .given .1) (search (choices, needs) depth 9)) (quiet _ _ _ (now (c .before .before .before .before .before .before .before .before .before .args .out)) (c .refused .ensures))
-
-same-length-2 : tie.Need-same-length-2
-same-length-2 c = search needs
+unfolding receiveOf
+returns-2 c =
+    let a = c .before .before .before .before .before .before .before .before .before .before .before .before .before .before .args in
+    let s = judged-yes _ _ _ (sym (c .before .before .before .before .before .before .before .before .before .before .before .ask .ensures) ∙ c .before .before .before .before .before .before .before .before .before .enum-told .given .1) in
+    let o = others (a .self) _ _ _ (sym (c .before .before .before .before .before .before .before .before .read .ensures) ∙ c .before .before .before .before .before .before .r .given .1) (c .before .before .if1 .left) in
+    hears-as (o ∙ s) (hears-same (a .self) _ _ _ _ _ (quiet _ _ _ (now (a .out)) (c .before .refused .ensures)) (c .same .ensures))
 
 returns-3 : tie.Need-returns-3
-unfolding contentStep
-returns-3 c = done-as (rw (c .before .before .before .before .before .content2 .given .1)) (c .before .before .poll .ensures)
+unfolding receiveOf readStep
+returns-3 c =
+    let a = c .before .before .before .before .before .before .before .before .before .before .before .args in
+    let s = judged-yes _ _ _ (sym (c .before .before .before .before .before .before .before .before .ask .ensures) ∙ c .before .before .before .before .before .before .enum-told .given .1) in
+    let e = sym (c .before .before .before .before .before .read .ensures) ∙ c .before .before .before .r2 .given .1 in
+    hears-as {p = receiveOf (a .self) (now (a .packet)) (length (now (a .out)))} (rw e s) (hears-same (a .self) _ _ _ _ _ (quiet _ _ _ (now (a .out)) (c .before .refused2 .ensures)) (c .same2 .ensures))
 
 returns-4 : tie.Need-returns-4
-unfolding contentStep
-returns-4 c = done-as (rw (c .before .enum-told .given .1)) (quiet _ _ _ (now (c .before .before .before .before .before .args .out)) (c .refused2 .ensures))
-
-returns-5 : tie.Need-returns-5
-unfolding contentStep
-returns-5 c = done-as (rw (c .before .enum-told2 .given .1)) (quiet _ _ _ (now (c .before .before .before .before .before .args .out)) (c .refused3 .ensures))
-
-returns-6 : tie.Need-returns-6
-unfolding contentStep
-returns-6 c = done-as (rw (c .before .enum-told3 .given .1)) (quiet _ _ _ (now (c .before .before .before .before .before .args .out)) (c .refused4 .ensures))
+unfolding receiveOf
+returns-4 c =
+    let a = c .before .before .before .before .before .before .before .before .args in
+    hears-as (judged-no _ _ _ _ (sym (c .before .before .before .before .before .ask .ensures) ∙ c .before .before .before .v .given .1)) (hears-same (a .self) _ _ _ _ _ (quiet _ _ _ (now (a .out)) (c .before .refused3 .ensures)) (c .same3 .ensures))
 
 pub heard-spec : {M : Type 1} → statement M
 heard-spec =
     tie.close
     (tie.spec
-    enum-known-content
-    broadcast-requires
+    ask-requires
+    enum-told
+    read-requires
+    enum-known-r
+    of-requires
+    sub-content
+    part-content-start
+    part-content-end
+    content-requires
     same-length
     returns
     refused-requires
-    enum-known-content-2
-    poll-requires
-    enum-told
+    same-requires
+    enum-known-r-2
     refused-requires-2
-    enum-told-2
+    same-requires-2
+    enum-known-v
     refused-requires-3
-    enum-told-3
-    refused-requires-4
+    same-requires-3
     returns-2
-    same-length-2
     returns-3
-    returns-4
-    returns-5
-    returns-6)
+    returns-4)

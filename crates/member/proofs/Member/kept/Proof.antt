@@ -1,7 +1,10 @@
--- The message is put in its place, and then what is below it is looked at.
+-- The message lies in the place of its number, and what is below it is looked at.
 -- Assumes nothing.
-use Rattle.member.specs.Calls.{keptOf}
-use Rattle.member.proofs.Outcomes.{done-as}
+use mathlib.Core.Path.{_≡_, _∙_}
+use Prim.Native.Nat.{_+_}
+use native.Mathlib.Omega.{arith}
+use denote.Ref.{now}
+use Rattle.member.proofs.Outcomes.{hears-kept}
 use borrow.Author.Needs.{needs}
 use Rattle.member.proofs.Member.kept.Statement.{statement}
 use Rattle.member.proofs.Member.kept.Tie as tie
@@ -9,11 +12,11 @@ use Rattle.member.proofs.Member.kept.Tie as tie
 keep-requires : tie.Need-keep-requires
 keep-requires c κs = search needs
 
-with-held-requires : tie.Need-with-held-requires
-with-held-requires c κs = search needs
+place-requires : tie.Need-place-requires
+place-requires c κs = search needs
 
-sub-t10 : tie.Need-sub-t10
-sub-t10 c = search needs
+sub-t12 : tie.Need-sub-t12
+sub-t12 c = search needs
 
 gap-up-to-requires : tie.Need-gap-up-to-requires
 gap-up-to-requires c κs = search needs
@@ -22,10 +25,13 @@ same-length : tie.Need-same-length
 same-length c = search needs
 
 returns : tie.Need-returns
-unfolding keptOf
-returns c = done-as (rw (c .before .before .before .before .before .with-held .ensures, c .before .before .before .before .before .before .keep .ensures)) (c .before .before .gap-up-to .ensures)
+returns c =
+    let a = c .before .before .before .before .before .before .before .before .before .args in
+    let e : a .number .0 + 0 ≡ a .number .0 = omega arith in
+    rw (c .before .before .before .before .before .before .keep .ensures)
+    (hears-kept (a .self) (a .originator) (a .number .0) (a .count) (now (a .payload)) _ _ _ _ (search needs) (search needs) (rw e at (c .before .before .before .before .before .place .ensures)) (c .before .before .gap-up-to .ensures))
 
 pub kept-spec : {M : Type 1} → statement M
 kept-spec =
     tie.close
-    (tie.spec keep-requires with-held-requires sub-t10 gap-up-to-requires same-length returns)
+    (tie.spec keep-requires place-requires sub-t12 gap-up-to-requires same-length returns)

@@ -1,111 +1,31 @@
--- Questions 1 and 2, then those of reading, then 7; the part behind the header is handed on.
+-- The place that the packet leaves changed, or the same.
 -- Assumes nothing.
-use mathlib.Core.Path.{sym, _∙_}
-use denote.Ref.{now}
-use lib.ListN.{length}
-use Rattle.packet.proofs.Verdicts.{readable}
-use Rattle.member.specs.Calls.{receiveOf, readStep}
-use Rattle.member.proofs.Outcomes.{promised, quiet, judged-yes, judged-no, asked, ours, others, behind}
+use mathlib.Core.Path.{_∙_}
+use native.Mathlib.Omega.{arith}
+use Rattle.member.specs.Steps.{withPlace}
+use Rattle.member.proofs.Outcomes.{promised}
 use borrow.Author.Needs.{needs}
 use Rattle.member.proofs.Member.receive.Statement.{statement}
 use Rattle.member.proofs.Member.receive.Tie as tie
 
-ask-requires : tie.Need-ask-requires
-ask-requires c κs = search needs
-
-enum-told : tie.Need-enum-told
-enum-told c = search needs
-
-read-requires : tie.Need-read-requires
-read-requires c κs = search needs
-
-enum-known-r : tie.Need-enum-known-r
-enum-known-r c = search needs
-
-of-requires : tie.Need-of-requires
-of-requires c κs = search needs
-
-sub-heard : tie.Need-sub-heard
-sub-heard c = readable _ _ (sym (c .before .before .before .before .before .before .before .read .ensures) ∙ c .before .before .before .before .before .r .given .1) .long
-
-part-heard-start : tie.Need-part-heard-start
-part-heard-start c = readable _ _ (sym (c .before .before .before .before .before .before .before .read .ensures) ∙ c .before .before .before .before .before .r .given .1) .long
-
-part-heard-end : tie.Need-part-heard-end
-part-heard-end c = search needs
-
 heard-requires : tie.Need-heard-requires
-heard-requires c κs =
-    let w = readable _ _ (sym (c .before .before .before .before .before .before .before .before .before .read .ensures) ∙ c .before .before .before .before .before .before .before .r .given .1) in
-    let s = asked _ _ (sym (c .before .before .before .before .before .before .before .before .before .before .before .before .ask .ensures) ∙ c .before .before .before .before .before .before .before .before .before .before .enum-told .given .1) in
-    (rw behind (w .payload), s .1)
+heard-requires c κs = search needs
+
+mul-message : tie.Need-mul-message
+mul-message c = search needs
+
+element-set-from-message : tie.Need-element-set-from-message
+element-set-from-message c = let i = c .before .before .before .heard .ensures .inside in omega arith
 
 same-length : tie.Need-same-length
 same-length c = search needs
 
 returns : tie.Need-returns
-unfolding receiveOf
+unfolding withPlace
 returns c =
-    let a = c .before .before .before .before .before .before .before .before .before .before .before .before .before .before .before .before .before .before .args in
-    let s = judged-yes _ _ _ (sym (c .before .before .before .before .before .before .before .before .before .before .before .before .before .before .before .ask .ensures) ∙ c .before .before .before .before .before .before .before .before .before .before .before .before .before .enum-told .given .1) in
-    let o = ours (a .self) _ _ _ (sym (c .before .before .before .before .before .before .before .before .before .before .before .before .read .ensures) ∙ c .before .before .before .before .before .before .before .before .before .before .r .given .1) (c .before .before .before .before .before .before .if1 .taken) in
-    promised {p = receiveOf (a .self) (now (a .packet)) (length (now (a .out)))} (rw (behind, c .before .before .before .before .before .of .ensures) (o ∙ s)) (c .before .before .heard .ensures)
-
-refused-requires : tie.Need-refused-requires
-refused-requires c κs = search needs
-
-enum-known-r-2 : tie.Need-enum-known-r-2
-enum-known-r-2 c = search needs
-
-refused-requires-2 : tie.Need-refused-requires-2
-refused-requires-2 c κs = search needs
-
-enum-known-v : tie.Need-enum-known-v
-enum-known-v c = search needs
-
-refused-requires-3 : tie.Need-refused-requires-3
-refused-requires-3 c κs = search needs
-
-returns-2 : tie.Need-returns-2
-unfolding receiveOf
-returns-2 c =
-    let a = c .before .before .before .before .before .before .before .before .before .before .before .before .before .args in
-    let s = judged-yes _ _ _ (sym (c .before .before .before .before .before .before .before .before .before .before .ask .ensures) ∙ c .before .before .before .before .before .before .before .before .enum-told .given .1) in
-    let o = others (a .self) _ _ _ (sym (c .before .before .before .before .before .before .before .read .ensures) ∙ c .before .before .before .before .before .r .given .1) (c .before .if1 .left) in
-    promised (o ∙ s) (quiet _ _ _ (now (a .out)) (c .refused .ensures))
-
-returns-3 : tie.Need-returns-3
-unfolding receiveOf readStep
-returns-3 c =
-    let a = c .before .before .before .before .before .before .before .before .before .before .args in
-    let s = judged-yes _ _ _ (sym (c .before .before .before .before .before .before .before .ask .ensures) ∙ c .before .before .before .before .before .enum-told .given .1) in
-    let e = sym (c .before .before .before .before .read .ensures) ∙ c .before .before .r2 .given .1 in
-    promised {p = receiveOf (a .self) (now (a .packet)) (length (now (a .out)))} (rw e s) (quiet _ _ _ (now (a .out)) (c .refused2 .ensures))
-
-returns-4 : tie.Need-returns-4
-unfolding receiveOf
-returns-4 c = promised (judged-no _ _ _ _ (sym (c .before .before .before .before .ask .ensures) ∙ c .before .before .v .given .1)) (quiet _ _ _ (now (c .before .before .before .before .before .before .before .args .out)) (c .refused3 .ensures))
+    let r = c .before .before .before .heard .ensures in
+    promised _ _ _ _ _ (r .kept) (r .spoken)
 
 pub receive-spec : {M : Type 1} → statement M
 receive-spec =
-    tie.close
-    (tie.spec
-    ask-requires
-    enum-told
-    read-requires
-    enum-known-r
-    of-requires
-    sub-heard
-    part-heard-start
-    part-heard-end
-    heard-requires
-    same-length
-    returns
-    refused-requires
-    enum-known-r-2
-    refused-requires-2
-    enum-known-v
-    refused-requires-3
-    returns-2
-    returns-3
-    returns-4)
+    tie.close (tie.spec heard-requires mul-message element-set-from-message same-length returns)

@@ -1,60 +1,25 @@
--- Questions 1, 2 and 15, then the request.
+-- The reply, beside the state as it is.
 -- Assumes nothing.
-use mathlib.Core.Path.{sym, _∙_, refl}
-use denote.Ref.{now}
-use Rattle.group.proofs.Choice.{if-true, if-false}
-use Rattle.member.specs.Calls.{repeatOf}
-use Rattle.member.proofs.Outcomes.{promised, quiet, judged-yes, judged-no, asked, waiting-short}
+use mathlib.Core.Path.{_∙_}
+use Rattle.member.proofs.Outcomes.{promised}
 use borrow.Author.Needs.{needs}
 use Rattle.member.proofs.Member.repeat.Statement.{statement}
 use Rattle.member.proofs.Member.repeat.Tie as tie
 
-ask-requires : tie.Need-ask-requires
-ask-requires c κs = search needs
+repeated-requires : tie.Need-repeated-requires
+repeated-requires c κs = search needs
 
-enum-told : tie.Need-enum-told
-enum-told c = search needs
-
-request-requires : tie.Need-request-requires
-request-requires c κs =
-    let s = asked (c .before .before .before .before .before .before .args .self) _ (sym (c .before .before .before .before .ask .ensures) ∙ c .before .before .enum-told .given .1) in
-    (waiting-short (c .before .before .before .before .before .before .args .self) (s .0) (c .before .if1 .taken), s .1)
+replied-requires : tie.Need-replied-requires
+replied-requires c κs = search needs
 
 same-length : tie.Need-same-length
 same-length c = search needs
 
 returns : tie.Need-returns
-unfolding repeatOf
-returns c = promised (if-true _ _ _ _ (c .before .before .before .before .if1 .taken) refl ∙ judged-yes _ _ _ (sym (c .before .before .before .before .before .before .before .ask .ensures) ∙ c .before .before .before .before .before .enum-told .given .1)) (c .before .before .request .ensures)
-
-refused-requires : tie.Need-refused-requires
-refused-requires c κs = search needs
-
-enum-known-v : tie.Need-enum-known-v
-enum-known-v c = search needs
-
-refused-requires-2 : tie.Need-refused-requires-2
-refused-requires-2 c κs = search needs
-
-returns-2 : tie.Need-returns-2
-unfolding repeatOf
-returns-2 c = promised (if-false _ _ _ _ (c .before .if1 .left) refl ∙ judged-yes _ _ _ (sym (c .before .before .before .before .ask .ensures) ∙ c .before .before .enum-told .given .1)) (quiet _ _ _ (now (c .before .before .before .before .before .before .args .out)) (c .refused .ensures))
-
-returns-3 : tie.Need-returns-3
-unfolding repeatOf
-returns-3 c = promised (judged-no _ _ _ _ (sym (c .before .before .before .before .ask .ensures) ∙ c .before .before .v .given .1)) (quiet _ _ _ (now (c .before .before .before .before .before .before .args .out)) (c .refused2 .ensures))
+returns c =
+    let r = c .before .before .before .repeated .ensures in
+    let p = promised _ _ _ _ _ (r .same) (r .spoken) in
+    (c .replied .ensures ∙ p .0, p .1)
 
 pub repeat-spec : {M : Type 1} → statement M
-repeat-spec =
-    tie.close
-    (tie.spec
-    ask-requires
-    enum-told
-    request-requires
-    same-length
-    returns
-    refused-requires
-    enum-known-v
-    refused-requires-2
-    returns-2
-    returns-3)
+repeat-spec = tie.close (tie.spec repeated-requires replied-requires same-length returns)

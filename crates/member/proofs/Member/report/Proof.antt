@@ -1,4 +1,4 @@
--- The status packet that was laid, beside the state.
+-- The status packet that was laid.
 -- Assumes nothing.
 use Rattle.member.specs.Calls.{statusPacket}
 use Rattle.member.proofs.Outcomes.{sent}

@@ -1,48 +1,25 @@
--- Questions 1 and 2, then the status packet.
+-- The reply, beside the state as it is.
 -- Assumes nothing.
-use mathlib.Core.Path.{sym, _∙_}
-use denote.Ref.{now}
-use Rattle.member.specs.Calls.{statusOf}
-use Rattle.member.proofs.Outcomes.{promised, quiet, judged-yes, judged-no, asked}
+use mathlib.Core.Path.{_∙_}
+use Rattle.member.proofs.Outcomes.{promised}
 use borrow.Author.Needs.{needs}
 use Rattle.member.proofs.Member.status.Statement.{statement}
 use Rattle.member.proofs.Member.status.Tie as tie
 
-ask-requires : tie.Need-ask-requires
-ask-requires c κs = search needs
+reported-requires : tie.Need-reported-requires
+reported-requires c κs = search needs
 
-enum-told : tie.Need-enum-told
-enum-told c = search needs
-
-report-requires : tie.Need-report-requires
-report-requires c κs = asked _ _ (sym (c .before .before .before .ask .ensures) ∙ c .before .enum-told .given .1) .1
-
-enum-known-v : tie.Need-enum-known-v
-enum-known-v c = search needs
-
-refused-requires : tie.Need-refused-requires
-refused-requires c κs = search needs
+replied-requires : tie.Need-replied-requires
+replied-requires c κs = search needs
 
 same-length : tie.Need-same-length
 same-length c = search needs
 
 returns : tie.Need-returns
-unfolding statusOf
-returns c = promised (judged-yes _ _ _ (sym (c .before .before .before .before .before .before .ask .ensures) ∙ c .before .before .before .before .enum-told .given .1)) (c .before .before .report .ensures)
-
-returns-2 : tie.Need-returns-2
-unfolding statusOf
-returns-2 c = promised (judged-no _ _ _ _ (sym (c .before .before .before .before .ask .ensures) ∙ c .before .before .v .given .1)) (quiet _ _ _ (now (c .before .before .before .before .before .before .args .out)) (c .refused .ensures))
+returns c =
+    let r = c .before .before .before .reported .ensures in
+    let p = promised _ _ _ _ _ (r .same) (r .spoken) in
+    (c .replied .ensures ∙ p .0, p .1)
 
 pub status-spec : {M : Type 1} → statement M
-status-spec =
-    tie.close
-    (tie.spec
-    ask-requires
-    enum-told
-    report-requires
-    enum-known-v
-    refused-requires
-    same-length
-    returns
-    returns-2)
+status-spec = tie.close (tie.spec reported-requires replied-requires same-length returns)

@@ -1,14 +1,15 @@
 -- Questions 1 and 2, then the place of the following number decides.
 -- Assumes nothing.
 use mathlib.Core.Path.{refl, sym, _∙_}
+use mathlib.Core.Bool.{true, false}
 use Prim.Native.Nat.{_+_, _≤_, _<_}
 use native.Mathlib.Omega.{arith}
 use denote.Ref.{now}
+use lib.ListN.{length}
 use Rattle.group.proofs.Choice.{if-lt, if-nlt}
 use Rattle.window.specs.Places.{messageAt}
-use lib.ListN.{length}
 use Rattle.member.specs.Calls.{takeOf}
-use Rattle.member.proofs.Outcomes.{promised, quiet, judged-yes, judged-no, asked, next-short}
+use Rattle.member.proofs.Outcomes.{stepped, quiet, took, taken-own, taken-other, own-is, judged-yes, judged-no, asked, next-short}
 use borrow.Author.Needs.{needs}
 use Rattle.member.proofs.Member.take.Statement.{statement}
 use Rattle.member.proofs.Member.take.Tie as tie
@@ -28,12 +29,43 @@ mul-message c = search needs
 element-copy-out-message : tie.Need-element-copy-out-message
 element-copy-out-message c = search needs
 
-took-requires : tie.Need-took-requires
-took-requires c κs =
-    let m = c .before .before .before .before .before .before .before .before .before .before .args .t1 in
-    let s = asked m _ (sym (c .before .before .before .before .before .before .before .before .ask .ensures) ∙ c .before .before .before .before .before .before .enum-told .given .1) in
-    let n = next-short m (s .0) (rw (c .before .before .before .before .place .ensures) at (c .before .if1 .taken)) in
-    rw (c .before .before .before .before .place .ensures) (n .0, omega arith, s .1)
+place-requires-2 : tie.Need-place-requires-2
+place-requires-2 c κs = search needs
+
+mul-more : tie.Need-mul-more
+mul-more c = search needs
+
+element-copy-out-more : tie.Need-element-copy-out-more
+element-copy-out-more c = search needs
+
+handed-requires : tie.Need-handed-requires
+handed-requires c κs =
+    let m = c .before .before .before .before .before .before .before .before .before .before .before .before .before .args .t1 in
+    let s = asked m _ (sym (c .before .before .before .before .before .before .before .before .before .before .before .ask .ensures) ∙ c .before .before .before .before .before .before .before .before .before .enum-told .given .1) in
+    let n = next-short m (s .0) (rw (c .before .before .before .before .before .before .before .place .ensures) at (c .before .before .before .before .if1 .taken)) in
+    rw (c .before .before .before .before .before .before .before .place .ensures) (n .0, omega arith, s .1)
+
+empty-requires : tie.Need-empty-requires
+empty-requires c κs = search needs
+
+mul-empty : tie.Need-mul-empty
+mul-empty c = search needs
+
+element-set-from-empty : tie.Need-element-set-from-empty
+element-set-from-empty c = search needs
+
+add-self : tie.Need-add-self
+add-self c =
+    let m = c .before .before .before .before .before .before .before .before .before .before .before .before .before .before .before .before .before .args .t1 in
+    let s = asked m _ (sym (c .before .before .before .before .before .before .before .before .before .before .before .before .before .before .before .ask .ensures) ∙ c .before .before .before .before .before .before .before .before .before .before .before .before .before .enum-told .given .1) in
+    let n = next-short m (s .0) (rw (c .before .before .before .before .before .before .before .before .before .before .before .place .ensures) at (c .before .before .before .before .before .before .before .before .if1 .taken)) in
+    record { fits = omega arith }
+
+own-requires : tie.Need-own-requires
+own-requires c κs = search needs
+
+replied-requires : tie.Need-replied-requires
+replied-requires c κs = search needs
 
 same-length : tie.Need-same-length
 same-length c = search needs
@@ -41,13 +73,31 @@ same-length c = search needs
 returns : tie.Need-returns
 unfolding takeOf
 returns c =
-    let m = c .before .before .before .before .before .before .before .before .before .before .before .before .before .args .t1 in
-    let h : 0 < messageAt (m .held) (m .taken .0 + 1) .count = rw (c .before .before .before .before .before .before .before .place .ensures) at (c .before .before .before .before .if1 .taken) in
-    let s = judged-yes _ _ _ (sym (c .before .before .before .before .before .before .before .before .before .before .before .ask .ensures) ∙ c .before .before .before .before .before .before .before .before .before .enum-told .given .1) in
-    promised {p = takeOf m (length (now (c .before .before .before .before .before .before .before .before .before .before .before .before .before .args .out)))} (rw (c .before .before .before .before .before .before .before .place .ensures) (if-lt 0 _ _ _ _ h refl ∙ s)) (c .before .before .took .ensures)
+    let a = c .before .before .before .before .before .before .before .before .before .before .before .before .before .before .before .before .before .before .before .before .before .before .before .args in
+    let m = a .t1 in
+    let h : 0 < messageAt (m .held) (m .taken .0 + 1) .count = rw (c .before .before .before .before .before .before .before .before .before .before .before .before .before .before .before .before .before .place .ensures) at (c .before .before .before .before .before .before .before .before .before .before .before .before .before .before .if1 .taken) in
+    let s = judged-yes _ _ _ (sym (c .before .before .before .before .before .before .before .before .before .before .before .before .before .before .before .before .before .before .before .before .before .ask .ensures) ∙ c .before .before .before .before .before .before .before .before .before .before .before .before .before .before .before .before .before .before .before .enum-told .given .1) in
+    let t = taken-own m _ _ _ (c .before .before .before .before .before .before .empty .ensures) (c .before .before .before .before .before .before .before .before .before .before .before .before .before .before .before .before .before .place .ensures) (own-is m _ _ true (c .before .before .own .ensures) (c .before .if2 .taken)) in
+    stepped (takeOf m (length (now (a .out)))) _ _ _ _ _ (rw (c .before .before .before .before .before .before .before .before .before .before .before .before .before .before .before .before .before .place .ensures) (if-lt 0 _ _ _ _ h refl ∙ s)) (took m _ _ _ _ _ _ t (c .before .before .before .before .before .before .before .before .before .before .before .before .place2 .ensures) (c .before .before .before .before .before .before .before .before .before .handed .ensures)) (c .replied .ensures)
 
-answered-requires : tie.Need-answered-requires
-answered-requires c κs = search needs
+replied-requires-2 : tie.Need-replied-requires-2
+replied-requires-2 c κs = search needs
+
+same-length-2 : tie.Need-same-length-2
+same-length-2 c = search needs
+
+returns-2 : tie.Need-returns-2
+unfolding takeOf
+returns-2 c =
+    let a = c .before .before .before .before .before .before .before .before .before .before .before .before .before .before .before .before .before .before .before .before .before .before .before .args in
+    let m = a .t1 in
+    let h : 0 < messageAt (m .held) (m .taken .0 + 1) .count = rw (c .before .before .before .before .before .before .before .before .before .before .before .before .before .before .before .before .before .place .ensures) at (c .before .before .before .before .before .before .before .before .before .before .before .before .before .before .if1 .taken) in
+    let s = judged-yes _ _ _ (sym (c .before .before .before .before .before .before .before .before .before .before .before .before .before .before .before .before .before .before .before .before .before .ask .ensures) ∙ c .before .before .before .before .before .before .before .before .before .before .before .before .before .before .before .before .before .before .before .enum-told .given .1) in
+    let t = taken-other m _ _ _ (c .before .before .before .before .before .before .empty .ensures) (c .before .before .before .before .before .before .before .before .before .before .before .before .before .before .before .before .before .place .ensures) (own-is m _ _ false (c .before .before .own .ensures) (c .before .if2 .left)) in
+    stepped (takeOf m (length (now (a .out)))) _ _ _ _ _ (rw (c .before .before .before .before .before .before .before .before .before .before .before .before .before .before .before .before .before .place .ensures) (if-lt 0 _ _ _ _ h refl ∙ s)) (took m _ _ _ _ _ _ t (c .before .before .before .before .before .before .before .before .before .before .before .before .place2 .ensures) (c .before .before .before .before .before .before .before .before .before .handed .ensures)) (c .replied2 .ensures)
+
+replied-requires-3 : tie.Need-replied-requires-3
+replied-requires-3 c κs = search needs
 
 enum-known-v : tie.Need-enum-known-v
 enum-known-v c = search needs
@@ -55,17 +105,23 @@ enum-known-v c = search needs
 refused-requires : tie.Need-refused-requires
 refused-requires c κs = search needs
 
-returns-2 : tie.Need-returns-2
-unfolding takeOf
-returns-2 c =
-    let m = c .before .before .before .before .before .before .before .before .before .before .args .t1 in
-    let h : messageAt (m .held) (m .taken .0 + 1) .count ≤ 0 = rw (c .before .before .before .before .place .ensures) at (c .before .if1 .left) in
-    let s = judged-yes _ _ _ (sym (c .before .before .before .before .before .before .before .before .ask .ensures) ∙ c .before .before .before .before .before .before .enum-told .given .1) in
-    promised (if-nlt 0 _ _ _ _ h refl ∙ s) (quiet _ _ _ (now (c .before .before .before .before .before .before .before .before .before .before .args .out)) (c .answered .ensures))
+replied-requires-4 : tie.Need-replied-requires-4
+replied-requires-4 c κs = search needs
 
 returns-3 : tie.Need-returns-3
 unfolding takeOf
-returns-3 c = promised (judged-no _ _ _ _ (sym (c .before .before .before .before .ask .ensures) ∙ c .before .before .v .given .1)) (quiet _ _ _ (now (c .before .before .before .before .before .before .args .out)) (c .refused .ensures))
+returns-3 c =
+    let a = c .before .before .before .before .before .before .before .before .before .before .args in
+    let m = a .t1 in
+    let h : messageAt (m .held) (m .taken .0 + 1) .count ≤ 0 = rw (c .before .before .before .before .place .ensures) at (c .before .if1 .left) in
+    let s = judged-yes _ _ _ (sym (c .before .before .before .before .before .before .before .before .ask .ensures) ∙ c .before .before .before .before .before .before .enum-told .given .1) in
+    stepped (takeOf m (length (now (a .out)))) _ _ _ _ _ (if-nlt 0 _ _ _ _ h refl ∙ s) (quiet _ _ _ (now (a .out)) refl) (c .replied3 .ensures)
+
+returns-4 : tie.Need-returns-4
+unfolding takeOf
+returns-4 c =
+    let a = c .before .before .before .before .before .before .before .args in
+    stepped (takeOf (a .t1) (length (now (a .out)))) _ _ _ _ _ (judged-no _ _ _ _ (sym (c .before .before .before .before .before .ask .ensures) ∙ c .before .before .before .v .given .1)) (quiet _ _ _ (now (a .out)) (c .before .refused .ensures)) (c .replied4 .ensures)
 
 pub take-spec : {M : Type 1} → statement M
 take-spec =
@@ -76,11 +132,24 @@ take-spec =
     place-requires
     mul-message
     element-copy-out-message
-    took-requires
+    place-requires-2
+    mul-more
+    element-copy-out-more
+    handed-requires
+    empty-requires
+    mul-empty
+    element-set-from-empty
+    add-self
+    own-requires
+    replied-requires
     same-length
     returns
-    answered-requires
+    replied-requires-2
+    same-length-2
+    returns-2
+    replied-requires-3
     enum-known-v
     refused-requires
-    returns-2
-    returns-3)
+    replied-requires-4
+    returns-3
+    returns-4)

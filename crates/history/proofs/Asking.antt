@@ -1,5 +1,6 @@
--- What the questions on a packet's numbers asked, where they were accepted. Assumes nothing.
-use mathlib.Core.Path.{_≡_}
+-- What the questions on a packet's numbers asked, where they were accepted; and what a verdict that is known leads to. Assumes
+-- nothing.
+use mathlib.Core.Path.{_≡_, refl}
 use mathlib.Core.Bool.{true}
 use Prim.Native.Nat.{ℕ, _+_, _≤_, _<_}
 use borrow.Author.Tests.{ltb-true, leb-true, lt-leb}
@@ -8,6 +9,8 @@ use Rattle.group.proofs.Question.{accepted≢}
 use Rattle.group.specs.Choice.{if_then_else_, _<?_, _≤?_}
 use Rattle.group.specs.Limits.{largestNumber}
 use Rattle.group.specs.declared.MemberNumber.{MemberNumber}
+use Rattle.group.specs.Question.{judged}
+use Rattle.group.specs.declared.Refusal.{Refusal}
 use Rattle.group.specs.declared.Refusal.the-variants.{UnknownMember, AcknowledgedAhead, CountAhead, NumbersUsedUp}
 use Rattle.group.specs.declared.SequenceNumber.{SequenceNumber}
 use Rattle.group.specs.declared.Verdict.{Verdict}
@@ -27,3 +30,19 @@ count-was last top count e =
     let a = if-was (count ≤? last + 1) _ _ Verdict.Accepted e (accepted≢ CountAhead) in
     let b = if-was (if count ≤? last then true else top <? largestNumber) _ _ Verdict.Accepted (a .1) (accepted≢ NumbersUsedUp) in
     (leb-true count (last + 1) (a .0), λ h. ltb-true top largestNumber (rw (lt-leb count last h) at (b .0)))
+
+-- a verdict that is known
+module _ {A : Type 0} (v : Verdict) (f : Refusal → A) (x : A) where
+  pub judged-yes : v ≡ Verdict.Accepted → x ≡ judged v f x
+  unfolding judged
+  judged-yes e = rw e
+
+  pub judged-no : (r : Refusal) → v ≡ Verdict.Refused r → f r ≡ judged v f x
+  unfolding judged
+  judged-no r e = rw e
+
+-- two verdicts of which the second is asked where the first accepts
+pub judged-was : (v w : Verdict) → judged v Verdict.Refused w ≡ Verdict.Accepted → (v ≡ Verdict.Accepted) × (w ≡ Verdict.Accepted)
+unfolding judged
+judged-was Verdict.Accepted w e = (refl, e)
+judged-was (Verdict.Refused r) w e = absurd (accepted≢ r e)

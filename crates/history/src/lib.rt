@@ -16,7 +16,7 @@ ghost use Rattle.history.specs.State.{placeOf, floorOf};
 ghost use Rattle.history.specs.Sound.{entrySound, keptSound, placeSound, frameSound};
 ghost use Rattle.history.specs.Note.{largerOf, tableNoted};
 ghost use Rattle.history.specs.Repeat.{oneMore, isOf, findOf};
-ghost use Rattle.history.specs.Ask.{senderVerdict, countVerdict, wantedVerdict};
+ghost use Rattle.history.specs.Ask.{senderVerdict, countVerdict, wantedVerdict, requestVerdict, gapVerdict};
 
 // What is known of a member: the last number that it is known to have taken, and its last own count that was numbered.
 pub struct Acknowledgement {
@@ -268,7 +268,7 @@ fn number_left(last: u32, top: SequenceNumber, count: u32) -> bool
 }
 
 // Questions 11 and 16 of a request's count.
-pub fn ask_count(last: u32, top: SequenceNumber, count: u32) -> Verdict
+fn ask_count(last: u32, top: SequenceNumber, count: u32) -> Verdict
     ensures { λ r. ⌜ r ≡ countVerdict last (top .0) count ⌝ }
 {
     if (last as u64) + 1 < (count as u64) {
@@ -281,11 +281,51 @@ pub fn ask_count(last: u32, top: SequenceNumber, count: u32) -> Verdict
 }
 
 // Question 12 of a gap.
-pub fn ask_wanted(top: SequenceNumber, last: SequenceNumber) -> Verdict
+fn ask_wanted(top: SequenceNumber, last: SequenceNumber) -> Verdict
     ensures { λ r. ⌜ r ≡ wantedVerdict (top .0) last ⌝ }
 {
     if top.0 < last.0 {
         return Verdict::Refused(Refusal::WantedAhead);
     }
     Verdict::Accepted
+}
+
+// Questions 9 to 11, and 16, of a request.
+pub fn ask_request(
+    n: u8,
+    table: [Acknowledgement; Group::MEMBERS],
+    top: SequenceNumber,
+    sender: MemberNumber,
+    taken: SequenceNumber,
+    count: u32,
+) -> Verdict
+    requires { ⌜ n ≤ membersMost ⌝ }
+    ensures { λ r. ⌜ r ≡ requestVerdict n table (top .0) sender taken count ⌝ }
+{
+    let v = ask_sender(n, top, sender, taken);
+    match v {
+        Verdict::Accepted => {
+            let at = sender.0 as usize;
+            let entry = table[at];
+            ask_count(entry.count, top, count)
+        }
+        Verdict::Refused(q) => Verdict::Refused(q),
+    }
+}
+
+// Questions 9, 10 and 12 of a gap.
+pub fn ask_gap(
+    n: u8,
+    top: SequenceNumber,
+    sender: MemberNumber,
+    taken: SequenceNumber,
+    last: SequenceNumber,
+) -> Verdict
+    ensures { λ r. ⌜ r ≡ gapVerdict n (top .0) sender taken last ⌝ }
+{
+    let v = ask_sender(n, top, sender, taken);
+    match v {
+        Verdict::Accepted => ask_wanted(top, last),
+        Verdict::Refused(q) => Verdict::Refused(q),
+    }
 }

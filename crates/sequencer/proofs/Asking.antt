@@ -26,6 +26,7 @@ use Rattle.sequencer.specs.Calls.{Outcome, answered, refused, oldOf, aga
 use Rattle.sequencer.specs.Laws.{fieldsQuestions}
 use Rattle.sequencer.specs.Note.{noteOf}
 use Rattle.sequencer.specs.State.{lastCount}
+use Rattle.sequencer.specs.Steps.{acceptedStep}
 use Rattle.sequencer.specs.declared.Answer.{Answer}
 use Rattle.sequencer.specs.declared.Answer.the-variants.{Old, Again, Full, Numbered, Noted, Wanted, Sent}
 use Rattle.sequencer.specs.declared.Sequencer.{Sequencer}
@@ -40,14 +41,6 @@ Answers (Numbered number) = Unit {0}
 Answers Noted = Unit {0}
 Answers (Wanted first last) = Unit {0}
 Answers Sent = Unit {0}
-
--- what is done with a packet that no question refuses; of the kinds for the other end none is left
-unfoldable pub acceptedStep : Sequencer → Packet → List ℕ → Outcome
-acceptedStep s (Request sender taken count) payload = requestOf (noteOf s sender taken) sender count payload
-acceptedStep s (Broadcast originator number count floor) payload = answered s Noted
-acceptedStep s (Gap sender taken first last) payload = gapOf (noteOf s sender taken) first last
-acceptedStep s (Status sender taken) payload = answered (noteOf s sender taken) Noted
-acceptedStep s (Poll top floor) payload = answered s Noted
 
 request-answers : (s : Sequencer) (m : MemberNumber) (count : ℕ) (payload : List ℕ) → Answers (requestOf s m count payload .answer)
 unfolding requestOf oldOf againOf fullOf numberedOf answered

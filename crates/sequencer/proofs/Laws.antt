@@ -24,9 +24,10 @@ use Rattle.packet.specs.declared.Reading.{Reading}
 use Rattle.sequencer.specs.Calls.{Outcome, answered, refused, broadcastOf, pollPacket, readStep, callVerdict, receiveOf, pollOf, copyOf}
 use Rattle.sequencer.specs.Laws.{callQuestions, fieldsQuestions, receiveQuestions, copyQuestions, FirstNo, ReceiveFirstNo, PollFirstNo, CopyFirstNo, Typed, Keeps, ReceiveKeeps, PollKeeps, CopyKeeps}
 use Rattle.sequencer.specs.Sound.{soundOf}
+use Rattle.sequencer.specs.Steps.{acceptedStep}
 use Rattle.sequencer.specs.declared.Answer.the-variants.{Sent}
 use Rattle.sequencer.specs.declared.Sequencer.{Sequencer}
-use Rattle.sequencer.proofs.Asking.{Answers, acceptedStep, accepted-answers, fields-asked}
+use Rattle.sequencer.proofs.Asking.{Answers, accepted-answers, fields-asked}
 use Rattle.sequencer.proofs.Keeping.{Stays, broadcast-reads, poll-reads, content-stays}
 use Rattle.sequencer.proofs.Soundness.{sound-of, of-sound}
 

@@ -32,16 +32,6 @@ both d = (d .answer, d .lent)
 pub lent-as-was : {o : Outcome} {r : Step} (x : List ℕ) → Quiet o r → Done o r x x
 lent-as-was x q = record { answer = q .answer; lent = rw (q .bytes) }
 
--- a verdict that is known
-module _ {A : Type 0} (v : Verdict) (f : Refusal → A) (x : A) where
-  pub judged-yes : v ≡ Accepted → x ≡ judged v f x
-  unfolding judged
-  judged-yes e = rw e
-
-  pub judged-no : (r : Refusal) → v ≡ Refused r → f r ≡ judged v f x
-  unfolding judged
-  judged-no r e = rw e
-
 -- the part of a packet behind its header, as the code takes it
 pub part : (p : List ℕ) → take (length p - headerSize) (payloadAt p) ≡ payloadAt p
 part p = take-all (length p - headerSize) (payloadAt p) (simp length-drop (omega arith))

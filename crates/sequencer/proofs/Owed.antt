@@ -1,36 +1,36 @@
 -- What an accepted question says, in the form that the functions behind it ask for. Assumes nothing.
 use mathlib.Core.Path.{_≡_, refl}
-use mathlib.Core.Bool.{true}
+use mathlib.Core.Bool.{Bool, true, false}
 use mathlib.Core.List.{List}
-use Prim.Native.Nat.{ℕ, _+_, _-_, _%_, _≤_}
-use native.Mathlib.Nat.{lt-of-lt-of-le}
+use Prim.Native.Nat.{ℕ, _+_, _-_, _%_, _≤_, _<_}
 use native.Mathlib.Omega.{arith}
 use borrow.Author.Tests.{leb-true}
 use lib.ListN.{length}
-use Rattle.group.specs.Choice.{_≤?_}
+use Rattle.group.specs.Choice.{if_then_else_, _≤?_}
 use Rattle.group.specs.Limits.{membersMost, placesMost, payloadMost, longestPacket}
 use Rattle.group.specs.declared.MemberNumber.{MemberNumber}
-use Rattle.group.specs.declared.Refusal.the-variants.{UnsoundState, ShortOutput}
+use Rattle.group.specs.declared.Refusal.the-variants.{UnsoundState, ShortOutput, OtherEnd}
 use Rattle.group.specs.declared.SequenceNumber.{SequenceNumber}
 use Rattle.group.specs.declared.Verdict.the-variants.{Accepted}
+use Rattle.group.proofs.Choice.{if-was, both-first, both-then}
 use Rattle.group.proofs.Fold.{above-each}
 use Rattle.group.proofs.Question.{accepted≢}
-use Rattle.group.proofs.Choice.{if-was, both-first, both-then}
 use Rattle.message.specs.Message.{messageOf}
-use Rattle.history.specs.Ask.{senderVerdict, countVerdict}
-use Rattle.history.specs.Note.{tableNoted}
+use Rattle.message.specs.declared.Message.{Message}
+use Rattle.packet.specs.declared.Packet.{Packet}
+use Rattle.packet.specs.declared.Packet.the-variants.{Request, Broadcast, Gap, Status, Poll}
+use Rattle.history.specs.Ask.{requestVerdict, gapVerdict}
+use Rattle.history.specs.Note.{withTaken, tableNoted}
 use Rattle.history.specs.Sound.{placeSound}
-use Rattle.history.specs.State.{placeOf, messageAt}
-use Rattle.history.proofs.Asking.{sender-was, count-was}
-use Rattle.history.proofs.Sizes.{frame-members, either-short, set-short, cleared-short, set-count}
-use Rattle.sequencer.specs.Calls.{withMessage, callVerdict}
-use Rattle.sequencer.specs.Done.{Short, Ready, Sized}
-use Rattle.sequencer.specs.Note.{withTable, noteOf}
+use Rattle.history.specs.State.{acknowledgementOf, messageAt}
+use Rattle.history.specs.declared.Acknowledgement.{Acknowledgement}
+use Rattle.history.proofs.Asking.{sender-was, count-was, judged-was}
+use Rattle.history.proofs.Sizes.{frame-members, either-short, set-count}
+use Rattle.sequencer.specs.Calls.{callVerdict}
+use Rattle.sequencer.specs.Done.{Short, Left}
 use Rattle.sequencer.specs.Sound.{soundOf}
-use Rattle.sequencer.specs.State.{lastCount}
+use Rattle.sequencer.specs.Steps.{senderOf, contentVerdict}
 use Rattle.sequencer.specs.declared.Sequencer.{Sequencer}
-
--- ---- a sound state
 
 module _ (s : Sequencer) (e : soundOf s ≡ true) where
   pub sound-members : s .group .n ≤ membersMost
@@ -55,35 +55,30 @@ call-asked s room e =
     let b = if-was (longestPacket ≤? room) _ _ Accepted (a .1) (accepted≢ ShortOutput) in
     (a .0, leb-true longestPacket room (b .0))
 
--- ---- noting keeps the history short
+-- questions 9, 11 and 16, of a packet that was accepted: its sender is a member, and a next number is left where it wants one
+module _ (n : ℕ) (table : List Acknowledgement) (top : ℕ) where
+  pub accepted-member : (packet : Packet) → contentVerdict n table top packet ≡ Accepted → senderOf packet .member .0 < n
+  unfolding contentVerdict senderOf requestVerdict gapVerdict
+  accepted-member (Request sender taken count) e = sender-was n top sender taken (judged-was _ _ e .0) .0
+  accepted-member (Broadcast originator number count floor) e = absurd (accepted≢ OtherEnd e)
+  accepted-member (Gap sender taken first last) e = sender-was n top sender taken (judged-was _ _ e .0) .0
+  accepted-member (Status sender taken) e = sender-was n top sender taken e .0
+  accepted-member (Poll t floor) e = absurd (accepted≢ OtherEnd e)
 
-pub note-short : (s : Sequencer) (sender : MemberNumber) (taken : SequenceNumber) → Short (s .history) → Short (noteOf s sender taken .history)
-unfolding noteOf withTable
-note-short s sender taken h number = cleared-short (s .history) (s .floor .0) _ (placeOf number) (h number)
+  pub accepted-left : (packet : Packet) (taken : SequenceNumber) → contentVerdict n table top packet ≡ Accepted
+      → Left packet (acknowledgementOf (tableNoted table (senderOf packet .member) taken) (senderOf packet .member) .count) top
+  unfolding contentVerdict senderOf requestVerdict tableNoted
+  accepted-left (Request sender t count) taken e =
+      let same = set-count table (sender .0) (withTaken (acknowledgementOf table sender) taken) refl in
+      λ h. count-was (acknowledgementOf table sender .count) top count (judged-was _ _ e .1) .1 (rw same at h)
+  accepted-left (Broadcast originator number count floor) taken e = tt
+  accepted-left (Gap sender t first last) taken e = tt
+  accepted-left (Status sender t) taken e = tt
+  accepted-left (Poll t floor) taken e = tt
 
--- ---- and no count changes
-
-pub note-count : (s : Sequencer) (sender : MemberNumber) (taken : SequenceNumber) → lastCount (noteOf s sender taken) sender ≡ lastCount s sender
-unfolding noteOf withTable tableNoted
-note-count s sender taken = set-count (s .acknowledgements) (sender .0) _ refl
-
--- what a request is owed once it is noted
-pub note-ready : (s : Sequencer) (sender : MemberNumber) (taken : SequenceNumber) (count size room : ℕ) → Sized s size room
-    → senderVerdict (s .group .n) (s .top .0) sender taken ≡ Accepted → countVerdict (lastCount s sender) (s .top .0) count ≡ Accepted
-    → Ready (noteOf s sender taken) sender count size room
-unfolding noteOf withTable
-note-ready s sender taken count size room z v w =
-    record {
-      member = lt-of-lt-of-le (sender-was _ _ sender taken v .0) (z .members);
-      left = λ h. count-was (lastCount s sender) (s .top .0) count w .1 (rw (note-count s sender taken) at h);
-      payload = z .payload;
-      output = z .output;
-      history = note-short s sender taken (z .history);
-    }
-
--- ---- a message that is kept is short
-
-pub message-short : (s : Sequencer) (sender : MemberNumber) (count : ℕ) (payload : List ℕ) → length payload ≤ payloadMost → Short (s .history)
-    → Short (withMessage s sender count payload .history)
-unfolding withMessage messageOf
-message-short s sender count payload k h number = set-short (s .history) (placeOf (s .top .0 + 1)) (placeOf number) (messageOf sender count payload) k (h number)
+-- what is laid in a place is short: what lay there, or a message of a payload
+pub laid-short : (t : Bool) (old : Message) (sender : MemberNumber) (count : ℕ) (payload : List ℕ) → old .length ≤ payloadMost → length payload ≤ payloadMost
+    → (if t then old else messageOf sender count payload) .length ≤ payloadMost
+unfolding if_then_else_ messageOf
+laid-short true old sender count payload h k = h
+laid-short false old sender count payload h k = k

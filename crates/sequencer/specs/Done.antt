@@ -5,11 +5,13 @@ use Prim.Native.Nat.{ℕ, _≤_, _<_}
 use lib.ListN.{length}
 use Rattle.group.specs.Lent.{front}
 use Rattle.group.specs.Limits.{membersMost, payloadMost, longestPacket, largestNumber}
-use Rattle.group.specs.declared.MemberNumber.{MemberNumber}
+use Rattle.group.specs.declared.Verdict.{Verdict}
 use Rattle.message.specs.declared.Message.{Message}
 use Rattle.history.specs.State.{messageAt}
+use Rattle.packet.specs.declared.Packet.{Packet}
+use Rattle.packet.specs.declared.Packet.the-variants.{Request, Broadcast, Gap, Status, Poll}
 use Rattle.sequencer.specs.Calls.{Outcome, stepOf}
-use Rattle.sequencer.specs.State.{lastCount}
+use Rattle.sequencer.specs.Steps.{contentVerdict}
 use Rattle.sequencer.specs.declared.Sequencer.{Sequencer}
 use Rattle.sequencer.specs.declared.Step.{Step}
 
@@ -32,26 +34,23 @@ pub record Quiet (o : Outcome) (step : Step) : Type 0 where
 abbrev pub Short : List Message → Type 0
 Short history = (number : ℕ) → messageAt history number .length ≤ payloadMost
 
--- of a message that is to be numbered: its sender is a member, a next number is left, and its payload, the lent output and
--- the history have the sizes that a packet wants
-pub record Next (s : Sequencer) (sender : MemberNumber) (size room : ℕ) : Type 0 where
-  pub member : sender .0 < membersMost
-  pub left : s .top .0 < largestNumber
-  pub payload : size ≤ payloadMost
-  pub output : longestPacket ≤ room
-  pub history : Short (s .history)
-
--- of a request that is to be answered: the same, but that a number is left only where it wants one
-pub record Ready (s : Sequencer) (sender : MemberNumber) (count size room : ℕ) : Type 0 where
-  pub member : sender .0 < membersMost
-  pub left : lastCount s sender < count → s .top .0 < largestNumber
-  pub payload : size ≤ payloadMost
-  pub output : longestPacket ≤ room
-  pub history : Short (s .history)
-
--- of a packet that is to be answered: the group has at most the limit's members, and the sizes are as above
+-- of a packet that is to be asked: the group has at most the limit's members, and payload, lent output and history have the
+-- sizes that a packet wants
 pub record Sized (s : Sequencer) (size room : ℕ) : Type 0 where
   pub members : s .group .n ≤ membersMost
   pub payload : size ≤ payloadMost
   pub output : longestPacket ≤ room
   pub history : Short (s .history)
+
+-- of a packet that is to be answered: the same, and it was accepted
+pub record Due (s : Sequencer) (packet : Packet) (size room : ℕ) : Type 0 where
+  pub sizes : Sized s size room
+  pub accepted : contentVerdict (s .group .n) (s .acknowledgements) (s .top .0) packet ≡ Verdict.Accepted
+
+-- a next number is left where a request wants one
+abbrev pub Left : Packet → ℕ → ℕ → Type 0
+Left (Request sender taken count) last top = last < count → top < largestNumber
+Left (Broadcast originator number count floor) last top = Unit {0}
+Left (Gap sender taken first to) last top = Unit {0}
+Left (Status sender taken) last top = Unit {0}
+Left (Poll t floor) last top = Unit {0}

@@ -4,4 +4,5 @@ pub mod Note
 pub mod Calls
 pub mod Order
 pub mod Laws
+pub mod Steps
 pub mod Done

@@ -12,19 +12,18 @@ use packet::Packet;
 use packet::Reading;
 ghost use mathlib.Core.Path.{_≡_};
 ghost use mathlib.Core.List.{[]};
-ghost use Prim.Native.Nat.{_-_, _<_, _≤_};
+ghost use Prim.Native.Nat.{_<_, _≤_};
 ghost use lib.ListN.{length};
-ghost use Rattle.group.specs.Choice.{if_then_else_, _=?_};
+ghost use Rattle.group.specs.Choice.{if_then_else_, _≤?_};
 ghost use Rattle.group.specs.Lent.{front};
-ghost use Rattle.group.specs.Limits.{membersMost, payloadMost, placesMost, longestPacket, largestNumber};
-ghost use Rattle.history.specs.Repeat.{findOf};
-ghost use Rattle.message.specs.Message.{payloadOf};
+ghost use Rattle.group.specs.Limits.{membersMost, payloadMost, longestPacket, largestNumber};
+ghost use Rattle.message.specs.Message.{messageOf, payloadOf};
 ghost use Rattle.packet.specs.Packet.{fieldsOf, packetOf};
 ghost use Rattle.sequencer.specs.State.{freshSequencer};
 ghost use Rattle.sequencer.specs.Sound.{soundOf};
-ghost use Rattle.sequencer.specs.Note.{withTable, noteOf};
-ghost use Rattle.sequencer.specs.Calls.{stepOf, answered, broadcastOf, oldOf, againOf, fullOf, withMessage, numberedOf, requestOf, gapOf, contentStep, readStep, callVerdict, receiveOf, pollOf, copyOf, freshOf};
-ghost use Rattle.sequencer.specs.Done.{Laid, Done, Quiet, Short, Next, Ready, Sized};
+ghost use Rattle.sequencer.specs.Calls.{stepOf, answered, readStep, callVerdict, receiveOf, pollOf, copyOf, freshOf};
+ghost use Rattle.sequencer.specs.Done.{Laid, Done, Quiet, Sized, Left, Due};
+ghost use Rattle.sequencer.specs.Steps.{senderOf, packetVerdict, acceptedStep, againChange, requestChange, gapAnswer, changeOf, sentOf};
 
 pub struct Sequencer {
     pub group: Group,
@@ -52,6 +51,21 @@ pub struct Step {
     pub sequencer: Sequencer,
     pub answer: Answer,
     pub written: usize,
+}
+
+// Who sent a packet, and the number that it acknowledges.
+struct Sender {
+    member: MemberNumber,
+    taken: SequenceNumber,
+}
+
+// What a packet changes beside the noting: the number whose place is laid, top, the sender's last count, the repeat count.
+struct Change {
+    number: SequenceNumber,
+    top: SequenceNumber,
+    count: u32,
+    repeats: u32,
+    answer: Answer,
 }
 
 // What opening gives back. Where it is refused, the state is all zero, and no call accepts it.
@@ -91,6 +105,274 @@ fn send_poll(group: u32, top: SequenceNumber, floor: SequenceNumber, out: &mut [
     let none = [0u8; 0];
     let packet = Packet::Poll { top, floor };
     packet.put(group, &none, out)
+}
+
+// Writes what an answer comes with: a broadcast, a poll packet, or nothing.
+fn send_answer(
+    answer: Answer,
+    group: u32,
+    top: SequenceNumber,
+    floor: SequenceNumber,
+    m: Message,
+    out: &mut [u8],
+) -> usize
+    requires { ⌜ (m .length ≤ payloadMost) × (longestPacket ≤ length (now out)) ⌝ }
+    ensures { λ r. ⌜ Laid (sentOf answer group top floor m) r (now (out .entry)) (now (out .exit)) ⌝ }
+{
+    match answer {
+        Answer::Refused(_) => 0,
+        Answer::Old => 0,
+        Answer::Again(number) => send(group, floor, number, m, out),
+        Answer::Full => send_poll(group, top, floor, out),
+        Answer::Numbered(number) => send(group, floor, number, m, out),
+        Answer::Noted => 0,
+        Answer::Wanted(_, _) => 0,
+        Answer::Sent => 0,
+    }
+}
+
+// Questions 7 to 12, and 16, of a packet from the group of a number: kinds 1, 3 and 4 are for this end.
+fn ask_packet(
+    group: Group,
+    table: [Acknowledgement; Group::MEMBERS],
+    top: SequenceNumber,
+    number: u32,
+    packet: Packet,
+) -> Verdict
+    requires { ⌜ group .n ≤ membersMost ⌝ }
+    ensures { λ r. ⌜ r ≡ packetVerdict group table (top .0) number packet ⌝ }
+{
+    if number != group.number {
+        return Verdict::Refused(Refusal::OtherGroup);
+    }
+    let n = group.n;
+    match packet {
+        Packet::Request {
+            sender,
+            taken,
+            count,
+        } => history::ask_request(n, table, top, sender, taken, count),
+        Packet::Broadcast {
+            originator: _,
+            number: _,
+            count: _,
+            floor: _,
+        } => Verdict::Refused(Refusal::OtherEnd),
+        Packet::Gap {
+            sender,
+            taken,
+            first: _,
+            last,
+        } => history::ask_gap(n, top, sender, taken, last),
+        Packet::Status { sender, taken } => history::ask_sender(n, top, sender, taken),
+        Packet::Poll { top: _, floor: _ } => Verdict::Refused(Refusal::OtherEnd),
+    }
+}
+
+fn sender_of(packet: Packet) -> Sender
+    ensures { λ r. ⌜ r ≡ senderOf packet ⌝ }
+{
+    match packet {
+        Packet::Request {
+            sender,
+            taken,
+            count: _,
+        } => Sender {
+            member: sender,
+            taken,
+        },
+        Packet::Broadcast {
+            originator: _,
+            number: _,
+            count: _,
+            floor: _,
+        } => Sender {
+            member: MemberNumber(0),
+            taken: SequenceNumber(0),
+        },
+        Packet::Gap {
+            sender,
+            taken,
+            first: _,
+            last: _,
+        } => Sender {
+            member: sender,
+            taken,
+        },
+        Packet::Status { sender, taken } => Sender {
+            member: sender,
+            taken,
+        },
+        Packet::Poll { top: _, floor: _ } => Sender {
+            member: MemberNumber(0),
+            taken: SequenceNumber(0),
+        },
+    }
+}
+
+// What a request changes, once A is noted: Old, Again, Full or Numbered.
+fn request_change(
+    history: [Message; Group::PLACES],
+    sender: MemberNumber,
+    count: u32,
+    last: u32,
+    floor: SequenceNumber,
+    top: SequenceNumber,
+    repeats: u32,
+) -> Change
+    requires { ⌜ (last < count → top .0 < largestNumber) ⌝ }
+    ensures { λ r. ⌜ r ≡ requestChange history sender count last (floor .0) top repeats ⌝ }
+{
+    if count < last {
+        let more = history::one_more(repeats);
+        let answer = Answer::Old;
+        return Change {
+            number: top,
+            top,
+            count: last,
+            repeats: more,
+            answer,
+        };
+    }
+    if count == last {
+        let number = history::find(history, sender, count, floor, top);
+        return again_change(number, last, top, repeats);
+    }
+    if history::kept(floor, top) == Group::PLACES {
+        let answer = Answer::Full;
+        return Change {
+            number: top,
+            top,
+            count: last,
+            repeats,
+            answer,
+        };
+    }
+    let next = SequenceNumber(top.0 + 1);
+    let answer = Answer::Numbered(next);
+    Change {
+        number: next,
+        top: next,
+        count,
+        repeats,
+        answer,
+    }
+}
+
+// The last count again: Old if no history message has it, else Again with that broadcast.
+fn again_change(number: SequenceNumber, last: u32, top: SequenceNumber, repeats: u32) -> Change
+    ensures { λ r. ⌜ r ≡ againChange (number .0) last top repeats ⌝ }
+{
+    let more = history::one_more(repeats);
+    if number.0 == 0 {
+        let answer = Answer::Old;
+        return Change {
+            number: top,
+            top,
+            count: last,
+            repeats: more,
+            answer,
+        };
+    }
+    let answer = Answer::Again(number);
+    Change {
+        number,
+        top,
+        count: last,
+        repeats: more,
+        answer,
+    }
+}
+
+// A gap, once A is noted: Noted if C is at most floor, else Wanted, from the larger of B and floor + 1, to C.
+fn gap_answer(floor: SequenceNumber, first: SequenceNumber, last: SequenceNumber) -> Answer
+    ensures { λ r. ⌜ r ≡ gapAnswer (floor .0) first last ⌝ }
+{
+    if last.0 <= floor.0 {
+        return Answer::Noted;
+    }
+    let from = SequenceNumber(history::larger(first.0, floor.0 + 1));
+    Answer::Wanted(from, last)
+}
+
+// What a packet changes, once A is noted.
+fn packet_change(
+    history: [Message; Group::PLACES],
+    packet: Packet,
+    last: u32,
+    floor: SequenceNumber,
+    top: SequenceNumber,
+    repeats: u32,
+) -> Change
+    requires { ⌜ Left packet last (top .0) ⌝ }
+    ensures { λ r. ⌜ r ≡ changeOf history packet last (floor .0) top repeats ⌝ }
+{
+    match packet {
+        Packet::Request {
+            sender,
+            taken: _,
+            count,
+        } => request_change(history, sender, count, last, floor, top, repeats),
+        Packet::Broadcast {
+            originator: _,
+            number: _,
+            count: _,
+            floor: _,
+        } => Change {
+            number: top,
+            top,
+            count: last,
+            repeats,
+            answer: Answer::Noted,
+        },
+        Packet::Gap {
+            sender: _,
+            taken: _,
+            first,
+            last: to,
+        } => Change {
+            number: top,
+            top,
+            count: last,
+            repeats,
+            answer: gap_answer(floor, first, to),
+        },
+        Packet::Status {
+            sender: _,
+            taken: _,
+        } => Change {
+            number: top,
+            top,
+            count: last,
+            repeats,
+            answer: Answer::Noted,
+        },
+        Packet::Poll { top: _, floor: _ } => Change {
+            number: top,
+            top,
+            count: last,
+            repeats,
+            answer: Answer::Noted,
+        },
+    }
+}
+
+// What is laid in the place of a change's number: what lies there, or the message that is numbered.
+fn laid(
+    old: Message,
+    sender: MemberNumber,
+    number: SequenceNumber,
+    top: SequenceNumber,
+    count: u32,
+    payload: &[u8],
+) -> Message
+    requires { ⌜ length (now payload) ≤ payloadMost ⌝ }
+    ensures { λ r. ⌜ r ≡ (if number .0 ≤? top .0 then old else messageOf sender count (now (payload .entry))) ⌝ }
+{
+    if number.0 <= top.0 {
+        return old;
+    }
+    Message::keep(sender, count, payload)
 }
 
 impl Sequencer {
@@ -146,37 +428,10 @@ impl Sequencer {
         Verdict::Refused(Refusal::UnsoundState)
     }
 
-    // The state under a table of acknowledgements and its floor: what the floor passes is cleared.
-    fn under(mut self, table: [Acknowledgement; Group::MEMBERS], floor: SequenceNumber) -> Self
-        ensures { λ r. ⌜ r ≡ withTable self table (floor .0) ⌝ }
+    fn refused(self, refusal: Refusal) -> Step
+        ensures { λ r. ⌜ Quiet (answered self (Answer.Refused refusal)) r ⌝ }
     {
-        let mut passed = self.floor.0;
-        while passed < floor.0 {
-            passed += 1;
-            let at = history::place(passed as u64);
-            let none = Message::empty();
-            self.history[at] = none;
-        }
-        self.acknowledgements = table;
-        self.floor = floor;
-        self
-    }
-
-    // Noting an acknowledgement.
-    fn noted(self, sender: MemberNumber, taken: SequenceNumber) -> Self
-        requires { ⌜ (self .group .n ≤ membersMost) × (sender .0 < membersMost) ⌝ }
-        ensures { λ r. ⌜ r ≡ noteOf self sender taken ⌝ }
-    {
-        let old = self.acknowledgements;
-        let table = history::table_noted(old, sender, taken);
-        let floor = history::smallest(self.group.n, table);
-        self.under(table, floor)
-    }
-
-    // An answer that writes nothing.
-    fn answered(self, answer: Answer) -> Step
-        ensures { λ r. ⌜ Quiet (answered self answer) r ⌝ }
-    {
+        let answer = Answer::Refused(refusal);
         Step {
             sequencer: self,
             answer,
@@ -184,263 +439,67 @@ impl Sequencer {
         }
     }
 
-    fn refused(self, refusal: Refusal) -> Step
-        ensures { λ r. ⌜ Quiet (answered self (Answer.Refused refusal)) r ⌝ }
+    // A packet that no question refuses: A is noted, what the floor passes is cleared, and then the state is put together.
+    fn accepted(mut self, packet: Packet, payload: &[u8], out: &mut [u8]) -> Step
+        requires { ⌜ Due self packet (length (now payload)) (length (now out)) ⌝ }
+        ensures { λ r. ⌜ Done (acceptedStep self packet (now (payload .entry))) r (now (out .entry)) (now (out .exit)) ⌝ }
     {
-        let answer = Answer::Refused(refusal);
-        self.answered(answer)
-    }
-
-    fn old(mut self) -> Step
-        ensures { λ r. ⌜ Quiet (oldOf self) r ⌝ }
-    {
-        let repeats = history::one_more(self.repeats);
-        self.repeats = repeats;
-        let answer = Answer::Old;
-        self.answered(answer)
-    }
-
-    // Writes the broadcast of a number, with today's floor.
-    fn broadcast(self, number: SequenceNumber, out: &mut [u8]) -> usize
-        requires { ⌜ Short (self .history) × (longestPacket ≤ length (now out)) ⌝ }
-        ensures { λ r. ⌜ Laid (broadcastOf self (number .0)) r (now (out .entry)) (now (out .exit)) ⌝ }
-    {
-        let at = history::place(number.0 as u64);
-        let m = self.history[at];
-        let floor = self.floor;
-        send(self.group.number, floor, number, m, out)
-    }
-
-    // The last count again: Old if no history message has it, else Again with that broadcast.
-    fn again(mut self, number: SequenceNumber, out: &mut [u8]) -> Step
-        requires { ⌜ Short (self .history) × (longestPacket ≤ length (now out)) ⌝ }
-        ensures { λ r. ⌜ Done (againOf self (number .0)) r (now (out .entry)) (now (out .exit)) ⌝ }
-    {
-        if number.0 == 0 {
-            return self.old();
+        let from = sender_of(packet);
+        let sender = from.member;
+        let taken = from.taken;
+        let old = self.acknowledgements;
+        let table = history::table_noted(old, sender, taken);
+        let floor = history::smallest(self.group.n, table);
+        let was = self.floor;
+        let mut passed = was.0;
+        while passed < floor.0 {
+            passed += 1;
+            let at = history::place(passed as u64);
+            let none = Message::empty();
+            self.history[at] = none;
         }
-        let written = self.broadcast(number, out);
-        let repeats = history::one_more(self.repeats);
-        self.repeats = repeats;
-        let answer = Answer::Again(number);
-        Step {
-            sequencer: self,
-            answer,
-            written,
-        }
-    }
-
-    // Full, with a poll packet.
-    fn full(self, out: &mut [u8]) -> Step
-        requires { ⌜ longestPacket ≤ length (now out) ⌝ }
-        ensures { λ r. ⌜ Done (fullOf self) r (now (out .entry)) (now (out .exit)) ⌝ }
-    {
-        let top = self.top;
-        let floor = self.floor;
-        let written = send_poll(self.group.number, top, floor, out);
-        let answer = Answer::Full;
-        Step {
-            sequencer: self,
-            answer,
-            written,
-        }
-    }
-
-    // A message numbered: top grows by 1, the message is kept, its originator's last count becomes its count.
-    fn with_message(mut self, sender: MemberNumber, count: u32, payload: &[u8]) -> Self
-        requires { ⌜ (sender .0 < membersMost) × (self .top .0 < largestNumber) × (length (now payload) ≤ payloadMost) ⌝ }
-        ensures { λ r. ⌜ r ≡ withMessage self sender count (now (payload .entry)) ⌝ }
-    {
-        let number = SequenceNumber(self.top.0 + 1);
-        let m = Message::keep(sender, count, payload);
-        let at = history::place(number.0 as u64);
-        self.history[at] = m;
-        self.top = number;
         let member = sender.0 as usize;
-        let entry = self.acknowledgements[member];
-        let taken = entry.taken;
-        let next = Acknowledgement { taken, count };
+        let entry = table[member];
+        let history = self.history;
+        let top = self.top;
+        let c = packet_change(history, packet, entry.count, floor, top, self.repeats);
+        let at = history::place(c.number.0 as u64);
+        let m = laid(self.history[at], sender, c.number, top, c.count, payload);
+        self.history[at] = m;
+        self.acknowledgements = table;
+        let acknowledged = entry.taken;
+        let next = Acknowledgement {
+            taken: acknowledged,
+            count: c.count,
+        };
         self.acknowledgements[member] = next;
-        self
-    }
-
-    // Numbered, with its broadcast.
-    fn numbered(self, sender: MemberNumber, count: u32, payload: &[u8], out: &mut [u8]) -> Step
-        requires { ⌜ Next self sender (length (now payload)) (length (now out)) ⌝ }
-        ensures { λ r. ⌜ Done (numberedOf self sender count (now (payload .entry))) r (now (out .entry)) (now (out .exit)) ⌝ }
-    {
-        let sequencer = self.with_message(sender, count, payload);
-        let number = sequencer.top;
-        let written = sequencer.broadcast(number, out);
-        let answer = Answer::Numbered(number);
+        self.floor = floor;
+        let last = c.top;
+        self.top = last;
+        self.repeats = c.repeats;
+        let answer = c.answer;
+        let written = send_answer(answer, self.group.number, last, floor, m, out);
         Step {
-            sequencer,
+            sequencer: self,
             answer,
             written,
         }
     }
 
-    // The next count: Full where the history is, else Numbered.
-    fn next(self, sender: MemberNumber, count: u32, payload: &[u8], out: &mut [u8]) -> Step
-        requires { ⌜ Next self sender (length (now payload)) (length (now out)) ⌝ }
-        ensures { λ r. ⌜ Done (if self .top .0 - self .floor .0 =? placesMost then fullOf self else numberedOf self sender count (now (payload .entry))) r (now (out .entry)) (now (out .exit)) ⌝ }
-    {
-        if history::kept(self.floor, self.top) == Group::PLACES {
-            return self.full(out);
-        }
-        self.numbered(sender, count, payload, out)
-    }
-
-    // The highest number whose message has that originator and count; 0: there is none.
-    fn found(self, sender: MemberNumber, count: u32) -> SequenceNumber
-        ensures { λ r. ⌜ r .0 ≡ findOf (self .history) sender count (self .floor .0) (self .top .0 - self .floor .0) ⌝ }
-    {
-        let history = self.history;
-        let floor = self.floor;
-        let top = self.top;
-        history::find(history, sender, count, floor, top)
-    }
-
-    // A request with a count from its sender, once A is noted.
-    fn request(self, sender: MemberNumber, count: u32, payload: &[u8], out: &mut [u8]) -> Step
-        requires { ⌜ Ready self sender count (length (now payload)) (length (now out)) ⌝ }
-        ensures { λ r. ⌜ Done (requestOf self sender count (now (payload .entry))) r (now (out .entry)) (now (out .exit)) ⌝ }
-    {
-        let at = sender.0 as usize;
-        let entry = self.acknowledgements[at];
-        if count < entry.count {
-            return self.old();
-        }
-        if count == entry.count {
-            let number = self.found(sender, count);
-            return self.again(number, out);
-        }
-        self.next(sender, count, payload, out)
-    }
-
-    // A gap, once A is noted: Noted if C is at most floor, else Wanted, from the larger of B and floor + 1, to C.
-    fn gap(self, first: SequenceNumber, last: SequenceNumber) -> Step
-        ensures { λ r. ⌜ Quiet (gapOf self first last) r ⌝ }
-    {
-        if last.0 <= self.floor.0 {
-            let answer = Answer::Noted;
-            return self.answered(answer);
-        }
-        let from = SequenceNumber(history::larger(first.0, self.floor.0 + 1));
-        let answer = Answer::Wanted(from, last);
-        self.answered(answer)
-    }
-
-    fn take_request(
-        self,
-        sender: MemberNumber,
-        taken: SequenceNumber,
-        count: u32,
-        payload: &[u8],
-        out: &mut [u8],
-    ) -> Step
-        requires { ⌜ Sized self (length (now payload)) (length (now out)) ⌝ }
-        ensures { λ r. ⌜ Done (contentStep self (Packet.Request sender taken count) (now (payload .entry))) r (now (out .entry)) (now (out .exit)) ⌝ }
-    {
-        let top = self.top;
-        let v = history::ask_sender(self.group.n, top, sender, taken);
-        match v {
-            Verdict::Accepted => {
-                let at = sender.0 as usize;
-                let entry = self.acknowledgements[at];
-                let w = history::ask_count(entry.count, top, count);
-                match w {
-                    Verdict::Accepted => {
-                        let s = self.noted(sender, taken);
-                        s.request(sender, count, payload, out)
-                    }
-                    Verdict::Refused(q) => self.refused(q),
-                }
-            }
-            Verdict::Refused(q) => self.refused(q),
-        }
-    }
-
-    fn take_gap(
-        self,
-        sender: MemberNumber,
-        taken: SequenceNumber,
-        first: SequenceNumber,
-        last: SequenceNumber,
-    ) -> Step
-        requires { ⌜ self .group .n ≤ membersMost ⌝ }
-        ensures { λ r. ⌜ Quiet (contentStep self (Packet.Gap sender taken first last) []) r ⌝ }
-    {
-        let top = self.top;
-        let v = history::ask_sender(self.group.n, top, sender, taken);
-        match v {
-            Verdict::Accepted => {
-                let w = history::ask_wanted(top, last);
-                match w {
-                    Verdict::Accepted => {
-                        let s = self.noted(sender, taken);
-                        s.gap(first, last)
-                    }
-                    Verdict::Refused(q) => self.refused(q),
-                }
-            }
-            Verdict::Refused(q) => self.refused(q),
-        }
-    }
-
-    fn take_status(self, sender: MemberNumber, taken: SequenceNumber) -> Step
-        requires { ⌜ self .group .n ≤ membersMost ⌝ }
-        ensures { λ r. ⌜ Quiet (contentStep self (Packet.Status sender taken) []) r ⌝ }
-    {
-        let top = self.top;
-        let v = history::ask_sender(self.group.n, top, sender, taken);
-        match v {
-            Verdict::Accepted => {
-                let answer = Answer::Noted;
-                self.noted(sender, taken).answered(answer)
-            }
-            Verdict::Refused(q) => self.refused(q),
-        }
-    }
-
-    // What a packet of our group says: kinds 1, 3 and 4 are for this end (question 8).
-    fn take(self, packet: Packet, payload: &[u8], out: &mut [u8]) -> Step
-        requires { ⌜ Sized self (length (now payload)) (length (now out)) ⌝ }
-        ensures { λ r. ⌜ Done (contentStep self packet (now (payload .entry))) r (now (out .entry)) (now (out .exit)) ⌝ }
-    {
-        match packet {
-            Packet::Request {
-                sender,
-                taken,
-                count,
-            } => self.take_request(sender, taken, count, payload, out),
-            Packet::Broadcast {
-                originator: _,
-                number: _,
-                count: _,
-                floor: _,
-            } => self.refused(Refusal::OtherEnd),
-            Packet::Gap {
-                sender,
-                taken,
-                first,
-                last,
-            } => self.take_gap(sender, taken, first, last),
-            Packet::Status { sender, taken } => self.take_status(sender, taken),
-            Packet::Poll { top: _, floor: _ } => self.refused(Refusal::OtherEnd),
-        }
-    }
-
-    // Fields that were read: question 7.
-    fn take_fields(self, h: Header, payload: &[u8], out: &mut [u8]) -> Step
+    // Fields that were read: what they mean is asked questions 7 to 12, and 16.
+    fn take(self, h: Header, payload: &[u8], out: &mut [u8]) -> Step
         requires { ⌜ Sized self (length (now payload)) (length (now out)) ⌝ }
         ensures { λ r. ⌜ Done (readStep self (Reading.Fields h) (now (payload .entry))) r (now (out .entry)) (now (out .exit)) ⌝ }
     {
-        if h.group != self.group.number {
-            return self.refused(Refusal::OtherGroup);
-        }
         let packet = Packet::of(h);
-        self.take(packet, payload, out)
+        let group = self.group;
+        let table = self.acknowledgements;
+        let top = self.top;
+        let v = ask_packet(group, table, top, h.group, packet);
+        match v {
+            Verdict::Accepted => self.accepted(packet, payload, out),
+            Verdict::Refused(q) => self.refused(q),
+        }
     }
 
     // The call for packets.
@@ -453,7 +512,7 @@ impl Sequencer {
             Verdict::Accepted => {
                 let reading = packet::read(packet);
                 match reading {
-                    Reading::Fields(h) => self.take_fields(h, &packet[Group::HEADER..], out),
+                    Reading::Fields(h) => self.take(h, &packet[Group::HEADER..], out),
                     Reading::Refused(q) => self.refused(q),
                 }
             }
@@ -494,7 +553,10 @@ impl Sequencer {
         if self.top.0 < number.0 {
             return self.refused(Refusal::NotInHistory);
         }
-        let written = self.broadcast(number, out);
+        let at = history::place(number.0 as u64);
+        let m = self.history[at];
+        let floor = self.floor;
+        let written = send(self.group.number, floor, number, m, out);
         let answer = Answer::Sent;
         Step {
             sequencer: self,

@@ -4,9 +4,10 @@ use mathlib.Core.Path.{_∙_}
 use denote.Ref.{now}
 use lib.ListN.{length}
 use Rattle.group.proofs.Choice.{choices, tests}
+use Rattle.history.proofs.Asking.{judged-yes}
 use Rattle.sequencer.specs.Calls.{broadcastOf, copyOf}
 use Rattle.sequencer.specs.declared.Answer.the-variants.{Sent}
-use Rattle.sequencer.proofs.Outcomes.{done-as, lent-as-was, judged-yes}
+use Rattle.sequencer.proofs.Outcomes.{done-as, lent-as-was}
 use Rattle.sequencer.proofs.Owed.{call-asked, sound-short}
 use borrow.Author.Needs.{needs}
 use Rattle.sequencer.proofs.Sequencer.copied.Statement.{statement}
@@ -17,32 +18,44 @@ refused-requires c κs = search needs
 
 returns : tie.Need-returns
 unfolding copyOf
-returns c = done-as (search (choices, tests, needs) depth 9 ∙ judged-yes _ _ _ (c .before .before .before .before .before .pre)) (lent-as-was (now (c .before .before .before .before .before .args .out)) (c .refused .ensures))
+returns c = done-as (search (choices, tests, needs) depth 9 ∙ judged-yes _ _ _ (c .before .before .before .before .pre)) (lent-as-was (now (c .before .before .before .before .args .out)) (c .refused .ensures))
 
 refused-requires-2 : tie.Need-refused-requires-2
 refused-requires-2 c κs = search needs
 
 returns-2 : tie.Need-returns-2
 unfolding copyOf
-returns-2 c = done-as (search (choices, tests, needs) depth 9 ∙ judged-yes _ _ _ (c .before .before .before .before .before .before .before .before .pre)) (lent-as-was (now (c .before .before .before .before .before .before .before .before .args .out)) (c .refused2 .ensures))
+returns-2 c = done-as (search (choices, tests, needs) depth 9 ∙ judged-yes _ _ _ (c .before .before .before .before .before .before .pre)) (lent-as-was (now (c .before .before .before .before .before .before .args .out)) (c .refused2 .ensures))
 
-broadcast-requires : tie.Need-broadcast-requires
-broadcast-requires c κs =
-    let a = c .before .before .before .before .before .before .before .before .args in
-    let w = call-asked (a .self) (length (now (a .out))) (c .before .before .before .before .before .before .before .before .pre) in
-    (sound-short (a .self) (w .0), search needs)
+cast-place : tie.Need-cast-place
+cast-place c = search needs
+
+place-requires : tie.Need-place-requires
+place-requires c κs = search needs
+
+mul-m : tie.Need-mul-m
+mul-m c = search needs
+
+element-copy-out-m : tie.Need-element-copy-out-m
+element-copy-out-m c = search needs
+
+send-requires : tie.Need-send-requires
+send-requires c κs =
+    let a = c .before .before .before .before .before .before .before .before .before .before .args in
+    let w = call-asked (a .t1) (length (now (a .out))) (c .before .before .before .before .before .before .before .before .before .before .pre) in
+    (rw (c .before .before .before .place .ensures) (sound-short (a .t1) (w .0) _), w .1)
 
 same-length : tie.Need-same-length
 same-length c = search needs
 
 returns-3 : tie.Need-returns-3
-unfolding copyOf
+unfolding copyOf broadcastOf
 returns-3 c =
-    let a = c .before .before .before .before .before .before .before .before .before .before .before .args in
-    let l = c .before .before .broadcast .ensures in
-    done-as {o = record { sequencer = a .self; answer = Sent; bytes = broadcastOf (a .self) (a .number .0) }}
-    (search (choices, tests, needs) depth 9 ∙ judged-yes _ _ _ (c .before .before .before .before .before .before .before .before .before .before .before .pre))
-    (record { answer = rw (l .all); lent = l .lent })
+    let a = c .before .before .before .before .before .before .before .before .before .before .before .before .before .args in
+    let w = rw (c .before .before .before .before .before .before .place .ensures) at (c .before .before .send .ensures) in
+    done-as {o = record { sequencer = a .t1; answer = Sent; bytes = broadcastOf (a .t1) (a .number .0) }}
+    (search (choices, tests, needs) depth 9 ∙ judged-yes _ _ _ (c .before .before .before .before .before .before .before .before .before .before .before .before .before .pre))
+    (record { answer = rw (w .all); lent = w .lent })
 
 pub copied-spec : {M : Type 1} → statement M
 copied-spec =
@@ -52,6 +65,10 @@ copied-spec =
     returns
     refused-requires-2
     returns-2
-    broadcast-requires
+    cast-place
+    place-requires
+    mul-m
+    element-copy-out-m
+    send-requires
     same-length
     returns-3)

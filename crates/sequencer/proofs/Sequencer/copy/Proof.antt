@@ -3,7 +3,8 @@
 use mathlib.Core.Path.{sym, _∙_}
 use denote.Ref.{now}
 use Rattle.sequencer.specs.Calls.{copyOf}
-use Rattle.sequencer.proofs.Outcomes.{done-as, both, lent-as-was, judged-no}
+use Rattle.history.proofs.Asking.{judged-no}
+use Rattle.sequencer.proofs.Outcomes.{done-as, both, lent-as-was}
 use borrow.Author.Needs.{needs}
 use Rattle.sequencer.proofs.Sequencer.copy.Statement.{statement}
 use Rattle.sequencer.proofs.Sequencer.copy.Tie as tie

@@ -4,7 +4,8 @@ use mathlib.Core.Path.{sym, _∙_}
 use denote.Ref.{now}
 use Rattle.sequencer.specs.Calls.{pollPacket, pollOf}
 use Rattle.sequencer.specs.declared.Answer.the-variants.{Sent}
-use Rattle.sequencer.proofs.Outcomes.{done-as, both, lent-as-was, judged-yes, judged-no}
+use Rattle.history.proofs.Asking.{judged-yes, judged-no}
+use Rattle.sequencer.proofs.Outcomes.{done-as, both, lent-as-was}
 use Rattle.sequencer.proofs.Owed.{call-asked}
 use borrow.Author.Needs.{needs}
 use Rattle.sequencer.proofs.Sequencer.poll.Statement.{statement}

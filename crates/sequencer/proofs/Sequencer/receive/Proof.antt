@@ -6,7 +6,8 @@ use lib.ListN.{length, length-take, length-drop}
 use native.Mathlib.Omega.{arith}
 use Rattle.packet.proofs.Verdicts.{readable}
 use Rattle.sequencer.specs.Calls.{readStep, receiveOf}
-use Rattle.sequencer.proofs.Outcomes.{done-as, both, lent-as-was, judged-yes, judged-no, part}
+use Rattle.history.proofs.Asking.{judged-yes, judged-no}
+use Rattle.sequencer.proofs.Outcomes.{done-as, both, lent-as-was, part}
 use Rattle.sequencer.proofs.Owed.{sound-members, sound-short, call-asked}
 use borrow.Author.Needs.{needs}
 use Rattle.sequencer.proofs.Sequencer.receive.Statement.{statement}
@@ -24,17 +25,17 @@ read-requires c κs = search needs
 enum-known-reading : tie.Need-enum-known-reading
 enum-known-reading c = search needs
 
-sub-take-fields : tie.Need-sub-take-fields
-sub-take-fields c = readable _ _ (sym (c .before .before .before .read .ensures) ∙ c .before .reading .given .1) .long
+sub-take : tie.Need-sub-take
+sub-take c = readable _ _ (sym (c .before .before .before .read .ensures) ∙ c .before .reading .given .1) .long
 
-part-take-fields-start : tie.Need-part-take-fields-start
-part-take-fields-start c = readable _ _ (sym (c .before .before .before .read .ensures) ∙ c .before .reading .given .1) .long
+part-take-start : tie.Need-part-take-start
+part-take-start c = readable _ _ (sym (c .before .before .before .read .ensures) ∙ c .before .reading .given .1) .long
 
-part-take-fields-end : tie.Need-part-take-fields-end
-part-take-fields-end c = search needs
+part-take-end : tie.Need-part-take-end
+part-take-end c = search needs
 
-take-fields-requires : tie.Need-take-fields-requires
-take-fields-requires c κs =
+take-requires : tie.Need-take-requires
+take-requires c κs =
     let r = readable _ _ (sym (c .before .before .before .before .before .read .ensures) ∙ c .before .before .before .reading .given .1) in
     let w = call-asked _ _ (sym (c .before .before .before .before .before .before .before .before .ask .ensures) ∙ c .before .before .before .before .before .before .enum-told .given .1) in
     record {
@@ -65,7 +66,7 @@ returns c =
     let e = sym (c .before .before .before .before .before .before .before .before .read .ensures) ∙ c .before .before .before .before .before .before .reading .given .1 in
     let v = sym (c .before .before .before .before .before .before .before .before .before .before .before .ask .ensures) ∙ c .before .before .before .before .before .before .before .before .before .enum-told .given .1 in
     let a = c .before .before .before .before .before .before .before .before .before .before .before .before .before .before .args in
-    both {o = receiveOf (a .self) (now (a .packet)) (length (now (a .out)))} (done-as (rw (part, e) (judged-yes _ _ _ v)) (c .before .before .take-fields .ensures))
+    both {o = receiveOf (a .self) (now (a .packet)) (length (now (a .out)))} (done-as (rw (part, e) (judged-yes _ _ _ v)) (c .before .before .take .ensures))
 
 returns-2 : tie.Need-returns-2
 unfolding receiveOf readStep
@@ -87,10 +88,10 @@ receive-spec =
     enum-told
     read-requires
     enum-known-reading
-    sub-take-fields
-    part-take-fields-start
-    part-take-fields-end
-    take-fields-requires
+    sub-take
+    part-take-start
+    part-take-end
+    take-requires
     enum-known-reading-2
     refused-requires
     enum-known-v

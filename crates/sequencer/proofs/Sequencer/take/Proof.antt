@@ -1,82 +1,62 @@
--- Each kind of packet is taken as the definition says.
+-- The verdict on what the fields mean, and then the step, as the law of `Settling` has it.
 -- Assumes nothing.
+use mathlib.Core.Path.{sym, _∙_}
 use denote.Ref.{now}
-use Rattle.sequencer.specs.Calls.{contentStep}
-use Rattle.sequencer.proofs.Outcomes.{lent-as-was}
+use Rattle.history.proofs.Asking.{judged-yes, judged-no}
+use Rattle.sequencer.specs.Calls.{refused}
+use Rattle.sequencer.specs.Steps.{acceptedStep}
+use Rattle.sequencer.proofs.Outcomes.{done-as, lent-as-was}
+use Rattle.sequencer.proofs.Settling.{read-is, content-was}
 use borrow.Author.Needs.{needs}
 use Rattle.sequencer.proofs.Sequencer.take.Statement.{statement}
 use Rattle.sequencer.proofs.Sequencer.take.Tie as tie
 
-enum-known-packet : tie.Need-enum-known-packet
-enum-known-packet c = search needs
+of-requires : tie.Need-of-requires
+of-requires c κs = search needs
 
-take-request-requires : tie.Need-take-request-requires
-take-request-requires c κs = search needs
+ask-packet-requires : tie.Need-ask-packet-requires
+ask-packet-requires c κs = c .before .before .before .before .before .before .pre .members
 
 enum-told : tie.Need-enum-told
 enum-told c = search needs
 
+accepted-requires : tie.Need-accepted-requires
+accepted-requires c κs = record { sizes = c .before .before .before .before .before .before .before .before .before .before .pre; accepted = content-was _ _ _ _ _ (sym (c .before .before .before .ask-packet .ensures) ∙ c .before .enum-told .given .1) }
+
+enum-known-v : tie.Need-enum-known-v
+enum-known-v c = search needs
+
 refused-requires : tie.Need-refused-requires
 refused-requires c κs = search needs
-
-enum-known-packet-2 : tie.Need-enum-known-packet-2
-enum-known-packet-2 c = search needs
-
-take-gap-requires : tie.Need-take-gap-requires
-take-gap-requires c κs = search needs
-
-enum-known-packet-3 : tie.Need-enum-known-packet-3
-enum-known-packet-3 c = search needs
-
-take-status-requires : tie.Need-take-status-requires
-take-status-requires c κs = search needs
-
-enum-told-2 : tie.Need-enum-told-2
-enum-told-2 c = search needs
-
-refused-requires-2 : tie.Need-refused-requires-2
-refused-requires-2 c κs = search needs
 
 same-length : tie.Need-same-length
 same-length c = search needs
 
 returns : tie.Need-returns
-unfolding contentStep
-returns c = rw (c .before .before .before .before .before .packet .given .1) (c .before .before .take-request .ensures)
+returns c =
+    let a = c .before .before .before .before .before .before .before .before .before .before .before .before .before .args in
+    let v = sym (c .before .before .before .before .before .before .ask-packet .ensures) ∙ c .before .before .before .before .enum-told .given .1 in
+    done-as (judged-yes _ (refused (a .self)) _ v ∙ rw (c .before .before .before .before .before .before .before .before .before .before .of .ensures) (sym (read-is (a .self) (a .h) (now (a .payload))))) (c .before .before .accepted .ensures)
 
 returns-2 : tie.Need-returns-2
-unfolding contentStep
-returns-2 c = rw (c .before .enum-told .given .1) (lent-as-was (now (c .before .before .before .before .before .args .out)) (c .refused .ensures))
-
-returns-3 : tie.Need-returns-3
-unfolding contentStep
-returns-3 c = rw (c .before .before .packet2 .given .1) (lent-as-was (now (c .before .before .before .before .before .before .args .out)) (c .take-gap .ensures))
-
-returns-4 : tie.Need-returns-4
-unfolding contentStep
-returns-4 c = rw (c .before .before .packet3 .given .1) (lent-as-was (now (c .before .before .before .before .before .before .args .out)) (c .take-status .ensures))
-
-returns-5 : tie.Need-returns-5
-unfolding contentStep
-returns-5 c = rw (c .before .enum-told2 .given .1) (lent-as-was (now (c .before .before .before .before .before .args .out)) (c .refused2 .ensures))
+returns-2 c =
+    let a = c .before .before .before .before .before .before .before .before .before .before .before .args in
+    let v = sym (c .before .before .before .before .ask-packet .ensures) ∙ c .before .before .v .given .1 in
+    done-as
+    (judged-no _ (refused (a .self)) (acceptedStep (a .self) (c .before .before .before .before .before .before .before .before .of .result) (now (a .payload))) _ v
+    ∙ rw (c .before .before .before .before .before .before .before .before .of .ensures) (sym (read-is (a .self) (a .h) (now (a .payload)))))
+    (lent-as-was (now (a .out)) (c .refused .ensures))
 
 pub take-spec : {M : Type 1} → statement M
 take-spec =
     tie.close
     (tie.spec
-    enum-known-packet
-    take-request-requires
+    of-requires
+    ask-packet-requires
     enum-told
+    accepted-requires
+    enum-known-v
     refused-requires
-    enum-known-packet-2
-    take-gap-requires
-    enum-known-packet-3
-    take-status-requires
-    enum-told-2
-    refused-requires-2
     same-length
     returns
-    returns-2
-    returns-3
-    returns-4
-    returns-5)
+    returns-2)

@@ -1,0 +1,64 @@
+-- Each kind of packet as the definition has it.
+-- Assumes nothing.
+use Rattle.sequencer.specs.Steps.{changeOf}
+use borrow.Author.Needs.{needs}
+use Rattle.sequencer.proofs.packet_change.Statement.{statement}
+use Rattle.sequencer.proofs.packet_change.Tie as tie
+
+enum-known-packet : tie.Need-enum-known-packet
+enum-known-packet c = search needs
+
+request-change-requires : tie.Need-request-change-requires
+request-change-requires c κs = rw (c .before .packet .given .1) at (c .before .before .before .pre)
+
+enum-told : tie.Need-enum-told
+enum-told c = search needs
+
+enum-known-packet-2 : tie.Need-enum-known-packet-2
+enum-known-packet-2 c = search needs
+
+gap-answer-requires : tie.Need-gap-answer-requires
+gap-answer-requires c κs = search needs
+
+enum-told-2 : tie.Need-enum-told-2
+enum-told-2 c = search needs
+
+enum-told-3 : tie.Need-enum-told-3
+enum-told-3 c = search needs
+
+returns : tie.Need-returns
+unfolding changeOf
+returns c = rw (c .before .before .packet .given .1) (c .request-change .ensures)
+
+returns-2 : tie.Need-returns-2
+unfolding changeOf
+returns-2 c = rw (c .enum-told .given .1)
+
+returns-3 : tie.Need-returns-3
+unfolding changeOf
+returns-3 c = rw (c .before .before .packet2 .given .1, c .gap-answer .ensures)
+
+returns-4 : tie.Need-returns-4
+unfolding changeOf
+returns-4 c = rw (c .enum-told2 .given .1)
+
+returns-5 : tie.Need-returns-5
+unfolding changeOf
+returns-5 c = rw (c .enum-told3 .given .1)
+
+pub packet-change-spec : {M : Type 1} → statement M
+packet-change-spec =
+    tie.close
+    (tie.spec
+    enum-known-packet
+    request-change-requires
+    enum-told
+    enum-known-packet-2
+    gap-answer-requires
+    enum-told-2
+    enum-told-3
+    returns
+    returns-2
+    returns-3
+    returns-4
+    returns-5)

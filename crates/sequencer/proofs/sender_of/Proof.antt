@@ -1,0 +1,56 @@
+-- Each kind of packet as the definition has it.
+-- Assumes nothing.
+use Rattle.sequencer.specs.Steps.{senderOf}
+use borrow.Author.Needs.{needs}
+use Rattle.sequencer.proofs.sender_of.Statement.{statement}
+use Rattle.sequencer.proofs.sender_of.Tie as tie
+
+enum-known-packet : tie.Need-enum-known-packet
+enum-known-packet c = search needs
+
+enum-told : tie.Need-enum-told
+enum-told c = search needs
+
+enum-known-packet-2 : tie.Need-enum-known-packet-2
+enum-known-packet-2 c = search needs
+
+enum-known-packet-3 : tie.Need-enum-known-packet-3
+enum-known-packet-3 c = search needs
+
+enum-told-2 : tie.Need-enum-told-2
+enum-told-2 c = search needs
+
+returns : tie.Need-returns
+unfolding senderOf
+returns c = rw (c .before .packet .given .1)
+
+returns-2 : tie.Need-returns-2
+unfolding senderOf
+returns-2 c = rw (c .enum-told .given .1)
+
+returns-3 : tie.Need-returns-3
+unfolding senderOf
+returns-3 c = rw (c .before .packet2 .given .1)
+
+returns-4 : tie.Need-returns-4
+unfolding senderOf
+returns-4 c = rw (c .before .packet3 .given .1)
+
+returns-5 : tie.Need-returns-5
+unfolding senderOf
+returns-5 c = rw (c .enum-told2 .given .1)
+
+pub sender-of-spec : {M : Type 1} → statement M
+sender-of-spec =
+    tie.close
+    (tie.spec
+    enum-known-packet
+    enum-told
+    enum-known-packet-2
+    enum-known-packet-3
+    enum-told-2
+    returns
+    returns-2
+    returns-3
+    returns-4
+    returns-5)

@@ -485,15 +485,15 @@ impl Member {
                         self.waiting = true;
                         self.message = message;
                         let written = self.put_request(out);
-                        self.replied(Reply {
+                        return self.replied(Reply {
                             answer: Answer::Sent,
                             written,
-                        })
+                        });
                     }
-                    Verdict::Refused(q) => self.replied(refused(q)),
+                    Verdict::Refused(q) => return self.replied(refused(q)),
                 }
             }
-            Verdict::Refused(q) => self.replied(refused(q)),
+            Verdict::Refused(q) => return self.replied(refused(q)),
         }
     }
 
@@ -547,12 +547,12 @@ impl Member {
                     }
                     return self.replied(reply);
                 }
-                self.replied(Reply {
+                return self.replied(Reply {
                     answer: Answer::None,
                     written: 0,
-                })
+                });
             }
-            Verdict::Refused(q) => self.replied(refused(q)),
+            Verdict::Refused(q) => return self.replied(refused(q)),
         }
     }
 

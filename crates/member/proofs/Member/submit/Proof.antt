@@ -39,24 +39,6 @@ put-request-requires c κs =
 replied-requires : tie.Need-replied-requires
 replied-requires c κs = search needs
 
-enum-known-w : tie.Need-enum-known-w
-enum-known-w c = search needs
-
-refused-requires : tie.Need-refused-requires
-refused-requires c κs = search needs
-
-replied-requires-2 : tie.Need-replied-requires-2
-replied-requires-2 c κs = search needs
-
-enum-known-v : tie.Need-enum-known-v
-enum-known-v c = search needs
-
-refused-requires-2 : tie.Need-refused-requires-2
-refused-requires-2 c κs = search needs
-
-replied-requires-3 : tie.Need-replied-requires-3
-replied-requires-3 c κs = search needs
-
 same-length : tie.Need-same-length
 same-length c = search needs
 
@@ -68,12 +50,30 @@ returns c =
     let w = judged-yes _ _ _ (sym (c .before .before .before .before .before .before .before .before .before .before .ask-submission .ensures) ∙ c .before .before .before .before .before .before .before .before .enum-told2 .given .1) in
     stepped (submitOf (a .self) (now (a .payload)) (length (now (a .out)))) _ _ _ _ _ (rw (c .before .before .before .before .before .keep .ensures) (w ∙ s)) (sent _ Answer.Sent _ _ _ _ (c .before .before .before .put-request .ensures)) (c .replied .ensures)
 
+enum-known-w : tie.Need-enum-known-w
+enum-known-w c = search needs
+
+refused-requires : tie.Need-refused-requires
+refused-requires c κs = search needs
+
+replied-requires-2 : tie.Need-replied-requires-2
+replied-requires-2 c κs = search needs
+
 returns-2 : tie.Need-returns-2
 unfolding submitOf
 returns-2 c =
     let a = c .before .before .before .before .before .before .before .before .before .before .before .args in
     let s = judged-yes _ _ _ (sym (c .before .before .before .before .before .before .before .before .ask .ensures) ∙ c .before .before .before .before .before .before .enum-told .given .1) in
     stepped (submitOf (a .self) (now (a .payload)) (length (now (a .out)))) _ _ _ _ _ (judged-no _ _ _ _ (sym (c .before .before .before .before .before .ask-submission .ensures) ∙ c .before .before .before .w .given .1) ∙ s) (quiet _ _ _ (now (a .out)) (c .before .refused .ensures)) (c .replied2 .ensures)
+
+enum-known-v : tie.Need-enum-known-v
+enum-known-v c = search needs
+
+refused-requires-2 : tie.Need-refused-requires-2
+refused-requires-2 c κs = search needs
+
+replied-requires-3 : tie.Need-replied-requires-3
+replied-requires-3 c κs = search needs
 
 returns-3 : tie.Need-returns-3
 unfolding submitOf
@@ -93,13 +93,13 @@ submit-spec =
     keep-requires
     put-request-requires
     replied-requires
+    same-length
+    returns
     enum-known-w
     refused-requires
     replied-requires-2
+    returns-2
     enum-known-v
     refused-requires-2
     replied-requires-3
-    same-length
-    returns
-    returns-2
     returns-3)

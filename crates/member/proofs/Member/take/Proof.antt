@@ -99,15 +99,6 @@ returns-2 c =
 replied-requires-3 : tie.Need-replied-requires-3
 replied-requires-3 c κs = search needs
 
-enum-known-v : tie.Need-enum-known-v
-enum-known-v c = search needs
-
-refused-requires : tie.Need-refused-requires
-refused-requires c κs = search needs
-
-replied-requires-4 : tie.Need-replied-requires-4
-replied-requires-4 c κs = search needs
-
 returns-3 : tie.Need-returns-3
 unfolding takeOf
 returns-3 c =
@@ -116,6 +107,15 @@ returns-3 c =
     let h : messageAt (m .held) (m .taken .0 + 1) .count ≤ 0 = rw (c .before .before .before .before .place .ensures) at (c .before .if1 .left) in
     let s = judged-yes _ _ _ (sym (c .before .before .before .before .before .before .before .before .ask .ensures) ∙ c .before .before .before .before .before .before .enum-told .given .1) in
     stepped (takeOf m (length (now (a .out)))) _ _ _ _ _ (if-nlt 0 _ _ _ _ h refl ∙ s) (quiet _ _ _ (now (a .out)) refl) (c .replied3 .ensures)
+
+enum-known-v : tie.Need-enum-known-v
+enum-known-v c = search needs
+
+refused-requires : tie.Need-refused-requires
+refused-requires c κs = search needs
+
+replied-requires-4 : tie.Need-replied-requires-4
+replied-requires-4 c κs = search needs
 
 returns-4 : tie.Need-returns-4
 unfolding takeOf
@@ -148,8 +148,8 @@ take-spec =
     same-length-2
     returns-2
     replied-requires-3
+    returns-3
     enum-known-v
     refused-requires
     replied-requires-4
-    returns-3
     returns-4)

@@ -248,26 +248,43 @@ fn member_hears(mut member: Member, mut sum: u64, packets: &[u8], out: &mut [u8]
     Membership { member, sum }
 }
 
-// A fresh member that has heard a list of packets.
-fn member_after(n: u8, number: u8, group: u32, heard: &[u8], out: &mut [u8]) -> Member {
+// Takes so often.
+fn member_takes(mut member: Member, mut sum: u64, calls: u32, out: &mut [u8]) -> Membership {
+    let mut left = calls;
+    while 0 < left {
+        let step = member.take(out);
+        let next = step.member;
+        let answer = step.answer;
+        member = next;
+        sum = member_sum(sum, answer, step.written);
+        left -= 1;
+    }
+    Membership { member, sum }
+}
+
+// A fresh member that has heard a list of packets and then taken so often.
+fn member_after(n: u8, number: u8, group: u32, heard: &[u8], takes: u32, out: &mut [u8]) -> Member {
     let opening = Member::fresh(n, MemberNumber(number), group);
     let member = opening.member;
     let run = member_hears(member, 0, heard, out);
-    run.member
+    let hearer = run.member;
+    let taker = member_takes(hearer, 0, takes, out);
+    taker.member
 }
 
-// Rounds of handing a member a list of packets, each time in the state after `heard`: the sum of its answers.
+// Rounds of handing a member a list of packets, each time in the state after `heard` and the takes: the sum of its answers.
 #[no_mangle]
 pub extern "C" fn boundary_member_receive(
     n: u8,
     number: u8,
     group: u32,
     heard: &[u8],
+    takes: u32,
     packets: &[u8],
     rounds: u32,
     out: &mut [u8],
 ) -> u64 {
-    let member = member_after(n, number, group, heard, out);
+    let member = member_after(n, number, group, heard, takes, out);
     let mut sum: u64 = 0;
     let mut left = rounds;
     while 0 < left {
@@ -285,11 +302,12 @@ pub extern "C" fn boundary_member_submit(
     number: u8,
     group: u32,
     heard: &[u8],
+    takes: u32,
     payload: &[u8],
     rounds: u32,
     out: &mut [u8],
 ) -> u64 {
-    let member = member_after(n, number, group, heard, out);
+    let member = member_after(n, number, group, heard, takes, out);
     let mut last = member;
     let mut sum: u64 = 0;
     let mut left = rounds;
@@ -313,11 +331,12 @@ pub extern "C" fn boundary_member_repeat(
     number: u8,
     group: u32,
     heard: &[u8],
+    takes: u32,
     payload: &[u8],
     rounds: u32,
     out: &mut [u8],
 ) -> u64 {
-    let step = member_after(n, number, group, heard, out).submit(payload, out);
+    let step = member_after(n, number, group, heard, takes, out).submit(payload, out);
     let mut member = step.member;
     let mut sum: u64 = 0;
     let mut left = rounds;
@@ -332,32 +351,19 @@ pub extern "C" fn boundary_member_repeat(
     sum
 }
 
-// Takes so often.
-fn member_takes(mut member: Member, mut sum: u64, calls: u32, out: &mut [u8]) -> Membership {
-    let mut left = calls;
-    while 0 < left {
-        let step = member.take(out);
-        let next = step.member;
-        let answer = step.answer;
-        member = next;
-        sum = member_sum(sum, answer, step.written);
-        left -= 1;
-    }
-    Membership { member, sum }
-}
-
-// Rounds of `calls` take calls, each time in the state after `heard`.
+// Rounds of `calls` take calls, each time in the state after `heard` and the takes.
 #[no_mangle]
 pub extern "C" fn boundary_member_take(
     n: u8,
     number: u8,
     group: u32,
     heard: &[u8],
+    takes: u32,
     calls: u32,
     rounds: u32,
     out: &mut [u8],
 ) -> u64 {
-    let member = member_after(n, number, group, heard, out);
+    let member = member_after(n, number, group, heard, takes, out);
     let mut sum: u64 = 0;
     let mut left = rounds;
     while 0 < left {
@@ -375,10 +381,11 @@ pub extern "C" fn boundary_member_status(
     number: u8,
     group: u32,
     heard: &[u8],
+    takes: u32,
     rounds: u32,
     out: &mut [u8],
 ) -> u64 {
-    let mut member = member_after(n, number, group, heard, out);
+    let mut member = member_after(n, number, group, heard, takes, out);
     let mut sum: u64 = 0;
     let mut left = rounds;
     while 0 < left {

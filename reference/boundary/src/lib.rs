@@ -20,7 +20,8 @@ pub struct Sequencer<'a> {
     pub heard: &'a [u8],
 }
 
-/// A member that has heard a list of packets since it was fresh.
+/// A member that has heard a list of packets since it was fresh, and then
+/// taken some.
 #[derive(Clone, Copy, Debug)]
 pub struct Member<'a> {
     /// Members of the group.
@@ -31,6 +32,8 @@ pub struct Member<'a> {
     pub group: u32,
     /// What it has heard.
     pub heard: &'a [u8],
+    /// How often it was asked to take since.
+    pub takes: u32,
 }
 
 /// A list of packets as both sides take it: a byte with its length stands

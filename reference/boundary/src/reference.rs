@@ -136,6 +136,9 @@ fn member_state(end: Member<'_>, out: &mut [u8]) -> member::Member {
     for packet in packets(end.heard) {
         state.receive(packet, out);
     }
+    for _ in 0..end.takes {
+        state.take(out);
+    }
     state
 }
 

@@ -115,7 +115,12 @@ fn rounds_of_every_call() {
         number,
         group,
         heard,
+        takes: 0,
     };
+    let taken = Member { takes: 1, ..end };
+    same!(member_receive(taken, heard, 5));
+    same!(member_take(taken, 3, 5));
+    same!(member_status(taken, 5));
     same!(member_receive(end, heard, 5));
     same!(member_submit(end, b"c", 5));
     same!(member_repeat(end, b"c", 5));

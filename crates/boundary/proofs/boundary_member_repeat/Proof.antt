@@ -7,10 +7,10 @@ use Rattle.boundary.proofs.boundary_member_repeat.Statement.{statement}
 use Rattle.boundary.proofs.boundary_member_repeat.Tie as tie
 
 abbrev Inv-loop : tie.InvT-loop
-Inv-loop n number group heard payload rounds out₀ member₀ sum₀ left₀ out member sum left = length out ≡ length out₀
+Inv-loop n number group heard takes payload rounds out₀ member₀ sum₀ left₀ out member sum left = length out ≡ length out₀
 
 abbrev μ-loop : tie.MeasureT-loop
-μ-loop n number group heard payload rounds out₀ member₀ sum₀ left₀ out member sum left = left
+μ-loop n number group heard takes payload rounds out₀ member₀ sum₀ left₀ out member sum left = left
 
 member-after-requires : tie.Need-member-after-requires Inv-loop μ-loop
 member-after-requires c κs = search needs

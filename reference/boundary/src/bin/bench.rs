@@ -399,6 +399,7 @@ fn member(n: u8, length: usize, held: usize) -> Vec<Case> {
                     number,
                     group,
                     heard,
+                    takes: 0,
                 };
                 rounds(side, end, many, out)
             }),
@@ -432,6 +433,17 @@ fn member(n: u8, length: usize, held: usize) -> Vec<Case> {
     let other_group = laid(POLL, 0, GROUP + 1, [0, 0, 0], &[]);
     receiving("member.receive refused", same(other_group));
 
+    if held > 0 {
+        let first = list(same(broadcast(1)));
+        case(
+            "member.receive old, taken",
+            SAME,
+            Box::new(move |side, end, rounds, out| {
+                let end = Member { takes: 1, ..end };
+                on!(side, member_receive(end, &first, rounds, out))
+            }),
+        );
+    }
     let submitted = text.clone();
     case(
         "member.submit",

@@ -323,7 +323,7 @@ fn broadcasts(random: &mut Random, n: u8, group: u32) -> Vec<Vec<u8>> {
     (0..many)
         .map(|_| {
             let member = random.below(usize::from(n)) as u8;
-            let ahead = 1 + random.below(10) as u32;
+            let ahead = 1 + random.below(19) as u32;
             match random.below(12) {
                 0 => bytes(random),
                 1 => laid(2, member, near(random, group), [ahead, 1, 0], &[]),
@@ -348,24 +348,30 @@ fn membership(seed: u64) -> Option<String> {
     let lent = lent(random);
     let text = payload(random);
     let packets = broadcasts(random, n, group);
+    // The first numbers, of which some are taken.
+    let first = list((1..9).map(|number| laid(2, 0, group, [number, number, 0], &text)));
+    let takes = random.below(10) as u32;
     let differs = |packets: &[Vec<u8>]| {
         let list = list(packets);
         let (mut here, mut there) = (lent.clone(), lent.clone());
-        let end = |heard| Member {
+        let end = |heard, takes| Member {
             n,
             number: number_of,
             group,
             heard,
+            takes,
         };
-        let (fresh, after) = (end(&[]), end(&list));
+        let (fresh, after, taken) = (end(&[], 0), end(&list, 0), end(&first, takes));
         macro_rules! differs {
             ($call:ident($($word:expr),*)) => {{
                 let sum = proved::$call($($word,)* &mut here);
                 sum != reference::$call($($word,)* &mut there) || here != there
             }};
         }
-        // The list, and then each other call in the state after it.
+        // The list, each other call in the state after it, and the list where some were taken.
         differs!(member_receive(fresh, &list, 1))
+            || differs!(member_receive(taken, &list, 1))
+            || differs!(member_submit(taken, &text, 1))
             || differs!(member_take(after, 9, 1))
             || differs!(member_submit(after, &text, 1))
             || differs!(member_repeat(after, &text, 1))
@@ -376,7 +382,7 @@ fn membership(seed: u64) -> Option<String> {
     }
     let fewer = shrink(&packets, differs);
     Some(format!(
-        "n {n}, member {number_of}, group {group}, packets {fewer:02x?}"
+        "n {n}, member {number_of}, group {group}, {takes} taken, packets {fewer:02x?}"
     ))
 }
 

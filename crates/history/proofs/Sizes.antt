@@ -20,11 +20,11 @@ pub frame-members : (n : ℕ) (table : List Acknowledgement) (floor top : ℕ) �
 unfolding frameSound
 frame-members n table floor top e = search says depth 9
 
-pub kept-short : (n : ℕ) (table : List Acknowledgement) (m : Message) → keptSound n table m ≡ true → m .length ≤ payloadMost
+kept-short : (n : ℕ) (table : List Acknowledgement) (m : Message) → keptSound n table m ≡ true → m .length ≤ payloadMost
 unfolding keptSound
 kept-short n table m e = search says depth 9
 
-pub empty-short : (m : Message) → isEmpty m ≡ true → m .length ≤ payloadMost
+empty-short : (m : Message) → isEmpty m ≡ true → m .length ≤ payloadMost
 unfolding isEmpty
 empty-short m e = let z : m .length ≡ 0 = search says depth 9 in omega arith
 
@@ -33,7 +33,7 @@ unfolding if_then_else_
 either-short true n table m e = let h : keptSound n table m ≡ true = e in kept-short n table m h
 either-short false n table m e = let h : isEmpty m ≡ true = e in empty-short m h
 
-pub set-short : (l : List Message) (j i : ℕ) (x : Message) → x .length ≤ payloadMost → getD l i blank .length ≤ payloadMost → getD (set l j x) i blank .length ≤ payloadMost
+set-short : (l : List Message) (j i : ℕ) (x : Message) → x .length ≤ payloadMost → getD l i blank .length ≤ payloadMost → getD (set l j x) i blank .length ≤ payloadMost
 set-short [] j i x k h = h
 set-short (y ∷ l) zero zero x k h = k
 set-short (y ∷ l) zero (suc i) x k h = h

@@ -31,7 +31,7 @@ use Rattle.packet.specs.declared.Reading.{Reading}
 use Rattle.history.specs.Ask.{senderVerdict, requestVerdict, gapVerdict}
 use Rattle.history.specs.Note.{largerOf}
 use Rattle.history.specs.Repeat.{oneMore, findOf}
-use Rattle.history.specs.State.{noAcknowledgement, acknowledgementOf, placeOf, messageAt}
+use Rattle.history.specs.State.{noAcknowledgement, placeOf, messageAt}
 use Rattle.history.specs.declared.Acknowledgement.{Acknowledgement}
 use Rattle.history.proofs.Finding.{found-in}
 use Rattle.sequencer.specs.Calls.{Outcome, answered, refused, broadcastOf, pollPacket, repeatedOf, oldOf, againOf, fullOf, withMessage, numberedOf, requestOf, gapOf, contentStep, readStep}

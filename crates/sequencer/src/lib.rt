@@ -23,7 +23,7 @@ ghost use Rattle.sequencer.specs.State.{freshSequencer};
 ghost use Rattle.sequencer.specs.Sound.{soundOf};
 ghost use Rattle.sequencer.specs.Calls.{stepOf, answered, readStep, callVerdict, receiveOf, pollOf, copyOf, freshOf};
 ghost use Rattle.sequencer.specs.Done.{Laid, Done, Quiet, Sized, Left, Due};
-ghost use Rattle.sequencer.specs.Steps.{senderOf, packetVerdict, acceptedStep, againChange, requestChange, gapAnswer, changeOf, sentOf};
+ghost use Rattle.sequencer.specs.Steps.{senderOf, packetVerdict, acceptedStep, quiet, requestChange, gapAnswer, changeOf, sentOf};
 
 pub struct Sequencer {
     pub group: Group,
@@ -210,6 +210,19 @@ fn sender_of(packet: Packet) -> Sender
     }
 }
 
+// A change of the repeat count at most.
+fn quiet(last: u32, top: SequenceNumber, repeats: u32, answer: Answer) -> Change
+    ensures { λ r. ⌜ r ≡ quiet last top repeats answer ⌝ }
+{
+    Change {
+        number: top,
+        top,
+        count: last,
+        repeats,
+        answer,
+    }
+}
+
 // What a request changes, once A is noted: Old, Again, Full or Numbered.
 fn request_change(
     history: [Message; Group::PLACES],
@@ -223,30 +236,26 @@ fn request_change(
     requires { ⌜ (last < count → top .0 < largestNumber) ⌝ }
     ensures { λ r. ⌜ r ≡ requestChange history sender count last (floor .0) top repeats ⌝ }
 {
+    let more = history::one_more(repeats);
     if count < last {
-        let more = history::one_more(repeats);
-        let answer = Answer::Old;
+        return quiet(last, top, more, Answer::Old);
+    }
+    if count == last {
+        let number = history::find(history, sender, count, floor, top);
+        if number.0 == 0 {
+            return quiet(last, top, more, Answer::Old);
+        }
+        let answer = Answer::Again(number);
         return Change {
-            number: top,
+            number,
             top,
             count: last,
             repeats: more,
             answer,
         };
     }
-    if count == last {
-        let number = history::find(history, sender, count, floor, top);
-        return again_change(number, last, top, repeats);
-    }
     if history::kept(floor, top) == Group::PLACES {
-        let answer = Answer::Full;
-        return Change {
-            number: top,
-            top,
-            count: last,
-            repeats,
-            answer,
-        };
+        return quiet(last, top, repeats, Answer::Full);
     }
     let next = SequenceNumber(top.0 + 1);
     let answer = Answer::Numbered(next);
@@ -255,31 +264,6 @@ fn request_change(
         top: next,
         count,
         repeats,
-        answer,
-    }
-}
-
-// The last count again: Old if no history message has it, else Again with that broadcast.
-fn again_change(number: SequenceNumber, last: u32, top: SequenceNumber, repeats: u32) -> Change
-    ensures { λ r. ⌜ r ≡ againChange (number .0) last top repeats ⌝ }
-{
-    let more = history::one_more(repeats);
-    if number.0 == 0 {
-        let answer = Answer::Old;
-        return Change {
-            number: top,
-            top,
-            count: last,
-            repeats: more,
-            answer,
-        };
-    }
-    let answer = Answer::Again(number);
-    Change {
-        number,
-        top,
-        count: last,
-        repeats: more,
         answer,
     }
 }
@@ -318,42 +302,18 @@ fn packet_change(
             number: _,
             count: _,
             floor: _,
-        } => Change {
-            number: top,
-            top,
-            count: last,
-            repeats,
-            answer: Answer::Noted,
-        },
+        } => quiet(last, top, repeats, Answer::Noted),
         Packet::Gap {
             sender: _,
             taken: _,
             first,
             last: to,
-        } => Change {
-            number: top,
-            top,
-            count: last,
-            repeats,
-            answer: gap_answer(floor, first, to),
-        },
+        } => quiet(last, top, repeats, gap_answer(floor, first, to)),
         Packet::Status {
             sender: _,
             taken: _,
-        } => Change {
-            number: top,
-            top,
-            count: last,
-            repeats,
-            answer: Answer::Noted,
-        },
-        Packet::Poll { top: _, floor: _ } => Change {
-            number: top,
-            top,
-            count: last,
-            repeats,
-            answer: Answer::Noted,
-        },
+        } => quiet(last, top, repeats, Answer::Noted),
+        Packet::Poll { top: _, floor: _ } => quiet(last, top, repeats, Answer::Noted),
     }
 }
 

@@ -14,17 +14,29 @@ request-change-requires c κs = rw (c .before .packet .given .1) at (c .before .
 enum-told : tie.Need-enum-told
 enum-told c = search needs
 
+quiet-requires : tie.Need-quiet-requires
+quiet-requires c κs = search needs
+
 enum-known-packet-2 : tie.Need-enum-known-packet-2
 enum-known-packet-2 c = search needs
 
 gap-answer-requires : tie.Need-gap-answer-requires
 gap-answer-requires c κs = search needs
 
+quiet-requires-2 : tie.Need-quiet-requires-2
+quiet-requires-2 c κs = search needs
+
 enum-told-2 : tie.Need-enum-told-2
 enum-told-2 c = search needs
 
+quiet-requires-3 : tie.Need-quiet-requires-3
+quiet-requires-3 c κs = search needs
+
 enum-told-3 : tie.Need-enum-told-3
 enum-told-3 c = search needs
+
+quiet-requires-4 : tie.Need-quiet-requires-4
+quiet-requires-4 c κs = search needs
 
 returns : tie.Need-returns
 unfolding changeOf
@@ -32,19 +44,19 @@ returns c = rw (c .before .before .packet .given .1) (c .request-change .ensures
 
 returns-2 : tie.Need-returns-2
 unfolding changeOf
-returns-2 c = rw (c .enum-told .given .1)
+returns-2 c = rw (c .before .enum-told .given .1) (c .quiet .ensures)
 
 returns-3 : tie.Need-returns-3
 unfolding changeOf
-returns-3 c = rw (c .before .before .packet2 .given .1, c .gap-answer .ensures)
+returns-3 c = rw (c .before .before .before .packet2 .given .1, ← c .before .gap-answer .ensures) (c .quiet2 .ensures)
 
 returns-4 : tie.Need-returns-4
 unfolding changeOf
-returns-4 c = rw (c .enum-told2 .given .1)
+returns-4 c = rw (c .before .enum-told2 .given .1) (c .quiet3 .ensures)
 
 returns-5 : tie.Need-returns-5
 unfolding changeOf
-returns-5 c = rw (c .enum-told3 .given .1)
+returns-5 c = rw (c .before .enum-told3 .given .1) (c .quiet4 .ensures)
 
 pub packet-change-spec : {M : Type 1} → statement M
 packet-change-spec =
@@ -53,10 +65,14 @@ packet-change-spec =
     enum-known-packet
     request-change-requires
     enum-told
+    quiet-requires
     enum-known-packet-2
     gap-answer-requires
+    quiet-requires-2
     enum-told-2
+    quiet-requires-3
     enum-told-3
+    quiet-requires-4
     returns
     returns-2
     returns-3

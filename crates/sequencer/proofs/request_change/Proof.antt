@@ -2,7 +2,7 @@
 -- Assumes nothing.
 use native.Mathlib.Omega.{arith}
 use Rattle.group.proofs.Choice.{choices}
-use Rattle.sequencer.specs.Steps.{requestChange}
+use Rattle.sequencer.specs.Steps.{againChange, requestChange}
 use borrow.Author.Needs.{needs}
 use Rattle.sequencer.proofs.request_change.Statement.{statement}
 use Rattle.sequencer.proofs.request_change.Tie as tie
@@ -10,44 +10,57 @@ use Rattle.sequencer.proofs.request_change.Tie as tie
 one-more-requires : tie.Need-one-more-requires
 one-more-requires c κs = search needs
 
+quiet-requires : tie.Need-quiet-requires
+quiet-requires c κs = search needs
+
 returns : tie.Need-returns
 unfolding requestChange
-returns c = rw (c .one-more .ensures) (search (choices, needs) depth 9)
+returns c = rw (c .quiet .ensures, c .before .before .one-more .ensures) (search (choices, needs) depth 9)
 
 find-requires : tie.Need-find-requires
 find-requires c κs = search needs
 
-again-change-requires : tie.Need-again-change-requires
-again-change-requires c κs = search needs
+quiet-requires-2 : tie.Need-quiet-requires-2
+quiet-requires-2 c κs = search needs
 
 returns-2 : tie.Need-returns-2
-unfolding requestChange
-returns-2 c = rw (c .again-change .ensures, c .before .find .ensures) (search (choices, needs) depth 9)
+unfolding requestChange againChange
+returns-2 c = rw (c .quiet2 .ensures, c .before .before .before .before .before .before .one-more .ensures, ← c .before .before .before .find .ensures) (search (choices, needs) depth 9)
+
+returns-3 : tie.Need-returns-3
+unfolding requestChange againChange
+returns-3 c = rw (c .before .before .before .before .before .one-more .ensures, ← c .before .before .find .ensures) (search (choices, needs) depth 9)
 
 kept-requires : tie.Need-kept-requires
 kept-requires c κs = search needs
 
-returns-3 : tie.Need-returns-3
-unfolding requestChange
-returns-3 c = search (choices, needs) depth 9
-
-add-t16 : tie.Need-add-t16
-add-t16 c = let z = c .before .before .before .before .before .pre (omega arith) in omega arith
+quiet-requires-3 : tie.Need-quiet-requires-3
+quiet-requires-3 c κs = search needs
 
 returns-4 : tie.Need-returns-4
 unfolding requestChange
-returns-4 c = search (choices, needs) depth 9
+returns-4 c = rw (c .quiet3 .ensures) (search (choices, needs) depth 9)
+
+add-t19 : tie.Need-add-t19
+add-t19 c = let z = c .before .before .before .before .before .before .pre (omega arith) in omega arith
+
+returns-5 : tie.Need-returns-5
+unfolding requestChange
+returns-5 c = search (choices, needs) depth 9
 
 pub request-change-spec : {M : Type 1} → statement M
 request-change-spec =
     tie.close
     (tie.spec
     one-more-requires
+    quiet-requires
     returns
     find-requires
-    again-change-requires
+    quiet-requires-2
     returns-2
-    kept-requires
     returns-3
-    add-t16
-    returns-4)
+    kept-requires
+    quiet-requires-3
+    returns-4
+    add-t19
+    returns-5)

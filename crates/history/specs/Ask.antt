@@ -1,16 +1,20 @@
--- The questions that a packet's numbers meet: 9 to 12, and 16.
+-- The questions that a packet meets at the sequencer: 7 to 12, and 16.
 use mathlib.Core.Bool.{true}
 use mathlib.Core.List.{List}
 use Prim.Native.Nat.{ℕ, _+_}
-use Rattle.group.specs.Choice.{if_then_else_, ask_or_then_, _<?_, _≤?_}
+use Rattle.group.specs.Choice.{if_then_else_, ask_or_then_, _<?_, _≤?_, _=?_}
 use Rattle.group.specs.Limits.{largestNumber}
 use Rattle.group.specs.Question.{judged}
+use Rattle.group.specs.declared.Group.{Group}
 use Rattle.group.specs.declared.MemberNumber.{MemberNumber}
-use Rattle.group.specs.declared.Refusal.the-variants.{UnknownMember, AcknowledgedAhead, CountAhead, WantedAhead, NumbersUsedUp}
+use Rattle.group.specs.declared.Refusal.the-variants.{OtherGroup, OtherEnd, UnknownMember, AcknowledgedAhead, CountAhead, WantedAhead, NumbersUsedUp}
 use Rattle.group.specs.declared.SequenceNumber.{SequenceNumber}
 use Rattle.group.specs.declared.Verdict.{Verdict}
+use Rattle.packet.specs.declared.Packet.{Packet}
+use Rattle.packet.specs.declared.Packet.the-variants.{Request, Broadcast, Gap, Status, Poll}
 use Rattle.history.specs.State.{acknowledgementOf}
 use Rattle.history.specs.declared.Acknowledgement.{Acknowledgement}
+use Rattle.history.specs.declared.Sender.{Sender}
 
 -- questions 9 and 10 of a sender and the number it acknowledges
 unfoldable pub senderVerdict : ℕ → ℕ → MemberNumber → SequenceNumber → Verdict
@@ -38,3 +42,25 @@ requestVerdict n table top sender taken count =
 -- those of a gap
 unfoldable pub gapVerdict : ℕ → ℕ → MemberNumber → SequenceNumber → SequenceNumber → Verdict
 gapVerdict n top sender taken last = judged (senderVerdict n top sender taken) Verdict.Refused (wantedVerdict top last)
+
+-- those of what a packet says: kinds 1, 3 and 4 are for the sequencer (question 8)
+unfoldable pub contentVerdict : ℕ → List Acknowledgement → ℕ → Packet → Verdict
+contentVerdict n table top (Request sender taken count) = requestVerdict n table top sender taken count
+contentVerdict n table top (Broadcast originator number count floor) = Verdict.Refused OtherEnd
+contentVerdict n table top (Gap sender taken first last) = gapVerdict n top sender taken last
+contentVerdict n table top (Status sender taken) = senderVerdict n top sender taken
+contentVerdict n table top (Poll p floor) = Verdict.Refused OtherEnd
+
+-- and question 7, of a packet from the group of that number
+unfoldable pub packetVerdict : Group → List Acknowledgement → ℕ → ℕ → Packet → Verdict
+packetVerdict group table top number packet =
+    ask number =? group .number or Verdict.Refused OtherGroup then
+    contentVerdict (group .n) table top packet
+
+-- who sent a packet for the sequencer, and the number that it acknowledges
+unfoldable pub senderOf : Packet → Sender
+senderOf (Request sender taken count) = record { member = sender; taken = taken }
+senderOf (Broadcast originator number count floor) = record { member = record { 0 = 0 }; taken = record { 0 = 0 } }
+senderOf (Gap sender taken first last) = record { member = sender; taken = taken }
+senderOf (Status sender taken) = record { member = sender; taken = taken }
+senderOf (Poll top floor) = record { member = record { 0 = 0 }; taken = record { 0 = 0 } }

@@ -5,23 +5,31 @@ use group::Refusal;
 use group::SequenceNumber;
 use group::Verdict;
 use message::Message;
+use packet::Packet;
 ghost use mathlib.Core.Bool.{true};
 ghost use mathlib.Core.Path.{_≡_};
 ghost use Prim.Native.Nat.{_-_, _<_, _≤_};
 ghost use Rattle.group.specs.Choice.{if_then_else_, _<?_, _≤?_};
 ghost use Rattle.group.specs.Fold.{all, allAbove};
-ghost use Rattle.group.specs.Limits.{membersMost, placesMost, largestNumber};
-ghost use Rattle.message.specs.Message.{isEmpty};
+ghost use lib.ListN.{length};
+ghost use Rattle.group.specs.Limits.{membersMost, placesMost, payloadMost, largestNumber};
+ghost use Rattle.message.specs.Message.{messageOf, isEmpty};
 ghost use Rattle.history.specs.State.{placeOf, floorOf};
 ghost use Rattle.history.specs.Sound.{entrySound, keptSound, placeSound, frameSound};
 ghost use Rattle.history.specs.Note.{largerOf, tableNoted};
 ghost use Rattle.history.specs.Repeat.{oneMore, isOf, findOf};
-ghost use Rattle.history.specs.Ask.{senderVerdict, countVerdict, wantedVerdict, requestVerdict, gapVerdict};
+ghost use Rattle.history.specs.Ask.{senderVerdict, countVerdict, wantedVerdict, requestVerdict, gapVerdict, packetVerdict, senderOf};
 
 // What is known of a member: the last number that it is known to have taken, and its last own count that was numbered.
 pub struct Acknowledgement {
     pub taken: SequenceNumber,
     pub count: u32,
+}
+
+// Who sent a packet, and the number that it acknowledges.
+pub struct Sender {
+    pub member: MemberNumber,
+    pub taken: SequenceNumber,
 }
 
 // The message numbered s lies in place s modulo 32.
@@ -240,12 +248,7 @@ pub fn one_more(repeats: u32) -> u32
 }
 
 // Questions 9 and 10 of a sender and the number it acknowledges.
-pub fn ask_sender(
-    n: u8,
-    top: SequenceNumber,
-    sender: MemberNumber,
-    taken: SequenceNumber,
-) -> Verdict
+fn ask_sender(n: u8, top: SequenceNumber, sender: MemberNumber, taken: SequenceNumber) -> Verdict
     ensures { λ r. ⌜ r ≡ senderVerdict n (top .0) sender taken ⌝ }
 {
     if n <= sender.0 {
@@ -291,7 +294,7 @@ fn ask_wanted(top: SequenceNumber, last: SequenceNumber) -> Verdict
 }
 
 // Questions 9 to 11, and 16, of a request.
-pub fn ask_request(
+fn ask_request(
     n: u8,
     table: [Acknowledgement; Group::MEMBERS],
     top: SequenceNumber,
@@ -314,7 +317,7 @@ pub fn ask_request(
 }
 
 // Questions 9, 10 and 12 of a gap.
-pub fn ask_gap(
+fn ask_gap(
     n: u8,
     top: SequenceNumber,
     sender: MemberNumber,
@@ -328,4 +331,102 @@ pub fn ask_gap(
         Verdict::Accepted => ask_wanted(top, last),
         Verdict::Refused(q) => Verdict::Refused(q),
     }
+}
+
+// Questions 7 to 12, and 16, of a packet from the group of a number: kinds 1, 3 and 4 are for this end.
+pub fn ask_packet(
+    group: Group,
+    table: [Acknowledgement; Group::MEMBERS],
+    top: SequenceNumber,
+    number: u32,
+    packet: Packet,
+) -> Verdict
+    requires { ⌜ group .n ≤ membersMost ⌝ }
+    ensures { λ r. ⌜ r ≡ packetVerdict group table (top .0) number packet ⌝ }
+{
+    if number != group.number {
+        return Verdict::Refused(Refusal::OtherGroup);
+    }
+    let n = group.n;
+    match packet {
+        Packet::Request {
+            sender,
+            taken,
+            count,
+        } => ask_request(n, table, top, sender, taken, count),
+        Packet::Broadcast {
+            originator: _,
+            number: _,
+            count: _,
+            floor: _,
+        } => Verdict::Refused(Refusal::OtherEnd),
+        Packet::Gap {
+            sender,
+            taken,
+            first: _,
+            last,
+        } => ask_gap(n, top, sender, taken, last),
+        Packet::Status { sender, taken } => ask_sender(n, top, sender, taken),
+        Packet::Poll { top: _, floor: _ } => Verdict::Refused(Refusal::OtherEnd),
+    }
+}
+
+// The sender of a packet for the sequencer, and the number that it acknowledges.
+pub fn sender_of(packet: Packet) -> Sender
+    ensures { λ r. ⌜ r ≡ senderOf packet ⌝ }
+{
+    match packet {
+        Packet::Request {
+            sender,
+            taken,
+            count: _,
+        } => Sender {
+            member: sender,
+            taken,
+        },
+        Packet::Broadcast {
+            originator: _,
+            number: _,
+            count: _,
+            floor: _,
+        } => Sender {
+            member: MemberNumber(0),
+            taken: SequenceNumber(0),
+        },
+        Packet::Gap {
+            sender,
+            taken,
+            first: _,
+            last: _,
+        } => Sender {
+            member: sender,
+            taken,
+        },
+        Packet::Status { sender, taken } => Sender {
+            member: sender,
+            taken,
+        },
+        Packet::Poll { top: _, floor: _ } => Sender {
+            member: MemberNumber(0),
+            taken: SequenceNumber(0),
+        },
+    }
+}
+
+// What is laid in the place of a number: what lies there, or the message that gets the number.
+pub fn laid(
+    old: Message,
+    sender: MemberNumber,
+    number: SequenceNumber,
+    top: SequenceNumber,
+    count: u32,
+    payload: &[u8],
+) -> Message
+    requires { ⌜ length (now payload) ≤ payloadMost ⌝ }
+    ensures { λ r. ⌜ r ≡ (if number .0 ≤? top .0 then old else messageOf sender count (now (payload .entry))) ⌝ }
+{
+    if number.0 <= top.0 {
+        return old;
+    }
+    Message::keep(sender, count, payload)
 }

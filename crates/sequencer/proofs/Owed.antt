@@ -19,7 +19,7 @@ use Rattle.message.specs.Message.{messageOf}
 use Rattle.message.specs.declared.Message.{Message}
 use Rattle.packet.specs.declared.Packet.{Packet}
 use Rattle.packet.specs.declared.Packet.the-variants.{Request, Broadcast, Gap, Status, Poll}
-use Rattle.history.specs.Ask.{requestVerdict, gapVerdict}
+use Rattle.history.specs.Ask.{requestVerdict, gapVerdict, senderOf, contentVerdict}
 use Rattle.history.specs.Note.{withTaken, tableNoted}
 use Rattle.history.specs.Sound.{placeSound}
 use Rattle.history.specs.State.{acknowledgementOf, messageAt}
@@ -29,7 +29,6 @@ use Rattle.history.proofs.Sizes.{frame-members, either-short, set-count}
 use Rattle.sequencer.specs.Calls.{callVerdict}
 use Rattle.sequencer.specs.Done.{Short, Left}
 use Rattle.sequencer.specs.Sound.{soundOf}
-use Rattle.sequencer.specs.Steps.{senderOf, contentVerdict}
 use Rattle.sequencer.specs.declared.Sequencer.{Sequencer}
 
 module _ (s : Sequencer) (e : soundOf s ≡ true) where

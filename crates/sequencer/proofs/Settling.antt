@@ -28,7 +28,7 @@ use Rattle.packet.specs.declared.Header.{Header}
 use Rattle.packet.specs.declared.Packet.{Packet}
 use Rattle.packet.specs.declared.Packet.the-variants.{Request, Broadcast, Gap, Status, Poll}
 use Rattle.packet.specs.declared.Reading.{Reading}
-use Rattle.history.specs.Ask.{senderVerdict, requestVerdict, gapVerdict}
+use Rattle.history.specs.Ask.{senderVerdict, requestVerdict, gapVerdict, senderOf, contentVerdict, packetVerdict}
 use Rattle.history.specs.Note.{largerOf}
 use Rattle.history.specs.Repeat.{oneMore, findOf}
 use Rattle.history.specs.State.{noAcknowledgement, placeOf, messageAt}
@@ -37,7 +37,7 @@ use Rattle.history.proofs.Finding.{found-in}
 use Rattle.sequencer.specs.Calls.{Outcome, answered, refused, broadcastOf, pollPacket, repeatedOf, oldOf, againOf, fullOf, withMessage, numberedOf, requestOf, gapOf, contentStep, readStep}
 use Rattle.sequencer.specs.Note.{noteOf}
 use Rattle.sequencer.specs.State.{lastCount}
-use Rattle.sequencer.specs.Steps.{senderOf, contentVerdict, packetVerdict, acceptedStep, quiet, againChange, requestChange, gapAnswer, changeOf, sentOf, laidOf, changed}
+use Rattle.sequencer.specs.Steps.{acceptedStep, quiet, againChange, requestChange, gapAnswer, changeOf, sentOf, laidOf, changed}
 use Rattle.sequencer.specs.declared.Answer.{Answer}
 use Rattle.sequencer.specs.declared.Answer.the-variants.{Old, Again, Full, Numbered, Noted, Wanted}
 use Rattle.sequencer.specs.declared.Change.{Change}

@@ -10,8 +10,8 @@ use Rattle.message.specs.declared.Message.{Message}
 use Rattle.history.specs.State.{messageAt}
 use Rattle.packet.specs.declared.Packet.{Packet}
 use Rattle.packet.specs.declared.Packet.the-variants.{Request, Broadcast, Gap, Status, Poll}
+use Rattle.history.specs.Ask.{contentVerdict}
 use Rattle.sequencer.specs.Calls.{Outcome, stepOf}
-use Rattle.sequencer.specs.Steps.{contentVerdict}
 use Rattle.sequencer.specs.declared.Sequencer.{Sequencer}
 use Rattle.sequencer.specs.declared.Step.{Step}
 

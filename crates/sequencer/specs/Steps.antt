@@ -1,53 +1,25 @@
--- What the functions below the call for packets work out: whether a packet is accepted, and what it changes once A is noted.
+-- What the functions below the call for packets work out: what a packet that is accepted changes, once A is noted.
 use mathlib.Core.List.{List, []}
 use Prim.Native.Nat.{ℕ, _+_, _-_}
 use lib.ListN.{set}
-use Rattle.group.specs.Choice.{if_then_else_, ask_or_then_, _<?_, _≤?_, _=?_}
+use Rattle.group.specs.Choice.{if_then_else_, _<?_, _≤?_, _=?_}
 use Rattle.group.specs.Limits.{placesMost}
-use Rattle.group.specs.declared.Group.{Group}
 use Rattle.group.specs.declared.MemberNumber.{MemberNumber}
-use Rattle.group.specs.declared.Refusal.the-variants.{OtherGroup, OtherEnd}
 use Rattle.group.specs.declared.SequenceNumber.{SequenceNumber}
-use Rattle.group.specs.declared.Verdict.{Verdict}
 use Rattle.message.specs.Message.{messageOf, payloadOf}
 use Rattle.message.specs.declared.Message.{Message}
 use Rattle.packet.specs.Packet.{fieldsOf, packetOf}
 use Rattle.packet.specs.declared.Packet.{Packet}
 use Rattle.packet.specs.declared.Packet.the-variants.{Request, Broadcast, Gap, Status, Poll}
-use Rattle.history.specs.Ask.{senderVerdict, requestVerdict, gapVerdict}
 use Rattle.history.specs.Note.{largerOf}
 use Rattle.history.specs.Repeat.{oneMore, findOf}
 use Rattle.history.specs.State.{acknowledgementOf, placeOf, messageAt}
-use Rattle.history.specs.declared.Acknowledgement.{Acknowledgement}
 use Rattle.sequencer.specs.Calls.{Outcome, answered, requestOf, gapOf}
 use Rattle.sequencer.specs.Note.{noteOf}
 use Rattle.sequencer.specs.declared.Answer.{Answer}
 use Rattle.sequencer.specs.declared.Answer.the-variants.{Old, Again, Full, Numbered, Noted, Wanted, Sent}
 use Rattle.sequencer.specs.declared.Change.{Change}
-use Rattle.sequencer.specs.declared.Sender.{Sender}
 use Rattle.sequencer.specs.declared.Sequencer.{Sequencer}
-
--- who sent a packet for this end, and the number that it acknowledges
-unfoldable pub senderOf : Packet → Sender
-senderOf (Request sender taken count) = record { member = sender; taken = taken }
-senderOf (Broadcast originator number count floor) = record { member = record { 0 = 0 }; taken = record { 0 = 0 } }
-senderOf (Gap sender taken first last) = record { member = sender; taken = taken }
-senderOf (Status sender taken) = record { member = sender; taken = taken }
-senderOf (Poll top floor) = record { member = record { 0 = 0 }; taken = record { 0 = 0 } }
-
--- questions 8 to 12, and 16, of what a packet says
-unfoldable pub contentVerdict : ℕ → List Acknowledgement → ℕ → Packet → Verdict
-contentVerdict n table top (Request sender taken count) = requestVerdict n table top sender taken count
-contentVerdict n table top (Broadcast originator number count floor) = Verdict.Refused OtherEnd
-contentVerdict n table top (Gap sender taken first last) = gapVerdict n top sender taken last
-contentVerdict n table top (Status sender taken) = senderVerdict n top sender taken
-contentVerdict n table top (Poll p floor) = Verdict.Refused OtherEnd
-
--- and question 7
-unfoldable pub packetVerdict : Group → List Acknowledgement → ℕ → ℕ → Packet → Verdict
-packetVerdict group table top number packet =
-    ask number =? group .number or Verdict.Refused OtherGroup then
-    contentVerdict (group .n) table top packet
 
 -- what is done with a packet that no question refuses; of the kinds for the other end none is left
 unfoldable pub acceptedStep : Sequencer → Packet → List ℕ → Outcome

@@ -23,7 +23,7 @@ ghost use Rattle.sequencer.specs.State.{freshSequencer};
 ghost use Rattle.sequencer.specs.Sound.{soundOf};
 ghost use Rattle.sequencer.specs.Calls.{stepOf, answered, readStep, callVerdict, receiveOf, pollOf, copyOf, freshOf};
 ghost use Rattle.sequencer.specs.Done.{Laid, Done, Quiet, Sized, Left, Due};
-ghost use Rattle.sequencer.specs.Steps.{senderOf, packetVerdict, acceptedStep, quiet, requestChange, gapAnswer, changeOf, sentOf};
+ghost use Rattle.sequencer.specs.Steps.{acceptedStep, quiet, requestChange, gapAnswer, changeOf, sentOf};
 
 pub struct Sequencer {
     pub group: Group,
@@ -51,12 +51,6 @@ pub struct Step {
     pub sequencer: Sequencer,
     pub answer: Answer,
     pub written: usize,
-}
-
-// Who sent a packet, and the number that it acknowledges.
-struct Sender {
-    member: MemberNumber,
-    taken: SequenceNumber,
 }
 
 // What a packet changes beside the noting: the number whose place is laid, top, the sender's last count, the repeat count.
@@ -128,85 +122,6 @@ fn send_answer(
         Answer::Noted => 0,
         Answer::Wanted(_, _) => 0,
         Answer::Sent => 0,
-    }
-}
-
-// Questions 7 to 12, and 16, of a packet from the group of a number: kinds 1, 3 and 4 are for this end.
-fn ask_packet(
-    group: Group,
-    table: [Acknowledgement; Group::MEMBERS],
-    top: SequenceNumber,
-    number: u32,
-    packet: Packet,
-) -> Verdict
-    requires { ⌜ group .n ≤ membersMost ⌝ }
-    ensures { λ r. ⌜ r ≡ packetVerdict group table (top .0) number packet ⌝ }
-{
-    if number != group.number {
-        return Verdict::Refused(Refusal::OtherGroup);
-    }
-    let n = group.n;
-    match packet {
-        Packet::Request {
-            sender,
-            taken,
-            count,
-        } => history::ask_request(n, table, top, sender, taken, count),
-        Packet::Broadcast {
-            originator: _,
-            number: _,
-            count: _,
-            floor: _,
-        } => Verdict::Refused(Refusal::OtherEnd),
-        Packet::Gap {
-            sender,
-            taken,
-            first: _,
-            last,
-        } => history::ask_gap(n, top, sender, taken, last),
-        Packet::Status { sender, taken } => history::ask_sender(n, top, sender, taken),
-        Packet::Poll { top: _, floor: _ } => Verdict::Refused(Refusal::OtherEnd),
-    }
-}
-
-fn sender_of(packet: Packet) -> Sender
-    ensures { λ r. ⌜ r ≡ senderOf packet ⌝ }
-{
-    match packet {
-        Packet::Request {
-            sender,
-            taken,
-            count: _,
-        } => Sender {
-            member: sender,
-            taken,
-        },
-        Packet::Broadcast {
-            originator: _,
-            number: _,
-            count: _,
-            floor: _,
-        } => Sender {
-            member: MemberNumber(0),
-            taken: SequenceNumber(0),
-        },
-        Packet::Gap {
-            sender,
-            taken,
-            first: _,
-            last: _,
-        } => Sender {
-            member: sender,
-            taken,
-        },
-        Packet::Status { sender, taken } => Sender {
-            member: sender,
-            taken,
-        },
-        Packet::Poll { top: _, floor: _ } => Sender {
-            member: MemberNumber(0),
-            taken: SequenceNumber(0),
-        },
     }
 }
 
@@ -317,24 +232,6 @@ fn packet_change(
     }
 }
 
-// What is laid in the place of a change's number: what lies there, or the message that is numbered.
-fn laid(
-    old: Message,
-    sender: MemberNumber,
-    number: SequenceNumber,
-    top: SequenceNumber,
-    count: u32,
-    payload: &[u8],
-) -> Message
-    requires { ⌜ length (now payload) ≤ payloadMost ⌝ }
-    ensures { λ r. ⌜ r ≡ (if number .0 ≤? top .0 then old else messageOf sender count (now (payload .entry))) ⌝ }
-{
-    if number.0 <= top.0 {
-        return old;
-    }
-    Message::keep(sender, count, payload)
-}
-
 impl Sequencer {
     // Fresh: all zero but n and group.
     fn empty(group: Group) -> Self
@@ -404,7 +301,7 @@ impl Sequencer {
         requires { ⌜ Due self packet (length (now payload)) (length (now out)) ⌝ }
         ensures { λ r. ⌜ Done (acceptedStep self packet (now (payload .entry))) r (now (out .entry)) (now (out .exit)) ⌝ }
     {
-        let from = sender_of(packet);
+        let from = history::sender_of(packet);
         let sender = from.member;
         let taken = from.taken;
         let old = self.acknowledgements;
@@ -424,7 +321,7 @@ impl Sequencer {
         let top = self.top;
         let c = packet_change(history, packet, entry.count, floor, top, self.repeats);
         let at = history::place(c.number.0 as u64);
-        let m = laid(self.history[at], sender, c.number, top, c.count, payload);
+        let m = history::laid(self.history[at], sender, c.number, top, c.count, payload);
         self.history[at] = m;
         self.acknowledgements = table;
         let acknowledged = entry.taken;
@@ -455,7 +352,7 @@ impl Sequencer {
         let group = self.group;
         let table = self.acknowledgements;
         let top = self.top;
-        let v = ask_packet(group, table, top, h.group, packet);
+        let v = history::ask_packet(group, table, top, h.group, packet);
         match v {
             Verdict::Accepted => self.accepted(packet, payload, out),
             Verdict::Refused(q) => self.refused(q),

@@ -9,10 +9,11 @@ use native.Mathlib.Omega.{arith}
 use lib.ListN.{length, length-map, length-set}
 use Rattle.group.specs.Limits.{placesMost}
 use Rattle.history.proofs.Sizes.{cleared-short}
+use Rattle.history.specs.Ask.{senderOf}
 use Rattle.sequencer.specs.Calls.{Outcome}
 use Rattle.sequencer.specs.Note.{noteOf}
 use Rattle.sequencer.specs.State.{lastCount}
-use Rattle.sequencer.specs.Steps.{senderOf, changeOf, laidOf, changed}
+use Rattle.sequencer.specs.Steps.{changeOf, laidOf, changed}
 use Rattle.sequencer.specs.declared.Sequencer.{Sequencer}
 use Rattle.sequencer.proofs.Outcomes.{done-as}
 use Rattle.sequencer.proofs.Owed.{accepted-member, accepted-left, laid-short}

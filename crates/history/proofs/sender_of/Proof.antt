@@ -1,9 +1,9 @@
 -- Each kind of packet as the definition has it.
 -- Assumes nothing.
-use Rattle.sequencer.specs.Steps.{senderOf}
+use Rattle.history.specs.Ask.{senderOf}
 use borrow.Author.Needs.{needs}
-use Rattle.sequencer.proofs.sender_of.Statement.{statement}
-use Rattle.sequencer.proofs.sender_of.Tie as tie
+use Rattle.history.proofs.sender_of.Statement.{statement}
+use Rattle.history.proofs.sender_of.Tie as tie
 
 enum-known-packet : tie.Need-enum-known-packet
 enum-known-packet c = search needs

@@ -2,8 +2,8 @@
 -- Assumes nothing.
 use Rattle.group.proofs.Choice.{choices}
 use borrow.Author.Needs.{needs}
-use Rattle.sequencer.proofs.laid.Statement.{statement}
-use Rattle.sequencer.proofs.laid.Tie as tie
+use Rattle.history.proofs.laid.Statement.{statement}
+use Rattle.history.proofs.laid.Tie as tie
 
 returns : tie.Need-returns
 returns c = search (choices, needs) depth 9

@@ -1,10 +1,10 @@
 -- Question 7, and then each kind of packet as the definition has it.
 -- Assumes nothing.
 use Rattle.group.proofs.Choice.{choices}
-use Rattle.sequencer.specs.Steps.{contentVerdict, packetVerdict}
+use Rattle.history.specs.Ask.{contentVerdict, packetVerdict}
 use borrow.Author.Needs.{needs}
-use Rattle.sequencer.proofs.ask_packet.Statement.{statement}
-use Rattle.sequencer.proofs.ask_packet.Tie as tie
+use Rattle.history.proofs.ask_packet.Statement.{statement}
+use Rattle.history.proofs.ask_packet.Tie as tie
 
 returns : tie.Need-returns
 unfolding packetVerdict

@@ -143,9 +143,8 @@ fn sequencer_hears(
         }
         let end = start + size;
         let step = sequencer.receive(&packets[start..end], out);
-        let next = step.sequencer;
         let answer = step.answer;
-        sequencer = next;
+        sequencer = step.sequencer;
         sum = sequencer_sum(sum, answer, step.written);
         at = end;
     }
@@ -195,9 +194,8 @@ pub extern "C" fn boundary_sequencer_poll(
     let mut left = rounds;
     while 0 < left {
         let step = sequencer.poll(out);
-        let next = step.sequencer;
         let answer = step.answer;
-        sequencer = next;
+        sequencer = step.sequencer;
         sum = sequencer_sum(sum, answer, step.written);
         left -= 1;
     }
@@ -219,9 +217,8 @@ pub extern "C" fn boundary_sequencer_copy(
     let mut left = rounds;
     while 0 < left {
         let step = sequencer.copy(SequenceNumber(number), out);
-        let next = step.sequencer;
         let answer = step.answer;
-        sequencer = next;
+        sequencer = step.sequencer;
         sum = sequencer_sum(sum, answer, step.written);
         left -= 1;
     }
@@ -239,9 +236,8 @@ fn member_hears(mut member: Member, mut sum: u64, packets: &[u8], out: &mut [u8]
         }
         let end = start + size;
         let step = member.receive(&packets[start..end], out);
-        let next = step.member;
         let answer = step.answer;
-        member = next;
+        member = step.member;
         sum = member_sum(sum, answer, step.written);
         at = end;
     }
@@ -253,9 +249,8 @@ fn member_takes(mut member: Member, mut sum: u64, calls: u32, out: &mut [u8]) ->
     let mut left = calls;
     while 0 < left {
         let step = member.take(out);
-        let next = step.member;
         let answer = step.answer;
-        member = next;
+        member = step.member;
         sum = member_sum(sum, answer, step.written);
         left -= 1;
     }
@@ -313,9 +308,8 @@ pub extern "C" fn boundary_member_submit(
     let mut left = rounds;
     while 0 < left {
         let step = member.submit(payload, out);
-        let next = step.member;
         let answer = step.answer;
-        last = next;
+        last = step.member;
         sum = member_sum(sum, answer, step.written);
         left -= 1;
     }
@@ -342,9 +336,8 @@ pub extern "C" fn boundary_member_repeat(
     let mut left = rounds;
     while 0 < left {
         let step = member.repeat(out);
-        let next = step.member;
         let answer = step.answer;
-        member = next;
+        member = step.member;
         sum = member_sum(sum, answer, step.written);
         left -= 1;
     }
@@ -390,9 +383,8 @@ pub extern "C" fn boundary_member_status(
     let mut left = rounds;
     while 0 < left {
         let step = member.status(out);
-        let next = step.member;
         let answer = step.answer;
-        member = next;
+        member = step.member;
         sum = member_sum(sum, answer, step.written);
         left -= 1;
     }

@@ -168,12 +168,16 @@ impl Case {
         start.elapsed()
     }
 
-    /// So many rounds that they take long enough.
+    /// So many rounds that they take long enough, also beside what comes
+    /// before the first. The shortest of a few times counts: a longer one may
+    /// have been held up.
     fn enough(&self, side: Side) -> u32 {
+        let shortest = |many| (0..4).map(|_| self.time(side, many)).min();
         let mut many = 1;
         while many < 1 << 24 {
-            let before = self.time(side, 0);
-            if self.time(side, many).saturating_sub(before) >= SAMPLE {
+            let before = shortest(0).unwrap_or_default();
+            let all = shortest(many).unwrap_or_default();
+            if all.saturating_sub(before) >= SAMPLE.max(2 * before) {
                 break;
             }
             many *= 2;

@@ -5,7 +5,7 @@ use Prim.Native.Nat.{ℕ}
 use native.Mathlib.Omega.{arith}
 use borrow.Author.Tests.{lt-ltb, le-leb, ltb-true, leb-true}
 use lib.ListN.{length, length-take}
-use Rattle.group.proofs.Choice.{if-true, if-false, both-hold, both-first, both-then}
+use Rattle.group.proofs.Choice.{both-hold, both-first, both-then}
 use Rattle.group.specs.Choice.{_<?_, _≤?_}
 use Rattle.group.specs.Limits.{membersMost}
 use Rattle.simulator.specs.Steps.{roomOf, thereOf, There}
@@ -23,7 +23,7 @@ module _ (w : Whole) where
   abbrev m : ℕ
   m = length (groupOf w .members)
 
-  pub room-yes : roomOf w ≡ true → Room w
+  pub room-yes : roomOf (w .count) n ≡ true → Room w
   unfolding roomOf
   room-yes e =
       record {
@@ -31,34 +31,28 @@ module _ (w : Whole) where
         members = leb-true n membersMost (both-then (w .count <? packetsMost) (n ≤? membersMost) e);
       }
 
-  room-is : Room w → roomOf w ≡ true
+  room-is : Room w → roomOf (w .count) n ≡ true
   unfolding roomOf
   room-is r = both-hold (w .count <? packetsMost) (n ≤? membersMost) (lt-ltb (w .count) packetsMost (r .packets)) (le-leb n membersMost (r .members))
 
-  pub room-no : roomOf w ≡ false → Room w → ⊥
+  pub room-no : roomOf (w .count) n ≡ false → Room w → ⊥
   room-no e r = true≢false (sym (room-is r) ∙ e)
-
-  pub there-yes : (i : ℕ) → thereOf w i ≡ true → There w i
-  unfolding thereOf
-  there-yes i e = record { room = room-yes (both-first (roomOf w) (i <? m) e); member = ltb-true i m (both-then (roomOf w) (i <? m) e) }
-
-  pub there-no : (i : ℕ) → thereOf w i ≡ false → Room w → (i <? m) ≡ false
-  unfolding thereOf
-  there-no i e r = go (i <? m) refl
-    where
-      go : (b : Bool) → (i <? m) ≡ b → b ≡ false
-      go true t = absurd (true≢false (sym (both-hold (roomOf w) (i <? m) (room-is r) t) ∙ e))
-      go false t = refl
 
   -- the group has the members that it says
   members-length : length (w .members) ≡ membersMost → Room w → m ≡ n
   unfolding groupOf
   members-length places room = let z = room .members in simp length-take (omega arith)
 
-  pub there-test : (i : ℕ) → length (w .members) ≡ membersMost → roomOf w ≡ true → (i <? n) ≡ thereOf w i
+  pub there-yes : (i : ℕ) → length (w .members) ≡ membersMost → thereOf (w .count) n i ≡ true → There w i
   unfolding thereOf
-  there-test i places e = if-true (roomOf w) (i <? n) (i <? m) false e (ap (λ (k : ℕ). i <? k) (sym (members-length places (room-yes e))))
+  there-yes i places e =
+      let room = room-yes (both-first (roomOf (w .count) n) (i <? n) e) in
+      record { room = room; member = rw (members-length places room) (ltb-true i n (both-then (roomOf (w .count) n) (i <? n) e)) }
 
-  pub there-not : (i : ℕ) → roomOf w ≡ false → false ≡ thereOf w i
+  pub there-no : (i : ℕ) → length (w .members) ≡ membersMost → thereOf (w .count) n i ≡ false → Room w → (i <? m) ≡ false
   unfolding thereOf
-  there-not i e = if-false (roomOf w) false (i <? m) false e refl
+  there-no i places e r = ap (λ (k : ℕ). i <? k) (members-length places r) ∙ go (i <? n) refl
+    where
+      go : (b : Bool) → (i <? n) ≡ b → b ≡ false
+      go true t = absurd (true≢false (sym (both-hold (roomOf (w .count) n) (i <? n) (room-is r) t) ∙ e))
+      go false t = refl

@@ -1,19 +1,26 @@
 -- A packet stored at the end of those that were written, another state of a member or of the sequencer: what each does to the
 -- group. Assumes nothing.
 use mathlib.Core.Path.{_≡_, refl, sym, ap, _∙_}
+use mathlib.Core.Bool.{Bool, true, false}
 use mathlib.Core.List.{List, [], _∷_, _++_, map, append-nil}
 use Prim.Native.Nat.{ℕ, zero, suc, _+_, _≤_, _<_}
 use native.Mathlib.Numerals.{add-one}
 use native.Mathlib.Omega.{arith}
+use borrow.Author.Tests.{eqb-true, eqb-false}
 use lib.ListN.{length, take, set, length-map, length-set, length-take}
-use lib.Seq.{length-take-le, take-set-lt, take-suc-set}
+use lib.Seq.{length-take-le, take-set-le, take-set-lt, take-suc-set}
+use Rattle.group.proofs.Choice.{if-eq, if-ne}
+use Rattle.group.specs.Choice.{_=?_}
 use Rattle.group.specs.Limits.{longestPacket}
 use Rattle.member.specs.declared.Member.{Member}
-use Rattle.model.specs.World.{Group, Happened}
+use Rattle.member.specs.declared.Step as memberStep
+use Rattle.model.specs.World.{Group, Happened, withMember, withSequencer}
+use Rattle.model.specs.declared.Reply.{Reply}
 use Rattle.packet.specs.Packet.{written}
 use Rattle.sequencer.specs.declared.Sequencer.{Sequencer}
-use Rattle.simulator.specs.Steps.{withPackets, withMemberAt, Grown, Did}
-use Rattle.simulator.specs.Whole.{packetIn, groupOf, answerOf}
+use Rattle.sequencer.specs.declared.Step as sequencerStep
+use Rattle.simulator.specs.Steps.{countAfter, There, withPackets, withMemberAt, memberOutcome, sequencerOutcome, Grown, Did}
+use Rattle.simulator.specs.Whole.{packetsMost, packetIn, groupOf, answerOf, Room}
 use Rattle.simulator.specs.declared.Happening.{Happening}
 use Rattle.simulator.specs.declared.Stored.{Stored}
 use Rattle.simulator.specs.declared.Whole.{Whole}
@@ -34,39 +41,50 @@ pub count-is : (w : Whole) → w .count ≤ length (w .packets) → w .count ≡
 unfolding groupOf
 count-is w h = sym (length-map (take (w .count) (w .packets)) packetIn ∙ length-take-le (w .count) (w .packets) h)
 
-module _ (w : Whole) (size : ℕ) (bytes : List ℕ) where
+-- the place behind the packets that were written is set; it counts only if there is a packet
+module _ (w : Whole) (size count : ℕ) (bytes : List ℕ) where
   abbrev stored : Whole
   stored =
       record {
         sequencer = w .sequencer;
         members = w .members;
         packets = set (w .packets) (w .count) (record { length = size; bytes = bytes });
-        count = w .count + 1;
+        count = count;
       }
 
-  pub grown-none : size ≡ 0 → w .count ≤ length (w .packets) → Grown w (written (take size bytes)) w
-  unfolding groupOf written
-  grown-none z h =
-      let e : groupOf w .packets ≡ groupOf w .packets ++ written (take size bytes) = rw z (sym (append-nil (groupOf w .packets))) in
-      record {
-        group = λ i. record { sequencer = w .sequencer; members = groupOf w .members; packets = e i };
-        count = count-is w h;
-        most = omega arith;
-      }
+  grown : count ≡ countAfter (w .count) size → 0 < length bytes → w .count < length (w .packets) → Grown w (written (take size bytes)) stored
+  unfolding groupOf written countAfter
+  grown e y h = go (size =? 0) refl
+    where
+      p : Stored
+      p = record { length = size; bytes = bytes }
 
-  pub grown-one : 0 < size → 0 < length bytes → w .count < length (w .packets) → Grown w (written (take size bytes)) stored
-  unfolding groupOf
-  grown-one z y h =
-      let p : Stored = record { length = size; bytes = bytes } in
-      let s : take (w .count + 1) (set (w .packets) (w .count) p) ≡ take (w .count) (w .packets) ++ (p ∷ []) = rw add-one (take-suc-set (w .packets) (w .count) p h) in
-      let e : groupOf stored .packets ≡ groupOf w .packets ++ written (take size bytes) =
-      ap (map packetIn) s ∙ map-snoc packetIn (take (w .count) (w .packets)) p ∙ ap (λ (l : List (List ℕ)). groupOf w .packets ++ l) (sym (written-one size bytes z y))
-      in
-      record {
-        group = λ i. record { sequencer = w .sequencer; members = groupOf w .members; packets = e i };
-        count = count-is stored (simp length-set (omega arith));
-        most = omega arith;
-      }
+      go : (t : Bool) → (size =? 0) ≡ t → Grown w (written (take size bytes)) stored
+      go true t =
+          let z = eqb-true size 0 t in
+          let c : count ≡ w .count = e ∙ sym (if-eq size 0 (w .count) (w .count) (w .count + 1) z refl) in
+          let s : take count (set (w .packets) (w .count) p) ≡ take (w .count) (w .packets) =
+          ap (λ (k : ℕ). take k (set (w .packets) (w .count) p)) c ∙ take-set-le (w .count) (w .packets) (w .count) p (omega arith) in
+          let e : groupOf stored .packets ≡ groupOf w .packets ++ written (take size bytes) = ap (map packetIn) s ∙ rw z (sym (append-nil (groupOf w .packets))) in
+          record {
+            group = λ i. record { sequencer = w .sequencer; members = groupOf w .members; packets = e i };
+            count = count-is stored (simp length-set (omega arith));
+            most = omega arith;
+          }
+      go false t =
+          let z = eqb-false size 0 t in
+          let n : 0 < size = omega arith in
+          let c : count ≡ w .count + 1 = e ∙ sym (if-ne size 0 (w .count + 1) (w .count) (w .count + 1) z refl) in
+          let s : take count (set (w .packets) (w .count) p) ≡ take (w .count) (w .packets) ++ (p ∷ []) =
+          ap (λ (k : ℕ). take k (set (w .packets) (w .count) p)) c ∙ rw add-one (take-suc-set (w .packets) (w .count) p h) in
+          let e : groupOf stored .packets ≡ groupOf w .packets ++ written (take size bytes) =
+          ap (map packetIn) s ∙ map-snoc packetIn (take (w .count) (w .packets)) p ∙ ap (λ (l : List (List ℕ)). groupOf w .packets ++ l) (sym (written-one size bytes n y))
+          in
+          record {
+            group = λ i. record { sequencer = w .sequencer; members = groupOf w .members; packets = e i };
+            count = count-is stored (simp length-set (omega arith));
+            most = omega arith;
+          }
 
 -- an index of the group's members is below n, and below the places
 pub inside-n : (w : Whole) (i : ℕ) → i < length (groupOf w .members) → i < w .sequencer .group .n
@@ -91,8 +109,39 @@ pub sequencer-set : (w : Whole) (s : Sequencer) → s .group .n ≡ w .sequencer
 unfolding groupOf
 sequencer-set w s e = λ k. record { sequencer = s; members = take (e k) (w .members); packets = groupOf w .packets }
 
+-- what the code gives back after a call of member i, and of the sequencer
+abbrev pub memberAfter : Whole → ℕ → memberStep.Step → List ℕ → ℕ → ℕ → Happening
+memberAfter w i step out size count =
+    record {
+      whole =
+          record {
+            sequencer = w .sequencer;
+            members = set (w .members) i (step .member);
+            packets = set (w .packets) (w .count) (record { length = size; bytes = out });
+            count = count;
+          };
+      reply = Reply.Member (step .answer);
+      written = step .written;
+      bytes = out;
+    }
+
+abbrev pub sequencerAfter : Whole → sequencerStep.Step → List ℕ → ℕ → Happening
+sequencerAfter w step out count =
+    record {
+      whole =
+          record {
+            sequencer = step .sequencer;
+            members = w .members;
+            packets = set (w .packets) (w .count) (record { length = step .written; bytes = out });
+            count = count;
+          };
+      reply = Reply.Sequencer (step .answer);
+      written = step .written;
+      bytes = out;
+    }
+
 -- the packets of a call, once its end's state is set
-pub did : (h : Happened) (w w₁ : Whole) (packets : List (List ℕ)) (r : Happening)
+did : (h : Happened) (w w₁ : Whole) (packets : List (List ℕ)) (r : Happening)
     → withPackets (groupOf w₁) packets ≡ h .group → w₁ .count ≡ w .count
     → Grown w₁ packets (r .whole) → answerOf (r .reply) (take (r .written) (r .bytes)) ≡ h .answer → r .written ≤ longestPacket → Did h w r
 did h w w₁ packets r e n g a l =
@@ -101,3 +150,28 @@ did h w w₁ packets r e n g a l =
       size = l;
       most = let z = g .most in omega arith;
     }
+
+-- a group that has a place for the packet of a call
+module _ (w : Whole) (places : length (w .packets) ≡ packetsMost) (out : List ℕ) (room : length out ≡ longestPacket) (count : ℕ) where
+  -- the member's state, then the packet
+  pub did-member : (i : ℕ) (step : memberStep.Step) (size : ℕ) → There w i → step .written ≤ longestPacket → count ≡ countAfter (w .count) size
+      → Did (withMember (groupOf w) i (memberOutcome step out) (written (take size out))) w (memberAfter w i step out size count)
+  unfolding answerOf
+  did-member i step size there l e =
+      let w₁ : Whole = record { sequencer = w .sequencer; members = set (w .members) i (step .member); packets = w .packets; count = w .count } in
+      let k = there .room .packets in
+      did (withMember (groupOf w) i (memberOutcome step out) (written (take size out))) w w₁ (written (take size out)) (memberAfter w i step out size count)
+      (ap (λ (g : Group). withPackets g (written (take size out))) (member-set w i (step .member) (there .member))) refl
+      (grown w₁ size count out e (omega arith) (omega arith)) refl l
+
+  -- the sequencer's state, of as many members, then the packet
+  pub did-sequencer : (step : sequencerStep.Step) → Room w → step .sequencer .group .n ≡ w .sequencer .group .n → step .written ≤ longestPacket
+      → count ≡ countAfter (w .count) (step .written)
+      → Did (withSequencer (groupOf w) (sequencerOutcome step out)) w (sequencerAfter w step out count)
+  unfolding answerOf
+  did-sequencer step there n l e =
+      let w₁ : Whole = record { sequencer = step .sequencer; members = w .members; packets = w .packets; count = w .count } in
+      let k = there .packets in
+      did (withSequencer (groupOf w) (sequencerOutcome step out)) w w₁ (written (take (step .written) out)) (sequencerAfter w step out count)
+      (ap (λ (g : Group). withPackets g (written (take (step .written) out))) (sequencer-set w (step .sequencer) n)) refl
+      (grown w₁ (step .written) count out e (omega arith) (omega arith)) refl l

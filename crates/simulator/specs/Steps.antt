@@ -4,7 +4,7 @@ use mathlib.Core.Bool.{Bool}
 use mathlib.Core.List.{List, _++_}
 use Prim.Native.Nat.{ℕ, _+_, _≤_, _<_}
 use lib.ListN.{length, take, set}
-use Rattle.group.specs.Choice.{if_then_else_, _and_, _<?_, _≤?_}
+use Rattle.group.specs.Choice.{if_then_else_, _and_, _<?_, _≤?_, _=?_}
 use Rattle.group.specs.Limits.{membersMost, longestPacket}
 use Rattle.member.specs.Calls as member
 use Rattle.member.specs.declared.Member.{Member}
@@ -21,12 +21,16 @@ unfoldable pub packetSize : ℕ → ℕ
 packetSize size = if size <? longestPacket then size else longestPacket
 
 -- whether there is room for one packet more, and for every member
-unfoldable pub roomOf : Whole → Bool
-roomOf w = w .count <? packetsMost and w .sequencer .group .n ≤? membersMost
+unfoldable pub roomOf : ℕ → ℕ → Bool
+roomOf count n = count <? packetsMost and n ≤? membersMost
 
 -- whether there is room, and member i is there
-unfoldable pub thereOf : Whole → ℕ → Bool
-thereOf w i = roomOf w and i <? length (groupOf w .members)
+unfoldable pub thereOf : ℕ → ℕ → ℕ → Bool
+thereOf count n i = roomOf count n and i <? n
+
+-- how many packets there are after a call that wrote a packet of that size, or none
+unfoldable pub countAfter : ℕ → ℕ → ℕ
+countAfter count size = if size =? 0 then count else count + 1
 
 pub record There (w : Whole) (i : ℕ) : Type 0 where
   pub room : Room w

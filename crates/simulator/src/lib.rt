@@ -6,18 +6,16 @@ use group::Verdict;
 use member::Member;
 use model::Reply;
 use sequencer::Sequencer;
-ghost use mathlib.Core.Option.{some};
 ghost use mathlib.Core.Path.{_≡_};
-ghost use Prim.Native.Nat.{_≤_, _<_};
-ghost use lib.ListN.{length, getD, take, getElem?};
+ghost use Prim.Native.Nat.{_<_};
+ghost use lib.ListN.{length};
 ghost use Rattle.group.specs.Lent.{front};
-ghost use Rattle.group.specs.Limits.{membersMost, longestPacket};
+ghost use Rattle.group.specs.Limits.{membersMost};
 ghost use Rattle.member.specs.Calls as memberCalls;
 ghost use Rattle.model.specs.World as world;
-ghost use Rattle.packet.specs.Packet.{written};
 ghost use Rattle.sequencer.specs.Calls as sequencerCalls;
-ghost use Rattle.simulator.specs.Whole.{packetsMost, packetIn, groupOf, Room, Plays, Opens};
-ghost use Rattle.simulator.specs.Steps.{packetSize, roomOf, thereOf, There, Idle, withMemberAt, memberOutcome, sequencerOutcome, Grown, Did};
+ghost use Rattle.simulator.specs.Whole.{packetsMost, packetIn, Plays, Opens};
+ghost use Rattle.simulator.specs.Steps.{packetSize, roomOf, thereOf, countAfter, Idle};
 
 // A packet that was written: the first `length` bytes.
 pub struct Stored {
@@ -101,6 +99,37 @@ impl Stored {
     }
 }
 
+// Whether there is room for one packet more, and for every member.
+fn has_room(count: usize, n: u8) -> bool
+    ensures { λ r. ⌜ r ≡ roomOf count n ⌝ }
+{
+    if count < Whole::PACKETS {
+        return (n as usize) <= Group::MEMBERS;
+    }
+    false
+}
+
+// Whether there is room, and member i is there.
+fn has_member(count: usize, n: u8, i: usize) -> bool
+    ensures { λ r. ⌜ r ≡ thereOf count n i ⌝ }
+{
+    if has_room(count, n) {
+        return i < (n as usize);
+    }
+    false
+}
+
+// How many packets there are after a call that wrote a packet of `size` bytes, or none.
+fn count_after(count: usize, size: usize) -> usize
+    requires { ⌜ count < packetsMost ⌝ }
+    ensures { λ r. ⌜ r ≡ countAfter count size ⌝ }
+{
+    if size == 0 {
+        return count;
+    }
+    count + 1
+}
+
 impl Whole {
     // The packets that a schedule has room for.
     pub const PACKETS: usize = 200;
@@ -127,40 +156,6 @@ impl Whole {
         Opened { whole, verdict }
     }
 
-    // Whether there is room for one packet more, and for every member.
-    fn has_room(self) -> bool
-        ensures { λ r. ⌜ r ≡ roomOf self ⌝ }
-    {
-        if self.count < Whole::PACKETS {
-            return (self.sequencer.group.n as usize) <= Group::MEMBERS;
-        }
-        false
-    }
-
-    // Whether there is room, and member i is there.
-    fn has_member(self, i: usize) -> bool
-        ensures { λ r. ⌜ r ≡ thereOf self i ⌝ }
-    {
-        if self.has_room() {
-            return i < (self.sequencer.group.n as usize);
-        }
-        false
-    }
-
-    fn member_at(self, i: usize) -> Member
-        requires { ⌜ There self i ⌝ }
-        ensures { λ r. ⌜ r ≡ getD (groupOf self .members) i world.noMember ⌝ }
-    {
-        self.members[i]
-    }
-
-    fn packet_at(self, k: usize) -> Stored
-        requires { ⌜ Room self × (k < self .count) ⌝ }
-        ensures { λ r. ⌜ getElem? (groupOf self .packets) k ≡ some (packetIn r) ⌝ }
-    {
-        self.packets[k]
-    }
-
     // Nothing happens.
     fn absent(self) -> Happening
         ensures { λ r. ⌜ Idle self r ⌝ }
@@ -173,155 +168,201 @@ impl Whole {
         }
     }
 
-    // The group with another state of member i.
-    fn with_member(mut self, i: usize, member: Member) -> Self
-        requires { ⌜ There self i ⌝ }
-        ensures { λ r. ⌜ (groupOf r ≡ withMemberAt (groupOf self) i member) × (r .count ≡ self .count) ⌝ }
-    {
-        self.members[i] = member;
-        self
-    }
-
-    // The group with the packet of the first `size` bytes, if there is any.
-    fn with_packet(mut self, size: usize, bytes: [u8; Group::PACKET]) -> Self
-        requires { ⌜ self .count < packetsMost ⌝ }
-        ensures { λ r. ⌜ Grown self (written (take size bytes)) r ⌝ }
-    {
-        if size == 0 {
-            return self;
-        }
-        let packet = Stored {
-            length: size,
-            bytes,
-        };
-        let at = self.count;
-        self.packets[at] = packet;
-        self.count += 1;
-        self
-    }
-
-    // What a call of member i leaves: its state, and the packet of the first `size` bytes that it wrote.
-    fn after_member(
-        self,
-        i: usize,
-        step: member::Step,
-        out: [u8; Group::PACKET],
-        size: usize,
-    ) -> Happening
-        requires { ⌜ There self i × (step .written ≤ longestPacket) ⌝ }
-        ensures { λ r. ⌜ Did (world.withMember (groupOf self) i (memberOutcome step out) (written (take size out))) self r ⌝ }
-    {
-        let member = step.member;
-        let answer = step.answer;
-        let whole = self.with_member(i, member).with_packet(size, out);
-        Happening {
-            whole,
-            reply: Reply::Member(answer),
-            written: step.written,
-            bytes: out,
-        }
-    }
-
-    // What a call of the sequencer leaves: its state, and the packet that it wrote.
-    fn after_sequencer(mut self, step: sequencer::Step, out: [u8; Group::PACKET]) -> Happening
-        requires { ⌜ Room self × (step .sequencer .group .n ≡ self .sequencer .group .n) × (step .written ≤ longestPacket) ⌝ }
-        ensures { λ r. ⌜ Did (world.withSequencer (groupOf self) (sequencerOutcome step out)) self r ⌝ }
-    {
-        let sequencer = step.sequencer;
-        let answer = step.answer;
-        self.sequencer = sequencer;
-        let whole = self.with_packet(step.written, out);
-        Happening {
-            whole,
-            reply: Reply::Sequencer(answer),
-            written: step.written,
-            bytes: out,
-        }
-    }
-
     // Member i submits a message.
-    pub fn submit(self, i: usize, payload: &[u8]) -> Happening
+    pub fn submit(mut self, i: usize, payload: &[u8]) -> Happening
         ensures { λ r. ⌜ Plays (world.submit i (now (payload .entry))) self r ⌝ }
     {
-        if self.has_member(i) {
+        let at = self.count;
+        if has_member(at, self.sequencer.group.n, i) {
             let mut out = [0u8; Group::PACKET];
-            let step = self.member_at(i).submit(payload, &mut out);
-            return self.after_member(i, step, out, step.written);
+            let step = self.members[i].submit(payload, &mut out);
+            let member = step.member;
+            let answer = step.answer;
+            let packet = Stored {
+                length: step.written,
+                bytes: out,
+            };
+            let next = count_after(at, step.written);
+            self.members[i] = member;
+            self.packets[at] = packet;
+            self.count = next;
+            return Happening {
+                whole: self,
+                reply: Reply::Member(answer),
+                written: step.written,
+                bytes: out,
+            };
         }
         self.absent()
     }
 
     // Member i writes its waiting request again.
-    pub fn repeat(self, i: usize) -> Happening
+    pub fn repeat(mut self, i: usize) -> Happening
         ensures { λ r. ⌜ Plays (world.repeat i) self r ⌝ }
     {
-        if self.has_member(i) {
+        let at = self.count;
+        if has_member(at, self.sequencer.group.n, i) {
             let mut out = [0u8; Group::PACKET];
-            let step = self.member_at(i).repeat(&mut out);
-            return self.after_member(i, step, out, step.written);
+            let step = self.members[i].repeat(&mut out);
+            let member = step.member;
+            let answer = step.answer;
+            let packet = Stored {
+                length: step.written,
+                bytes: out,
+            };
+            let next = count_after(at, step.written);
+            self.members[i] = member;
+            self.packets[at] = packet;
+            self.count = next;
+            return Happening {
+                whole: self,
+                reply: Reply::Member(answer),
+                written: step.written,
+                bytes: out,
+            };
         }
         self.absent()
     }
 
     // Member i takes. What it writes is a payload, and no packet.
-    pub fn take(self, i: usize) -> Happening
+    pub fn take(mut self, i: usize) -> Happening
         ensures { λ r. ⌜ Plays (world.take i) self r ⌝ }
     {
-        if self.has_member(i) {
+        let at = self.count;
+        if has_member(at, self.sequencer.group.n, i) {
             let mut out = [0u8; Group::PACKET];
-            let step = self.member_at(i).take(&mut out);
-            return self.after_member(i, step, out, 0);
+            let step = self.members[i].take(&mut out);
+            let member = step.member;
+            let answer = step.answer;
+            let packet = Stored {
+                length: 0,
+                bytes: out,
+            };
+            let next = count_after(at, 0);
+            self.members[i] = member;
+            self.packets[at] = packet;
+            self.count = next;
+            return Happening {
+                whole: self,
+                reply: Reply::Member(answer),
+                written: step.written,
+                bytes: out,
+            };
         }
         self.absent()
     }
 
     // Member i writes its status.
-    pub fn status(self, i: usize) -> Happening
+    pub fn status(mut self, i: usize) -> Happening
         ensures { λ r. ⌜ Plays (world.status i) self r ⌝ }
     {
-        if self.has_member(i) {
+        let at = self.count;
+        if has_member(at, self.sequencer.group.n, i) {
             let mut out = [0u8; Group::PACKET];
-            let step = self.member_at(i).status(&mut out);
-            return self.after_member(i, step, out, step.written);
+            let step = self.members[i].status(&mut out);
+            let member = step.member;
+            let answer = step.answer;
+            let packet = Stored {
+                length: step.written,
+                bytes: out,
+            };
+            let next = count_after(at, step.written);
+            self.members[i] = member;
+            self.packets[at] = packet;
+            self.count = next;
+            return Happening {
+                whole: self,
+                reply: Reply::Member(answer),
+                written: step.written,
+                bytes: out,
+            };
         }
         self.absent()
     }
 
     // The sequencer writes a poll.
-    pub fn poll(self) -> Happening
+    pub fn poll(mut self) -> Happening
         ensures { λ r. ⌜ Plays world.poll self r ⌝ }
     {
-        if self.has_room() {
+        let at = self.count;
+        if has_room(at, self.sequencer.group.n) {
             let sequencer = self.sequencer;
             let mut out = [0u8; Group::PACKET];
             let step = sequencer.poll(&mut out);
-            return self.after_sequencer(step, out);
+            let after = step.sequencer;
+            let answer = step.answer;
+            let packet = Stored {
+                length: step.written,
+                bytes: out,
+            };
+            let next = count_after(at, step.written);
+            self.sequencer = after;
+            self.packets[at] = packet;
+            self.count = next;
+            return Happening {
+                whole: self,
+                reply: Reply::Sequencer(answer),
+                written: step.written,
+                bytes: out,
+            };
         }
         self.absent()
     }
 
     // The sequencer writes the broadcast of a number again.
-    pub fn copy(self, number: SequenceNumber) -> Happening
+    pub fn copy(mut self, number: SequenceNumber) -> Happening
         ensures { λ r. ⌜ Plays (world.copy (number .0)) self r ⌝ }
     {
-        if self.has_room() {
+        let at = self.count;
+        if has_room(at, self.sequencer.group.n) {
             let sequencer = self.sequencer;
             let mut out = [0u8; Group::PACKET];
             let step = sequencer.copy(number, &mut out);
-            return self.after_sequencer(step, out);
+            let after = step.sequencer;
+            let answer = step.answer;
+            let packet = Stored {
+                length: step.written,
+                bytes: out,
+            };
+            let next = count_after(at, step.written);
+            self.sequencer = after;
+            self.packets[at] = packet;
+            self.count = next;
+            return Happening {
+                whole: self,
+                reply: Reply::Sequencer(answer),
+                written: step.written,
+                bytes: out,
+            };
         }
         self.absent()
     }
 
     // Packet k is handed to member i.
-    pub fn hand_member(self, k: usize, i: usize) -> Happening
+    pub fn hand_member(mut self, k: usize, i: usize) -> Happening
         ensures { λ r. ⌜ Plays (world.handMember k i) self r ⌝ }
     {
-        if self.has_member(i) {
-            if k < self.count {
+        let at = self.count;
+        if has_member(at, self.sequencer.group.n, i) {
+            if k < at {
                 let mut out = [0u8; Group::PACKET];
-                let step = self.packet_at(k).to_member(self.member_at(i), &mut out);
-                return self.after_member(i, step, out, step.written);
+                let step = self.packets[k].to_member(self.members[i], &mut out);
+                let member = step.member;
+                let answer = step.answer;
+                let packet = Stored {
+                    length: step.written,
+                    bytes: out,
+                };
+                let next = count_after(at, step.written);
+                self.members[i] = member;
+                self.packets[at] = packet;
+                self.count = next;
+                return Happening {
+                    whole: self,
+                    reply: Reply::Member(answer),
+                    written: step.written,
+                    bytes: out,
+                };
             }
             return self.absent();
         }
@@ -329,15 +370,31 @@ impl Whole {
     }
 
     // Packet k is handed to the sequencer.
-    pub fn hand_sequencer(self, k: usize) -> Happening
+    pub fn hand_sequencer(mut self, k: usize) -> Happening
         ensures { λ r. ⌜ Plays (world.handSequencer k) self r ⌝ }
     {
-        if self.has_room() {
-            if k < self.count {
+        let at = self.count;
+        if has_room(at, self.sequencer.group.n) {
+            if k < at {
                 let sequencer = self.sequencer;
                 let mut out = [0u8; Group::PACKET];
-                let step = self.packet_at(k).to_sequencer(sequencer, &mut out);
-                return self.after_sequencer(step, out);
+                let step = self.packets[k].to_sequencer(sequencer, &mut out);
+                let after = step.sequencer;
+                let answer = step.answer;
+                let packet = Stored {
+                    length: step.written,
+                    bytes: out,
+                };
+                let next = count_after(at, step.written);
+                self.sequencer = after;
+                self.packets[at] = packet;
+                self.count = next;
+                return Happening {
+                    whole: self,
+                    reply: Reply::Sequencer(answer),
+                    written: step.written,
+                    bytes: out,
+                };
             }
             return self.absent();
         }

@@ -1,14 +1,15 @@
 -- The call of the sequencer, of which the group has the outcome.
 -- Assumes nothing.
-use mathlib.Core.Path.{refl, sym, ap, _∙_}
+use mathlib.Core.Path.{refl, sym, _∙_}
+use native.Mathlib.Omega.{arith}
+use lib.ListN.{length-map}
 use Rattle.group.specs.Limits.{longestPacket}
 use Rattle.model.specs.World as world
 use Rattle.sequencer.specs.Calls as sequencer
 use Rattle.sequencer.specs.declared.Sequencer.{Sequencer}
-use Rattle.sequencer.specs.declared.Step.{Step}
 use Rattle.simulator.proofs.Groups.{poll-has}
 use Rattle.simulator.proofs.Rooms.{room-yes, room-no}
-use Rattle.simulator.proofs.Playing.{sequencer-fits, plays-nothing, plays-sequencer}
+use Rattle.simulator.proofs.Playing.{plays-nothing, plays-sequencer}
 use borrow.Author.Needs.{needs}
 use Rattle.simulator.proofs.Whole.poll.Statement.{statement}
 use Rattle.simulator.proofs.Whole.poll.Tie as tie
@@ -22,17 +23,23 @@ slice-aggregate-poll c = search needs
 poll-requires : tie.Need-poll-requires
 poll-requires c κs = search needs
 
-after-sequencer-requires : tie.Need-after-sequencer-requires
-after-sequencer-requires c κs =
-    let a = c .before .before .before .before .before .before .args in
-    let s = a .self .sequencer in
-    (room-yes (c .before .before .before .before .before .before .args .self) (sym (c .before .before .before .before .before .has-room .ensures) ∙ c .before .before .before .before .if1 .taken), ap (λ (s : Step). s .sequencer .group .n) (c .before .poll .ensures .0) ∙ poll-has (c .before .before .before .before .before .before .args .self .sequencer) longestPacket, sequencer-fits (sequencer.pollOf s longestPacket) (c .before .poll .result) _ (c .before .poll .ensures) (search needs))
+count-after-requires : tie.Need-count-after-requires
+count-after-requires c κs =
+    (room-yes (c .before .before .before .before .before .before .before .args .t1) (sym (c .before .before .before .before .before .before .has-room .ensures) ∙ c .before .before .before .before .before .if1 .taken)) .packets
+
+mul-packet : tie.Need-mul-packet
+mul-packet c =
+    let q = (room-yes (c .before .before .before .before .before .before .before .before .args .t1) (sym (c .before .before .before .before .before .before .before .has-room .ensures) ∙ c .before .before .before .before .before .before .if1 .taken)) .packets in omega arith
+
+element-set-from-packet : tie.Need-element-set-from-packet
+element-set-from-packet c =
+    let q = (room-yes (c .before .before .before .before .before .before .before .before .args .t1) (sym (c .before .before .before .before .before .before .before .has-room .ensures) ∙ c .before .before .before .before .before .before .if1 .taken)) .packets in omega arith
 
 returns : tie.Need-returns
 unfolding world.happen
 returns c =
-    let a = c .before .before .before .before .before .before .before .args in
-    plays-sequencer (a .self) (room-yes (c .before .before .before .before .before .before .before .args .self) (sym (c .before .before .before .before .before .before .has-room .ensures) ∙ c .before .before .before .before .before .if1 .taken)) (world.poll) (c .after-sequencer .result) (λ (s : Sequencer). sequencer.pollOf s longestPacket) (c .before .before .poll .result) _ refl (c .before .before .poll .ensures) (ap (λ (s : Step). s .sequencer .group .n) (c .before .before .poll .ensures .0) ∙ poll-has (c .before .before .before .before .before .before .before .args .self .sequencer) longestPacket) (c .after-sequencer .ensures)
+    let a = c .before .before .before .before .before .before .before .before .args in
+    plays-sequencer (a .t1) (room-yes (c .before .before .before .before .before .before .before .before .args .t1) (sym (c .before .before .before .before .before .before .before .has-room .ensures) ∙ c .before .before .before .before .before .before .if1 .taken)) world.poll (λ (s : Sequencer). sequencer.pollOf s longestPacket) (c .before .before .before .poll .result) _ (c .count-after .result) refl (c .before .before .before .poll .ensures) (poll-has (a .t1 .sequencer) longestPacket) (c .count-after .ensures) (sym (length-map (c .before .before .before .before .before .before .before .before .args .t1 .packets) _) ∙ c .before .before .before .before .before .before .before .before .good .0 .1 .1 .1 .1 .0 .1 .0 .1) (search needs)
 
 absent-requires : tie.Need-absent-requires
 absent-requires c κs = search needs
@@ -41,7 +48,7 @@ returns-2 : tie.Need-returns-2
 unfolding world.happen
 returns-2 c =
     let a = c .before .before .before .args in
-    plays-nothing (world.poll) (a .self) (c .absent .result) (λ room. absurd (room-no (a .self) (sym (c .before .before .has-room .ensures) ∙ c .before .if1 .left) room)) (c .absent .ensures)
+    plays-nothing world.poll (a .t1) (c .absent .result) (λ room. absurd (room-no (a .t1) (sym (c .before .before .has-room .ensures) ∙ c .before .if1 .left) room)) (c .absent .ensures)
 
 pub poll-spec : {M : Type 1} → statement M
 poll-spec =
@@ -50,7 +57,9 @@ poll-spec =
     has-room-requires
     slice-aggregate-poll
     poll-requires
-    after-sequencer-requires
+    count-after-requires
+    mul-packet
+    element-set-from-packet
     returns
     absent-requires
     returns-2)

@@ -1,12 +1,17 @@
 -- The call of member i, of which the group has the outcome.
 -- Assumes nothing.
 use mathlib.Core.Path.{refl, sym, _∙_}
+use native.Mathlib.Omega.{arith}
+use lib.ListN.{getD, length-map}
 use Rattle.group.specs.Limits.{longestPacket}
 use Rattle.member.specs.Calls as member
 use Rattle.model.specs.World as world
 use Rattle.packet.specs.Packet.{written}
+use Rattle.simulator.specs.Whole.{groupOf}
+use Rattle.simulator.proofs.Storing.{inside-n}
 use Rattle.simulator.proofs.Rooms.{there-yes, there-no}
-use Rattle.simulator.proofs.Playing.{member-fits, plays-member, plays-nothing, no-member}
+use Rattle.simulator.proofs.Reading.{member-read}
+use Rattle.simulator.proofs.Playing.{plays-member, plays-nothing, no-member}
 use borrow.Author.Needs.{needs}
 use Rattle.simulator.proofs.Whole.status.Statement.{statement}
 use Rattle.simulator.proofs.Whole.status.Tie as tie
@@ -14,8 +19,13 @@ use Rattle.simulator.proofs.Whole.status.Tie as tie
 has-member-requires : tie.Need-has-member-requires
 has-member-requires c κs = search needs
 
-member-at-requires : tie.Need-member-at-requires
-member-at-requires c κs = there-yes _ _ (sym (c .before .has-member .ensures) ∙ c .if1 .taken)
+mul-status : tie.Need-mul-status
+mul-status c =
+    let t = (there-yes (c .before .before .args .t1) (c .before .before .args .i) (sym (length-map (c .before .before .args .t1 .members) _) ∙ c .before .before .good .0 .1 .1 .1 .0 .1 .0 .1) (sym (c .before .has-member .ensures) ∙ c .if1 .taken)) in let p = inside-n (c .before .before .args .t1) (c .before .before .args .i) (t .member) in let q = t .room .members in omega arith
+
+element-copy-out-status : tie.Need-element-copy-out-status
+element-copy-out-status c =
+    let t = (there-yes (c .before .before .args .t1) (c .before .before .args .i) (sym (length-map (c .before .before .args .t1 .members) _) ∙ c .before .before .good .0 .1 .1 .1 .0 .1 .0 .1) (sym (c .before .has-member .ensures) ∙ c .if1 .taken)) in let p = inside-n (c .before .before .args .t1) (c .before .before .args .i) (t .member) in let q = t .room .members in omega arith
 
 slice-aggregate-status : tie.Need-slice-aggregate-status
 slice-aggregate-status c = search needs
@@ -23,17 +33,33 @@ slice-aggregate-status c = search needs
 status-requires : tie.Need-status-requires
 status-requires c κs = search needs
 
-after-member-requires : tie.Need-after-member-requires
-after-member-requires c κs =
-    let a = c .before .before .before .before .before .before .args in
-    (there-yes (c .before .before .before .before .before .before .args .self) (c .before .before .before .before .before .before .args .i) (sym (c .before .before .before .before .before .has-member .ensures) ∙ c .before .before .before .before .if1 .taken), member-fits (member.statusOf (c .before .before .before .member-at .result) longestPacket) (c .before .status .result) _ (c .before .status .ensures) (search needs))
+count-after-requires : tie.Need-count-after-requires
+count-after-requires c κs =
+    (there-yes (c .before .before .before .before .before .before .before .args .t1) (c .before .before .before .before .before .before .before .args .i) (sym (length-map (c .before .before .before .before .before .before .before .args .t1 .members) _) ∙ c .before .before .before .before .before .before .before .good .0 .1 .1 .1 .0 .1 .0 .1) (sym (c .before .before .before .before .before .before .has-member .ensures) ∙ c .before .before .before .before .before .if1 .taken)) .room .packets
+
+mul-member : tie.Need-mul-member
+mul-member c =
+    let t = (there-yes (c .before .before .before .before .before .before .before .before .args .t1) (c .before .before .before .before .before .before .before .before .args .i) (sym (length-map (c .before .before .before .before .before .before .before .before .args .t1 .members) _) ∙ c .before .before .before .before .before .before .before .before .good .0 .1 .1 .1 .0 .1 .0 .1) (sym (c .before .before .before .before .before .before .before .has-member .ensures) ∙ c .before .before .before .before .before .before .if1 .taken)) in let p = inside-n (c .before .before .before .before .before .before .before .before .args .t1) (c .before .before .before .before .before .before .before .before .args .i) (t .member) in let q = t .room .members in omega arith
+
+element-set-from-member : tie.Need-element-set-from-member
+element-set-from-member c =
+    let t = (there-yes (c .before .before .before .before .before .before .before .before .args .t1) (c .before .before .before .before .before .before .before .before .args .i) (sym (length-map (c .before .before .before .before .before .before .before .before .args .t1 .members) _) ∙ c .before .before .before .before .before .before .before .before .good .0 .1 .1 .1 .0 .1 .0 .1) (sym (c .before .before .before .before .before .before .before .has-member .ensures) ∙ c .before .before .before .before .before .before .if1 .taken)) in let p = inside-n (c .before .before .before .before .before .before .before .before .args .t1) (c .before .before .before .before .before .before .before .before .args .i) (t .member) in let q = t .room .members in omega arith
+
+mul-packet : tie.Need-mul-packet
+mul-packet c =
+    let q = (there-yes (c .before .before .before .before .before .before .before .before .args .t1) (c .before .before .before .before .before .before .before .before .args .i) (sym (length-map (c .before .before .before .before .before .before .before .before .args .t1 .members) _) ∙ c .before .before .before .before .before .before .before .before .good .0 .1 .1 .1 .0 .1 .0 .1) (sym (c .before .before .before .before .before .before .before .has-member .ensures) ∙ c .before .before .before .before .before .before .if1 .taken)) .room .packets in omega arith
+
+element-set-from-packet : tie.Need-element-set-from-packet
+element-set-from-packet c =
+    let q = (there-yes (c .before .before .before .before .before .before .before .before .args .t1) (c .before .before .before .before .before .before .before .before .args .i) (sym (length-map (c .before .before .before .before .before .before .before .before .args .t1 .members) _) ∙ c .before .before .before .before .before .before .before .before .good .0 .1 .1 .1 .0 .1 .0 .1) (sym (c .before .before .before .before .before .before .before .has-member .ensures) ∙ c .before .before .before .before .before .before .if1 .taken)) .room .packets in omega arith
 
 returns : tie.Need-returns
 unfolding world.happen
 returns c =
-    let a = c .before .before .before .before .before .before .before .args in
-    let e = rw (c .before .before .before .before .member-at .ensures) at (c .before .before .status .ensures) in
-    plays-member (a .self) (a .i) (there-yes (c .before .before .before .before .before .before .before .args .self) (c .before .before .before .before .before .before .before .args .i) (sym (c .before .before .before .before .before .before .has-member .ensures) ∙ c .before .before .before .before .before .if1 .taken)) (world.status (a .i)) (c .after-member .result) _ (λ (o : member.Outcome). written (o .bytes)) (c .before .before .status .result) _ refl e (c .after-member .ensures)
+    let a = c .before .before .before .before .before .before .before .before .args in
+    let t = (there-yes (c .before .before .before .before .before .before .before .before .args .t1) (c .before .before .before .before .before .before .before .before .args .i) (sym (length-map (c .before .before .before .before .before .before .before .before .args .t1 .members) _) ∙ c .before .before .before .before .before .before .before .before .good .0 .1 .1 .1 .0 .1 .0 .1) (sym (c .before .before .before .before .before .before .before .has-member .ensures) ∙ c .before .before .before .before .before .before .if1 .taken)) in
+    let e = rw (member-read (a .t1) (a .i) _ (t .member)) at (c .before .before .before .status .ensures) in
+    plays-member (a .t1) (a .i) t (world.status (a .i)) (member.statusOf (getD (groupOf (a .t1) .members) (a .i) world.noMember) longestPacket) (λ (o : member.Outcome). written (o .bytes)) (c .before .before .before .status .result) _ (c .before .before .before .status .result .written) (c .count-after .result) refl e refl (c .count-after .ensures) (sym (length-map (c .before .before .before .before .before .before .before .before .args .t1 .packets) _) ∙ c .before .before .before .before .before .before .before .before .good .0 .1 .1 .1 .1 .0 .1 .0 .1) (search needs)
 
 absent-requires : tie.Need-absent-requires
 absent-requires c κs = search needs
@@ -42,17 +68,22 @@ returns-2 : tie.Need-returns-2
 unfolding world.happen
 returns-2 c =
     let a = c .before .before .before .args in
-    plays-nothing (world.status (a .i)) (a .self) (c .absent .result) (λ room. no-member (a .self) (a .i) (there-no (a .self) (a .i) (sym (c .before .before .has-member .ensures) ∙ c .before .if1 .left) room) _) (c .absent .ensures)
+    plays-nothing (world.status (a .i)) (a .t1) (c .absent .result) (λ room. no-member (a .t1) (a .i) (there-no (a .t1) (a .i) (sym (length-map (c .before .before .before .args .t1 .members) _) ∙ c .before .before .before .good .0 .1 .1 .1 .0 .1 .0 .1) (sym (c .before .before .has-member .ensures) ∙ c .before .if1 .left) room) _) (c .absent .ensures)
 
 pub status-spec : {M : Type 1} → statement M
 status-spec =
     tie.close
     (tie.spec
     has-member-requires
-    member-at-requires
+    mul-status
+    element-copy-out-status
     slice-aggregate-status
     status-requires
-    after-member-requires
+    count-after-requires
+    mul-member
+    element-set-from-member
+    mul-packet
+    element-set-from-packet
     returns
     absent-requires
     returns-2)

@@ -2,12 +2,17 @@
 -- Assumes nothing.
 use mathlib.Core.Path.{refl, sym, _∙_}
 use mathlib.Core.List.{[]}
+use native.Mathlib.Omega.{arith}
+use lib.ListN.{getD, length-map}
 use Rattle.group.specs.Limits.{longestPacket}
 use Rattle.member.specs.Calls as member
 use Rattle.model.specs.World as world
 use Rattle.packet.specs.Packet.{written}
+use Rattle.simulator.specs.Whole.{groupOf}
+use Rattle.simulator.proofs.Storing.{inside-n}
 use Rattle.simulator.proofs.Rooms.{there-yes, there-no}
-use Rattle.simulator.proofs.Playing.{member-fits, plays-member, plays-nothing, no-member}
+use Rattle.simulator.proofs.Reading.{member-read}
+use Rattle.simulator.proofs.Playing.{plays-member, plays-nothing, no-member}
 use borrow.Author.Needs.{needs}
 use Rattle.simulator.proofs.Whole.take.Statement.{statement}
 use Rattle.simulator.proofs.Whole.take.Tie as tie
@@ -15,8 +20,13 @@ use Rattle.simulator.proofs.Whole.take.Tie as tie
 has-member-requires : tie.Need-has-member-requires
 has-member-requires c κs = search needs
 
-member-at-requires : tie.Need-member-at-requires
-member-at-requires c κs = there-yes _ _ (sym (c .before .has-member .ensures) ∙ c .if1 .taken)
+mul-take : tie.Need-mul-take
+mul-take c =
+    let t = (there-yes (c .before .before .args .t1) (c .before .before .args .i) (sym (length-map (c .before .before .args .t1 .members) _) ∙ c .before .before .good .0 .1 .1 .1 .0 .1 .0 .1) (sym (c .before .has-member .ensures) ∙ c .if1 .taken)) in let p = inside-n (c .before .before .args .t1) (c .before .before .args .i) (t .member) in let q = t .room .members in omega arith
+
+element-copy-out-take : tie.Need-element-copy-out-take
+element-copy-out-take c =
+    let t = (there-yes (c .before .before .args .t1) (c .before .before .args .i) (sym (length-map (c .before .before .args .t1 .members) _) ∙ c .before .before .good .0 .1 .1 .1 .0 .1 .0 .1) (sym (c .before .has-member .ensures) ∙ c .if1 .taken)) in let p = inside-n (c .before .before .args .t1) (c .before .before .args .i) (t .member) in let q = t .room .members in omega arith
 
 slice-aggregate-take : tie.Need-slice-aggregate-take
 slice-aggregate-take c = search needs
@@ -24,17 +34,33 @@ slice-aggregate-take c = search needs
 take-requires : tie.Need-take-requires
 take-requires c κs = search needs
 
-after-member-requires : tie.Need-after-member-requires
-after-member-requires c κs =
-    let a = c .before .before .before .before .before .before .args in
-    (there-yes (c .before .before .before .before .before .before .args .self) (c .before .before .before .before .before .before .args .i) (sym (c .before .before .before .before .before .has-member .ensures) ∙ c .before .before .before .before .if1 .taken), member-fits (member.takeOf (c .before .before .before .member-at .result) longestPacket) (c .before .take .result) _ (c .before .take .ensures) (search needs))
+count-after-requires : tie.Need-count-after-requires
+count-after-requires c κs =
+    (there-yes (c .before .before .before .before .before .before .before .args .t1) (c .before .before .before .before .before .before .before .args .i) (sym (length-map (c .before .before .before .before .before .before .before .args .t1 .members) _) ∙ c .before .before .before .before .before .before .before .good .0 .1 .1 .1 .0 .1 .0 .1) (sym (c .before .before .before .before .before .before .has-member .ensures) ∙ c .before .before .before .before .before .if1 .taken)) .room .packets
+
+mul-member : tie.Need-mul-member
+mul-member c =
+    let t = (there-yes (c .before .before .before .before .before .before .before .before .args .t1) (c .before .before .before .before .before .before .before .before .args .i) (sym (length-map (c .before .before .before .before .before .before .before .before .args .t1 .members) _) ∙ c .before .before .before .before .before .before .before .before .good .0 .1 .1 .1 .0 .1 .0 .1) (sym (c .before .before .before .before .before .before .before .has-member .ensures) ∙ c .before .before .before .before .before .before .if1 .taken)) in let p = inside-n (c .before .before .before .before .before .before .before .before .args .t1) (c .before .before .before .before .before .before .before .before .args .i) (t .member) in let q = t .room .members in omega arith
+
+element-set-from-member : tie.Need-element-set-from-member
+element-set-from-member c =
+    let t = (there-yes (c .before .before .before .before .before .before .before .before .args .t1) (c .before .before .before .before .before .before .before .before .args .i) (sym (length-map (c .before .before .before .before .before .before .before .before .args .t1 .members) _) ∙ c .before .before .before .before .before .before .before .before .good .0 .1 .1 .1 .0 .1 .0 .1) (sym (c .before .before .before .before .before .before .before .has-member .ensures) ∙ c .before .before .before .before .before .before .if1 .taken)) in let p = inside-n (c .before .before .before .before .before .before .before .before .args .t1) (c .before .before .before .before .before .before .before .before .args .i) (t .member) in let q = t .room .members in omega arith
+
+mul-packet : tie.Need-mul-packet
+mul-packet c =
+    let q = (there-yes (c .before .before .before .before .before .before .before .before .args .t1) (c .before .before .before .before .before .before .before .before .args .i) (sym (length-map (c .before .before .before .before .before .before .before .before .args .t1 .members) _) ∙ c .before .before .before .before .before .before .before .before .good .0 .1 .1 .1 .0 .1 .0 .1) (sym (c .before .before .before .before .before .before .before .has-member .ensures) ∙ c .before .before .before .before .before .before .if1 .taken)) .room .packets in omega arith
+
+element-set-from-packet : tie.Need-element-set-from-packet
+element-set-from-packet c =
+    let q = (there-yes (c .before .before .before .before .before .before .before .before .args .t1) (c .before .before .before .before .before .before .before .before .args .i) (sym (length-map (c .before .before .before .before .before .before .before .before .args .t1 .members) _) ∙ c .before .before .before .before .before .before .before .before .good .0 .1 .1 .1 .0 .1 .0 .1) (sym (c .before .before .before .before .before .before .before .has-member .ensures) ∙ c .before .before .before .before .before .before .if1 .taken)) .room .packets in omega arith
 
 returns : tie.Need-returns
 unfolding world.happen written
 returns c =
-    let a = c .before .before .before .before .before .before .before .args in
-    let e = rw (c .before .before .before .before .member-at .ensures) at (c .before .before .take .ensures) in
-    plays-member (a .self) (a .i) (there-yes (c .before .before .before .before .before .before .before .args .self) (c .before .before .before .before .before .before .before .args .i) (sym (c .before .before .before .before .before .before .has-member .ensures) ∙ c .before .before .before .before .before .if1 .taken)) (world.take (a .i)) (c .after-member .result) _ (λ (o : member.Outcome). []) (c .before .before .take .result) _ refl e (c .after-member .ensures)
+    let a = c .before .before .before .before .before .before .before .before .args in
+    let t = (there-yes (c .before .before .before .before .before .before .before .before .args .t1) (c .before .before .before .before .before .before .before .before .args .i) (sym (length-map (c .before .before .before .before .before .before .before .before .args .t1 .members) _) ∙ c .before .before .before .before .before .before .before .before .good .0 .1 .1 .1 .0 .1 .0 .1) (sym (c .before .before .before .before .before .before .before .has-member .ensures) ∙ c .before .before .before .before .before .before .if1 .taken)) in
+    let e = rw (member-read (a .t1) (a .i) _ (t .member)) at (c .before .before .before .take .ensures) in
+    plays-member (a .t1) (a .i) t (world.take (a .i)) (member.takeOf (getD (groupOf (a .t1) .members) (a .i) world.noMember) longestPacket) (λ (o : member.Outcome). []) (c .before .before .before .take .result) _ 0 (c .count-after .result) refl e refl (c .count-after .ensures) (sym (length-map (c .before .before .before .before .before .before .before .before .args .t1 .packets) _) ∙ c .before .before .before .before .before .before .before .before .good .0 .1 .1 .1 .1 .0 .1 .0 .1) (search needs)
 
 absent-requires : tie.Need-absent-requires
 absent-requires c κs = search needs
@@ -43,17 +69,22 @@ returns-2 : tie.Need-returns-2
 unfolding world.happen
 returns-2 c =
     let a = c .before .before .before .args in
-    plays-nothing (world.take (a .i)) (a .self) (c .absent .result) (λ room. no-member (a .self) (a .i) (there-no (a .self) (a .i) (sym (c .before .before .has-member .ensures) ∙ c .before .if1 .left) room) _) (c .absent .ensures)
+    plays-nothing (world.take (a .i)) (a .t1) (c .absent .result) (λ room. no-member (a .t1) (a .i) (there-no (a .t1) (a .i) (sym (length-map (c .before .before .before .args .t1 .members) _) ∙ c .before .before .before .good .0 .1 .1 .1 .0 .1 .0 .1) (sym (c .before .before .has-member .ensures) ∙ c .before .if1 .left) room) _) (c .absent .ensures)
 
 pub take-spec : {M : Type 1} → statement M
 take-spec =
     tie.close
     (tie.spec
     has-member-requires
-    member-at-requires
+    mul-take
+    element-copy-out-take
     slice-aggregate-take
     take-requires
-    after-member-requires
+    count-after-requires
+    mul-member
+    element-set-from-member
+    mul-packet
+    element-set-from-packet
     returns
     absent-requires
     returns-2)

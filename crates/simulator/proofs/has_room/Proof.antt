@@ -3,11 +3,8 @@
 use Rattle.group.proofs.Choice.{choices, tests}
 use Rattle.simulator.specs.Steps.{roomOf}
 use borrow.Author.Needs.{needs}
-use Rattle.simulator.proofs.Whole.has_room.Statement.{statement}
-use Rattle.simulator.proofs.Whole.has_room.Tie as tie
-
-cast-result : tie.Need-cast-result
-cast-result c = search needs
+use Rattle.simulator.proofs.has_room.Statement.{statement}
+use Rattle.simulator.proofs.has_room.Tie as tie
 
 returns : tie.Need-returns
 unfolding roomOf
@@ -18,4 +15,4 @@ unfolding roomOf
 returns-2 c = search (choices, tests, needs) depth 9
 
 pub has-room-spec : {M : Type 1} → statement M
-has-room-spec = tie.close (tie.spec cast-result returns returns-2)
+has-room-spec = tie.close (tie.spec returns returns-2)

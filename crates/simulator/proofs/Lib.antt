@@ -1,5 +1,6 @@
 pub mod Lists
 pub mod Groups
+pub mod Effects
 pub mod Storing
 pub mod Rooms
 pub mod Reading

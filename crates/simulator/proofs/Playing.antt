@@ -20,10 +20,11 @@ use Rattle.packet.specs.Packet.{written}
 use Rattle.sequencer.specs.Calls as sequencer
 use Rattle.sequencer.specs.declared.Sequencer.{Sequencer}
 use Rattle.sequencer.specs.declared.Step as sequencerStep
-use Rattle.simulator.specs.Steps.{countAfter, There, Idle, memberOutcome, sequencerOutcome, Did}
+use Rattle.simulator.specs.Steps.{countAfter, Idle}
 use Rattle.simulator.specs.Whole.{packetsMost, groupOf, answerOf, Room, Does, zeros, nothing, Plays}
 use Rattle.simulator.specs.declared.Happening.{Happening}
 use Rattle.simulator.specs.declared.Whole.{Whole}
+use Rattle.simulator.proofs.Effects.{There, memberOutcome, sequencerOutcome, Did}
 use Rattle.simulator.proofs.Storing.{memberAfter, sequencerAfter, did-member, did-sequencer}
 
 -- the outcome of a call: as many bytes of its lent output as it says

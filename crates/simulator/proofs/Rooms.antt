@@ -8,9 +8,10 @@ use lib.ListN.{length, length-take}
 use Rattle.group.proofs.Choice.{both-hold, both-first, both-then}
 use Rattle.group.specs.Choice.{_<?_, _≤?_}
 use Rattle.group.specs.Limits.{membersMost}
-use Rattle.simulator.specs.Steps.{roomOf, thereOf, There}
+use Rattle.simulator.specs.Steps.{roomOf, thereOf}
 use Rattle.simulator.specs.Whole.{packetsMost, groupOf, Room}
 use Rattle.simulator.specs.declared.Whole.{Whole}
+use Rattle.simulator.proofs.Effects.{There}
 
 true≢false : true ≡ false → ⊥
 true≢false e = let z : _≡_ {A = ℕ} 0 1 = cc in omega arith

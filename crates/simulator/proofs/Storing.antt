@@ -19,11 +19,12 @@ use Rattle.model.specs.declared.Reply.{Reply}
 use Rattle.packet.specs.Packet.{written}
 use Rattle.sequencer.specs.declared.Sequencer.{Sequencer}
 use Rattle.sequencer.specs.declared.Step as sequencerStep
-use Rattle.simulator.specs.Steps.{countAfter, There, withPackets, withMemberAt, memberOutcome, sequencerOutcome, Grown, Did}
+use Rattle.simulator.specs.Steps.{countAfter}
 use Rattle.simulator.specs.Whole.{packetsMost, packetIn, groupOf, answerOf, Room}
 use Rattle.simulator.specs.declared.Happening.{Happening}
 use Rattle.simulator.specs.declared.Stored.{Stored}
 use Rattle.simulator.specs.declared.Whole.{Whole}
+use Rattle.simulator.proofs.Effects.{There, withPackets, withMemberAt, memberOutcome, sequencerOutcome, Grown, Did}
 
 pub map-snoc : {A B : Type 0} (f : A → B) (l : List A) (x : A) → map f (l ++ (x ∷ [])) ≡ map f l ++ (f x ∷ [])
 map-snoc f [] x = refl

@@ -1,18 +1,11 @@
 -- What the steps inside the code promise, in terms of the group. No event's promise speaks of these.
 use mathlib.Core.Path.{_≡_}
 use mathlib.Core.Bool.{Bool}
-use mathlib.Core.List.{List, _++_}
-use Prim.Native.Nat.{ℕ, _+_, _≤_, _<_}
-use lib.ListN.{length, take, set}
+use Prim.Native.Nat.{ℕ, _+_}
+use lib.ListN.{length}
 use Rattle.group.specs.Choice.{if_then_else_, _and_, _<?_, _≤?_, _=?_}
 use Rattle.group.specs.Limits.{membersMost, longestPacket}
-use Rattle.member.specs.Calls as member
-use Rattle.member.specs.declared.Member.{Member}
-use Rattle.member.specs.declared.Step as memberStep
-use Rattle.model.specs.World.{Group, Happened}
-use Rattle.sequencer.specs.Calls as sequencer
-use Rattle.sequencer.specs.declared.Step as sequencerStep
-use Rattle.simulator.specs.Whole.{packetsMost, groupOf, Room, Does, nothing}
+use Rattle.simulator.specs.Whole.{packetsMost, groupOf, Room, nothing}
 use Rattle.simulator.specs.declared.Happening.{Happening}
 use Rattle.simulator.specs.declared.Whole.{Whole}
 
@@ -32,38 +25,7 @@ thereOf count n i = roomOf count n and i <? n
 unfoldable pub countAfter : ℕ → ℕ → ℕ
 countAfter count size = if size =? 0 then count else count + 1
 
-pub record There (w : Whole) (i : ℕ) : Type 0 where
-  pub room : Room w
-  pub member : i < length (groupOf w .members)
-
 -- nothing happened, to a group whose count is the index of the next packet
 pub record Idle (w : Whole) (r : Happening) : Type 0 where
   pub result : r ≡ nothing w
   pub count : Room w → w .count ≡ length (groupOf w .packets)
-
--- a group with packets more
-abbrev pub withPackets : Group → List (List ℕ) → Group
-withPackets g packets = record { sequencer = g .sequencer; members = g .members; packets = g .packets ++ packets }
-
--- a group with another state of member i
-abbrev pub withMemberAt : Group → ℕ → Member → Group
-withMemberAt g i m = record { sequencer = g .sequencer; members = set (g .members) i m; packets = g .packets }
-
--- the outcome of a call, out of what it gave back and the lent output after it
-abbrev pub memberOutcome : memberStep.Step → List ℕ → member.Outcome
-memberOutcome step out = record { member = step .member; answer = step .answer; bytes = take (step .written) out }
-
-abbrev pub sequencerOutcome : sequencerStep.Step → List ℕ → sequencer.Outcome
-sequencerOutcome step out = record { sequencer = step .sequencer; answer = step .answer; bytes = take (step .written) out }
-
--- packets were added
-pub record Grown (w : Whole) (packets : List (List ℕ)) (r : Whole) : Type 0 where
-  pub group : groupOf r ≡ withPackets (groupOf w) packets
-  pub count : r .count ≡ length (groupOf r .packets)
-  pub most : r .count ≤ w .count + 1
-
--- a call of an end did to the group what its outcome says, and at most one packet was added
-pub record Did (h : Happened) (w : Whole) (r : Happening) : Type 0 where
-  pub does : Does h r
-  pub size : r .written ≤ longestPacket
-  pub most : r .whole .count ≤ w .count + 1

@@ -37,7 +37,7 @@ ghost use Rattle.simulator.specs.Whole.{groupOf, answerOf};
 ghost use Rattle.player.specs.Play.{nextNumber, refusedTold, openTold, eventTold, lineTold, lastTold, lastOf};
 ghost use Rattle.player.specs.Feed.{keptMost, keptOf, start, toldAs, fedOf, endOf};
 ghost use Rattle.player.specs.Player.{outputRoom, textIn, stageIn, phaseOf, stageOf, stateOf, Does};
-ghost use Rattle.player.specs.Steps.{Fits, Sized, Performed, Tells};
+ghost use Rattle.player.specs.Steps.{Fits, Sized, Performed, Tells, phaseWith};
 
 // Where playing stands: the first line is awaited, events are read, a line ended them, no group was opened.
 pub enum Phase {
@@ -274,13 +274,13 @@ fn open(whole: Whole, line: &[u8], out: &mut [u8; Player::OUTPUT]) -> Told
 }
 
 // The phase of a group that has the room that it says.
-fn phase_of(whole: Whole, phase: Phase) -> Phase
-    ensures { λ r. ⌜ r ≡ phaseOf whole phase ⌝ }
+fn phase_of(n: u8, count: usize, phase: Phase) -> Phase
+    ensures { λ r. ⌜ r ≡ phaseWith n count phase ⌝ }
 {
-    if Group::MEMBERS < (whole.sequencer.group.n as usize) {
+    if Group::MEMBERS < (n as usize) {
         return Phase::Closed;
     }
-    if Whole::PACKETS < whole.count {
+    if Whole::PACKETS < count {
         return Phase::Closed;
     }
     phase
@@ -296,7 +296,7 @@ fn play(
 ) -> Told
     ensures { λ r. ⌜ Tells (lineTold (stageIn (phaseOf whole phase) (groupOf whole) number) (now (line .entry))) r (now (out .entry)) (now (out .exit)) ⌝ }
 {
-    let stands = phase_of(whole, phase);
+    let stands = phase_of(whole.sequencer.group.n, whole.count, phase);
     match stands {
         Phase::Opening => open(whole, line, out),
         Phase::Running => tell(whole, number, line, out),
@@ -441,7 +441,7 @@ impl Player {
     {
         let whole = self.whole;
         let phase = self.phase;
-        let stands = phase_of(whole, phase);
+        let stands = phase_of(whole.sequencer.group.n, whole.count, phase);
         match stands {
             Phase::Opening => write_bad_opening(out),
             Phase::Running => write_taken(whole, out),

@@ -25,8 +25,9 @@ enum-told-2 : tie.Need-enum-told-2
 enum-told-2 c = search needs
 
 tell-requires : tie.Need-tell-requires
+unfolding phaseOf
 tell-requires c κs =
-    phase-was _ _ Running (sym (c .before .before .before .phase-of .ensures) ∙ c .before .enum-told2 .given .1) running≢ .0
+    phase-was (c .before .before .before .before .before .args .whole) (c .before .before .before .before .before .args .phase) Running (sym (c .before .before .before .phase-of .ensures) ∙ c .before .enum-told2 .given .1) running≢ .0
 
 enum-told-3 : tie.Need-enum-told-3
 enum-told-3 c = search needs
@@ -35,21 +36,21 @@ enum-told-4 : tie.Need-enum-told-4
 enum-told-4 c = search needs
 
 returns : tie.Need-returns
-unfolding lineTold stageIn
+unfolding lineTold stageIn phaseOf
 returns c =
     let a = c .before .before .before .before .before .before .args in
     let e = sym (c .before .before .enum-told .given .1) ∙ c .before .before .before .before .phase-of .ensures in
     as-told (ap (λ (x : Phase). lineTold (stageIn x (groupOf (a .whole)) (a .number)) (now (a .line))) e) (c .«open» .ensures)
 
 returns-2 : tie.Need-returns-2
-unfolding lineTold stageIn
+unfolding lineTold stageIn phaseOf
 returns-2 c =
     let a = c .before .before .before .before .before .before .args in
     let e = sym (c .before .before .enum-told2 .given .1) ∙ c .before .before .before .before .phase-of .ensures in
     as-told (ap (λ (x : Phase). lineTold (stageIn x (groupOf (a .whole)) (a .number)) (now (a .line))) e) (c .tell .ensures)
 
 returns-3 : tie.Need-returns-3
-unfolding lineTold stageIn
+unfolding lineTold stageIn phaseOf
 returns-3 c =
     let a = c .before .before .before .before .args in
     let g = c .enum-told3 .given .1 in
@@ -59,7 +60,7 @@ returns-3 c =
     (tells-nothing _ _ _ (ap (λ (x : Phase). stageIn x (groupOf (a .whole)) (a .number)) (phase-is (a .whole) _ f ∙ g)) refl)
 
 returns-4 : tie.Need-returns-4
-unfolding lineTold stageIn
+unfolding lineTold stageIn phaseOf
 returns-4 c =
     let a = c .before .before .before .before .args in
     let g = c .enum-told4 .given .1 in

@@ -10,7 +10,7 @@ use Rattle.group.specs.Lent.{front}
 use Rattle.report.specs.Print.{badOpening, lineRoom}
 use Rattle.simulator.specs.Whole.{groupOf}
 use Rattle.player.specs.Play.{lastOf}
-use Rattle.player.specs.Player.{outputRoom, stageIn}
+use Rattle.player.specs.Player.{outputRoom, stageIn, phaseOf}
 use Rattle.player.specs.declared.Phase.{Phase}
 use Rattle.player.specs.declared.Phase.the-variants.{Running, Ended}
 use Rattle.player.proofs.Telling.{phase-was, running≢, ended≢, fits-in}
@@ -31,21 +31,23 @@ enum-told-2 : tie.Need-enum-told-2
 enum-told-2 c = search needs
 
 write-taken-requires : tie.Need-write-taken-requires
+unfolding phaseOf
 write-taken-requires c κs =
-    phase-was _ _ Running (sym (c .before .before .before .phase-of .ensures) ∙ c .before .enum-told2 .given .1) running≢ .0
+    phase-was (c .before .before .before .before .before .args .self .whole) (c .before .before .before .before .before .args .self .phase) Running (sym (c .before .before .before .phase-of .ensures) ∙ c .before .enum-told2 .given .1) running≢ .0
 
 enum-told-3 : tie.Need-enum-told-3
 enum-told-3 c = search needs
 
 write-taken-requires-2 : tie.Need-write-taken-requires-2
+unfolding phaseOf
 write-taken-requires-2 c κs =
-    phase-was _ _ Ended (sym (c .before .before .before .phase-of .ensures) ∙ c .before .enum-told3 .given .1) ended≢ .0
+    phase-was (c .before .before .before .before .before .args .self .whole) (c .before .before .before .before .before .args .self .phase) Ended (sym (c .before .before .before .phase-of .ensures) ∙ c .before .enum-told3 .given .1) ended≢ .0
 
 enum-told-4 : tie.Need-enum-told-4
 enum-told-4 c = search needs
 
 returns : tie.Need-returns
-unfolding lastOf stageIn
+unfolding lastOf stageIn phaseOf
 returns c =
     let p = c .before .before .before .before .before .before .args .self in
     let lent = now (c .before .before .before .before .before .before .args .out) in
@@ -56,7 +58,7 @@ returns c =
     (c .write-bad-opening .ensures .0 ∙ ap length f, c .write-bad-opening .ensures .1 ∙ ap (λ (bytes : List ℕ). front bytes lent) f)
 
 returns-2 : tie.Need-returns-2
-unfolding lastOf stageIn
+unfolding lastOf stageIn phaseOf
 returns-2 c =
     let p = c .before .before .before .before .before .before .args .self in
     let lent = now (c .before .before .before .before .before .before .args .out) in
@@ -65,7 +67,7 @@ returns-2 c =
     (c .write-taken .ensures .0 ∙ ap (λ (x : Phase). length (text x)) e, c .write-taken .ensures .1 ∙ ap (λ (x : Phase). front (text x) lent) e)
 
 returns-3 : tie.Need-returns-3
-unfolding lastOf stageIn
+unfolding lastOf stageIn phaseOf
 returns-3 c =
     let p = c .before .before .before .before .before .before .args .self in
     let lent = now (c .before .before .before .before .before .before .args .out) in
@@ -74,7 +76,7 @@ returns-3 c =
     (c .write-taken2 .ensures .0 ∙ ap (λ (x : Phase). length (text x)) e, c .write-taken2 .ensures .1 ∙ ap (λ (x : Phase). front (text x) lent) e)
 
 returns-4 : tie.Need-returns-4
-unfolding lastOf stageIn
+unfolding lastOf stageIn phaseOf
 returns-4 c =
     let p = c .before .before .before .before .args .self in
     let lent = now (c .before .before .before .before .args .out) in

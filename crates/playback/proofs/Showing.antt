@@ -10,6 +10,7 @@ use Rattle.group.proofs.Lists.{if-elim, le-or}
 use Rattle.group.specs.Choice.{if_then_else_, _<?_}
 use Rattle.group.specs.Lent.{front}
 use Rattle.packet.proofs.Parts.{behind}
+use Rattle.player.proofs.Keeping.{smaller-fits}
 use Rattle.player.specs.Feed.{State, start, fedOf}
 use Rattle.player.specs.Laws.{Prints, feeds}
 use Rattle.playback.specs.Shown.{shownOf, Shows}
@@ -27,12 +28,6 @@ shown-more printed text room =
     let z : room - length (take room printed) ≡ 0 = omega arith in
     take-append-le room printed text (omega arith) ∙ sym (append-nil (take room printed))
     ∙ ap (λ (k : ℕ). take room printed ++ take k text) (sym z))
-
-pub smaller-le : (a b r : ℕ) → r ≡ (if a <? b then a else b) → (r ≤ a) × (r ≤ b)
-smaller-le a b r e =
-    let h : ((if a <? b then a else b) ≤ a) × ((if a <? b then a else b) ≤ b) =
-    if-elim (λ (x : ℕ). (x ≤ a) × (x ≤ b)) (a <? b) (λ t. let z = ltb-true a b t in (omega arith, omega arith)) (λ t. let z = ltb-false a b t in (omega arith, omega arith)) in
-    (rw e (h .0), rw e (h .1))
 
 cut : (text : List ℕ) (size room : ℕ) → size ≤ length text → take (if size <? room then size else room) text ≡ take room (take size text)
 cut text size room h =
@@ -60,7 +55,7 @@ put-shows printed lent now text part size at n s b e p =
     let l₀ = l .0 in
     let l₁ = l .1 in
     let f : length p₀ ≡ at = sym (s .size) in
-    let le = smaller-le size (length now - at) n e in
+    let le = smaller-fits size (length now - at) n e in
     let le₀ = le .0 in
     let le₁ = le .1 in
     let m = length-take-le n text (omega arith) in

@@ -7,8 +7,9 @@ use native.Mathlib.Omega.{arith}
 use denote.Ref.{now}
 use lib.ListN.{length, take, drop, length-drop}
 use lib.Seq.{length-take-le}
+use Rattle.player.proofs.Keeping.{smaller-fits}
 use Rattle.player.specs.Player.{outputRoom}
-use Rattle.playback.proofs.Showing.{smaller-le, put-shows, put-within, whole-text, as-shown}
+use Rattle.playback.proofs.Showing.{put-shows, put-within, whole-text, as-shown}
 use borrow.Author.Needs.{needs}
 use Rattle.playback.proofs.put.Statement.{statement}
 use Rattle.playback.proofs.put.Tie as tie
@@ -26,8 +27,8 @@ array-share-prefix-text : tie.Need-array-share-prefix-text
 array-share-prefix-text c =
     let a = c .before .before .before .args in
     let n : length (a .t1) ≡ outputRoom = search needs in
-    let most = smaller-le (a .size) outputRoom (c .before .smaller .result) (c .before .smaller .ensures) .1 in
-    let l = smaller-le (c .before .smaller .result) (length (now (a .out)) - a .at) (c .smaller2 .result) (c .smaller2 .ensures) in
+    let most = smaller-fits (a .size) outputRoom (c .before .smaller .result) (c .before .smaller .ensures) .1 in
+    let l = smaller-fits (c .before .smaller .result) (length (now (a .out)) - a .at) (c .smaller2 .result) (c .smaller2 .ensures) in
     let l₀ = l .0 in
     let l₁ = l .1 in
     let p = c .before .before .before .pre in
@@ -38,8 +39,8 @@ slice-aggregate-copy : tie.Need-slice-aggregate-copy
 slice-aggregate-copy c =
     let a = c .before .before .before .before .args in
     let n : length (a .t1) ≡ outputRoom = search needs in
-    let most = smaller-le (a .size) outputRoom (c .before .before .smaller .result) (c .before .before .smaller .ensures) .1 in
-    let l = smaller-le (c .before .before .smaller .result) (length (now (a .out)) - a .at) (c .before .smaller2 .result) (c .before .smaller2 .ensures) in
+    let most = smaller-fits (a .size) outputRoom (c .before .before .smaller .result) (c .before .before .smaller .ensures) .1 in
+    let l = smaller-fits (c .before .before .smaller .result) (length (now (a .out)) - a .at) (c .before .smaller2 .result) (c .before .smaller2 .ensures) in
     let l₀ = l .0 in
     let l₁ = l .1 in
     let p = c .before .before .before .before .pre in
@@ -59,8 +60,8 @@ copy-requires : tie.Need-copy-requires
 copy-requires c κs =
     let a = c .before .before .before .before .before .args in
     let n : length (a .t1) ≡ outputRoom = search needs in
-    let most = smaller-le (a .size) outputRoom (c .before .before .before .smaller .result) (c .before .before .before .smaller .ensures) .1 in
-    let l = smaller-le (c .before .before .before .smaller .result) (length (now (a .out)) - a .at) (c .before .before .smaller2 .result) (c .before .before .smaller2 .ensures) in
+    let most = smaller-fits (a .size) outputRoom (c .before .before .before .smaller .result) (c .before .before .before .smaller .ensures) .1 in
+    let l = smaller-fits (c .before .before .before .smaller .result) (length (now (a .out)) - a .at) (c .before .before .smaller2 .result) (c .before .before .smaller2 .ensures) in
     let l₀ = l .0 in
     let l₁ = l .1 in
     let p = c .before .before .before .before .before .pre in
@@ -74,8 +75,8 @@ add-result : tie.Need-add-result
 add-result c =
     let a = c .before .before .before .before .before .before .before .before .args in
     let n : length (a .t1) ≡ outputRoom = search needs in
-    let most = smaller-le (a .size) outputRoom (c .before .before .before .before .before .before .smaller .result) (c .before .before .before .before .before .before .smaller .ensures) .1 in
-    let l = smaller-le (c .before .before .before .before .before .before .smaller .result) (length (now (a .out)) - a .at) (c .before .before .before .before .before .smaller2 .result) (c .before .before .before .before .before .smaller2 .ensures) in
+    let most = smaller-fits (a .size) outputRoom (c .before .before .before .before .before .before .smaller .result) (c .before .before .before .before .before .before .smaller .ensures) .1 in
+    let l = smaller-fits (c .before .before .before .before .before .before .smaller .result) (length (now (a .out)) - a .at) (c .before .before .before .before .before .smaller2 .result) (c .before .before .before .before .before .smaller2 .ensures) in
     let l₀ = l .0 in
     let l₁ = l .1 in
     let p = c .before .before .before .before .before .before .before .before .pre in
@@ -89,8 +90,8 @@ returns : tie.Need-returns
 returns c =
     let a = c .before .before .before .before .before .before .before .before .args in
     let n : length (a .t1) ≡ outputRoom = search needs in
-    let most = smaller-le (a .size) outputRoom (c .before .before .before .before .before .before .smaller .result) (c .before .before .before .before .before .before .smaller .ensures) .1 in
-    let l = smaller-le (c .before .before .before .before .before .before .smaller .result) (length (now (a .out)) - a .at) (c .before .before .before .before .before .smaller2 .result) (c .before .before .before .before .before .smaller2 .ensures) in
+    let most = smaller-fits (a .size) outputRoom (c .before .before .before .before .before .before .smaller .result) (c .before .before .before .before .before .before .smaller .ensures) .1 in
+    let l = smaller-fits (c .before .before .before .before .before .before .smaller .result) (length (now (a .out)) - a .at) (c .before .before .before .before .before .smaller2 .result) (c .before .before .before .before .before .smaller2 .ensures) in
     let l₀ = l .0 in
     let l₁ = l .1 in
     let p = c .before .before .before .before .before .before .before .before .pre in

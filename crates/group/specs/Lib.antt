@@ -5,3 +5,4 @@ pub mod Opening
 pub mod Question
 pub mod Lent
 pub mod Fold
+pub mod Wording

@@ -3,6 +3,7 @@ ghost use mathlib.Core.Path.{_≡_};
 ghost use Rattle.group.specs.Limits.{membersMost, placesMost, payloadMost, heldMost, headerSize, longestPacket, largestNumber};
 ghost use Rattle.group.specs.Refusal.{numberOf};
 ghost use Rattle.group.specs.Opening.{openOf};
+ghost use Rattle.group.specs.Wording.{openedWording};
 
 // A sequence number: the place of a message in the order, from 1. 0 means none yet.
 pub struct SequenceNumber(pub u32);
@@ -102,7 +103,8 @@ impl Group {
 
     // Question 18 of a group: is n 1 to 16?
     pub fn fresh(n: u8, number: u32) -> Opened
-        ensures { λ r. ⌜ r ≡ openOf n number ⌝ }
+        ensures answer { λ r. ⌜ r ≡ openOf n number ⌝ }
+        ensures wording { λ r. ⌜ openedWording r ≡ openedWording (openOf n number) ⌝ }
     {
         if n < 1 {
             return Opened::Refused(Refusal::Opening);

@@ -1,3 +1,4 @@
 pub mod Number
 pub mod Packet
+pub mod Wording
 pub mod Laws

@@ -11,6 +11,7 @@ ghost use Rattle.group.specs.Limits.{headerSize};
 ghost use Rattle.group.specs.Lent.{front};
 ghost use Rattle.packet.specs.Number.{numberAt, bytesOf};
 ghost use Rattle.packet.specs.Packet.{headerOf, knownKind, payloadFits, obeys, fieldsVerdict, readOf, headerBytes, packetOf, writeVerdict, writeOf, contentOf, fieldsOf};
+ghost use Rattle.packet.specs.Wording.{readingWording, writingWording};
 
 // The fields of a header as they stand in its bytes. L is not among them: it is the payload's length.
 pub struct Header {
@@ -208,7 +209,8 @@ fn ask_fields(h: Header, l: usize, size: usize) -> Verdict
 
 // Reads the fields of a packet: questions 3 to 6. Its payload is its part from byte 20 on.
 pub fn read(packet: &[u8]) -> Reading
-    ensures { λ r. ⌜ r ≡ readOf (now (packet .entry)) ⌝ }
+    ensures answer { λ r. ⌜ r ≡ readOf (now (packet .entry)) ⌝ }
+    ensures wording { λ r. ⌜ readingWording r ≡ readingWording (readOf (now (packet .entry))) ⌝ }
 {
     if packet.len() < Group::HEADER {
         return Reading::Refused(Refusal::PacketSize);
@@ -316,6 +318,7 @@ fn ask_writing(h: Header, size: usize, room: usize) -> Verdict
 pub fn write(h: Header, payload: &[u8], out: &mut [u8]) -> Writing
     ensures answer { λ r. ⌜ r ≡ writeOf h (now (payload .entry)) (length (now (out .entry))) .answer ⌝ }
     ensures lent { λ _. ⌜ now (out .exit) ≡ front (writeOf h (now (payload .entry)) (length (now (out .entry))) .bytes) (now (out .entry)) ⌝ }
+    ensures wording { λ r. ⌜ writingWording r ≡ writingWording (writeOf h (now (payload .entry)) (length (now (out .entry))) .answer) ⌝ }
 {
     let v = ask_writing(h, payload.len(), out.len());
     match v {

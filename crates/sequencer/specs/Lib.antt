@@ -3,6 +3,7 @@ pub mod Sound
 pub mod Note
 pub mod Calls
 pub mod Order
+pub mod Wording
 pub mod Laws
 pub mod Steps
 pub mod Done

@@ -7,6 +7,8 @@ use Rattle.group.specs.declared.Verdict.{Verdict}
 use Rattle.group.proofs.Choice.{choices, tests}
 use Rattle.packet.specs.declared.Reading.{Reading}
 use Rattle.packet.proofs.Verdicts.{read-by}
+use Rattle.group.proofs.Wording.{worded}
+use Rattle.packet.specs.Wording.{readingWording}
 use Rattle.packet.specs.Packet.{readOf}
 use borrow.Author.Needs.{needs}
 use Rattle.packet.proofs.read.Statement.{statement}
@@ -14,11 +16,11 @@ use Rattle.packet.proofs.read.Tie as tie
 
 returns : tie.Need-returns
 unfolding readOf
-returns c = search (choices, tests, needs) depth 9
+returns c = worded readingWording (search (choices, tests, needs) depth 9)
 
 returns-2 : tie.Need-returns-2
 unfolding readOf
-returns-2 c = search (choices, tests, needs) depth 9
+returns-2 c = worded readingWording (search (choices, tests, needs) depth 9)
 
 header-at-requires : tie.Need-header-at-requires
 header-at-requires c κs = search needs
@@ -45,15 +47,17 @@ returns-3 : tie.Need-returns-3
 unfolding judged
 returns-3 c =
     let h = c .before .before .before .before .header-at in
-    ap (λ (v : Verdict). judged v Reading.Refused (Reading.Fields (h .result))) (sym (c .enum-told .given .1))
-    ∙ read-by (now (c .before .before .before .before .before .before .before .before .args .packet)) (h .result) (c .before .before .before .half-at .result) (c .before .before .ask-fields .result) (search needs) (search needs) (h .ensures) (c .before .before .before .half-at .ensures) (c .before .before .ask-fields .ensures)
+    worded readingWording
+    (ap (λ (v : Verdict). judged v Reading.Refused (Reading.Fields (h .result))) (sym (c .enum-told .given .1))
+    ∙ read-by (now (c .before .before .before .before .before .before .before .before .args .packet)) (h .result) (c .before .before .before .half-at .result) (c .before .before .ask-fields .result) (search needs) (search needs) (h .ensures) (c .before .before .before .half-at .ensures) (c .before .before .ask-fields .ensures))
 
 returns-4 : tie.Need-returns-4
 unfolding judged
 returns-4 c =
     let h = c .before .before .before .before .before .header-at in
-    ap (λ (v : Verdict). judged v Reading.Refused (Reading.Fields (h .result))) (sym (c .before .v .given .1))
-    ∙ read-by (now (c .before .before .before .before .before .before .before .before .before .args .packet)) (h .result) (c .before .before .before .before .half-at .result) (c .before .before .before .ask-fields .result) (search needs) (search needs) (h .ensures) (c .before .before .before .before .half-at .ensures) (c .before .before .before .ask-fields .ensures)
+    worded readingWording
+    (ap (λ (v : Verdict). judged v Reading.Refused (Reading.Fields (h .result))) (sym (c .before .v .given .1))
+    ∙ read-by (now (c .before .before .before .before .before .before .before .before .before .args .packet)) (h .result) (c .before .before .before .before .half-at .result) (c .before .before .before .ask-fields .result) (search needs) (search needs) (h .ensures) (c .before .before .before .before .half-at .ensures) (c .before .before .before .ask-fields .ensures))
 
 pub read-spec : {M : Type 1} → statement M
 read-spec =

@@ -8,6 +8,7 @@ use denote.Ref.{now}
 use lib.ListN.{length}
 use Rattle.group.specs.Lent.{front}
 use Rattle.packet.proofs.Verdicts.{writable, written, written-not}
+use Rattle.packet.specs.Wording.{writingWording}
 use borrow.Author.Needs.{needs}
 use Rattle.packet.proofs.write.Statement.{statement}
 use Rattle.packet.proofs.write.Tie as tie
@@ -37,13 +38,13 @@ returns : tie.Need-returns
 returns c =
     let a = c .before .before .before .before .before .before .before .before .before .args in
     let w = written (a .h) (now (a .payload)) (length (now (a .out))) (sym (c .before .before .before .before .before .before .ask-writing .ensures) ∙ c .before .before .before .before .enum-told .given .1) in
-    (w .0, c .before .before .lay .ensures ∙ ap (λ (l : List ℕ). front l (now (a .out))) (w .1))
+    (w .0, c .before .before .lay .ensures ∙ ap (λ (l : List ℕ). front l (now (a .out))) (w .1), ap writingWording (w .0))
 
 returns-2 : tie.Need-returns-2
 returns-2 c =
     let a = c .before .before .before .before .before .before .args in
     let w = written-not (a .h) (now (a .payload)) (length (now (a .out))) _ (sym (c .before .before .before .ask-writing .ensures) ∙ c .before .v .given .1) in
-    (w .0, ap (λ (l : List ℕ). front l (now (a .out))) (w .1))
+    (w .0, ap (λ (l : List ℕ). front l (now (a .out))) (w .1), ap writingWording (w .0))
 
 pub write-spec : {M : Type 1} → statement M
 write-spec =

@@ -2,21 +2,23 @@
 -- Assumes nothing.
 use borrow.Author.Needs.{needs}
 use Rattle.group.proofs.Choice.{choices, tests}
+use Rattle.group.proofs.Wording.{worded}
 use Rattle.group.specs.Opening.{openOf}
+use Rattle.group.specs.Wording.{openedWording}
 use Rattle.group.proofs.Group.fresh.Statement.{statement}
 use Rattle.group.proofs.Group.fresh.Tie as tie
 
 returns : tie.Need-returns
 unfolding openOf
-returns c = search (choices, tests, needs) depth 9
+returns c = worded openedWording (search (choices, tests, needs) depth 9)
 
 returns-2 : tie.Need-returns-2
 unfolding openOf
-returns-2 c = search (choices, tests, needs) depth 9
+returns-2 c = worded openedWording (search (choices, tests, needs) depth 9)
 
 returns-3 : tie.Need-returns-3
 unfolding openOf
-returns-3 c = search (choices, tests, needs) depth 9
+returns-3 c = worded openedWording (search (choices, tests, needs) depth 9)
 
 pub fresh-spec : {M : Type 1} → statement M
 fresh-spec = tie.close (tie.spec returns returns-2 returns-3)

@@ -38,13 +38,13 @@ returns : tie.Need-returns
 returns c =
     let a = c .before .before .before .before .before .before .before .before .before .args in
     let w = written (a .h) (now (a .payload)) (length (now (a .out))) (sym (c .before .before .before .before .before .before .ask-writing .ensures) ∙ c .before .before .before .before .enum-told .given .1) in
-    (w .0, c .before .before .lay .ensures ∙ ap (λ (l : List ℕ). front l (now (a .out))) (w .1), ap writingWording (w .0))
+    (w .0, (c .before .before .lay .ensures ∙ ap (λ (l : List ℕ). front l (now (a .out))) (w .1), ap writingWording (w .0)))
 
 returns-2 : tie.Need-returns-2
 returns-2 c =
     let a = c .before .before .before .before .before .before .args in
     let w = written-not (a .h) (now (a .payload)) (length (now (a .out))) _ (sym (c .before .before .before .ask-writing .ensures) ∙ c .before .v .given .1) in
-    (w .0, ap (λ (l : List ℕ). front l (now (a .out))) (w .1), ap writingWording (w .0))
+    (w .0, (ap (λ (l : List ℕ). front l (now (a .out))) (w .1), ap writingWording (w .0)))
 
 pub write-spec : {M : Type 1} → statement M
 write-spec =

@@ -24,6 +24,7 @@ use Rattle.packet.proofs.RoundTrip.{packet-length}
 use Rattle.packet.specs.declared.Header.{Header}
 use Rattle.packet.specs.declared.Reading.{Reading}
 use Rattle.packet.specs.declared.Reading.the-variants.{Fields}
+use Rattle.member.specs.Wording.{wordingOf}
 use Rattle.member.specs.Calls.{Outcome, stepOf, answered, gapPacket, callVerdict, refused, submitVerdict, withHeld, gapUpTo, keptOf, isOwn, withTaken, tookOf, contentStep, readStep}
 use Rattle.window.specs.Sound.{placeSound, waitingSound}
 use Rattle.member.specs.Sound.{soundOf}
@@ -46,17 +47,21 @@ module _ {m : Member} {x y : List ℕ} where
   hears-as {r} e d = subst (λ (o : Outcome). Hears m o r x y) e d
 
 -- the two promises of a call: of an outcome, beside the state that it leaves
-pub promised : (o : Outcome) (m : Member) (r : Reply) (x y : List ℕ) → o .member ≡ m → Spoken (o .answer) (o .bytes) r x y
-    → (record { member = m; answer = r .answer; written = r .written } ≡ stepOf o) × (y ≡ front (o .bytes) x)
-promised o m r x y e s = (λ j. record { member = sym e j; answer = s .answer-is j; written = s .written-is j }, s .lent)
+-- the promises of a call: the wording follows from the answer
+abbrev Promises : Outcome → Step → List ℕ → List ℕ → Type 0
+Promises o s x y = (s ≡ stepOf o) × ((y ≡ front (o .bytes) x) × (wordingOf (s .answer) ≡ wordingOf (o .answer)))
+
+promises : (o : Outcome) (s : Step) (x y : List ℕ) → s ≡ stepOf o → y ≡ front (o .bytes) x → Promises o s x y
+promises o s x y e l = (e, (l, ap (λ (s : Step). wordingOf (s .answer)) e))
+
+pub promised : (o : Outcome) (m : Member) (r : Reply) (s : Step) (x y : List ℕ) → s ≡ record { member = m; answer = r .answer; written = r .written }
+    → o .member ≡ m → Spoken (o .answer) (o .bytes) r x y → Promises o s x y
+promised o m r s x y z e p = promises o s x y (z ∙ (λ j. record { member = sym e j; answer = p .answer-is j; written = p .written-is j })) (p .lent)
 
 -- the same of a reply that stands beside a state
 pub stepped : (p : Outcome) {o : Outcome} (m : Member) (r : Reply) (s : Step) (x y : List ℕ) → o ≡ p → Replied m o r x y
-    → s ≡ record { member = m; answer = r .answer; written = r .written } → (s ≡ stepOf p) × (y ≡ front (p .bytes) x)
-stepped p m r s x y e d z =
-    let k = replied-as e d in
-    let q = promised p m r x y (k .same) (k .spoken) in
-    (z ∙ q .0, q .1)
+    → s ≡ record { member = m; answer = r .answer; written = r .written } → Promises p s x y
+stepped p m r s x y e d z = let k = replied-as e d in promised p m r s x y z (k .same) (k .spoken)
 
 -- an answer that writes nothing
 pub quiet : (m : Member) (answer : Answer) (r : Reply) (x : List ℕ) → r ≡ record { answer = answer; written = 0 } → Replied m (answered m answer) r x x

@@ -21,6 +21,8 @@ ghost use Rattle.window.specs.Steps.{Laid};
 ghost use Rattle.member.specs.State.{acknowledgedOf, freshMember};
 ghost use Rattle.member.specs.Sound.{soundOf};
 ghost use Rattle.member.specs.Calls.{stepOf, answered, requestPacket, statusPacket, callVerdict, submitVerdict, submitOf, repeatOf, statusOf, gapUpTo, keptOf, broadcastOf, pollOf, contentStep, receiveOf, takeOf, freshOf};
+ghost use Rattle.group.specs.Wording.{verdictWording};
+ghost use Rattle.member.specs.Wording.{wordingOf};
 ghost use Rattle.member.specs.Steps.{Spoken, Replied, Hears};
 
 pub struct Member {
@@ -120,7 +122,8 @@ fn handed(taken: SequenceNumber, message: Message, more: bool, out: &mut [u8]) -
 impl Member {
     // Opens a member: question 18. Where it is refused, the state is all zero.
     pub fn fresh(n: u8, number: MemberNumber, group: u32) -> Opening
-        ensures { λ r. ⌜ r ≡ freshOf n number group ⌝ }
+        ensures answer { λ r. ⌜ r ≡ freshOf n number group ⌝ }
+        ensures wording { λ r. ⌜ verdictWording (r .verdict) ≡ verdictWording (freshOf n number group .verdict) ⌝ }
     {
         let opened = Group::fresh(n, group);
         match opened {
@@ -471,6 +474,7 @@ impl Member {
     pub fn submit(mut self, payload: &[u8], out: &mut [u8]) -> Step
         ensures answer { λ r. ⌜ r ≡ stepOf (submitOf self (now (payload .entry)) (length (now (out .entry)))) ⌝ }
         ensures lent { λ _. ⌜ now (out .exit) ≡ front (submitOf self (now (payload .entry)) (length (now (out .entry))) .bytes) (now (out .entry)) ⌝ }
+        ensures wording { λ r. ⌜ wordingOf (r .answer) ≡ wordingOf (submitOf self (now (payload .entry)) (length (now (out .entry))) .answer) ⌝ }
     {
         let v = self.ask(out.len());
         match v {
@@ -501,6 +505,7 @@ impl Member {
     pub fn repeat(self, out: &mut [u8]) -> Step
         ensures answer { λ r. ⌜ r ≡ stepOf (repeatOf self (length (now (out .entry)))) ⌝ }
         ensures lent { λ _. ⌜ now (out .exit) ≡ front (repeatOf self (length (now (out .entry))) .bytes) (now (out .entry)) ⌝ }
+        ensures wording { λ r. ⌜ wordingOf (r .answer) ≡ wordingOf (repeatOf self (length (now (out .entry))) .answer) ⌝ }
     {
         let reply = self.repeated(out);
         self.replied(reply)
@@ -510,6 +515,7 @@ impl Member {
     pub fn status(self, out: &mut [u8]) -> Step
         ensures answer { λ r. ⌜ r ≡ stepOf (statusOf self (length (now (out .entry)))) ⌝ }
         ensures lent { λ _. ⌜ now (out .exit) ≡ front (statusOf self (length (now (out .entry))) .bytes) (now (out .entry)) ⌝ }
+        ensures wording { λ r. ⌜ wordingOf (r .answer) ≡ wordingOf (statusOf self (length (now (out .entry))) .answer) ⌝ }
     {
         let reply = self.reported(out);
         self.replied(reply)
@@ -520,6 +526,7 @@ impl Member {
     pub fn take(mut self, out: &mut [u8]) -> Step
         ensures answer { λ r. ⌜ r ≡ stepOf (takeOf self (length (now (out .entry)))) ⌝ }
         ensures lent { λ _. ⌜ now (out .exit) ≡ front (takeOf self (length (now (out .entry))) .bytes) (now (out .entry)) ⌝ }
+        ensures wording { λ r. ⌜ wordingOf (r .answer) ≡ wordingOf (takeOf self (length (now (out .entry))) .answer) ⌝ }
     {
         let v = self.ask(out.len());
         match v {
@@ -560,6 +567,7 @@ impl Member {
     pub fn receive(mut self, packet: &[u8], out: &mut [u8]) -> Step
         ensures answer { λ r. ⌜ r ≡ stepOf (receiveOf self (now (packet .entry)) (length (now (out .entry)))) ⌝ }
         ensures lent { λ _. ⌜ now (out .exit) ≡ front (receiveOf self (now (packet .entry)) (length (now (out .entry))) .bytes) (now (out .entry)) ⌝ }
+        ensures wording { λ r. ⌜ wordingOf (r .answer) ≡ wordingOf (receiveOf self (now (packet .entry)) (length (now (out .entry))) .answer) ⌝ }
     {
         let heard = self.heard(packet, out);
         let answer = heard.answer;

@@ -22,6 +22,8 @@ ghost use Rattle.packet.specs.Packet.{fieldsOf, packetOf};
 ghost use Rattle.sequencer.specs.State.{freshSequencer};
 ghost use Rattle.sequencer.specs.Sound.{soundOf};
 ghost use Rattle.sequencer.specs.Calls.{stepOf, answered, readStep, callVerdict, receiveOf, pollOf, copyOf, freshOf};
+ghost use Rattle.group.specs.Wording.{verdictWording};
+ghost use Rattle.sequencer.specs.Wording.{wordingOf};
 ghost use Rattle.sequencer.specs.Done.{Laid, Done, Quiet, Sized, Left, Due};
 ghost use Rattle.sequencer.specs.Steps.{acceptedStep, quiet, requestChange, gapAnswer, changeOf, sentOf};
 
@@ -363,6 +365,7 @@ impl Sequencer {
     pub fn receive(self, packet: &[u8], out: &mut [u8]) -> Step
         ensures answer { λ r. ⌜ r ≡ stepOf (receiveOf self (now (packet .entry)) (length (now (out .entry)))) ⌝ }
         ensures lent { λ _. ⌜ now (out .exit) ≡ front (receiveOf self (now (packet .entry)) (length (now (out .entry))) .bytes) (now (out .entry)) ⌝ }
+        ensures wording { λ r. ⌜ wordingOf (r .answer) ≡ wordingOf (receiveOf self (now (packet .entry)) (length (now (out .entry))) .answer) ⌝ }
     {
         let v = self.ask(out.len());
         match v {
@@ -381,6 +384,7 @@ impl Sequencer {
     pub fn poll(self, out: &mut [u8]) -> Step
         ensures answer { λ r. ⌜ r ≡ stepOf (pollOf self (length (now (out .entry)))) ⌝ }
         ensures lent { λ _. ⌜ now (out .exit) ≡ front (pollOf self (length (now (out .entry))) .bytes) (now (out .entry)) ⌝ }
+        ensures wording { λ r. ⌜ wordingOf (r .answer) ≡ wordingOf (pollOf self (length (now (out .entry))) .answer) ⌝ }
     {
         let v = self.ask(out.len());
         match v {
@@ -426,6 +430,7 @@ impl Sequencer {
     pub fn copy(self, number: SequenceNumber, out: &mut [u8]) -> Step
         ensures answer { λ r. ⌜ r ≡ stepOf (copyOf self number (length (now (out .entry)))) ⌝ }
         ensures lent { λ _. ⌜ now (out .exit) ≡ front (copyOf self number (length (now (out .entry))) .bytes) (now (out .entry)) ⌝ }
+        ensures wording { λ r. ⌜ wordingOf (r .answer) ≡ wordingOf (copyOf self number (length (now (out .entry))) .answer) ⌝ }
     {
         let v = self.ask(out.len());
         match v {
@@ -436,7 +441,8 @@ impl Sequencer {
 
     // Opening: question 18. Where it is refused, the state is all zero.
     pub fn fresh(n: u8, group: u32) -> Opening
-        ensures { λ r. ⌜ r ≡ freshOf n group ⌝ }
+        ensures answer { λ r. ⌜ r ≡ freshOf n group ⌝ }
+        ensures wording { λ r. ⌜ verdictWording (r .verdict) ≡ verdictWording (freshOf n group .verdict) ⌝ }
     {
         let opened = Group::fresh(n, group);
         match opened {

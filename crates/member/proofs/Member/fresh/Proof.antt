@@ -3,6 +3,9 @@
 use mathlib.Core.Path.{sym, _∙_}
 use Rattle.group.proofs.Choice.{choices}
 use Rattle.member.specs.Calls.{freshOf, openedOf}
+use Rattle.group.proofs.Wording.{worded}
+use Rattle.group.specs.Wording.{verdictWording}
+use Rattle.member.specs.declared.Opening.{Opening}
 use borrow.Author.Needs.{needs}
 use Rattle.member.proofs.Member.fresh.Statement.{statement}
 use Rattle.member.proofs.Member.fresh.Tie as tie
@@ -18,7 +21,7 @@ idle-requires c κs = search needs
 
 returns : tie.Need-returns
 unfolding freshOf openedOf
-returns c = rw (sym (c .before .before .before .before .before .before .before .fresh .ensures) ∙ c .before .before .before .before .before .opened .given .1, c .idle .ensures) (search (choices, needs) depth 9)
+returns c = worded (λ (r : Opening). verdictWording (r .verdict)) (rw (sym (c .before .before .before .before .before .before .before .fresh .ensures .0) ∙ c .before .before .before .before .before .opened .given .1, c .idle .ensures) (search (choices, needs) depth 9))
 
 closed-requires : tie.Need-closed-requires
 closed-requires c κs = search needs
@@ -31,11 +34,11 @@ closed-requires-2 c κs = search needs
 
 returns-2 : tie.Need-returns-2
 unfolding freshOf openedOf
-returns-2 c = rw (sym (c .before .before .before .before .before .before .before .fresh .ensures) ∙ c .before .before .before .before .before .opened .given .1, c .closed .ensures) (search (choices, needs) depth 9)
+returns-2 c = worded (λ (r : Opening). verdictWording (r .verdict)) (rw (sym (c .before .before .before .before .before .before .before .fresh .ensures .0) ∙ c .before .before .before .before .before .opened .given .1, c .closed .ensures) (search (choices, needs) depth 9))
 
 returns-3 : tie.Need-returns-3
 unfolding freshOf openedOf
-returns-3 c = rw (sym (c .before .before .before .before .fresh .ensures) ∙ c .before .before .opened2 .given .1) (c .closed2 .ensures)
+returns-3 c = worded (λ (r : Opening). verdictWording (r .verdict)) (rw (sym (c .before .before .before .before .fresh .ensures .0) ∙ c .before .before .opened2 .given .1) (c .closed2 .ensures))
 
 pub fresh-spec : {M : Type 1} → statement M
 fresh-spec =

@@ -26,17 +26,17 @@ of-requires : tie.Need-of-requires
 of-requires c κs = search needs
 
 sub-content : tie.Need-sub-content
-sub-content c = readable _ _ (sym (c .before .before .before .before .before .before .before .read .ensures) ∙ c .before .before .before .before .before .r .given .1) .long
+sub-content c = readable _ _ (sym (c .before .before .before .before .before .before .before .read .ensures .0) ∙ c .before .before .before .before .before .r .given .1) .long
 
 part-content-start : tie.Need-part-content-start
-part-content-start c = readable _ _ (sym (c .before .before .before .before .before .before .before .read .ensures) ∙ c .before .before .before .before .before .r .given .1) .long
+part-content-start c = readable _ _ (sym (c .before .before .before .before .before .before .before .read .ensures .0) ∙ c .before .before .before .before .before .r .given .1) .long
 
 part-content-end : tie.Need-part-content-end
 part-content-end c = search needs
 
 content-requires : tie.Need-content-requires
 content-requires c κs =
-    let w = readable _ _ (sym (c .before .before .before .before .before .before .before .before .before .read .ensures) ∙ c .before .before .before .before .before .before .before .r .given .1) in
+    let w = readable _ _ (sym (c .before .before .before .before .before .before .before .before .before .read .ensures .0) ∙ c .before .before .before .before .before .before .before .r .given .1) in
     let s = asked _ _ (sym (c .before .before .before .before .before .before .before .before .before .before .before .before .ask .ensures) ∙ c .before .before .before .before .before .before .before .before .before .before .enum-told .given .1) in
     (rw behind (w .payload), s .1)
 
@@ -48,7 +48,7 @@ unfolding receiveOf
 returns c =
     let a = c .before .before .before .before .before .before .before .before .before .before .before .before .before .before .before .before .before .before .args in
     let s = judged-yes _ _ _ (sym (c .before .before .before .before .before .before .before .before .before .before .before .before .before .before .before .ask .ensures) ∙ c .before .before .before .before .before .before .before .before .before .before .before .before .before .enum-told .given .1) in
-    let o = ours (a .self) _ _ _ (sym (c .before .before .before .before .before .before .before .before .before .before .before .before .read .ensures) ∙ c .before .before .before .before .before .before .before .before .before .before .r .given .1) (c .before .before .before .before .before .before .if1 .taken) in
+    let o = ours (a .self) _ _ _ (sym (c .before .before .before .before .before .before .before .before .before .before .before .before .read .ensures .0) ∙ c .before .before .before .before .before .before .before .before .before .before .r .given .1) (c .before .before .before .before .before .before .if1 .taken) in
     hears-as {p = receiveOf (a .self) (now (a .packet)) (length (now (a .out)))} (rw (behind, c .before .before .before .before .before .of .ensures) (o ∙ s)) (c .before .before .content .ensures)
 
 refused-requires : tie.Need-refused-requires
@@ -80,7 +80,7 @@ unfolding receiveOf
 returns-2 c =
     let a = c .before .before .before .before .before .before .before .before .before .before .before .before .before .before .args in
     let s = judged-yes _ _ _ (sym (c .before .before .before .before .before .before .before .before .before .before .before .ask .ensures) ∙ c .before .before .before .before .before .before .before .before .before .enum-told .given .1) in
-    let o = others (a .self) _ _ _ (sym (c .before .before .before .before .before .before .before .before .read .ensures) ∙ c .before .before .before .before .before .before .r .given .1) (c .before .before .if1 .left) in
+    let o = others (a .self) _ _ _ (sym (c .before .before .before .before .before .before .before .before .read .ensures .0) ∙ c .before .before .before .before .before .before .r .given .1) (c .before .before .if1 .left) in
     hears-as (o ∙ s) (hears-same (a .self) _ _ _ _ _ (quiet _ _ _ (now (a .out)) (c .before .refused .ensures)) (c .same .ensures))
 
 returns-3 : tie.Need-returns-3
@@ -88,7 +88,7 @@ unfolding receiveOf readStep
 returns-3 c =
     let a = c .before .before .before .before .before .before .before .before .before .before .before .args in
     let s = judged-yes _ _ _ (sym (c .before .before .before .before .before .before .before .before .ask .ensures) ∙ c .before .before .before .before .before .before .enum-told .given .1) in
-    let e = sym (c .before .before .before .before .before .read .ensures) ∙ c .before .before .before .r2 .given .1 in
+    let e = sym (c .before .before .before .before .before .read .ensures .0) ∙ c .before .before .before .r2 .given .1 in
     hears-as {p = receiveOf (a .self) (now (a .packet)) (length (now (a .out)))} (rw e s) (hears-same (a .self) _ _ _ _ _ (quiet _ _ _ (now (a .out)) (c .before .refused2 .ensures)) (c .same2 .ensures))
 
 returns-4 : tie.Need-returns-4

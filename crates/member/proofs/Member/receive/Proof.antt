@@ -4,6 +4,7 @@ use mathlib.Core.Path.{_∙_}
 use native.Mathlib.Omega.{arith}
 use Rattle.member.specs.Steps.{withPlace}
 use Rattle.member.proofs.Outcomes.{promised}
+use mathlib.Core.Path.{refl}
 use borrow.Author.Needs.{needs}
 use Rattle.member.proofs.Member.receive.Statement.{statement}
 use Rattle.member.proofs.Member.receive.Tie as tie
@@ -24,7 +25,7 @@ returns : tie.Need-returns
 unfolding withPlace
 returns c =
     let r = c .before .before .before .heard .ensures in
-    promised _ _ _ _ _ (r .kept) (r .spoken)
+    promised _ _ _ _ _ _ refl (r .kept) (r .spoken)
 
 pub receive-spec : {M : Type 1} → statement M
 receive-spec =

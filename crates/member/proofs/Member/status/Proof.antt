@@ -1,6 +1,5 @@
 -- The reply, beside the state as it is.
 -- Assumes nothing.
-use mathlib.Core.Path.{_∙_}
 use Rattle.member.proofs.Outcomes.{promised}
 use borrow.Author.Needs.{needs}
 use Rattle.member.proofs.Member.status.Statement.{statement}
@@ -18,8 +17,7 @@ same-length c = search needs
 returns : tie.Need-returns
 returns c =
     let r = c .before .before .before .reported .ensures in
-    let p = promised _ _ _ _ _ (r .same) (r .spoken) in
-    (c .replied .ensures ∙ p .0, p .1)
+    promised _ _ _ _ _ _ (c .replied .ensures) (r .same) (r .spoken)
 
 pub status-spec : {M : Type 1} → statement M
 status-spec = tie.close (tie.spec reported-requires replied-requires same-length returns)

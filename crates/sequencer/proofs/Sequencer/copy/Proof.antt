@@ -4,7 +4,7 @@ use mathlib.Core.Path.{sym, _∙_}
 use denote.Ref.{now}
 use Rattle.sequencer.specs.Calls.{copyOf}
 use Rattle.history.proofs.Asking.{judged-no}
-use Rattle.sequencer.proofs.Outcomes.{done-as, both, lent-as-was}
+use Rattle.sequencer.proofs.Outcomes.{done-as, promised, lent-as-was}
 use borrow.Author.Needs.{needs}
 use Rattle.sequencer.proofs.Sequencer.copy.Statement.{statement}
 use Rattle.sequencer.proofs.Sequencer.copy.Tie as tie
@@ -28,11 +28,11 @@ same-length : tie.Need-same-length
 same-length c = search needs
 
 returns : tie.Need-returns
-returns c = both (c .before .before .copied .ensures)
+returns c = promised (c .before .before .copied .ensures)
 
 returns-2 : tie.Need-returns-2
 unfolding copyOf
-returns-2 c = both (done-as (judged-no _ _ _ _ (sym (c .before .before .before .before .ask .ensures) ∙ c .before .before .v .given .1)) (lent-as-was (now (c .before .before .before .before .before .before .args .out)) (c .refused .ensures)))
+returns-2 c = promised (done-as (judged-no _ _ _ _ (sym (c .before .before .before .before .ask .ensures) ∙ c .before .before .v .given .1)) (lent-as-was (now (c .before .before .before .before .before .before .args .out)) (c .refused .ensures)))
 
 pub copy-spec : {M : Type 1} → statement M
 copy-spec =

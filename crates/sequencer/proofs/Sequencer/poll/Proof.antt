@@ -5,7 +5,7 @@ use denote.Ref.{now}
 use Rattle.sequencer.specs.Calls.{pollPacket, pollOf}
 use Rattle.sequencer.specs.declared.Answer.the-variants.{Sent}
 use Rattle.history.proofs.Asking.{judged-yes, judged-no}
-use Rattle.sequencer.proofs.Outcomes.{done-as, both, lent-as-was}
+use Rattle.sequencer.proofs.Outcomes.{done-as, promised, lent-as-was}
 use Rattle.sequencer.proofs.Owed.{call-asked}
 use borrow.Author.Needs.{needs}
 use Rattle.sequencer.proofs.Sequencer.poll.Statement.{statement}
@@ -34,11 +34,11 @@ unfolding pollOf pollPacket
 returns c =
     let s = c .before .before .before .before .before .before .before .before .before .before .args .self in
     let l = c .before .before .send-poll .ensures in
-    both (done-as {o = record { sequencer = s; answer = Sent; bytes = pollPacket s }} (judged-yes _ _ _ (sym (c .before .before .before .before .before .before .before .before .ask .ensures) ∙ c .before .before .before .before .before .before .enum-told .given .1)) (record { answer = rw (l .all); lent = l .lent }))
+    promised (done-as {o = record { sequencer = s; answer = Sent; bytes = pollPacket s }} (judged-yes _ _ _ (sym (c .before .before .before .before .before .before .before .before .ask .ensures) ∙ c .before .before .before .before .before .before .enum-told .given .1)) (record { answer = rw (l .all); lent = l .lent }))
 
 returns-2 : tie.Need-returns-2
 unfolding pollOf
-returns-2 c = both (done-as (judged-no _ _ _ _ (sym (c .before .before .before .before .ask .ensures) ∙ c .before .before .v .given .1)) (lent-as-was (now (c .before .before .before .before .before .before .args .out)) (c .refused .ensures)))
+returns-2 c = promised (done-as (judged-no _ _ _ _ (sym (c .before .before .before .before .ask .ensures) ∙ c .before .before .v .given .1)) (lent-as-was (now (c .before .before .before .before .before .before .args .out)) (c .refused .ensures)))
 
 pub poll-spec : {M : Type 1} → statement M
 poll-spec =

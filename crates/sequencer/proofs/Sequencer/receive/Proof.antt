@@ -7,7 +7,7 @@ use native.Mathlib.Omega.{arith}
 use Rattle.packet.proofs.Verdicts.{readable}
 use Rattle.sequencer.specs.Calls.{readStep, receiveOf}
 use Rattle.history.proofs.Asking.{judged-yes, judged-no}
-use Rattle.sequencer.proofs.Outcomes.{done-as, both, lent-as-was, part}
+use Rattle.sequencer.proofs.Outcomes.{done-as, promised, lent-as-was, part}
 use Rattle.sequencer.proofs.Owed.{sound-members, sound-short, call-asked}
 use borrow.Author.Needs.{needs}
 use Rattle.sequencer.proofs.Sequencer.receive.Statement.{statement}
@@ -26,17 +26,17 @@ enum-known-reading : tie.Need-enum-known-reading
 enum-known-reading c = search needs
 
 sub-take : tie.Need-sub-take
-sub-take c = readable _ _ (sym (c .before .before .before .read .ensures) ∙ c .before .reading .given .1) .long
+sub-take c = readable _ _ (sym (c .before .before .before .read .ensures .0) ∙ c .before .reading .given .1) .long
 
 part-take-start : tie.Need-part-take-start
-part-take-start c = readable _ _ (sym (c .before .before .before .read .ensures) ∙ c .before .reading .given .1) .long
+part-take-start c = readable _ _ (sym (c .before .before .before .read .ensures .0) ∙ c .before .reading .given .1) .long
 
 part-take-end : tie.Need-part-take-end
 part-take-end c = search needs
 
 take-requires : tie.Need-take-requires
 take-requires c κs =
-    let r = readable _ _ (sym (c .before .before .before .before .before .read .ensures) ∙ c .before .before .before .reading .given .1) in
+    let r = readable _ _ (sym (c .before .before .before .before .before .read .ensures .0) ∙ c .before .before .before .reading .given .1) in
     let w = call-asked _ _ (sym (c .before .before .before .before .before .before .before .before .ask .ensures) ∙ c .before .before .before .before .before .before .enum-told .given .1) in
     record {
       members = sound-members _ (w .0);
@@ -63,22 +63,22 @@ same-length c = search needs
 returns : tie.Need-returns
 unfolding receiveOf
 returns c =
-    let e = sym (c .before .before .before .before .before .before .before .before .read .ensures) ∙ c .before .before .before .before .before .before .reading .given .1 in
+    let e = sym (c .before .before .before .before .before .before .before .before .read .ensures .0) ∙ c .before .before .before .before .before .before .reading .given .1 in
     let v = sym (c .before .before .before .before .before .before .before .before .before .before .before .ask .ensures) ∙ c .before .before .before .before .before .before .before .before .before .enum-told .given .1 in
     let a = c .before .before .before .before .before .before .before .before .before .before .before .before .before .before .args in
-    both {o = receiveOf (a .self) (now (a .packet)) (length (now (a .out)))} (done-as (rw (part, e) (judged-yes _ _ _ v)) (c .before .before .take .ensures))
+    promised {o = receiveOf (a .self) (now (a .packet)) (length (now (a .out)))} (done-as (rw (part, e) (judged-yes _ _ _ v)) (c .before .before .take .ensures))
 
 returns-2 : tie.Need-returns-2
 unfolding receiveOf readStep
 returns-2 c =
-    let e = sym (c .before .before .before .before .read .ensures) ∙ c .before .before .reading2 .given .1 in
+    let e = sym (c .before .before .before .before .read .ensures .0) ∙ c .before .before .reading2 .given .1 in
     let v = sym (c .before .before .before .before .before .before .before .ask .ensures) ∙ c .before .before .before .before .before .enum-told .given .1 in
     let a = c .before .before .before .before .before .before .before .before .before .before .args in
-    both {o = receiveOf (a .self) (now (a .packet)) (length (now (a .out)))} (done-as (rw e (judged-yes _ _ _ v)) (lent-as-was (now (a .out)) (c .refused .ensures)))
+    promised {o = receiveOf (a .self) (now (a .packet)) (length (now (a .out)))} (done-as (rw e (judged-yes _ _ _ v)) (lent-as-was (now (a .out)) (c .refused .ensures)))
 
 returns-3 : tie.Need-returns-3
 unfolding receiveOf
-returns-3 c = both (done-as (judged-no _ _ _ _ (sym (c .before .before .before .before .ask .ensures) ∙ c .before .before .v .given .1)) (lent-as-was (now (c .before .before .before .before .before .before .before .args .out)) (c .refused2 .ensures)))
+returns-3 c = promised (done-as (judged-no _ _ _ _ (sym (c .before .before .before .before .ask .ensures) ∙ c .before .before .v .given .1)) (lent-as-was (now (c .before .before .before .before .before .before .before .args .out)) (c .refused2 .ensures)))
 
 pub receive-spec : {M : Type 1} → statement M
 receive-spec =

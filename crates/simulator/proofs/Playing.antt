@@ -27,6 +27,10 @@ use Rattle.simulator.specs.declared.Whole.{Whole}
 use Rattle.simulator.proofs.Effects.{There, memberOutcome, sequencerOutcome, Did}
 use Rattle.simulator.proofs.Storing.{memberAfter, sequencerAfter, did-member, did-sequencer}
 
+-- of a call's promises, answer and lent bytes
+pub answered-lent : {A B C : Type 0} → A × (B × C) → A × B
+answered-lent (a, (l, w)) = (a, l)
+
 -- the outcome of a call: as many bytes of its lent output as it says
 member-outcome : (o : member.Outcome) (step : memberStep.Step) (out : List ℕ) → step ≡ member.stepOf o → out ≡ front (o .bytes) zeros → memberOutcome step out ≡ o
 member-outcome o step out e f = rw (e, f) (λ k. record { member = o .member; answer = o .answer; bytes = take-append-seam (o .bytes) (drop (length (o .bytes)) zeros) k })

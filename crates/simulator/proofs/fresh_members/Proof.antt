@@ -47,7 +47,7 @@ loop-less c = search needs
 loop-again : tie.Need-loop-again Inv-loop μ-loop
 loop-again c =
     let l = c .before .before .before .loop in
-    (search needs, simp length-set (l .inv .1), members-on (c .before .before .before .before .before .before .args .n) (c .before .before .before .before .before .before .args .number) (l .i) (l .members) _ (omega arith) (l .inv .2) (ap (λ (o : Opening). o .member) (c .before .fresh2 .ensures)))
+    (search needs, simp length-set (l .inv .1), members-on (c .before .before .before .before .before .before .args .n) (c .before .before .before .before .before .before .args .number) (l .i) (l .members) _ (omega arith) (l .inv .2) (ap (λ (o : Opening). o .member) (c .before .fresh2 .ensures .0)))
 
 returns : tie.Need-returns Inv-loop μ-loop
 returns c =

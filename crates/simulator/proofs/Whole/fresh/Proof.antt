@@ -16,7 +16,7 @@ returns : tie.Need-returns
 unfolding openedOf
 returns c =
     let a = c .before .before .before .args in
-    opens (a .n) (a .number) _ (rw (c .before .before .fresh .ensures, c .fresh-members .ensures))
+    opens (a .n) (a .number) _ (rw (c .before .before .fresh .ensures .0, c .fresh-members .ensures))
 
 pub fresh-spec : {M : Type 1} → statement M
 fresh-spec = tie.close (tie.spec fresh-requires fresh-members-requires returns)

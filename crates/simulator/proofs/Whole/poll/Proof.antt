@@ -9,7 +9,7 @@ use Rattle.sequencer.specs.Calls as sequencer
 use Rattle.sequencer.specs.declared.Sequencer.{Sequencer}
 use Rattle.simulator.proofs.Groups.{poll-has}
 use Rattle.simulator.proofs.Rooms.{room-yes, room-no}
-use Rattle.simulator.proofs.Playing.{plays-nothing, plays-sequencer}
+use Rattle.simulator.proofs.Playing.{answered-lent, plays-nothing, plays-sequencer}
 use borrow.Author.Needs.{needs}
 use Rattle.simulator.proofs.Whole.poll.Statement.{statement}
 use Rattle.simulator.proofs.Whole.poll.Tie as tie
@@ -39,7 +39,7 @@ returns : tie.Need-returns
 unfolding world.happen
 returns c =
     let a = c .before .before .before .before .before .before .before .before .args in
-    plays-sequencer (a .t1) (room-yes (c .before .before .before .before .before .before .before .before .args .t1) (sym (c .before .before .before .before .before .before .before .has-room .ensures) ∙ c .before .before .before .before .before .before .if1 .taken)) world.poll (λ (s : Sequencer). sequencer.pollOf s longestPacket) (c .before .before .before .poll .result) _ (c .count-after .result) refl (c .before .before .before .poll .ensures) (poll-has (a .t1 .sequencer) longestPacket) (c .count-after .ensures) (sym (length-map (c .before .before .before .before .before .before .before .before .args .t1 .packets) _) ∙ c .before .before .before .before .before .before .before .before .good .0 .1 .1 .1 .1 .0 .1 .0 .1) (search needs)
+    plays-sequencer (a .t1) (room-yes (c .before .before .before .before .before .before .before .before .args .t1) (sym (c .before .before .before .before .before .before .before .has-room .ensures) ∙ c .before .before .before .before .before .before .if1 .taken)) world.poll (λ (s : Sequencer). sequencer.pollOf s longestPacket) (c .before .before .before .poll .result) _ (c .count-after .result) refl (answered-lent (c .before .before .before .poll .ensures)) (poll-has (a .t1 .sequencer) longestPacket) (c .count-after .ensures) (sym (length-map (c .before .before .before .before .before .before .before .before .args .t1 .packets) _) ∙ c .before .before .before .before .before .before .before .before .good .0 .1 .1 .1 .1 .0 .1 .0 .1) (search needs)
 
 absent-requires : tie.Need-absent-requires
 absent-requires c κs = search needs

@@ -11,7 +11,7 @@ use Rattle.simulator.specs.Whole.{groupOf}
 use Rattle.simulator.proofs.Storing.{inside-n}
 use Rattle.simulator.proofs.Rooms.{there-yes, there-no}
 use Rattle.simulator.proofs.Reading.{member-read}
-use Rattle.simulator.proofs.Playing.{plays-member, plays-nothing, no-member}
+use Rattle.simulator.proofs.Playing.{answered-lent, plays-member, plays-nothing, no-member}
 use borrow.Author.Needs.{needs}
 use Rattle.simulator.proofs.Whole.status.Statement.{statement}
 use Rattle.simulator.proofs.Whole.status.Tie as tie
@@ -58,7 +58,7 @@ unfolding world.happen
 returns c =
     let a = c .before .before .before .before .before .before .before .before .args in
     let t = (there-yes (c .before .before .before .before .before .before .before .before .args .t1) (c .before .before .before .before .before .before .before .before .args .i) (sym (length-map (c .before .before .before .before .before .before .before .before .args .t1 .members) _) ∙ c .before .before .before .before .before .before .before .before .good .0 .1 .1 .1 .0 .1 .0 .1) (sym (c .before .before .before .before .before .before .before .has-member .ensures) ∙ c .before .before .before .before .before .before .if1 .taken)) in
-    let e = rw (member-read (a .t1) (a .i) _ (t .member)) at (c .before .before .before .status .ensures) in
+    let e = rw (member-read (a .t1) (a .i) _ (t .member)) at (answered-lent (c .before .before .before .status .ensures)) in
     plays-member (a .t1) (a .i) t (world.status (a .i)) (member.statusOf (getD (groupOf (a .t1) .members) (a .i) world.noMember) longestPacket) (λ (o : member.Outcome). written (o .bytes)) (c .before .before .before .status .result) _ (c .before .before .before .status .result .written) (c .count-after .result) refl e refl (c .count-after .ensures) (sym (length-map (c .before .before .before .before .before .before .before .before .args .t1 .packets) _) ∙ c .before .before .before .before .before .before .before .before .good .0 .1 .1 .1 .1 .0 .1 .0 .1) (search needs)
 
 absent-requires : tie.Need-absent-requires

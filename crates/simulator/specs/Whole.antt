@@ -1,9 +1,11 @@
 -- The executable group as the group of demand 3: its first n members, and the packets that were written. With room for a
 -- packet, an event does to it what `happen` says.
 use mathlib.Core.Path.{_≡_}
+use mathlib.Core.Logic.{_⊎_}
 use mathlib.Core.List.{List, map}
 use Prim.Native.Nat.{ℕ, _+_, _≤_, _<_}
-use lib.ListN.{length, take, replicate}
+use lib.ListN.{length, take, drop, set, replicate}
+use Rattle.group.specs.Lent.{front}
 use Rattle.group.specs.Limits.{membersMost, longestPacket}
 use Rattle.group.specs.declared.Verdict.{Verdict}
 use Rattle.model.specs.World.{Event, Answer, absent, bySequencer, byMember, Group, Happened, happen, freshMembers, fresh}
@@ -56,6 +58,17 @@ zeros = replicate longestPacket 0
 abbrev pub nothing : Whole → Happening
 nothing w = record { whole = w; reply = Reply.Absent; written = 0; bytes = zeros }
 
+-- what an event does to the part of a `Whole` that its group does not show: the members from n on, the packets from count on,
+-- and the bytes behind a packet's length
+pub record Free (w : Whole) (r : Happening) : Type 0 where
+  -- no member from n on changes
+  pub members : drop (w .sequencer .group .n) (r .whole .members) ≡ drop (w .sequencer .group .n) (w .members)
+  -- no packet changes but the one at count, in which the call's output is stored
+  pub packets : (r .whole .packets ≡ w .packets)
+      ⊎ ((size : ℕ) × (r .whole .packets ≡ set (w .packets) (w .count) (record { length = size; bytes = r .bytes })))
+  -- what stands in that output behind what was written is zero
+  pub bytes : r .bytes ≡ front (take (r .written) (r .bytes)) zeros
+
 -- the promise of each event
 pub record Plays (event : Event) (w : Whole) (r : Happening) : Type 0 where
   -- with room, what happens to the group
@@ -67,6 +80,8 @@ pub record Plays (event : Event) (w : Whole) (r : Happening) : Type 0 where
   -- n stays, and there is at most one packet more: there is room until `packetsMost` were written
   pub same : r .whole .sequencer .group .n ≡ w .sequencer .group .n
   pub most : r .whole .count ≤ w .count + 1
+  -- and the part that the group does not show
+  pub free : Free w r
 
 -- no packet
 abbrev pub noPacket : Stored

@@ -12,7 +12,7 @@ use Rattle.member.specs.declared.Answer as memberAnswer
 use Rattle.member.specs.declared.Member.{Member}
 use Rattle.message.specs.Order.{Ordered}
 use Rattle.model.specs.Closing.{closing}
-use Rattle.model.specs.Log.{order, owed, historyOf}
+use Rattle.model.specs.Log.{order, taken, owed, historyOf}
 use Rattle.model.specs.World.{Event, submit, take, status, copy, handMember, handSequencer, Answer, bySequencer, byMember, World, run, fresh}
 use Rattle.packet.specs.Packet.{packetOf, fieldsOf, readOf, writeOf}
 use Rattle.packet.specs.declared.Packet.{Packet}
@@ -57,9 +57,15 @@ answers w = map (λ entry. entry .answer) (w .log)
 abbrev pub schedule : List Event
 schedule = submit 1 (0x61 ∷ 0x62 ∷ []) ∷ handSequencer 0 ∷ handMember 1 1 ∷ take 1 ∷ take 0 ∷ []
 
--- one member: its message numbered, kept and taken, then its status
+-- one member: its message numbered, kept and taken; then its status, handed to the sequencer
 abbrev pub alone : List Event
-alone = submit 0 [] ∷ handSequencer 0 ∷ handMember 1 0 ∷ take 0 ∷ status 0 ∷ handSequencer 2 ∷ []
+alone = submit 0 [] ∷ handSequencer 0 ∷ handMember 1 0 ∷ take 0 ∷ []
+
+abbrev pub aloneStatus : List Event
+aloneStatus = status 0 ∷ handSequencer 2 ∷ []
+
+abbrev pub aloneMessage : List Ordered
+aloneMessage = record { number = 1; originator = 0; count = 1; payload = [] } ∷ []
 
 -- group 7, member 1, first message "ab"
 abbrev pub ab : List ℕ
@@ -102,9 +108,19 @@ pub record Examples : Type 0 where
   pub at-top : sequencer.receiveOf (requested 2 1) (statusOf 0 1) longestPacket .answer ≡ sequencerAnswer.Answer.Noted
   pub over-top : sequencer.receiveOf (requested 2 1) (statusOf 0 2) longestPacket .answer ≡ sequencerAnswer.Answer.Refused Refusal.AcknowledgedAhead
   -- an empty payload is a message
-  pub empty-payload : order (run (fresh 1 7) alone .log) ≡ record { number = 1; originator = 0; count = 1; payload = [] } ∷ []
-  -- with n = 1, member 0's message is numbered, kept and taken, and its status empties the history
-  pub alone-empties : historyOf (run (fresh 1 7) alone .group .sequencer) ≡ []
+  pub empty-payload : order (run (fresh 1 7) alone .log) ≡ aloneMessage
+  -- with n = 1, member 0's message is numbered, kept and taken,
+  pub alone-answers : answers (run (fresh 1 7) alone)
+      ≡ byMember memberAnswer.Answer.Sent (packetOf (fieldsOf 7 (Packet.Request (record { 0 = 0 }) (record { 0 = 0 }) 1)) [])
+      ∷ bySequencer (sequencerAnswer.Answer.Numbered (record { 0 = 1 }))
+      (packetOf (fieldsOf 7 (Packet.Broadcast (record { 0 = 0 }) (record { 0 = 1 }) 1 (record { 0 = 0 }))) [])
+      ∷ byMember memberAnswer.Answer.Kept []
+      ∷ byMember (memberAnswer.Answer.Took (record { 0 = 1 }) (record { 0 = 0 }) 1 mathlib.Core.Bool.false) []
+      ∷ []
+  pub alone-taken : taken 0 (run (fresh 1 7) alone .log) ≡ aloneMessage
+  -- and its status empties the history, which holds the message until then
+  pub alone-holds : historyOf (run (fresh 1 7) alone .group .sequencer) ≡ aloneMessage
+  pub alone-empties : historyOf (run (run (fresh 1 7) alone) aloneStatus .group .sequencer) ≡ []
   -- group 7, member 1, first message "ab", in hexadecimal
   pub ab-written : request 0 1 (0x61 ∷ 0x62 ∷ []) ≡ ab
   pub ab-read : readOf ab ≡ Reading.Fields (fieldsOf 7 (Packet.Request (record { 0 = 1 }) (record { 0 = 0 }) 1))

@@ -1,15 +1,17 @@
-//! Links the static library that `rt staticlib boundary` writes.
+//! Links the static libraries that `reference/archives` writes. Each has all that it calls, and shares no symbol with the other.
 
 use std::path::Path;
 
 fn main() {
     let folder = Path::new(env!("CARGO_MANIFEST_DIR")).join("../../target/staticlib");
-    let archive = folder.join("libboundary.a");
-    println!("cargo:rerun-if-changed={}", archive.display());
-    assert!(
-        archive.exists(),
-        "no static library: run `rt staticlib boundary` in the root of the repository"
-    );
     println!("cargo:rustc-link-search=native={}", folder.display());
-    println!("cargo:rustc-link-lib=static=boundary");
+    for library in ["boundary", "rounds"] {
+        let archive = folder.join(format!("lib{library}.a"));
+        println!("cargo:rerun-if-changed={}", archive.display());
+        assert!(
+            archive.exists(),
+            "no static library of {library}: run `reference/archives`"
+        );
+        println!("cargo:rustc-link-lib=static={library}");
+    }
 }

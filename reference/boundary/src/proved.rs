@@ -23,8 +23,8 @@ mod ffi {
             room: usize,
         ) -> usize;
         pub fn boundary_play(input: *const u8, size: usize, out: *mut u8, room: usize) -> usize;
-        pub fn boundary_read_list(sum: u64, packets: *const u8, size: usize) -> u64;
-        pub fn boundary_sequencer_receive(
+        pub fn rounds_read_list(sum: u64, packets: *const u8, size: usize) -> u64;
+        pub fn rounds_sequencer_receive(
             n: u8,
             group: u32,
             heard: *const u8,
@@ -35,7 +35,7 @@ mod ffi {
             out: *mut u8,
             room: usize,
         ) -> u64;
-        pub fn boundary_sequencer_poll(
+        pub fn rounds_sequencer_poll(
             n: u8,
             group: u32,
             heard: *const u8,
@@ -44,7 +44,7 @@ mod ffi {
             out: *mut u8,
             room: usize,
         ) -> u64;
-        pub fn boundary_sequencer_copy(
+        pub fn rounds_sequencer_copy(
             n: u8,
             group: u32,
             heard: *const u8,
@@ -54,7 +54,7 @@ mod ffi {
             out: *mut u8,
             room: usize,
         ) -> u64;
-        pub fn boundary_member_receive(
+        pub fn rounds_member_receive(
             n: u8,
             number: u8,
             group: u32,
@@ -67,7 +67,7 @@ mod ffi {
             out: *mut u8,
             room: usize,
         ) -> u64;
-        pub fn boundary_member_submit(
+        pub fn rounds_member_submit(
             n: u8,
             number: u8,
             group: u32,
@@ -80,7 +80,7 @@ mod ffi {
             out: *mut u8,
             room: usize,
         ) -> u64;
-        pub fn boundary_member_repeat(
+        pub fn rounds_member_repeat(
             n: u8,
             number: u8,
             group: u32,
@@ -93,7 +93,7 @@ mod ffi {
             out: *mut u8,
             room: usize,
         ) -> u64;
-        pub fn boundary_member_take(
+        pub fn rounds_member_take(
             n: u8,
             number: u8,
             group: u32,
@@ -105,7 +105,7 @@ mod ffi {
             out: *mut u8,
             room: usize,
         ) -> u64;
-        pub fn boundary_member_status(
+        pub fn rounds_member_status(
             n: u8,
             number: u8,
             group: u32,
@@ -181,7 +181,7 @@ pub fn play(input: &[u8], out: &mut [u8]) -> usize {
 pub fn read_rounds(packets: &[u8], rounds: u32) -> u64 {
     (0..rounds).fold(0, |sum, _| {
         // SAFETY: the slice lives through the call.
-        unsafe { ffi::boundary_read_list(sum, packets.as_ptr(), packets.len()) }
+        unsafe { ffi::rounds_read_list(sum, packets.as_ptr(), packets.len()) }
     })
 }
 
@@ -189,7 +189,7 @@ pub fn read_rounds(packets: &[u8], rounds: u32) -> u64 {
 pub fn sequencer_receive(end: Sequencer<'_>, packets: &[u8], rounds: u32, out: &mut [u8]) -> u64 {
     // SAFETY: the slices live through the call, and the lent one is not another.
     unsafe {
-        ffi::boundary_sequencer_receive(
+        ffi::rounds_sequencer_receive(
             end.n,
             end.group,
             end.heard.as_ptr(),
@@ -207,7 +207,7 @@ pub fn sequencer_receive(end: Sequencer<'_>, packets: &[u8], rounds: u32, out: &
 pub fn sequencer_poll(end: Sequencer<'_>, rounds: u32, out: &mut [u8]) -> u64 {
     // SAFETY: as above.
     unsafe {
-        ffi::boundary_sequencer_poll(
+        ffi::rounds_sequencer_poll(
             end.n,
             end.group,
             end.heard.as_ptr(),
@@ -223,7 +223,7 @@ pub fn sequencer_poll(end: Sequencer<'_>, rounds: u32, out: &mut [u8]) -> u64 {
 pub fn sequencer_copy(end: Sequencer<'_>, number: u32, rounds: u32, out: &mut [u8]) -> u64 {
     // SAFETY: as above.
     unsafe {
-        ffi::boundary_sequencer_copy(
+        ffi::rounds_sequencer_copy(
             end.n,
             end.group,
             end.heard.as_ptr(),
@@ -240,7 +240,7 @@ pub fn sequencer_copy(end: Sequencer<'_>, number: u32, rounds: u32, out: &mut [u
 pub fn member_receive(end: Member<'_>, packets: &[u8], rounds: u32, out: &mut [u8]) -> u64 {
     // SAFETY: the slices live through the call, and the lent one is not another.
     unsafe {
-        ffi::boundary_member_receive(
+        ffi::rounds_member_receive(
             end.n,
             end.number,
             end.group,
@@ -260,7 +260,7 @@ pub fn member_receive(end: Member<'_>, packets: &[u8], rounds: u32, out: &mut [u
 pub fn member_submit(end: Member<'_>, payload: &[u8], rounds: u32, out: &mut [u8]) -> u64 {
     // SAFETY: as above.
     unsafe {
-        ffi::boundary_member_submit(
+        ffi::rounds_member_submit(
             end.n,
             end.number,
             end.group,
@@ -280,7 +280,7 @@ pub fn member_submit(end: Member<'_>, payload: &[u8], rounds: u32, out: &mut [u8
 pub fn member_repeat(end: Member<'_>, payload: &[u8], rounds: u32, out: &mut [u8]) -> u64 {
     // SAFETY: as above.
     unsafe {
-        ffi::boundary_member_repeat(
+        ffi::rounds_member_repeat(
             end.n,
             end.number,
             end.group,
@@ -300,7 +300,7 @@ pub fn member_repeat(end: Member<'_>, payload: &[u8], rounds: u32, out: &mut [u8
 pub fn member_take(end: Member<'_>, calls: u32, rounds: u32, out: &mut [u8]) -> u64 {
     // SAFETY: as above.
     unsafe {
-        ffi::boundary_member_take(
+        ffi::rounds_member_take(
             end.n,
             end.number,
             end.group,
@@ -319,7 +319,7 @@ pub fn member_take(end: Member<'_>, calls: u32, rounds: u32, out: &mut [u8]) -> 
 pub fn member_status(end: Member<'_>, rounds: u32, out: &mut [u8]) -> u64 {
     // SAFETY: as above.
     unsafe {
-        ffi::boundary_member_status(
+        ffi::rounds_member_status(
             end.n,
             end.number,
             end.group,

@@ -3,23 +3,26 @@
 use mathlib.Core.Path.{_≡_}
 use lib.ListN.{length}
 use borrow.Author.Needs.{needs}
-use Rattle.boundary.proofs.boundary_member_status.Statement.{statement}
-use Rattle.boundary.proofs.boundary_member_status.Tie as tie
+use Rattle.rounds.proofs.rounds_member_repeat.Statement.{statement}
+use Rattle.rounds.proofs.rounds_member_repeat.Tie as tie
 
 abbrev Inv-loop : tie.InvT-loop
-Inv-loop n number group heard takes rounds out₀ member₀ sum₀ left₀ out member sum left = length out ≡ length out₀
+Inv-loop n number group heard takes payload rounds out₀ member₀ sum₀ left₀ out member sum left = length out ≡ length out₀
 
 abbrev μ-loop : tie.MeasureT-loop
-μ-loop n number group heard takes rounds out₀ member₀ sum₀ left₀ out member sum left = left
+μ-loop n number group heard takes payload rounds out₀ member₀ sum₀ left₀ out member sum left = left
 
 member-after-requires : tie.Need-member-after-requires Inv-loop μ-loop
 member-after-requires c κs = search needs
 
+submit-requires : tie.Need-submit-requires Inv-loop μ-loop
+submit-requires c κs = search needs
+
 loop-holds : tie.Need-loop-holds Inv-loop μ-loop
 loop-holds c = search needs
 
-status-requires : tie.Need-status-requires Inv-loop μ-loop
-status-requires c κs = search needs
+repeat-requires : tie.Need-repeat-requires Inv-loop μ-loop
+repeat-requires c κs = search needs
 
 member-sum-requires : tie.Need-member-sum-requires Inv-loop μ-loop
 member-sum-requires c κs = search needs
@@ -39,15 +42,16 @@ same-length c = search needs
 returns : tie.Need-returns Inv-loop μ-loop
 returns c = search needs
 
-pub boundary-member-status-spec : {M : Type 1} → statement M
-boundary-member-status-spec =
+pub rounds-member-repeat-spec : {M : Type 1} → statement M
+rounds-member-repeat-spec =
     tie.close
     (tie.spec
     Inv-loop
     μ-loop
     member-after-requires
+    submit-requires
     loop-holds
-    status-requires
+    repeat-requires
     member-sum-requires
     sub-left
     loop-less

@@ -3,8 +3,8 @@
 use mathlib.Core.Path.{_≡_}
 use lib.ListN.{length}
 use borrow.Author.Needs.{needs}
-use Rattle.boundary.proofs.boundary_member_take.Statement.{statement}
-use Rattle.boundary.proofs.boundary_member_take.Tie as tie
+use Rattle.rounds.proofs.rounds_member_take.Statement.{statement}
+use Rattle.rounds.proofs.rounds_member_take.Tie as tie
 
 abbrev Inv-loop : tie.InvT-loop
 Inv-loop n number group heard takes calls rounds out₀ member sum₀ left₀ out sum left = length out ≡ length out₀
@@ -36,8 +36,8 @@ same-length c = search needs
 returns : tie.Need-returns Inv-loop μ-loop
 returns c = search needs
 
-pub boundary-member-take-spec : {M : Type 1} → statement M
-boundary-member-take-spec =
+pub rounds-member-take-spec : {M : Type 1} → statement M
+rounds-member-take-spec =
     tie.close
     (tie.spec
     Inv-loop

@@ -3,26 +3,20 @@
 use mathlib.Core.Path.{_≡_}
 use lib.ListN.{length}
 use borrow.Author.Needs.{needs}
-use Rattle.boundary.proofs.boundary_member_repeat.Statement.{statement}
-use Rattle.boundary.proofs.boundary_member_repeat.Tie as tie
+use Rattle.rounds.proofs.member_takes.Statement.{statement}
+use Rattle.rounds.proofs.member_takes.Tie as tie
 
 abbrev Inv-loop : tie.InvT-loop
-Inv-loop n number group heard takes payload rounds out₀ member₀ sum₀ left₀ out member sum left = length out ≡ length out₀
+Inv-loop member₀ sum₀ calls out₀ left₀ member sum out left = length out ≡ length out₀
 
 abbrev μ-loop : tie.MeasureT-loop
-μ-loop n number group heard takes payload rounds out₀ member₀ sum₀ left₀ out member sum left = left
-
-member-after-requires : tie.Need-member-after-requires Inv-loop μ-loop
-member-after-requires c κs = search needs
-
-submit-requires : tie.Need-submit-requires Inv-loop μ-loop
-submit-requires c κs = search needs
+μ-loop member₀ sum₀ calls out₀ left₀ member sum out left = left
 
 loop-holds : tie.Need-loop-holds Inv-loop μ-loop
 loop-holds c = search needs
 
-repeat-requires : tie.Need-repeat-requires Inv-loop μ-loop
-repeat-requires c κs = search needs
+take-requires : tie.Need-take-requires Inv-loop μ-loop
+take-requires c κs = search needs
 
 member-sum-requires : tie.Need-member-sum-requires Inv-loop μ-loop
 member-sum-requires c κs = search needs
@@ -42,16 +36,14 @@ same-length c = search needs
 returns : tie.Need-returns Inv-loop μ-loop
 returns c = search needs
 
-pub boundary-member-repeat-spec : {M : Type 1} → statement M
-boundary-member-repeat-spec =
+pub member-takes-spec : {M : Type 1} → statement M
+member-takes-spec =
     tie.close
     (tie.spec
     Inv-loop
     μ-loop
-    member-after-requires
-    submit-requires
     loop-holds
-    repeat-requires
+    take-requires
     member-sum-requires
     sub-left
     loop-less

@@ -3,23 +3,23 @@
 use mathlib.Core.Path.{_≡_}
 use lib.ListN.{length}
 use borrow.Author.Needs.{needs}
-use Rattle.boundary.proofs.boundary_sequencer_receive.Statement.{statement}
-use Rattle.boundary.proofs.boundary_sequencer_receive.Tie as tie
+use Rattle.rounds.proofs.rounds_member_receive.Statement.{statement}
+use Rattle.rounds.proofs.rounds_member_receive.Tie as tie
 
 abbrev Inv-loop : tie.InvT-loop
-Inv-loop n group heard packets rounds out₀ sequencer sum₀ left₀ out sum left = length out ≡ length out₀
+Inv-loop n number group heard takes packets rounds out₀ member sum₀ left₀ out sum left = length out ≡ length out₀
 
 abbrev μ-loop : tie.MeasureT-loop
-μ-loop n group heard packets rounds out₀ sequencer sum₀ left₀ out sum left = left
+μ-loop n number group heard takes packets rounds out₀ member sum₀ left₀ out sum left = left
 
-sequencer-after-requires : tie.Need-sequencer-after-requires Inv-loop μ-loop
-sequencer-after-requires c κs = search needs
+member-after-requires : tie.Need-member-after-requires Inv-loop μ-loop
+member-after-requires c κs = search needs
 
 loop-holds : tie.Need-loop-holds Inv-loop μ-loop
 loop-holds c = search needs
 
-sequencer-hears-requires : tie.Need-sequencer-hears-requires Inv-loop μ-loop
-sequencer-hears-requires c κs = search needs
+member-hears-requires : tie.Need-member-hears-requires Inv-loop μ-loop
+member-hears-requires c κs = search needs
 
 sub-left : tie.Need-sub-left Inv-loop μ-loop
 sub-left c = search needs
@@ -36,15 +36,15 @@ same-length c = search needs
 returns : tie.Need-returns Inv-loop μ-loop
 returns c = search needs
 
-pub boundary-sequencer-receive-spec : {M : Type 1} → statement M
-boundary-sequencer-receive-spec =
+pub rounds-member-receive-spec : {M : Type 1} → statement M
+rounds-member-receive-spec =
     tie.close
     (tie.spec
     Inv-loop
     μ-loop
-    sequencer-after-requires
+    member-after-requires
     loop-holds
-    sequencer-hears-requires
+    member-hears-requires
     sub-left
     loop-less
     loop-again

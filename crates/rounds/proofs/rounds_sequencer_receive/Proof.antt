@@ -3,23 +3,23 @@
 use mathlib.Core.Path.{_≡_}
 use lib.ListN.{length}
 use borrow.Author.Needs.{needs}
-use Rattle.boundary.proofs.member_takes.Statement.{statement}
-use Rattle.boundary.proofs.member_takes.Tie as tie
+use Rattle.rounds.proofs.rounds_sequencer_receive.Statement.{statement}
+use Rattle.rounds.proofs.rounds_sequencer_receive.Tie as tie
 
 abbrev Inv-loop : tie.InvT-loop
-Inv-loop member₀ sum₀ calls out₀ left₀ member sum out left = length out ≡ length out₀
+Inv-loop n group heard packets rounds out₀ sequencer sum₀ left₀ out sum left = length out ≡ length out₀
 
 abbrev μ-loop : tie.MeasureT-loop
-μ-loop member₀ sum₀ calls out₀ left₀ member sum out left = left
+μ-loop n group heard packets rounds out₀ sequencer sum₀ left₀ out sum left = left
+
+sequencer-after-requires : tie.Need-sequencer-after-requires Inv-loop μ-loop
+sequencer-after-requires c κs = search needs
 
 loop-holds : tie.Need-loop-holds Inv-loop μ-loop
 loop-holds c = search needs
 
-take-requires : tie.Need-take-requires Inv-loop μ-loop
-take-requires c κs = search needs
-
-member-sum-requires : tie.Need-member-sum-requires Inv-loop μ-loop
-member-sum-requires c κs = search needs
+sequencer-hears-requires : tie.Need-sequencer-hears-requires Inv-loop μ-loop
+sequencer-hears-requires c κs = search needs
 
 sub-left : tie.Need-sub-left Inv-loop μ-loop
 sub-left c = search needs
@@ -36,15 +36,15 @@ same-length c = search needs
 returns : tie.Need-returns Inv-loop μ-loop
 returns c = search needs
 
-pub member-takes-spec : {M : Type 1} → statement M
-member-takes-spec =
+pub rounds-sequencer-receive-spec : {M : Type 1} → statement M
+rounds-sequencer-receive-spec =
     tie.close
     (tie.spec
     Inv-loop
     μ-loop
+    sequencer-after-requires
     loop-holds
-    take-requires
-    member-sum-requires
+    sequencer-hears-requires
     sub-left
     loop-less
     loop-again

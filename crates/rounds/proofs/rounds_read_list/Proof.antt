@@ -3,8 +3,8 @@
 use Prim.Native.Nat.{_-_, _≤_}
 use lib.ListN.{length}
 use borrow.Author.Needs.{needs}
-use Rattle.boundary.proofs.boundary_read_list.Statement.{statement}
-use Rattle.boundary.proofs.boundary_read_list.Tie as tie
+use Rattle.rounds.proofs.rounds_read_list.Statement.{statement}
+use Rattle.rounds.proofs.rounds_read_list.Tie as tie
 
 abbrev Inv-loop : tie.InvT-loop
 Inv-loop sum₀ packets at₀ sum at = at ≤ length packets
@@ -57,8 +57,8 @@ loop-again c = search needs
 returns-2 : tie.Need-returns-2 Inv-loop μ-loop
 returns-2 c = search needs
 
-pub boundary-read-list-spec : {M : Type 1} → statement M
-boundary-read-list-spec =
+pub rounds-read-list-spec : {M : Type 1} → statement M
+rounds-read-list-spec =
     tie.close
     (tie.spec
     Inv-loop

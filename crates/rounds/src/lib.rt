@@ -1,0 +1,369 @@
+// Rounds of every call of both ends, for the benchmark and the fuzz; no user links it. The states are built inside, and what the
+// calls answer comes back as a running sum. Promised is only what is proved of every function: it is safe and ends. What it
+// calls has its own promise.
+use group::MemberNumber;
+use group::SequenceNumber;
+use member::Member;
+use packet::Reading;
+use sequencer::Sequencer;
+
+// Takes a value into a running sum, so that none is computed for nothing.
+fn mix(sum: u64, value: u64) -> u64 {
+    let twice = std::num::wrapping_add_u64(sum, sum);
+    std::num::wrapping_add_u64(std::num::wrapping_add_u64(twice, sum), value)
+}
+
+// Takes what a sequencer's call answers into a running sum.
+fn sequencer_sum(sum: u64, answer: sequencer::Answer, written: usize) -> u64 {
+    let code = match answer {
+        sequencer::Answer::Refused(q) => q.number() as u64,
+        sequencer::Answer::Old => 32,
+        sequencer::Answer::Full => 33,
+        sequencer::Answer::Noted => 34,
+        sequencer::Answer::Sent => 35,
+        sequencer::Answer::Again(s) => mix(36, s.0 as u64),
+        sequencer::Answer::Numbered(s) => mix(37, s.0 as u64),
+        sequencer::Answer::Wanted(first, last) => mix(mix(38, first.0 as u64), last.0 as u64),
+    };
+    mix(mix(sum, code), written as u64)
+}
+
+// Takes what a member's call answers into a running sum.
+fn member_sum(sum: u64, answer: member::Answer, written: usize) -> u64 {
+    let code = match answer {
+        member::Answer::Refused(q) => q.number() as u64,
+        member::Answer::Old => 32,
+        member::Answer::Sent => 35,
+        member::Answer::Kept => 48,
+        member::Answer::KeptGap => 49,
+        member::Answer::Beyond => 50,
+        member::Answer::BeyondGap => 51,
+        member::Answer::Gap => 52,
+        member::Answer::Status => 53,
+        member::Answer::None => 54,
+        member::Answer::Took {
+            number,
+            originator,
+            count,
+            more,
+        } => mix(
+            mix(
+                mix(mix(55, number.0 as u64), originator.0 as u64),
+                count as u64,
+            ),
+            more as u64,
+        ),
+    };
+    mix(mix(sum, code), written as u64)
+}
+
+fn wide(x: u8) -> usize {
+    x as usize
+}
+
+// A sequencer and the running sum of its answers.
+struct Sequencing {
+    sequencer: Sequencer,
+    sum: u64,
+}
+
+// A member and the running sum of its answers.
+struct Membership {
+    member: Member,
+    sum: u64,
+}
+
+// Hands a sequencer each packet of a list, in which a byte with its length stands before each.
+fn sequencer_hears(
+    mut sequencer: Sequencer,
+    mut sum: u64,
+    packets: &[u8],
+    out: &mut [u8],
+) -> Sequencing {
+    let mut at: usize = 0;
+    while at < packets.len() {
+        let start = at + 1;
+        let size = wide(packets[at]);
+        if packets.len() - start < size {
+            return Sequencing { sequencer, sum };
+        }
+        let end = start + size;
+        let step = sequencer.receive(&packets[start..end], out);
+        let answer = step.answer;
+        sequencer = step.sequencer;
+        sum = sequencer_sum(sum, answer, step.written);
+        at = end;
+    }
+    Sequencing { sequencer, sum }
+}
+
+// A fresh sequencer that has heard a list of packets.
+fn sequencer_after(n: u8, group: u32, heard: &[u8], out: &mut [u8]) -> Sequencer {
+    let opening = Sequencer::fresh(n, group);
+    let sequencer = opening.sequencer;
+    let run = sequencer_hears(sequencer, 0, heard, out);
+    run.sequencer
+}
+
+// Rounds of handing a sequencer a list of packets, each time in the state after `heard`: the sum of its answers.
+#[no_mangle]
+pub extern "C" fn rounds_sequencer_receive(
+    n: u8,
+    group: u32,
+    heard: &[u8],
+    packets: &[u8],
+    rounds: u32,
+    out: &mut [u8],
+) -> u64 {
+    let sequencer = sequencer_after(n, group, heard, out);
+    let mut sum: u64 = 0;
+    let mut left = rounds;
+    while 0 < left {
+        let run = sequencer_hears(sequencer, sum, packets, out);
+        sum = run.sum;
+        left -= 1;
+    }
+    sum
+}
+
+// Rounds of the poll call.
+#[no_mangle]
+pub extern "C" fn rounds_sequencer_poll(
+    n: u8,
+    group: u32,
+    heard: &[u8],
+    rounds: u32,
+    out: &mut [u8],
+) -> u64 {
+    let mut sequencer = sequencer_after(n, group, heard, out);
+    let mut sum: u64 = 0;
+    let mut left = rounds;
+    while 0 < left {
+        let step = sequencer.poll(out);
+        let answer = step.answer;
+        sequencer = step.sequencer;
+        sum = sequencer_sum(sum, answer, step.written);
+        left -= 1;
+    }
+    sum
+}
+
+// Rounds of the copy call.
+#[no_mangle]
+pub extern "C" fn rounds_sequencer_copy(
+    n: u8,
+    group: u32,
+    heard: &[u8],
+    number: u32,
+    rounds: u32,
+    out: &mut [u8],
+) -> u64 {
+    let mut sequencer = sequencer_after(n, group, heard, out);
+    let mut sum: u64 = 0;
+    let mut left = rounds;
+    while 0 < left {
+        let step = sequencer.copy(SequenceNumber(number), out);
+        let answer = step.answer;
+        sequencer = step.sequencer;
+        sum = sequencer_sum(sum, answer, step.written);
+        left -= 1;
+    }
+    sum
+}
+
+// Hands a member each packet of a list, in which a byte with its length stands before each.
+fn member_hears(mut member: Member, mut sum: u64, packets: &[u8], out: &mut [u8]) -> Membership {
+    let mut at: usize = 0;
+    while at < packets.len() {
+        let start = at + 1;
+        let size = wide(packets[at]);
+        if packets.len() - start < size {
+            return Membership { member, sum };
+        }
+        let end = start + size;
+        let step = member.receive(&packets[start..end], out);
+        let answer = step.answer;
+        member = step.member;
+        sum = member_sum(sum, answer, step.written);
+        at = end;
+    }
+    Membership { member, sum }
+}
+
+// Takes so often.
+fn member_takes(mut member: Member, mut sum: u64, calls: u32, out: &mut [u8]) -> Membership {
+    let mut left = calls;
+    while 0 < left {
+        let step = member.take(out);
+        let answer = step.answer;
+        member = step.member;
+        sum = member_sum(sum, answer, step.written);
+        left -= 1;
+    }
+    Membership { member, sum }
+}
+
+// A fresh member that has heard a list of packets and then taken so often.
+fn member_after(n: u8, number: u8, group: u32, heard: &[u8], takes: u32, out: &mut [u8]) -> Member {
+    let opening = Member::fresh(n, MemberNumber(number), group);
+    let member = opening.member;
+    let run = member_hears(member, 0, heard, out);
+    let hearer = run.member;
+    let taker = member_takes(hearer, 0, takes, out);
+    taker.member
+}
+
+// Rounds of handing a member a list of packets, each time in the state after `heard` and the takes: the sum of its answers.
+#[no_mangle]
+pub extern "C" fn rounds_member_receive(
+    n: u8,
+    number: u8,
+    group: u32,
+    heard: &[u8],
+    takes: u32,
+    packets: &[u8],
+    rounds: u32,
+    out: &mut [u8],
+) -> u64 {
+    let member = member_after(n, number, group, heard, takes, out);
+    let mut sum: u64 = 0;
+    let mut left = rounds;
+    while 0 < left {
+        let run = member_hears(member, sum, packets, out);
+        sum = run.sum;
+        left -= 1;
+    }
+    sum
+}
+
+// Rounds of the submit call, each in the same state; then a status call, which reads the last state whole.
+#[no_mangle]
+pub extern "C" fn rounds_member_submit(
+    n: u8,
+    number: u8,
+    group: u32,
+    heard: &[u8],
+    takes: u32,
+    payload: &[u8],
+    rounds: u32,
+    out: &mut [u8],
+) -> u64 {
+    let member = member_after(n, number, group, heard, takes, out);
+    let mut last = member;
+    let mut sum: u64 = 0;
+    let mut left = rounds;
+    while 0 < left {
+        let step = member.submit(payload, out);
+        let answer = step.answer;
+        last = step.member;
+        sum = member_sum(sum, answer, step.written);
+        left -= 1;
+    }
+    let step = last.status(out);
+    let answer = step.answer;
+    member_sum(sum, answer, step.written)
+}
+
+// Rounds of the repeat call, once a message was submitted.
+#[no_mangle]
+pub extern "C" fn rounds_member_repeat(
+    n: u8,
+    number: u8,
+    group: u32,
+    heard: &[u8],
+    takes: u32,
+    payload: &[u8],
+    rounds: u32,
+    out: &mut [u8],
+) -> u64 {
+    let step = member_after(n, number, group, heard, takes, out).submit(payload, out);
+    let mut member = step.member;
+    let mut sum: u64 = 0;
+    let mut left = rounds;
+    while 0 < left {
+        let step = member.repeat(out);
+        let answer = step.answer;
+        member = step.member;
+        sum = member_sum(sum, answer, step.written);
+        left -= 1;
+    }
+    sum
+}
+
+// Rounds of `calls` take calls, each time in the state after `heard` and the takes.
+#[no_mangle]
+pub extern "C" fn rounds_member_take(
+    n: u8,
+    number: u8,
+    group: u32,
+    heard: &[u8],
+    takes: u32,
+    calls: u32,
+    rounds: u32,
+    out: &mut [u8],
+) -> u64 {
+    let member = member_after(n, number, group, heard, takes, out);
+    let mut sum: u64 = 0;
+    let mut left = rounds;
+    while 0 < left {
+        let run = member_takes(member, sum, calls, out);
+        sum = run.sum;
+        left -= 1;
+    }
+    sum
+}
+
+// Rounds of the status call.
+#[no_mangle]
+pub extern "C" fn rounds_member_status(
+    n: u8,
+    number: u8,
+    group: u32,
+    heard: &[u8],
+    takes: u32,
+    rounds: u32,
+    out: &mut [u8],
+) -> u64 {
+    let mut member = member_after(n, number, group, heard, takes, out);
+    let mut sum: u64 = 0;
+    let mut left = rounds;
+    while 0 < left {
+        let step = member.status(out);
+        let answer = step.answer;
+        member = step.member;
+        sum = member_sum(sum, answer, step.written);
+        left -= 1;
+    }
+    sum
+}
+
+// Takes all that reading a packet gives into a running sum.
+fn reading_sum(sum: u64, reading: Reading) -> u64 {
+    match reading {
+        Reading::Fields(h) => {
+            let first = mix(
+                mix(mix(sum, h.kind as u64), h.member.0 as u64),
+                h.group as u64,
+            );
+            mix(mix(mix(first, h.a as u64), h.b as u64), h.c as u64)
+        }
+        Reading::Refused(q) => mix(sum, q.number() as u64),
+    }
+}
+
+// Reads each packet of a list, in which a byte with its length stands before each.
+#[no_mangle]
+pub extern "C" fn rounds_read_list(mut sum: u64, packets: &[u8]) -> u64 {
+    let mut at: usize = 0;
+    while at < packets.len() {
+        let start = at + 1;
+        let size = wide(packets[at]);
+        if packets.len() - start < size {
+            return sum;
+        }
+        let end = start + size;
+        sum = reading_sum(sum, packet::read(&packets[start..end]));
+        at = end;
+    }
+    sum
+}

@@ -6,6 +6,8 @@ use group::SequenceNumber;
 use member::Member;
 use packet::Reading;
 use sequencer::Sequencer;
+ghost use Prim.Native.Nat.{_+_, _≤_};
+ghost use lib.ListN.{length};
 
 // Takes a value into a running sum, so that none is computed for nothing.
 fn mix(sum: u64, value: u64) -> u64 {
@@ -57,8 +59,17 @@ fn member_sum(sum: u64, answer: member::Answer, written: usize) -> u64 {
     mix(mix(sum, code), written as u64)
 }
 
-fn wide(x: u8) -> usize {
+fn wide(x: u8) -> usize
+    ensures { λ r. ⌜ r ≤ 255 ⌝ }
+{
     x as usize
+}
+
+// The size of the packet behind an index of a list: two bytes, the highest first, stand before each packet.
+fn size_at(packets: &[u8], at: usize) -> usize
+    requires { ⌜ at + 2 ≤ length (now packets) ⌝ }
+{
+    wide(packets[at]) * 256 + wide(packets[at + 1])
 }
 
 // A sequencer and the running sum of its answers.
@@ -73,7 +84,7 @@ struct Membership {
     sum: u64,
 }
 
-// Hands a sequencer each packet of a list, in which a byte with its length stands before each.
+// Hands a sequencer each packet of a list, up to one that is cut off.
 fn sequencer_hears(
     mut sequencer: Sequencer,
     mut sum: u64,
@@ -81,9 +92,9 @@ fn sequencer_hears(
     out: &mut [u8],
 ) -> Sequencing {
     let mut at: usize = 0;
-    while at < packets.len() {
-        let start = at + 1;
-        let size = wide(packets[at]);
+    while 2 <= packets.len() - at {
+        let start = at + 2;
+        let size = size_at(packets, at);
         if packets.len() - start < size {
             return Sequencing { sequencer, sum };
         }
@@ -171,12 +182,12 @@ pub extern "C" fn rounds_sequencer_copy(
     sum
 }
 
-// Hands a member each packet of a list, in which a byte with its length stands before each.
+// Hands a member each packet of a list, up to one that is cut off.
 fn member_hears(mut member: Member, mut sum: u64, packets: &[u8], out: &mut [u8]) -> Membership {
     let mut at: usize = 0;
-    while at < packets.len() {
-        let start = at + 1;
-        let size = wide(packets[at]);
+    while 2 <= packets.len() - at {
+        let start = at + 2;
+        let size = size_at(packets, at);
         if packets.len() - start < size {
             return Membership { member, sum };
         }
@@ -351,13 +362,13 @@ fn reading_sum(sum: u64, reading: Reading) -> u64 {
     }
 }
 
-// Reads each packet of a list, in which a byte with its length stands before each.
+// Reads each packet of a list, up to one that is cut off.
 #[no_mangle]
 pub extern "C" fn rounds_read_list(mut sum: u64, packets: &[u8]) -> u64 {
     let mut at: usize = 0;
-    while at < packets.len() {
-        let start = at + 1;
-        let size = wide(packets[at]);
+    while 2 <= packets.len() - at {
+        let start = at + 2;
+        let size = size_at(packets, at);
         if packets.len() - start < size {
             return sum;
         }

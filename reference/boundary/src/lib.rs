@@ -36,15 +36,15 @@ pub struct Member<'a> {
     pub takes: u32,
 }
 
-/// A list of packets as both sides take it: a byte with its length stands
-/// before each. Longer ones are cut at 255 bytes.
+/// A list of packets as both sides take it: two bytes with its length,
+/// big-endian, stand before each. Longer ones are cut at 65,535 bytes.
 pub fn list(packets: impl IntoIterator<Item = impl AsRef<[u8]>>) -> Vec<u8> {
     let mut list = Vec::new();
     for packet in packets {
         let packet = packet.as_ref();
-        let packet = &packet[..packet.len().min(255)];
-        list.push(packet.len() as u8);
-        list.extend(packet);
+        let size = u16::try_from(packet.len()).unwrap_or(u16::MAX);
+        list.extend(size.to_be_bytes());
+        list.extend(&packet[..size.into()]);
     }
     list
 }

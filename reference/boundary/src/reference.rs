@@ -44,11 +44,11 @@ fn summed(sum: u64, (answer, written): (Answer, usize)) -> u64 {
     mix(mix(sum, code(answer)), written as u64)
 }
 
-/// The packets of a list; a last one that is cut off is left out.
+/// The packets of a list, up to one that is cut off.
 fn packets(mut list: &[u8]) -> impl Iterator<Item = &[u8]> {
     std::iter::from_fn(move || {
-        let (&size, rest) = list.split_first()?;
-        let (packet, rest) = rest.split_at_checked(size.into())?;
+        let (&size, rest) = list.split_first_chunk()?;
+        let (packet, rest) = rest.split_at_checked(u16::from_be_bytes(size).into())?;
         list = rest;
         Some(packet)
     })

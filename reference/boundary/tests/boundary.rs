@@ -55,18 +55,27 @@ fn refusals_are_numbers_and_change_nothing() {
     assert_eq!(out, [0xaa; 116]);
 }
 
-/// Empty slices, and lists that are cut off.
+/// Empty slices, and lists that are cut off in a length or in a packet.
 #[test]
 fn odd_slices() {
     let (n, group, heard) = (2, 7, &[][..]);
     let end = Sequencer { n, group, heard };
-    for packets in [&[][..], &[0], &[0, 0], &[5], &[200, 1, 2], &[1]] {
+    for packets in [
+        &[][..],
+        &[0],
+        &[0, 0],
+        &[0, 0, 0],
+        &[0, 5],
+        &[0, 1, 9, 0],
+        &[0, 1, 9, 0, 0],
+        &[0, 200, 1, 2],
+        &[1, 0, 9],
+        &[255, 255],
+    ] {
         assert_eq!(
             proved::sequencer_receive(end, packets, 3, &mut []),
             reference::sequencer_receive(end, packets, 3, &mut [])
         );
-    }
-    for packets in [&[][..], &[0], &[5], &[20, 1, 2], &[1, 9, 0]] {
         assert_eq!(
             proved::read_rounds(packets, 3),
             reference::read_rounds(packets, 3)
@@ -74,6 +83,16 @@ fn odd_slices() {
     }
     // Refused by question 2, which says 2 and writes nothing.
     assert_eq!(proved::sequencer_poll(end, 1, &mut []), 3 * 2);
+}
+
+/// A length needs both its bytes: the packet behind a long one is read too.
+#[test]
+fn long_packets() {
+    let packets = list([&[1; 300][..], &[0; 20]]);
+    assert_eq!(packets[..2], [1, 44]);
+    // Refused by question 3, and the second by 4.
+    assert_eq!(proved::read_rounds(&packets, 1), 3 * 3 + 4);
+    assert_eq!(reference::read_rounds(&packets, 1), 3 * 3 + 4);
 }
 
 /// The same answers and the same lent bytes of both sides.

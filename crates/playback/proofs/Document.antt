@@ -23,10 +23,11 @@ use Rattle.sequencer.specs.State.{freshSequencer}
 use Rattle.window.specs.Places as window
 use Rattle.window.specs.Sound as windowSound
 use Rattle.packet.specs.Packet as packet
-use Rattle.schedule.specs.Text.{digitOf}
-use Rattle.schedule.specs.Field.{before, linesOf, fieldsOf, letterOf, valueFrom, upToLargest, numberIn, pairsOf, isHex, hexBytes}
+use Rattle.text.specs.Text.{digitOf, glyphOf}
+use Rattle.text.specs.Field.{before, linesOf, fieldsOf, letterOf, valueFrom, upToLargest, numberIn, pairsOf, isHex, hexBytes}
 use Rattle.schedule.specs.Line.{alone, withNumber, submitted, handed, withTwo, formOf, eventOf, opened, openingForm, openingOf}
-use Rattle.report.specs.Print.{glyphOf, decimalDigits, decimalOf, hexOf, payloadText, spaced, sequencerFields, moreText, memberFields, answerFields}
+use Rattle.text.specs.Written.{decimalDigits, decimalOf, hexOf, payloadText, spaced}
+use Rattle.report.specs.Print.{sequencerFields, moreText, memberFields, answerFields}
 use Rattle.player.specs.Play.{nextNumber, openTold, eventTold, lineTold, lastOf, linesTold}
 use Rattle.playback.specs.Document.{DocumentPlayed}
 

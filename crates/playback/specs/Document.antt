@@ -1,7 +1,7 @@
 -- The schedule of document 01 and what it prints. `proofs/Document.antt` has the proof, by computation.
 use mathlib.Core.Path.{_≡_}
 use Rattle.player.specs.Play.{playOf}
-use Rattle.schedule.specs.Text.{textOf}
+use Rattle.text.specs.Text.{textOf}
 
 abbrev pub DocumentPlayed : Type 0
 DocumentPlayed =

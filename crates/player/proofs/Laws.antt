@@ -14,12 +14,12 @@ use Rattle.group.proofs.Choice.{if-eq, if-ne, if-nle}
 use Rattle.group.proofs.Lists.{le-or}
 use Rattle.group.specs.Choice.{if_then_else_, _=?_}
 use borrow.Author.Tests.{eqb-true, eqb-false}
-use Rattle.schedule.proofs.Split.{found-from}
-use Rattle.schedule.specs.Field.{firstFrom, lineEnd, before, linesOf}
-use Rattle.schedule.specs.Line.{eventOf, openingOf}
-use Rattle.schedule.specs.Text.{lineFeed, lineMost}
-use Rattle.schedule.specs.declared.Found.{Found}
-use Rattle.schedule.specs.declared.Found.the-variants.{At, Nothing}
+use Rattle.text.proofs.Split.{found-from}
+use Rattle.text.specs.Field.{firstFrom, lineEnd, before, linesOf}
+use Rattle.schedule.specs.Line.{eventOf, openingOf, lineMost}
+use Rattle.text.specs.Text.{lineFeed}
+use Rattle.text.specs.declared.Found.{Found}
+use Rattle.text.specs.declared.Found.the-variants.{At, Nothing}
 use Rattle.schedule.specs.declared.Opening.{Opening}
 use Rattle.player.specs.Play.{Stage, opening, running, ended, closed, Told, eventTold, openTold, lineTold, lastOf, linesTold}
 use Rattle.player.specs.Feed.{keptMost, keptOf, State, Fed, fedUpTo, fedOf, endOf}

@@ -14,9 +14,9 @@ use Rattle.group.specs.declared.Opened as group
 use Rattle.group.specs.declared.Refusal.{Refusal}
 use Rattle.group.specs.declared.Verdict.{Verdict}
 use Rattle.model.specs.World.{Group, fresh}
-use Rattle.schedule.specs.Field.{lineEnd}
-use Rattle.schedule.specs.declared.Found.{Found}
-use Rattle.schedule.specs.declared.Found.the-variants.{At, Nothing}
+use Rattle.text.specs.Field.{lineEnd}
+use Rattle.text.specs.declared.Found.{Found}
+use Rattle.text.specs.declared.Found.the-variants.{At, Nothing}
 use Rattle.schedule.specs.declared.Opening.{Opening}
 use Rattle.sequencer.specs.Calls.{freshOf, openedOf}
 use Rattle.simulator.specs.Whole.{packetsMost, groupOf, Opens}

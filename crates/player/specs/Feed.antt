@@ -3,10 +3,10 @@ use mathlib.Core.List.{List, [], _++_}
 use Prim.Native.Nat.{ℕ, _+_}
 use lib.ListN.{length, take}
 use Rattle.group.specs.Choice.{if_then_else_, _=?_}
-use Rattle.schedule.specs.Field.{lineEnd}
-use Rattle.schedule.specs.Text.{lineMost}
-use Rattle.schedule.specs.declared.Found.{Found}
-use Rattle.schedule.specs.declared.Found.the-variants.{At, Nothing}
+use Rattle.text.specs.Field.{lineEnd}
+use Rattle.schedule.specs.Line.{lineMost}
+use Rattle.text.specs.declared.Found.{Found}
+use Rattle.text.specs.declared.Found.the-variants.{At, Nothing}
 use Rattle.player.specs.Play.{Stage, opening, Told, lineTold}
 
 -- a line over 1,000 characters is of another form, whatever stands behind the first 1,001

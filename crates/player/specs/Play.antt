@@ -7,7 +7,7 @@ use Rattle.group.specs.Choice.{if_then_else_, _<?_}
 use Rattle.group.specs.Question.{judged}
 use Rattle.model.specs.World.{Event, Group, happen, fresh}
 use Rattle.report.specs.Print.{lineOf, badLine, noSpace, badOpening, refusedOpening, lastLine}
-use Rattle.schedule.specs.Field.{linesOf}
+use Rattle.text.specs.Field.{linesOf}
 use Rattle.schedule.specs.Line.{eventOf, openingOf}
 use Rattle.schedule.specs.declared.Opening.{Opening}
 use Rattle.sequencer.specs.Calls.{freshOf}

@@ -11,7 +11,7 @@ use Rattle.model.specs.World.{Event}
 use Rattle.simulator.specs.Whole.{packetsMost, groupOf, nothing, Plays}
 use Rattle.simulator.specs.declared.Happening.{Happening}
 use Rattle.simulator.specs.declared.Whole.{Whole}
-use Rattle.schedule.specs.Text.{payloadRoom}
+use Rattle.schedule.specs.Line.{payloadRoom}
 use Rattle.schedule.specs.declared.Command.{Command}
 use Rattle.schedule.specs.declared.Command.the-variants.{Submit}
 use Rattle.player.specs.Play as play

@@ -7,8 +7,9 @@ use Rattle.group.specs.declared.Refusal.the-variants.{OtherEnd}
 use Rattle.member.specs.declared.Answer.the-variants as member
 use Rattle.model.specs.World.{Answer, absent, bySequencer, byMember}
 use Rattle.sequencer.specs.declared.Answer.the-variants as sequencer
-use Rattle.schedule.specs.Text.{textOf}
-use Rattle.report.specs.Print.{glyphOf, decimalDigits, decimalOf, hexOf, payloadText, spaced, sequencerFields, moreText, memberFields, answerFields, lineOf, badLine, noSpace, badOpening, refusedOpening, lastLine}
+use Rattle.text.specs.Text.{textOf, glyphOf}
+use Rattle.text.specs.Written.{decimalDigits, decimalOf, hexOf, payloadText, spaced}
+use Rattle.report.specs.Print.{sequencerFields, moreText, memberFields, answerFields, lineOf, badLine, noSpace, badOpening, refusedOpening, lastLine}
 
 -- the document's schedule
 schedule : lineOf 1 (byMember member.Sent []) 0

@@ -1,5 +1,2 @@
 pub mod Pieces
-pub mod Decimal
-pub mod Hex
-pub mod Laws
 pub mod Examples

@@ -1,3 +1,1 @@
 pub mod Print
-pub mod Laid
-pub mod Laws

@@ -1,10 +1,9 @@
 -- What is printed: event number, answer in lower case, its numbers, then the index of a packet written.
 use mathlib.Core.Bool.{Bool}
-use mathlib.Core.List.{List, [], _∷_, _++_, map}
-use Prim.Native.Char.{code}
-use Prim.Native.Nat.{ℕ, zero, suc, _+_, _-_, _*_, _/_, _%_}
+use mathlib.Core.List.{List, [], _∷_, map}
+use Prim.Native.Nat.{ℕ, _+_, _*_}
 use lib.ListN.{length}
-use Rattle.group.specs.Choice.{if_then_else_, _<?_, _≤?_, _=?_}
+use Rattle.group.specs.Choice.{if_then_else_, _≤?_}
 use Rattle.group.specs.Refusal.{numberOf}
 use Rattle.group.specs.declared.Refusal.{Refusal}
 use Rattle.group.specs.declared.Refusal.the-variants.{Opening}
@@ -15,38 +14,8 @@ use Rattle.model.specs.declared.Reply.{Reply}
 use Rattle.model.specs.declared.Reply.the-variants.{Absent, Sequencer, Member}
 use Rattle.sequencer.specs.declared.Answer as sequencerAnswer
 use Rattle.sequencer.specs.declared.Answer.the-variants as sequencer
-use Rattle.schedule.specs.Text.{textOf, space, lineFeed, dash, hexBase}
-
--- the digit that is worth d, `0` to `9` and then `a` to `f`
-unfoldable pub glyphOf : ℕ → ℕ
-glyphOf d = if d <? 10 then code "0" + d else code "a" + (d - 10)
-
--- the digits of a number, the highest first, without leading zeros, so none of 0; it has no more than `most`
-unfoldable pub decimalDigits : ℕ → ℕ → List ℕ
-decimalDigits zero n = []
-decimalDigits (suc most) n = if n =? 0 then [] else decimalDigits most (n / 10) ++ (glyphOf (n % 10) ∷ [])
-
--- a number in base ten
-unfoldable pub decimalOf : ℕ → List ℕ
-decimalOf n = if n =? 0 then glyphOf 0 ∷ [] else decimalDigits n n
-
--- bytes in lower-case hex, two digits a byte
-unfoldable pub hexOf : List ℕ → List ℕ
-hexOf [] = []
-hexOf (b ∷ rest) = glyphOf (b / hexBase) ∷ (glyphOf (b % hexBase) ∷ hexOf rest)
-
--- a payload, `-` if empty
-unfoldable pub payloadText : List ℕ → List ℕ
-payloadText payload = if length payload =? 0 then dash ∷ [] else hexOf payload
-
--- fields, each behind one space
-unfoldable pub spaced : List (List ℕ) → List ℕ
-spaced [] = []
-spaced (field ∷ rest) = space ∷ (field ++ spaced rest)
-
--- a line: its first field, the others, and the line feed
-abbrev pub line : List ℕ → List (List ℕ) → List ℕ
-line first rest = first ++ (spaced rest ++ (lineFeed ∷ []))
+use Rattle.text.specs.Text.{textOf}
+use Rattle.text.specs.Written.{decimalOf, payloadText, line, numberDigits, countDigits}
 
 -- a refusal `refused` and its number
 abbrev pub refusedFields : Refusal → List (List ℕ)
@@ -111,13 +80,6 @@ refusedOpening = line (textOf "refused") (decimalOf (numberOf Opening) ∷ [])
 abbrev pub lastLine : ℕ → ℕ → List ℕ → List ℕ
 lastLine top floor taken =
     line (textOf "top") (decimalOf top ∷ textOf "floor" ∷ decimalOf floor ∷ textOf "taken" ∷ map decimalOf taken)
-
--- the most digits of a number up to the largest, and of one of 64 bits, such as an event's number
-abbrev pub numberDigits : ℕ
-numberDigits = 10
-
-abbrev pub countDigits : ℕ
-countDigits = 20
 
 -- the room of the longest answer, which is a take's, beside the digits of its payload: `took`, three numbers, `-`, `more`, and
 -- a space before each

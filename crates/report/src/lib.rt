@@ -3,21 +3,25 @@ use group::MemberNumber;
 use group::Refusal;
 use group::SequenceNumber;
 use model::Reply;
-use schedule::HEX_BASE;
+use text::COUNT_DIGITS;
+use text::NUMBER_DIGITS;
+use text::put;
+use text::put_decimal;
+use text::put_index;
+use text::put_number;
+use text::put_payload;
+use text::put_text;
+use text::put_word;
 ghost use mathlib.Core.Path.{_≡_};
 ghost use mathlib.Core.List.{[], _∷_, _++_, map};
 ghost use Prim.Native.Nat.{_+_, _*_, _≤_, _<_};
-ghost use lib.ListN.{length, drop};
+ghost use lib.ListN.{length};
 ghost use Rattle.group.specs.Choice.{_≤?_};
 ghost use Rattle.group.specs.Lent.{front};
-ghost use Rattle.schedule.specs.Text.{textOf, hexBase};
-ghost use Rattle.report.specs.Laid.{Laid};
-ghost use Rattle.report.specs.Print.{glyphOf, decimalDigits, decimalOf, hexOf, payloadText, spaced, line, refusedFields, sequencerFields, moreText, memberFields, answerFields, lineOf, badLine, noSpace, badOpening, refusedOpening, lastLine, numberDigits, countDigits, answerRoom, lineRoom, eventRoom, lastRoom, fitting, answered};
-
-// The most digits of a number up to the largest, and of one of 64 bits.
-pub const NUMBER_DIGITS: usize = 10;
-
-pub const COUNT_DIGITS: usize = 20;
+ghost use Rattle.text.specs.Text.{textOf};
+ghost use Rattle.text.specs.Written.{decimalOf, payloadText, spaced, line, numberDigits, countDigits};
+ghost use Rattle.text.specs.LaidAt.{LaidAt};
+ghost use Rattle.report.specs.Print.{refusedFields, sequencerFields, moreText, memberFields, answerFields, lineOf, badLine, noSpace, badOpening, refusedOpening, lastLine, answerRoom, lineRoom, eventRoom, lastRoom, fitting, answered};
 
 // The room of the longest answer, which is a take's, beside the digits of its payload: `took`, three numbers, `-`, `more`, and
 // a space before each.
@@ -27,18 +31,6 @@ pub const ANSWER_ROOM: usize = 4 + 3 * NUMBER_DIGITS + 1 + 4 + 6;
 pub const LINE_ROOM: usize = COUNT_DIGITS + ANSWER_ROOM + 1;
 
 // The limits of specs/ are these constants.
-fn number_digits() -> usize
-    ensures { λ r. ⌜ r ≡ numberDigits ⌝ }
-{
-    NUMBER_DIGITS
-}
-
-fn count_digits() -> usize
-    ensures { λ r. ⌜ r ≡ countDigits ⌝ }
-{
-    COUNT_DIGITS
-}
-
 fn answer_room() -> usize
     ensures { λ r. ⌜ r ≡ answerRoom ⌝ }
 {
@@ -51,102 +43,10 @@ fn line_room() -> usize
     LINE_ROOM
 }
 
-// The digit that is worth d.
-fn glyph(d: u8) -> u8
-    requires { ⌜ d < hexBase ⌝ }
-    ensures { λ r. ⌜ r ≡ glyphOf d ⌝ }
-{
-    if d < 10 { b'0' + d } else { b'a' + (d - 10) }
-}
-
-// The digits of a number, in an array from an index on.
-struct Spelled {
-    digits: [u8; COUNT_DIGITS],
-    start: usize,
-}
-
-// Spells a number from its last digit on.
-fn spell(n: u64) -> Spelled
-    ensures digits { λ r. ⌜ drop (r .start) (r .digits) ≡ decimalDigits n n ⌝ }
-    ensures within { λ r. ⌜ (r .start ≤ countDigits) × (length (r .digits) ≡ countDigits) ⌝ }
-{
-    let mut digits = [0u8; COUNT_DIGITS];
-    let mut start: usize = COUNT_DIGITS;
-    let mut rest = n;
-    while 0 < rest {
-        start -= 1;
-        let d = glyph((rest % 10) as u8);
-        digits[start] = d;
-        rest = rest / 10;
-    }
-    Spelled { digits, start }
-}
-
-// Each writer lays bytes in the lent output from an index on, and gives the index behind them.
-fn put(byte: u8, out: &mut [u8], at: usize) -> usize
-    requires { ⌜ at < length (now out) ⌝ }
-    ensures { λ r. ⌜ Laid at (byte ∷ []) (now (out .entry)) (now (out .exit)) r ⌝ }
-{
-    out[at] = byte;
-    at + 1
-}
-
-fn put_text(text: &[u8], out: &mut [u8], at: usize) -> usize
-    requires { ⌜ at + length (now text) ≤ length (now out) ⌝ }
-    ensures { λ r. ⌜ Laid at (now (text .entry)) (now (out .entry)) (now (out .exit)) r ⌝ }
-{
-    message::copy(text, &mut out[at..]);
-    at + text.len()
-}
-
-// A number in base ten.
-fn put_decimal(n: u64, out: &mut [u8], at: usize) -> usize
-    requires { ⌜ at + length (decimalOf n) ≤ length (now out) ⌝ }
-    ensures { λ r. ⌜ Laid at (decimalOf n) (now (out .entry)) (now (out .exit)) r ⌝ }
-{
-    if n == 0 {
-        return put(b'0', out, at);
-    }
-    let spelled = spell(n);
-    let digits = spelled.digits;
-    let start = spelled.start;
-    put_text(&digits[start..], out, at)
-}
-
-// A field that is a text, behind one space.
-fn put_word(text: &[u8], out: &mut [u8], at: usize) -> usize
-    requires { ⌜ at + 1 + length (now text) ≤ length (now out) ⌝ }
-    ensures laid { λ r. ⌜ Laid at (spaced (now (text .entry) ∷ [])) (now (out .entry)) (now (out .exit)) r ⌝ }
-    ensures short { λ r. ⌜ r ≡ at + 1 + length (now (text .entry)) ⌝ }
-{
-    let next = put(b' ', out, at);
-    put_text(text, out, next)
-}
-
-// A field that is a number up to the largest.
-fn put_number(n: u32, out: &mut [u8], at: usize) -> usize
-    requires { ⌜ at + 1 + numberDigits ≤ length (now out) ⌝ }
-    ensures laid { λ r. ⌜ Laid at (spaced (decimalOf n ∷ [])) (now (out .entry)) (now (out .exit)) r ⌝ }
-    ensures short { λ r. ⌜ r ≤ at + 1 + numberDigits ⌝ }
-{
-    let next = put(b' ', out, at);
-    put_decimal(n as u64, out, next)
-}
-
-// A field that is the index of a packet.
-fn put_index(index: usize, out: &mut [u8], at: usize) -> usize
-    requires { ⌜ at + 1 + countDigits ≤ length (now out) ⌝ }
-    ensures laid { λ r. ⌜ Laid at (spaced (decimalOf index ∷ [])) (now (out .entry)) (now (out .exit)) r ⌝ }
-    ensures short { λ r. ⌜ r ≤ at + 1 + countDigits ⌝ }
-{
-    let next = put(b' ', out, at);
-    put_decimal(index as u64, out, next)
-}
-
 // An answer and the index of its packet.
 fn put_indexed(word: &[u8], index: usize, out: &mut [u8], at: usize) -> usize
     requires { ⌜ at + 2 + length (now word) + countDigits ≤ length (now out) ⌝ }
-    ensures laid { λ r. ⌜ Laid at (spaced (now (word .entry) ∷ decimalOf index ∷ [])) (now (out .entry)) (now (out .exit)) r ⌝ }
+    ensures laid { λ r. ⌜ LaidAt at (spaced (now (word .entry) ∷ decimalOf index ∷ [])) (now (out .entry)) (now (out .exit)) r ⌝ }
     ensures short { λ r. ⌜ r ≤ at + 2 + length (now (word .entry)) + countDigits ⌝ }
 {
     let next = put_word(word, out, at);
@@ -156,7 +56,7 @@ fn put_indexed(word: &[u8], index: usize, out: &mut [u8], at: usize) -> usize
 // An answer, its number and the index of its packet.
 fn put_numbered(word: &[u8], number: u32, index: usize, out: &mut [u8], at: usize) -> usize
     requires { ⌜ at + 3 + length (now word) + numberDigits + countDigits ≤ length (now out) ⌝ }
-    ensures laid { λ r. ⌜ Laid at (spaced (now (word .entry) ∷ decimalOf number ∷ decimalOf index ∷ [])) (now (out .entry)) (now (out .exit)) r ⌝ }
+    ensures laid { λ r. ⌜ LaidAt at (spaced (now (word .entry) ∷ decimalOf number ∷ decimalOf index ∷ [])) (now (out .entry)) (now (out .exit)) r ⌝ }
     ensures short { λ r. ⌜ r ≤ at + 3 + length (now (word .entry)) + numberDigits + countDigits ⌝ }
 {
     let next = put_word(word, out, at);
@@ -167,7 +67,7 @@ fn put_numbered(word: &[u8], number: u32, index: usize, out: &mut [u8], at: usiz
 // What is wanted, from one number to another.
 fn put_wanted(first: u32, last: u32, out: &mut [u8], at: usize) -> usize
     requires { ⌜ at + length (textOf "wanted") + 3 + 2 * numberDigits ≤ length (now out) ⌝ }
-    ensures laid { λ r. ⌜ Laid at (spaced (textOf "wanted" ∷ decimalOf first ∷ decimalOf last ∷ [])) (now (out .entry)) (now (out .exit)) r ⌝ }
+    ensures laid { λ r. ⌜ LaidAt at (spaced (textOf "wanted" ∷ decimalOf first ∷ decimalOf last ∷ [])) (now (out .entry)) (now (out .exit)) r ⌝ }
     ensures short { λ r. ⌜ r ≤ at + length (textOf "wanted") + 3 + 2 * numberDigits ⌝ }
 {
     let next = put_word(b"wanted", out, at);
@@ -178,7 +78,7 @@ fn put_wanted(first: u32, last: u32, out: &mut [u8], at: usize) -> usize
 // A refusal and its number.
 fn put_refused(refusal: Refusal, out: &mut [u8], at: usize) -> usize
     requires { ⌜ at + length (textOf "refused") + 2 + numberDigits ≤ length (now out) ⌝ }
-    ensures laid { λ r. ⌜ Laid at (spaced (refusedFields refusal)) (now (out .entry)) (now (out .exit)) r ⌝ }
+    ensures laid { λ r. ⌜ LaidAt at (spaced (refusedFields refusal)) (now (out .entry)) (now (out .exit)) r ⌝ }
     ensures short { λ r. ⌜ r ≤ at + length (textOf "refused") + 2 + numberDigits ⌝ }
 {
     let next = put_word(b"refused", out, at);
@@ -186,50 +86,10 @@ fn put_refused(refusal: Refusal, out: &mut [u8], at: usize) -> usize
     put_number(number as u32, out, next)
 }
 
-// The two digits of a byte.
-fn put_byte(byte: u8, out: &mut [u8], at: usize) -> usize
-    requires { ⌜ at + 2 ≤ length (now out) ⌝ }
-    ensures { λ r. ⌜ Laid at (hexOf (byte ∷ [])) (now (out .entry)) (now (out .exit)) r ⌝ }
-    ensures { λ r. ⌜ r ≡ at + 2 ⌝ }
-{
-    let high = glyph(byte / HEX_BASE);
-    let low = glyph(byte % HEX_BASE);
-    let next = put(high, out, at);
-    put(low, out, next)
-}
-
-// Bytes in hex.
-fn put_hex(bytes: &[u8], out: &mut [u8], at: usize) -> usize
-    requires { ⌜ at + 2 * length (now bytes) ≤ length (now out) ⌝ }
-    ensures laid { λ r. ⌜ Laid at (hexOf (now (bytes .entry))) (now (out .entry)) (now (out .exit)) r ⌝ }
-    ensures short { λ r. ⌜ r ≡ at + 2 * length (now (bytes .entry)) ⌝ }
-{
-    let mut next = at;
-    let mut i: usize = 0;
-    while i < bytes.len() {
-        next = put_byte(bytes[i], out, next);
-        i += 1;
-    }
-    next
-}
-
-// A field that is a payload.
-fn put_payload(payload: &[u8], out: &mut [u8], at: usize) -> usize
-    requires { ⌜ at + 2 + 2 * length (now payload) ≤ length (now out) ⌝ }
-    ensures laid { λ r. ⌜ Laid at (spaced (payloadText (now (payload .entry)) ∷ [])) (now (out .entry)) (now (out .exit)) r ⌝ }
-    ensures short { λ r. ⌜ r ≤ at + 2 + 2 * length (now (payload .entry)) ⌝ }
-{
-    let next = put(b' ', out, at);
-    if payload.len() == 0 {
-        return put(b'-', out, next);
-    }
-    put_hex(payload, out, next)
-}
-
 // Whether the following number is held.
 fn put_more(more: bool, out: &mut [u8], at: usize) -> usize
     requires { ⌜ at + 1 + length (textOf "more") ≤ length (now out) ⌝ }
-    ensures laid { λ r. ⌜ Laid at (spaced (moreText more ∷ [])) (now (out .entry)) (now (out .exit)) r ⌝ }
+    ensures laid { λ r. ⌜ LaidAt at (spaced (moreText more ∷ [])) (now (out .entry)) (now (out .exit)) r ⌝ }
     ensures short { λ r. ⌜ r ≡ at + 1 + length (textOf "more") ⌝ }
 {
     if more {
@@ -242,7 +102,7 @@ fn put_more(more: bool, out: &mut [u8], at: usize) -> usize
 // The number, originator and count of a message.
 fn put_message(number: u32, originator: u32, count: u32, out: &mut [u8], at: usize) -> usize
     requires { ⌜ at + 3 * (1 + numberDigits) ≤ length (now out) ⌝ }
-    ensures laid { λ r. ⌜ Laid at (spaced (decimalOf number ∷ decimalOf originator ∷ decimalOf count ∷ [])) (now (out .entry)) (now (out .exit)) r ⌝ }
+    ensures laid { λ r. ⌜ LaidAt at (spaced (decimalOf number ∷ decimalOf originator ∷ decimalOf count ∷ [])) (now (out .entry)) (now (out .exit)) r ⌝ }
     ensures short { λ r. ⌜ r ≤ at + 3 * (1 + numberDigits) ⌝ }
 {
     let next = put_number(number, out, at);
@@ -261,7 +121,7 @@ fn put_took(
     at: usize,
 ) -> usize
     requires { ⌜ at + answerRoom + 2 * length (now payload) ≤ length (now out) ⌝ }
-    ensures laid { λ r. ⌜ Laid at (spaced (textOf "took" ∷ decimalOf (number .0) ∷ decimalOf (originator .0) ∷ decimalOf count ∷ payloadText (now (payload .entry)) ∷ moreText more ∷ [])) (now (out .entry)) (now (out .exit)) r ⌝ }
+    ensures laid { λ r. ⌜ LaidAt at (spaced (textOf "took" ∷ decimalOf (number .0) ∷ decimalOf (originator .0) ∷ decimalOf count ∷ payloadText (now (payload .entry)) ∷ moreText more ∷ [])) (now (out .entry)) (now (out .exit)) r ⌝ }
     ensures short { λ r. ⌜ r ≤ at + answerRoom + 2 * length (now (payload .entry)) ⌝ }
 {
     let next = put_word(b"took", out, at);
@@ -273,7 +133,7 @@ fn put_took(
 // The sequencer's answer.
 fn put_sequencer(answer: sequencer::Answer, index: usize, out: &mut [u8], at: usize) -> usize
     requires { ⌜ at + answerRoom ≤ length (now out) ⌝ }
-    ensures laid { λ r. ⌜ Laid at (spaced (sequencerFields answer index)) (now (out .entry)) (now (out .exit)) r ⌝ }
+    ensures laid { λ r. ⌜ LaidAt at (spaced (sequencerFields answer index)) (now (out .entry)) (now (out .exit)) r ⌝ }
     ensures short { λ r. ⌜ r ≤ at + answerRoom ⌝ }
 {
     match answer {
@@ -297,7 +157,7 @@ fn put_member(
     at: usize,
 ) -> usize
     requires { ⌜ at + answerRoom + 2 * length (now payload) ≤ length (now out) ⌝ }
-    ensures laid { λ r. ⌜ Laid at (spaced (memberFields answer (now (payload .entry)) index)) (now (out .entry)) (now (out .exit)) r ⌝ }
+    ensures laid { λ r. ⌜ LaidAt at (spaced (memberFields answer (now (payload .entry)) index)) (now (out .entry)) (now (out .exit)) r ⌝ }
     ensures short { λ r. ⌜ r ≤ at + answerRoom + 2 * length (now (payload .entry)) ⌝ }
 {
     match answer {
@@ -323,7 +183,7 @@ fn put_member(
 // What an event is answered.
 fn put_reply(reply: Reply, payload: &[u8], index: usize, out: &mut [u8], at: usize) -> usize
     requires { ⌜ at + answerRoom + 2 * length (now payload) ≤ length (now out) ⌝ }
-    ensures laid { λ r. ⌜ Laid at (spaced (answerFields (answered reply (now (payload .entry))) index)) (now (out .entry)) (now (out .exit)) r ⌝ }
+    ensures laid { λ r. ⌜ LaidAt at (spaced (answerFields (answered reply (now (payload .entry))) index)) (now (out .entry)) (now (out .exit)) r ⌝ }
     ensures short { λ r. ⌜ r ≤ at + answerRoom + 2 * length (now (payload .entry)) ⌝ }
 {
     match reply {
@@ -427,7 +287,7 @@ pub fn write_refused_opening(out: &mut [u8]) -> usize
 // Top and floor, and the word before the numbers that the members took.
 fn put_tops(top: u32, floor: u32, out: &mut [u8]) -> usize
     requires { ⌜ lineRoom ≤ length (now out) ⌝ }
-    ensures laid { λ r. ⌜ Laid 0 (textOf "top" ++ spaced (decimalOf top ∷ textOf "floor" ∷ decimalOf floor ∷ textOf "taken" ∷ [])) (now (out .entry)) (now (out .exit)) r ⌝ }
+    ensures laid { λ r. ⌜ LaidAt 0 (textOf "top" ++ spaced (decimalOf top ∷ textOf "floor" ∷ decimalOf floor ∷ textOf "taken" ∷ [])) (now (out .entry)) (now (out .exit)) r ⌝ }
     ensures short { λ r. ⌜ r < lineRoom ⌝ }
 {
     let next = put_text(b"top", out, 0);
@@ -440,7 +300,7 @@ fn put_tops(top: u32, floor: u32, out: &mut [u8]) -> usize
 // Numbers, each behind one space.
 fn put_each(numbers: &[u32], out: &mut [u8], at: usize) -> usize
     requires { ⌜ at + (1 + numberDigits) * length (now numbers) ≤ length (now out) ⌝ }
-    ensures laid { λ r. ⌜ Laid at (spaced (map decimalOf (now (numbers .entry)))) (now (out .entry)) (now (out .exit)) r ⌝ }
+    ensures laid { λ r. ⌜ LaidAt at (spaced (map decimalOf (now (numbers .entry)))) (now (out .entry)) (now (out .exit)) r ⌝ }
     ensures short { λ r. ⌜ r ≤ at + (1 + numberDigits) * length (now (numbers .entry)) ⌝ }
 {
     let mut next = at;

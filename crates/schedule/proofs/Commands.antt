@@ -8,7 +8,7 @@ use Prim.Native.Nat.{ℕ}
 use Rattle.group.specs.Choice.{if_then_else_}
 use Rattle.group.proofs.Choice.{if-eq, if-ne}
 use Rattle.model.specs.World.{Event, submit}
-use Rattle.schedule.specs.Field.{numberIn, isHex, hexBytes, hexIn}
+use Rattle.text.specs.Field.{numberIn, isHex, hexBytes, hexIn}
 use Rattle.schedule.specs.Line.{submitted, handed, withTwo, commandOf, payloadOf}
 
 pub command-if : (t : Bool) (a b : Option Event) → commandOf (if t then a else b) ≡ if t then commandOf a else commandOf b

@@ -8,8 +8,8 @@ use lib.ListN.{replicate}
 use Rattle.group.specs.Choice.{if_then_else_}
 use Rattle.group.specs.Fold.{all}
 use Rattle.model.specs.World.{submit, repeat, take, status, poll, copy, handMember, handSequencer}
-use Rattle.schedule.specs.Text.{textOf, digitOf}
-use Rattle.schedule.specs.Field.{before, linesOf, fieldsOf, letterOf, valueFrom, upToLargest, numberIn, pairsOf, isHex, hexBytes}
+use Rattle.text.specs.Text.{textOf, digitOf}
+use Rattle.text.specs.Field.{before, fieldsOf, letterOf, valueFrom, upToLargest, numberIn, pairsOf, isHex, hexBytes}
 use Rattle.schedule.specs.Line.{alone, withNumber, submitted, handed, withTwo, formOf, eventOf, opened, openingForm, openingOf}
 use Rattle.schedule.specs.declared.Opening.{Opening}
 
@@ -51,9 +51,3 @@ openings : map (λ (line : String). openingOf (textOf line)) ("N 2 7" ∷ "N 0 7
     ≡ Opening.Group 2 7 ∷ Opening.Group 0 7 ∷ Opening.Group 300 4294967295 ∷ replicate 5 Opening.Other
 unfolding openingOf openingForm opened fieldsOf before letterOf numberIn upToLargest valueFrom digitOf all if_then_else_
 openings = refl
-
--- a line feed at the end begins no line; an empty line is one
-lines : map (λ (input : String). linesOf (textOf input)) ("" ∷ "P" ∷ "P\n" ∷ "P\n\n" ∷ "N 1 7\nP" ∷ [])
-    ≡ [] ∷ (textOf "P" ∷ []) ∷ (textOf "P" ∷ []) ∷ (textOf "P" ∷ [] ∷ []) ∷ (textOf "N 1 7" ∷ textOf "P" ∷ []) ∷ []
-unfolding linesOf before if_then_else_
-lines = refl

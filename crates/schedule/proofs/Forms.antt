@@ -12,10 +12,10 @@ use lib.Seq.{take-all}
 use Rattle.group.specs.Choice.{if_then_else_, _=?_}
 use Rattle.group.proofs.Choice.{if-le, if-nle}
 use Rattle.model.specs.World.{repeat, take, status, poll, copy, handSequencer}
-use Rattle.schedule.specs.Text.{space, lineMost}
-use Rattle.schedule.specs.Field.{before, fieldsOf}
+use Rattle.text.specs.Text.{space}
+use Rattle.schedule.specs.Line.{lineMost, alone, withNumber, formOf, eventOf, payloadOf, openingForm, openingOf}
+use Rattle.text.specs.Field.{before, fieldsOf}
 use Rattle.schedule.specs.Steps.{partsAt}
-use Rattle.schedule.specs.Line.{alone, withNumber, formOf, eventOf, payloadOf, openingForm, openingOf}
 use Rattle.schedule.specs.declared.Opening.{Opening}
 use Rattle.schedule.specs.declared.Parts.{Parts}
 use Rattle.schedule.specs.declared.Parts.the-variants.{More}

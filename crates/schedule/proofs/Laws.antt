@@ -6,7 +6,6 @@ use mathlib.Core.Option.{Option, none, some}
 use Prim.Native.Char.{code}
 use Prim.Native.Nat.{ℕ, suc, _+_, _/_, _≤_, zero-le}
 use native.Mathlib.Nat.{le-refl}
-use native.Mathlib.Numerals.{add-one}
 use native.Mathlib.Omega.{arith}
 use lib.ListN.{length, drop}
 use lib.Seq.{take-at}
@@ -14,17 +13,15 @@ use Rattle.group.specs.Choice.{_≤?_, _=?_}
 use Rattle.group.proofs.Lists.{if-elim}
 use borrow.Author.Tests.{leb-true}
 use Rattle.model.specs.World.{Event, submit, repeat, take, status, poll, copy, handMember, handSequencer}
-use Rattle.schedule.specs.Text.{space, lineFeed, lineMost, payloadRoom}
-use Rattle.schedule.specs.Field.{before, linesOf, fieldsOf, letterOf, numberIn, isHex, hexBytes, hexIn}
-use Rattle.schedule.specs.Line.{submitted, withTwo, formOf, eventOf, commandOf, payloadOf}
-use Rattle.schedule.specs.Laws.{meantBy, CommandMeans, SubmitFits, LinesGoOn, LinesEnd}
+use Rattle.text.specs.Text.{space}
+use Rattle.schedule.specs.Line.{lineMost, payloadRoom, submitted, withTwo, formOf, eventOf, commandOf, payloadOf}
+use Rattle.text.specs.Field.{before, fieldsOf, letterOf, numberIn, isHex, hexBytes, hexIn}
+use Rattle.schedule.specs.Laws.{meantBy, CommandMeans, SubmitFits}
 use Rattle.schedule.specs.declared.Command.{Command}
 use Rattle.schedule.specs.declared.Command.the-variants.{Submit, Repeat, Take, Status, Poll, Copy, HandMember, HandSequencer}
-use Rattle.schedule.specs.declared.Found.the-variants.{At}
 use Rattle.schedule.proofs.Commands.{hand-payload}
-use Rattle.schedule.proofs.Digits.{pairs-length}
+use Rattle.text.proofs.Digits.{pairs-length}
 use Rattle.schedule.proofs.Forms.{alone-payload, number-payload}
-use Rattle.schedule.proofs.Split.{parts-one, parts-more}
 
 pub command-means : CommandMeans
 unfolding meantBy commandOf payloadOf
@@ -123,14 +120,3 @@ submit-fits line i size e =
     let n : size ≡ length (payloadOf (eventOf line)) = ap sizeOf (sym e) ∙ size-told (eventOf line) in
     let h = payload-fits line in
     omega arith
-
-pub lines-go-on : LinesGoOn
-unfolding linesOf before
-lines-go-on input e h =
-    let p : e ≡ 0 + e = omega arith in
-    parts-more lineFeed linesOf (λ c l. refl) (λ c. refl) input 0 e (h ∙ ap At p) ∙ rw add-one
-
-pub lines-end : LinesEnd
-unfolding linesOf before
-lines-end [] h n = absurd (omega arith)
-lines-end (c ∷ input) h n = parts-one lineFeed linesOf (λ c l. refl) (λ c. refl) input 0 c h

@@ -1,5 +1,3 @@
-pub mod Digits
-pub mod Split
 pub mod Commands
 pub mod Forms
 pub mod Laws

@@ -1,18 +1,14 @@
 -- What else holds of reading. `proofs/Laws.antt` has the proofs.
 use mathlib.Core.Path.{_≡_}
-use mathlib.Core.List.{List, [], _∷_}
+use mathlib.Core.List.{List}
 use mathlib.Core.Option.{Option, none, some}
-use Prim.Native.Nat.{ℕ, _+_, _≤_}
+use Prim.Native.Nat.{ℕ, _≤_}
 use lib.ListN as list
-use lib.ListN.{length, drop}
 use Rattle.group.specs.Lent.{front}
 use Rattle.model.specs.World.{Event, submit, repeat, take, status, poll, copy, handMember, handSequencer}
-use Rattle.schedule.specs.Text.{payloadRoom}
-use Rattle.schedule.specs.Field.{lineEnd, linesOf}
-use Rattle.schedule.specs.Line.{eventOf, commandOf, payloadOf}
+use Rattle.schedule.specs.Line.{payloadRoom, eventOf, commandOf, payloadOf}
 use Rattle.schedule.specs.declared.Command.{Command}
 use Rattle.schedule.specs.declared.Command.the-variants.{Submit, Repeat, Take, Status, Poll, Copy, HandMember, HandSequencer}
-use Rattle.schedule.specs.declared.Found.the-variants.{At, Nothing}
 
 -- the event that a command means, with the bytes that were lent
 unfoldable pub meantBy : Command → List ℕ → Option Event
@@ -33,11 +29,3 @@ CommandMeans = (event : Option Event) (lent : List ℕ) → meantBy (commandOf e
 -- a submit's payload has room in the bytes that are lent
 abbrev pub SubmitFits : Type 0
 SubmitFits = (line : List ℕ) (i size : ℕ) → commandOf (eventOf line) ≡ Submit i size → size ≤ payloadRoom
-
--- the first line ends at the first line feed, and the others stand behind it; without one the whole is a line, unless empty
-abbrev pub LinesGoOn : Type 0
-LinesGoOn =
-    (input : List ℕ) (e : ℕ) → lineEnd input ≡ At e → linesOf input ≡ list.take e input ∷ linesOf (drop (e + 1) input)
-
-abbrev pub LinesEnd : Type 0
-LinesEnd = (input : List ℕ) → lineEnd input ≡ Nothing → 1 ≤ length input → linesOf input ≡ input ∷ []

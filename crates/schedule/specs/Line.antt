@@ -2,15 +2,22 @@
 use mathlib.Core.List.{List, [], _∷_}
 use mathlib.Core.Option.{Option, none, some}
 use Prim.Native.Char.{code}
-use Prim.Native.Nat.{ℕ}
+use Prim.Native.Nat.{ℕ, _/_}
 use lib.ListN.{length}
 use Rattle.group.specs.Choice.{if_then_else_, ask_or_then_, _≤?_, _=?_}
 use Rattle.model.specs.World.{Event, submit, repeat, take, status, poll, copy, handMember, handSequencer}
-use Rattle.schedule.specs.Text.{lineMost}
-use Rattle.schedule.specs.Field.{fieldsOf, letterOf, numberIn, hexIn}
+use Rattle.text.specs.Field.{fieldsOf, letterOf, numberIn, hexIn}
 use Rattle.schedule.specs.declared.Command.{Command}
 use Rattle.schedule.specs.declared.Command.the-variants.{Submit, Repeat, Take, Status, Poll, Copy, HandMember, HandSequencer}
 use Rattle.schedule.specs.declared.Opening.{Opening}
+
+-- a line over 1,000 characters is of another form
+abbrev pub lineMost : ℕ
+lineMost = 1000
+
+-- the bytes that a line has room for, two digits a byte
+abbrev pub payloadRoom : ℕ
+payloadRoom = lineMost / 2
 
 -- `P` poll
 unfoldable pub alone : ℕ → Option Event

@@ -1,10 +1,8 @@
 -- What the private functions find on the way to what a line means. No public promise speaks of it.
 use mathlib.Core.List.{List, [], _∷_}
-use mathlib.Core.Option.{Option, none, some}
 use Prim.Native.Nat.{ℕ, _+_, _-_, _<_}
 use lib.ListN.{length, take, drop}
-use Rattle.schedule.specs.Field.{fieldsOf}
-use Rattle.schedule.specs.declared.Numeral.{Numeral}
+use Rattle.text.specs.Field.{fieldsOf}
 use Rattle.schedule.specs.declared.Parts.{Parts}
 use Rattle.schedule.specs.declared.Parts.the-variants.{One, Two, Three, More}
 
@@ -22,8 +20,3 @@ Within One line = Unit {0}
 Within (Two a) line = a < length line
 Within (Three a b) line = (a < b) × (b < length line)
 Within (More a b c) line = (a < b) × (b < c) × (c < length line)
-
--- the number that the code read
-abbrev pub read : Numeral → Option ℕ
-read (Numeral.Of v) = some v
-read Numeral.Other = none

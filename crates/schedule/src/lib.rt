@@ -1,25 +1,26 @@
-// Reads a schedule: the lines of an input, the fields of a line, and what a line means.
-use group::Group;
+// Reads a schedule: what a line means as an event, and the first line as the opening of a group.
+use text::Found;
+use text::Numeral;
+use text::first;
+use text::is_hex;
+use text::lay_hex;
+use text::letter;
+use text::number;
 ghost use mathlib.Core.Path.{_≡_};
-ghost use mathlib.Core.Bool.{true};
 ghost use mathlib.Core.List.{[], _∷_};
 ghost use mathlib.Core.Option.{some};
-ghost use Prim.Native.Nat.{_+_, _-_, _*_, _%_, _≤_, _<_};
+ghost use Prim.Native.Nat.{_+_, _-_, _*_, _≤_, _<_};
 ghost use lib.ListN.{length, take, drop};
 ghost use Rattle.group.specs.Lent.{front};
-ghost use Rattle.schedule.specs.Text.{lineMost, payloadRoom, hexBase, digitOf};
-ghost use Rattle.schedule.specs.Field.{firstFrom, lineEnd, fieldsOf, letterOf, digitsOf, valueFrom, upToLargest, numberIn, pairsOf, isHex, hexBytes, hexIn};
-ghost use Rattle.schedule.specs.Steps.{partsAt, Within, read};
-ghost use Rattle.schedule.specs.Line.{alone, withNumber, submitted, handed, withTwo, formOf, eventOf, commandOf, payloadOf, opened, openingForm, openingOf};
+ghost use Rattle.text.specs.Field.{fieldsOf, letterOf, numberIn, read, hexIn};
+ghost use Rattle.schedule.specs.Steps.{partsAt, Within};
+ghost use Rattle.schedule.specs.Line.{lineMost, payloadRoom, alone, withNumber, submitted, handed, withTwo, formOf, eventOf, commandOf, payloadOf, opened, openingForm, openingOf};
 
 // A line of more characters is of another form.
 pub const LINE_MOST: usize = 1000;
 
 // The bytes that a line has room for, two digits a byte.
 pub const PAYLOAD_ROOM: usize = LINE_MOST / 2;
-
-// The base of a payload's digits.
-pub const HEX_BASE: u8 = 16;
 
 // What a line means as an event. A submit's payload lies at the front of the bytes that were lent.
 pub enum Command {
@@ -40,24 +41,12 @@ pub enum Opening {
     Group { n: u32, number: u32 },
 }
 
-// Where a character first stands.
-pub enum Found {
-    At(usize),
-    Nothing,
-}
-
 // Where the spaces stand that part the fields of a line: those before the second, the third and the fourth field.
 enum Parts {
     One,
     Two(usize),
     Three(usize, usize),
     More(usize, usize, usize),
-}
-
-// The number that a field is.
-enum Numeral {
-    Of(u32),
-    Other,
 }
 
 // The limits of specs/ are these constants.
@@ -71,34 +60,6 @@ fn payload_room() -> usize
     ensures { λ r. ⌜ r ≡ payloadRoom ⌝ }
 {
     PAYLOAD_ROOM
-}
-
-fn hex_base() -> u8
-    ensures { λ r. ⌜ r ≡ hexBase ⌝ }
-{
-    HEX_BASE
-}
-
-// Where a character first stands in a text, from an index on.
-fn first(text: &[u8], from: usize, character: u8) -> Found
-    requires { ⌜ from ≤ length (now text) ⌝ }
-    ensures { λ r. ⌜ r ≡ firstFrom character from (drop from (now (text .entry))) ⌝ }
-{
-    let mut i = from;
-    while i < text.len() {
-        if text[i] == character {
-            return Found::At(i);
-        }
-        i += 1;
-    }
-    Found::Nothing
-}
-
-// Where the first line of an input ends.
-pub fn line_end(input: &[u8]) -> Found
-    ensures { λ r. ⌜ r ≡ lineEnd (now (input .entry)) ⌝ }
-{
-    first(input, 0, b'\n')
 }
 
 // The fields of a line, by the spaces that part them.
@@ -137,132 +98,6 @@ fn fields_last(line: &[u8], a: usize, b: usize) -> Parts
         Found::Nothing => Parts::Three(a, b),
         Found::At(c) => Parts::More(a, b, c),
     }
-}
-
-// The character that a field is; 0 for a field of none or several.
-fn letter(field: &[u8]) -> u8
-    ensures { λ r. ⌜ r ≡ letterOf (now (field .entry)) ⌝ }
-{
-    if field.len() == 1 { field[0] } else { 0 }
-}
-
-// What a digit is worth; the base for any other character.
-fn digit(c: u8) -> u8
-    ensures { λ r. ⌜ r ≡ digitOf c ⌝ }
-{
-    if c < b'0' {
-        return HEX_BASE;
-    }
-    if c <= b'9' {
-        return c - b'0';
-    }
-    if c < b'a' {
-        return HEX_BASE;
-    }
-    if c <= b'f' {
-        return c - b'a' + 10;
-    }
-    HEX_BASE
-}
-
-// Whether every character is a digit of that base.
-fn all_digits(field: &[u8], base: u8) -> bool
-    ensures { λ r. ⌜ r ≡ digitsOf base (now (field .entry)) ⌝ }
-{
-    let mut i: usize = 0;
-    while i < field.len() {
-        if digit(field[i]) < base {
-            i += 1;
-        } else {
-            return false;
-        }
-    }
-    true
-}
-
-// What digits come to, up to the largest. Past it no digit can bring the value back, so that a long field does not wrap.
-fn value(field: &[u8]) -> Numeral
-    ensures { λ r. ⌜ read r ≡ upToLargest (valueFrom 0 (now (field .entry))) ⌝ }
-{
-    let mut value: u64 = 0;
-    let mut i: usize = 0;
-    while i < field.len() {
-        let next = value * 10 + (digit(field[i]) as u64);
-        if (Group::LARGEST as u64) < next {
-            return Numeral::Other;
-        }
-        value = next;
-        i += 1;
-    }
-    Numeral::Of(value as u32)
-}
-
-// The number that a field is.
-fn number(field: &[u8]) -> Numeral
-    ensures { λ r. ⌜ read r ≡ numberIn (now (field .entry)) ⌝ }
-{
-    if field.len() < 1 {
-        return Numeral::Other;
-    }
-    if all_digits(field, 10) {
-        value(field)
-    } else {
-        Numeral::Other
-    }
-}
-
-// Whether a field is a payload in hex.
-fn is_hex(field: &[u8]) -> bool
-    ensures { λ r. ⌜ r ≡ isHex (now (field .entry)) ⌝ }
-{
-    if letter(field) == b'-' {
-        return true;
-    }
-    if field.len() < 1 {
-        return false;
-    }
-    if field.len() % 2 != 0 {
-        return false;
-    }
-    all_digits(field, HEX_BASE)
-}
-
-// The byte of two digits.
-fn pair(high: u8, low: u8) -> u8
-    requires { ⌜ (digitOf high < hexBase) × (digitOf low < hexBase) ⌝ }
-    ensures { λ r. ⌜ r ≡ digitOf high * hexBase + digitOf low ⌝ }
-{
-    digit(high) * HEX_BASE + digit(low)
-}
-
-// Lays the bytes of pairs of digits at the front.
-fn lay_pairs(field: &[u8], payload: &mut [u8])
-    requires { ⌜ digitsOf hexBase (now field) ≡ true ⌝ }
-    requires { ⌜ length (now field) % 2 ≡ 0 ⌝ }
-    requires { ⌜ length (now field) ≤ 2 * length (now payload) ⌝ }
-    ensures { λ _. ⌜ now (payload .exit) ≡ front (pairsOf (now (field .entry))) (now (payload .entry)) ⌝ }
-{
-    let count = field.len() / 2;
-    let mut i: usize = 0;
-    while i < count {
-        let byte = pair(field[2 * i], field[2 * i + 1]);
-        payload[i] = byte;
-        i += 1;
-    }
-}
-
-// Lays a payload that is given in hex at the front, and gives its length.
-fn lay_hex(field: &[u8], payload: &mut [u8]) -> usize
-    requires { ⌜ isHex (now field) ≡ true ⌝ }
-    requires { ⌜ length (now field) ≤ 2 * length (now payload) ⌝ }
-    ensures size { λ r. ⌜ r ≡ length (hexBytes (now (field .entry))) ⌝ }
-    ensures lent { λ _. ⌜ now (payload .exit) ≡ front (hexBytes (now (field .entry))) (now (payload .entry)) ⌝ }
-{
-    if letter(field) == b'-' {
-        return 0;
-    }
-    lay_pairs(field, payload);
-    field.len() / 2
 }
 
 // `P`

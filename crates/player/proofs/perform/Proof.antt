@@ -4,7 +4,7 @@ use mathlib.Core.Path.{_≡_, refl, sym}
 use lib.ListN.{length}
 use lib.Seq.{length-take-le}
 use Rattle.schedule.specs.Laws.{meantBy}
-use Rattle.schedule.specs.Text.{payloadRoom}
+use Rattle.schedule.specs.Line.{payloadRoom}
 use Rattle.player.specs.Steps.{Performed}
 use borrow.Author.Needs.{needs}
 use Rattle.player.proofs.perform.Statement.{statement}

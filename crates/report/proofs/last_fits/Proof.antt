@@ -3,7 +3,8 @@
 use mathlib.Core.Path.{sym}
 use Prim.Native.Nat.{_+_, _*_, _-_, _/_}
 use native.Mathlib.Omega.{arith}
-use Rattle.report.specs.Print.{numberDigits, lineRoom}
+use Rattle.text.specs.Written.{numberDigits}
+use Rattle.report.specs.Print.{lineRoom}
 use Rattle.report.proofs.Pieces.{same-test}
 use borrow.Author.Tests.{lt-leb}
 use borrow.Author.Needs.{needs}

@@ -5,16 +5,17 @@ use mathlib.Core.List.{[], _∷_, map}
 use Prim.Native.Nat.{_+_, _*_, _-_, _≤_}
 use denote.Ref.{now}
 use lib.ListN.{length, take, getD}
-use Rattle.report.proofs.Pieces.{laid-fields, laid-none, each-on}
-use Rattle.report.specs.Print.{decimalOf, spaced}
-use Rattle.report.specs.Laid.{Laid}
+use Rattle.text.proofs.Pieces.{laid-fields, laid-none}
+use Rattle.report.proofs.Pieces.{each-on}
+use Rattle.text.specs.Written.{decimalOf, spaced}
+use Rattle.text.specs.LaidAt.{LaidAt}
 use lib.Seq.{take-all}
 use borrow.Author.Needs.{needs}
 use Rattle.report.proofs.put_each.Statement.{statement}
 use Rattle.report.proofs.put_each.Tie as tie
 
 abbrev Inv-loop : tie.InvT-loop
-Inv-loop numbers out₀ at next₀ i₀ out next i = (i ≤ length numbers) × (next ≤ at + 11 * i) × (length out ≡ length out₀) × Laid at (spaced (map decimalOf (take i numbers))) out₀ out next
+Inv-loop numbers out₀ at next₀ i₀ out next i = (i ≤ length numbers) × (next ≤ at + 11 * i) × (length out ≡ length out₀) × LaidAt at (spaced (map decimalOf (take i numbers))) out₀ out next
 
 abbrev μ-loop : tie.MeasureT-loop
 μ-loop numbers out₀ at next₀ i₀ out next i = length numbers - i

@@ -1,8 +1,8 @@
 -- The three numbers, one behind the other.
 -- Assumes nothing.
 use mathlib.Core.List.{[], _∷_}
-use Rattle.report.proofs.Pieces.{laid-fields}
-use Rattle.report.specs.Print.{decimalOf}
+use Rattle.text.proofs.Pieces.{laid-fields}
+use Rattle.text.specs.Written.{decimalOf}
 use borrow.Author.Needs.{needs}
 use Rattle.report.proofs.put_message.Statement.{statement}
 use Rattle.report.proofs.put_message.Tie as tie

@@ -2,9 +2,10 @@
 -- Assumes nothing.
 use mathlib.Core.List.{[], _∷_, _++_}
 use denote.Ref.{now}
-use Rattle.report.proofs.Pieces.{laid-fields}
-use Rattle.report.specs.Print.{decimalOf, payloadText, moreText}
-use Rattle.schedule.specs.Text.{textOf}
+use Rattle.text.proofs.Pieces.{laid-fields}
+use Rattle.text.specs.Written.{decimalOf, payloadText}
+use Rattle.report.specs.Print.{moreText}
+use Rattle.text.specs.Text.{textOf}
 use borrow.Author.Needs.{needs}
 use Rattle.report.proofs.put_took.Statement.{statement}
 use Rattle.report.proofs.put_took.Tie as tie

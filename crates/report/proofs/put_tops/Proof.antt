@@ -1,9 +1,9 @@
 -- The first field, and the others one behind the other.
 -- Assumes nothing.
 use mathlib.Core.List.{[], _∷_}
-use Rattle.report.proofs.Pieces.{laid-fields, laid-then}
-use Rattle.report.specs.Print.{decimalOf, spaced}
-use Rattle.schedule.specs.Text.{textOf}
+use Rattle.text.proofs.Pieces.{laid-fields, laid-then}
+use Rattle.text.specs.Written.{decimalOf, spaced}
+use Rattle.text.specs.Text.{textOf}
 use borrow.Author.Needs.{needs}
 use Rattle.report.proofs.put_tops.Statement.{statement}
 use Rattle.report.proofs.put_tops.Tie as tie

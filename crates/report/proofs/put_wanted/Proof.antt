@@ -1,9 +1,9 @@
 -- The word and the two numbers, one behind the other.
 -- Assumes nothing.
 use mathlib.Core.List.{[], _∷_}
-use Rattle.report.proofs.Pieces.{laid-fields}
-use Rattle.report.specs.Print.{decimalOf}
-use Rattle.schedule.specs.Text.{textOf}
+use Rattle.text.proofs.Pieces.{laid-fields}
+use Rattle.text.specs.Written.{decimalOf}
+use Rattle.text.specs.Text.{textOf}
 use borrow.Author.Needs.{needs}
 use Rattle.report.proofs.put_wanted.Statement.{statement}
 use Rattle.report.proofs.put_wanted.Tie as tie

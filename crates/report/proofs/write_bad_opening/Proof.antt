@@ -2,9 +2,11 @@
 -- Assumes nothing.
 use mathlib.Core.List.{[], _∷_}
 use denote.Ref.{now}
-use Rattle.schedule.specs.Text.{textOf, lineFeed}
-use Rattle.report.proofs.Pieces.{laid-then, written, unwritten}
-use Rattle.report.specs.Print.{spaced, lineRoom, badOpening}
+use Rattle.text.specs.Text.{textOf, lineFeed}
+use Rattle.text.proofs.Pieces.{laid-then}
+use Rattle.report.proofs.Pieces.{written, unwritten}
+use Rattle.text.specs.Written.{spaced}
+use Rattle.report.specs.Print.{lineRoom, badOpening}
 use borrow.Author.Needs.{needs}
 use Rattle.report.proofs.write_bad_opening.Statement.{statement}
 use Rattle.report.proofs.write_bad_opening.Tie as tie

@@ -4,9 +4,11 @@ use mathlib.Core.Path.{sym, _∙_}
 use native.Mathlib.Omega.{arith}
 use denote.Ref.{now}
 use lib.ListN.{length}
-use Rattle.report.proofs.Decimal.{decimal-most}
-use Rattle.report.specs.Print.{decimalOf, countDigits, eventRoom, answered, answerFields, lineOf}
-use Rattle.report.proofs.Pieces.{laid-line, written, unwritten}
+use Rattle.text.proofs.Decimal.{decimal-most}
+use Rattle.text.specs.Written.{decimalOf, countDigits}
+use Rattle.report.specs.Print.{eventRoom, answered, answerFields, lineOf}
+use Rattle.text.proofs.Pieces.{laid-line}
+use Rattle.report.proofs.Pieces.{written, unwritten}
 use borrow.Author.Tests.{leb-true, leb-false}
 use borrow.Author.Needs.{needs}
 use Rattle.report.proofs.write_event.Statement.{statement}

@@ -5,8 +5,9 @@ use mathlib.Core.List.{[], _∷_, map}
 use native.Mathlib.Omega.{arith}
 use denote.Ref.{now}
 use lib.ListN.{length}
-use Rattle.report.specs.Print.{decimalOf, lastRoom, lastLine}
-use Rattle.schedule.specs.Text.{textOf}
+use Rattle.text.specs.Written.{decimalOf}
+use Rattle.report.specs.Print.{lastRoom, lastLine}
+use Rattle.text.specs.Text.{textOf}
 use Rattle.report.proofs.Pieces.{laid-longer, written, unwritten}
 use borrow.Author.Tests.{leb-true, leb-false}
 use borrow.Author.Needs.{needs}

@@ -3,9 +3,11 @@
 use mathlib.Core.List.{[], _∷_}
 use native.Mathlib.Omega.{arith}
 use denote.Ref.{now}
-use Rattle.report.proofs.Decimal.{decimal-most}
-use Rattle.report.specs.Print.{decimalOf, countDigits, line, lineRoom}
-use Rattle.report.proofs.Pieces.{laid-line, written, unwritten}
+use Rattle.text.proofs.Decimal.{decimal-most}
+use Rattle.text.specs.Written.{decimalOf, countDigits, line}
+use Rattle.report.specs.Print.{lineRoom}
+use Rattle.text.proofs.Pieces.{laid-line}
+use Rattle.report.proofs.Pieces.{written, unwritten}
 use borrow.Author.Needs.{needs}
 use Rattle.report.proofs.write_note.Statement.{statement}
 use Rattle.report.proofs.write_note.Tie as tie

@@ -2,9 +2,11 @@
 -- Assumes nothing.
 use mathlib.Core.List.{[], _∷_}
 use denote.Ref.{now}
-use Rattle.report.specs.Print.{decimalOf, lineRoom, refusedOpening}
-use Rattle.schedule.specs.Text.{textOf}
-use Rattle.report.proofs.Pieces.{laid-line, written, unwritten}
+use Rattle.text.specs.Written.{decimalOf}
+use Rattle.report.specs.Print.{lineRoom, refusedOpening}
+use Rattle.text.specs.Text.{textOf}
+use Rattle.text.proofs.Pieces.{laid-line}
+use Rattle.report.proofs.Pieces.{written, unwritten}
 use borrow.Author.Needs.{needs}
 use Rattle.report.proofs.write_refused_opening.Statement.{statement}
 use Rattle.report.proofs.write_refused_opening.Tie as tie

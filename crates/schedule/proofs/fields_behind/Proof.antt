@@ -5,9 +5,9 @@ use mathlib.Core.List.{List, _∷_}
 use Prim.Native.Nat.{ℕ, _+_}
 use native.Mathlib.Omega.{arith}
 use denote.Ref.{now}
-use Rattle.schedule.specs.Text.{space}
+use Rattle.text.specs.Text.{space}
 use Rattle.schedule.specs.Steps.{partsAt}
-use Rattle.schedule.proofs.Split.{fields-one, fields-more, found-from}
+use Rattle.text.proofs.Split.{fields-one, fields-more, found-from}
 use lib.ListN.{take}
 use borrow.Author.Needs.{needs}
 use Rattle.schedule.proofs.fields_behind.Statement.{statement}

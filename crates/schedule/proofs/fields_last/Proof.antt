@@ -3,9 +3,9 @@
 use mathlib.Core.Path.{sym, _∙_}
 use Prim.Native.Nat.{_+_}
 use denote.Ref.{now}
-use Rattle.schedule.specs.Text.{space}
+use Rattle.text.specs.Text.{space}
 use Rattle.schedule.specs.Steps.{partsAt}
-use Rattle.schedule.proofs.Split.{fields-one, fields-more, found-from}
+use Rattle.text.proofs.Split.{fields-one, fields-more, found-from}
 use borrow.Author.Needs.{needs}
 use Rattle.schedule.proofs.fields_last.Statement.{statement}
 use Rattle.schedule.proofs.fields_last.Tie as tie

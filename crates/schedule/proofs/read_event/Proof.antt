@@ -4,9 +4,8 @@ use mathlib.Core.Path.{_≡_, subst, ap, _∙_}
 use native.Mathlib.Omega.{arith}
 use denote.Ref.{now}
 use lib.ListN.{length}
-use Rattle.schedule.specs.Text.{payloadRoom}
+use Rattle.schedule.specs.Line.{payloadRoom, formOf, commandOf, payloadOf}
 use Rattle.schedule.specs.Steps.{partsAt, Within}
-use Rattle.schedule.specs.Line.{formOf, commandOf, payloadOf}
 use Rattle.schedule.proofs.Forms.{event-by, event-long, more-event, alone-payload, number-payload}
 use Rattle.schedule.specs.declared.Parts.{Parts}
 use Rattle.schedule.specs.declared.Parts.the-variants.{One, Two, Three, More}

@@ -1,8 +1,8 @@
 -- Both numbers are there, or the line is of another form.
 -- Assumes nothing.
 use denote.Ref.{now}
-use Rattle.schedule.specs.Field.{numberIn}
-use Rattle.schedule.proofs.Split.{number-was, number-none}
+use Rattle.text.specs.Field.{numberIn}
+use Rattle.text.proofs.Split.{number-was, number-none}
 use Rattle.schedule.specs.Line.{handed, commandOf}
 use borrow.Author.Needs.{needs}
 use Rattle.schedule.proofs.read_hand.Statement.{statement}

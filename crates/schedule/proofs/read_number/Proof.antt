@@ -1,8 +1,8 @@
 -- The number decides; its letter is told apart by `numbered`.
 -- Assumes nothing.
 use denote.Ref.{now}
-use Rattle.schedule.specs.Field.{numberIn}
-use Rattle.schedule.proofs.Split.{number-was, number-none}
+use Rattle.text.specs.Field.{numberIn}
+use Rattle.text.proofs.Split.{number-was, number-none}
 use Rattle.schedule.specs.Line.{withNumber, commandOf}
 use borrow.Author.Needs.{needs}
 use Rattle.schedule.proofs.read_number.Statement.{statement}

@@ -2,8 +2,8 @@
 -- Assumes nothing.
 use mathlib.Core.Path.{sym, _∙_}
 use denote.Ref.{now}
-use Rattle.schedule.specs.Field.{numberIn}
-use Rattle.schedule.proofs.Split.{number-was, number-none}
+use Rattle.text.specs.Field.{numberIn}
+use Rattle.text.proofs.Split.{number-was, number-none}
 use Rattle.schedule.proofs.Commands.{submit-read, submit-no-payload, submit-no-number}
 use Rattle.schedule.specs.Line.{commandOf, payloadOf}
 use borrow.Author.Needs.{needs}

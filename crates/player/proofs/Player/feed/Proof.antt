@@ -6,8 +6,8 @@ use native.Mathlib.Omega.{arith}
 use denote.Ref.{now}
 use lib.ListN.{length}
 use lib.Seq.{length-take-le}
-use Rattle.schedule.proofs.Split.{found-from}
-use Rattle.schedule.specs.Text.{lineFeed}
+use Rattle.text.proofs.Split.{found-from}
+use Rattle.text.specs.Text.{lineFeed}
 use Rattle.player.specs.Player.{stateOf}
 use Rattle.player.proofs.Opening.{feeds-line, feeds-none}
 use borrow.Author.Needs.{needs}

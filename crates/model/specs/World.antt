@@ -10,6 +10,7 @@ use Rattle.member.specs.Calls as member
 use Rattle.member.specs.State.{freshMember}
 use Rattle.member.specs.declared.Answer as memberAnswer
 use Rattle.member.specs.declared.Member.{Member}
+use Rattle.model.specs.declared.Reply.{Reply}
 use Rattle.packet.specs.Packet.{written}
 use Rattle.sequencer.specs.Calls as sequencer
 use Rattle.sequencer.specs.declared.Answer as sequencerAnswer
@@ -32,6 +33,12 @@ pub data Answer : Type 0 where
   absent : Answer
   bySequencer : sequencerAnswer.Answer → List ℕ → Answer
   byMember : memberAnswer.Answer → List ℕ → Answer
+
+-- the answer that a reply of the code is, with the bytes that its call laid at the front of its output
+unfoldable pub answerOf : Reply → List ℕ → Answer
+answerOf Reply.Absent bytes = absent
+answerOf (Reply.Sequencer answer) bytes = bySequencer answer bytes
+answerOf (Reply.Member answer) bytes = byMember answer bytes
 
 pub record Group : Type 0 where
   pub sequencer : Sequencer

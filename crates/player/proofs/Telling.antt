@@ -17,17 +17,15 @@ use Rattle.group.proofs.Lists.{if-elim}
 use Rattle.group.specs.Choice.{if_then_else_, _and_, _<?_, _≤?_}
 use Rattle.group.specs.Lent.{front}
 use Rattle.group.specs.Limits.{membersMost, longestPacket}
-use Rattle.model.specs.World.{Event, submit, repeat, status, poll, copy, handMember, handSequencer, Group, happen}
+use Rattle.model.specs.World.{Event, submit, repeat, status, poll, copy, handMember, handSequencer, answerOf, Group, happen}
 use Rattle.model.specs.World as world
-use Rattle.model.specs.declared.Reply.{Reply}
-use Rattle.model.specs.declared.Reply.the-variants.{Absent, Sequencer, Member}
-use Rattle.report.specs.Print.{lineOf, noSpace, badLine, eventRoom, answered, fitting}
+use Rattle.report.specs.Print.{lineOf, noSpace, badLine, fitting}
 use Rattle.schedule.proofs.Laws.{command-means}
 use Rattle.schedule.specs.Laws.{meantBy}
 use Rattle.schedule.specs.Line.{commandOf, payloadOf}
 use Rattle.schedule.specs.declared.Command.{Command}
 use Rattle.simulator.proofs.Storing.{map-snoc}
-use Rattle.simulator.specs.Whole.{packetsMost, groupOf, answerOf}
+use Rattle.simulator.specs.Whole.{packetsMost, groupOf}
 use Rattle.simulator.specs.declared.Happening.{Happening}
 use Rattle.simulator.specs.declared.Whole.{Whole}
 use Rattle.player.specs.Play.{Stage, running, ended, closed, nextNumber, eventTold}
@@ -107,19 +105,6 @@ as-told {x} {y} {r} {lent} {after} e t = subst (λ (z : play.Told). Tells z r le
 pub tells-nothing : (r : Told) (stage : Stage) (lent : List ℕ) → stageIn (phaseOf (r .whole) (r .phase)) (groupOf (r .whole)) (r .number) ≡ stage → r .written ≡ 0
     → Tells (record { text = []; stage = stage }) r lent lent
 tells-nothing r stage lent e z = record { stage = e; written = z; output = refl }
-
--- the two ways to say what a reply is
-pub answered-is : (reply : Reply) (bytes : List ℕ) → answered reply bytes ≡ answerOf reply bytes
-unfolding answered answerOf
-answered-is Absent bytes = refl
-answered-is (Sequencer answer) bytes = refl
-answered-is (Member answer) bytes = refl
-
--- an event's line fits an output with the room that it asks
-pub answer-fits : (number : ℕ) (reply : Reply) (index : ℕ) (bytes lent : List ℕ) → eventRoom bytes ≤ length lent
-    → fitting (eventRoom bytes) (length lent) (lineOf number (answered reply bytes) index) ≡ lineOf number (answerOf reply bytes) index
-answer-fits number reply index bytes lent h =
-    fits-in (eventRoom bytes) (length lent) _ h ∙ ap (λ (a : world.Answer). lineOf number a index) (answered-is reply bytes)
 
 -- the event of a line that was read
 pub meant-is : (event : Option Event) (command : Command) (payload lent : List ℕ) → command ≡ commandOf event → payload ≡ front (payloadOf event) lent

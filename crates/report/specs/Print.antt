@@ -10,8 +10,6 @@ use Rattle.group.specs.declared.Refusal.the-variants.{Opening}
 use Rattle.member.specs.declared.Answer as memberAnswer
 use Rattle.member.specs.declared.Answer.the-variants as member
 use Rattle.model.specs.World.{Answer, absent, bySequencer, byMember}
-use Rattle.model.specs.declared.Reply.{Reply}
-use Rattle.model.specs.declared.Reply.the-variants.{Absent, Sequencer, Member}
 use Rattle.sequencer.specs.declared.Answer as sequencerAnswer
 use Rattle.sequencer.specs.declared.Answer.the-variants as sequencer
 use Rattle.text.specs.Text.{textOf}
@@ -100,9 +98,3 @@ lastRoom taken = lineRoom + (1 + numberDigits) * length taken
 -- a line goes to an output that has the room asked; to any other goes nothing
 unfoldable pub fitting : ℕ → ℕ → List ℕ → List ℕ
 fitting asked room bytes = if asked ≤? room then bytes else []
-
--- the answer that a reply of the code is, with the bytes that its call laid at the front of its output
-unfoldable pub answered : Reply → List ℕ → Answer
-answered Absent bytes = absent
-answered (Sequencer answer) bytes = bySequencer answer bytes
-answered (Member answer) bytes = byMember answer bytes

@@ -18,10 +18,11 @@ ghost use Prim.Native.Nat.{_+_, _*_, _≤_, _<_};
 ghost use lib.ListN.{length};
 ghost use Rattle.group.specs.Choice.{_≤?_};
 ghost use Rattle.group.specs.Lent.{front};
+ghost use Rattle.model.specs.World.{answerOf};
 ghost use Rattle.text.specs.Text.{textOf};
 ghost use Rattle.text.specs.Written.{decimalOf, payloadText, spaced, line, numberDigits, countDigits};
 ghost use Rattle.text.specs.LaidAt.{LaidAt};
-ghost use Rattle.report.specs.Print.{refusedFields, sequencerFields, moreText, memberFields, answerFields, lineOf, badLine, noSpace, badOpening, refusedOpening, lastLine, answerRoom, lineRoom, eventRoom, lastRoom, fitting, answered};
+ghost use Rattle.report.specs.Print.{refusedFields, sequencerFields, moreText, memberFields, answerFields, lineOf, badLine, noSpace, badOpening, refusedOpening, lastLine, answerRoom, lineRoom, eventRoom, lastRoom, fitting};
 
 // The room of the longest answer, which is a take's, beside the digits of its payload: `took`, three numbers, `-`, `more`, and
 // a space before each.
@@ -183,7 +184,7 @@ fn put_member(
 // What an event is answered.
 fn put_reply(reply: Reply, payload: &[u8], index: usize, out: &mut [u8], at: usize) -> usize
     requires { ⌜ at + answerRoom + 2 * length (now payload) ≤ length (now out) ⌝ }
-    ensures laid { λ r. ⌜ LaidAt at (spaced (answerFields (answered reply (now (payload .entry))) index)) (now (out .entry)) (now (out .exit)) r ⌝ }
+    ensures laid { λ r. ⌜ LaidAt at (spaced (answerFields (answerOf reply (now (payload .entry))) index)) (now (out .entry)) (now (out .exit)) r ⌝ }
     ensures short { λ r. ⌜ r ≤ at + answerRoom + 2 * length (now (payload .entry)) ⌝ }
 {
     match reply {
@@ -215,8 +216,8 @@ fn last_fits(count: usize, room: usize) -> bool
 // The line that an event prints: its number, what it is answered, and the index of a packet that it wrote. `payload` is what
 // a take handed out. Gives the line's length; 0 where the output has not the room that the line asks for.
 pub fn write_event(number: u64, reply: Reply, index: usize, payload: &[u8], out: &mut [u8]) -> usize
-    ensures size { λ r. ⌜ r ≡ length (fitting (eventRoom (now (payload .entry))) (length (now (out .entry))) (lineOf number (answered reply (now (payload .entry))) index)) ⌝ }
-    ensures lent { λ _. ⌜ now (out .exit) ≡ front (fitting (eventRoom (now (payload .entry))) (length (now (out .entry))) (lineOf number (answered reply (now (payload .entry))) index)) (now (out .entry)) ⌝ }
+    ensures size { λ r. ⌜ r ≡ length (fitting (eventRoom (now (payload .entry))) (length (now (out .entry))) (lineOf number (answerOf reply (now (payload .entry))) index)) ⌝ }
+    ensures lent { λ _. ⌜ now (out .exit) ≡ front (fitting (eventRoom (now (payload .entry))) (length (now (out .entry))) (lineOf number (answerOf reply (now (payload .entry))) index)) (now (out .entry)) ⌝ }
 {
     if event_fits(payload.len(), out.len()) {
         let next = put_decimal(number, out, 0);

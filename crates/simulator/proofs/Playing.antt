@@ -16,13 +16,13 @@ use Rattle.group.specs.Lent.{front}
 use Rattle.group.specs.Limits.{longestPacket}
 use Rattle.member.specs.Calls as member
 use Rattle.member.specs.declared.Step as memberStep
-use Rattle.model.specs.World.{Event, Group, Happened, missing, withMember, withSequencer, handToMember, happen}
+use Rattle.model.specs.World.{Event, answerOf, Group, Happened, missing, withMember, withSequencer, handToMember, happen}
 use Rattle.packet.specs.Packet.{written}
 use Rattle.sequencer.specs.Calls as sequencer
 use Rattle.sequencer.specs.declared.Sequencer.{Sequencer}
 use Rattle.sequencer.specs.declared.Step as sequencerStep
 use Rattle.simulator.specs.Steps.{countAfter, Idle}
-use Rattle.simulator.specs.Whole.{packetsMost, groupOf, answerOf, Room, Does, zeros, nothing, Free, Plays}
+use Rattle.simulator.specs.Whole.{packetsMost, groupOf, Room, Does, zeros, nothing, Free, Plays}
 use Rattle.simulator.specs.declared.Happening.{Happening}
 use Rattle.simulator.specs.declared.Whole.{Whole}
 use Rattle.simulator.proofs.Effects.{There, memberOutcome, sequencerOutcome, Did}

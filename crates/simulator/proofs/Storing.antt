@@ -14,13 +14,13 @@ use Rattle.group.specs.Choice.{_=?_}
 use Rattle.group.specs.Limits.{longestPacket}
 use Rattle.member.specs.declared.Member.{Member}
 use Rattle.member.specs.declared.Step as memberStep
-use Rattle.model.specs.World.{Group, Happened, withMember, withSequencer}
+use Rattle.model.specs.World.{answerOf, Group, Happened, withMember, withSequencer}
 use Rattle.model.specs.declared.Reply.{Reply}
 use Rattle.packet.specs.Packet.{written}
 use Rattle.sequencer.specs.declared.Sequencer.{Sequencer}
 use Rattle.sequencer.specs.declared.Step as sequencerStep
 use Rattle.simulator.specs.Steps.{countAfter}
-use Rattle.simulator.specs.Whole.{packetsMost, packetIn, groupOf, answerOf, Room}
+use Rattle.simulator.specs.Whole.{packetsMost, packetIn, groupOf, Room}
 use Rattle.simulator.specs.declared.Happening.{Happening}
 use Rattle.simulator.specs.declared.Stored.{Stored}
 use Rattle.simulator.specs.declared.Whole.{Whole}

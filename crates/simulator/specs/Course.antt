@@ -5,8 +5,8 @@ use mathlib.Core.List.{List, [], _∷_, _++_, map}
 use Prim.Native.Nat.{ℕ, _<_}
 use lib.ListN.{take}
 use Rattle.group.specs.declared.Verdict.{Verdict}
-use Rattle.model.specs.World.{Event, Answer, run, fresh}
-use Rattle.simulator.specs.Whole.{packetsMost, groupOf, answerOf, Plays, Opens}
+use Rattle.model.specs.World.{Event, Answer, answerOf, run, fresh}
+use Rattle.simulator.specs.Whole.{packetsMost, groupOf, Plays, Opens}
 use Rattle.simulator.specs.declared.Happening.{Happening}
 use Rattle.simulator.specs.declared.Opened.{Opened}
 use Rattle.simulator.specs.declared.Whole.{Whole}

@@ -8,7 +8,7 @@ use lib.ListN.{length, take, drop, set, replicate}
 use Rattle.group.specs.Lent.{front}
 use Rattle.group.specs.Limits.{membersMost, longestPacket}
 use Rattle.group.specs.declared.Verdict.{Verdict}
-use Rattle.model.specs.World.{Event, Answer, absent, bySequencer, byMember, Group, Happened, happen, freshMembers, fresh}
+use Rattle.model.specs.World.{Event, answerOf, Group, Happened, happen, freshMembers, fresh}
 use Rattle.model.specs.declared.Reply.{Reply}
 use Rattle.sequencer.specs.Calls as sequencer
 use Rattle.simulator.specs.declared.Happening.{Happening}
@@ -32,12 +32,6 @@ groupOf w =
       members = take (w .sequencer .group .n) (w .members);
       packets = map packetIn (take (w .count) (w .packets));
     }
-
--- the answer, with the bytes that were written
-unfoldable pub answerOf : Reply → List ℕ → Answer
-answerOf Reply.Absent bytes = absent
-answerOf (Reply.Sequencer answer) bytes = bySequencer answer bytes
-answerOf (Reply.Member answer) bytes = byMember answer bytes
 
 -- there is room for one packet more, and for every member
 pub record Room (w : Whole) : Type 0 where

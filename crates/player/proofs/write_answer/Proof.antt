@@ -9,8 +9,10 @@ use lib.ListN.{length, take}
 use lib.Seq.{length-take-le}
 use Rattle.group.specs.Lent.{front}
 use Rattle.group.specs.Limits.{longestPacket}
+use Rattle.model.specs.World.{answerOf}
+use Rattle.report.specs.Print.{lineOf, eventRoom}
 use Rattle.player.specs.Player.{outputRoom}
-use Rattle.player.proofs.Telling.{answer-fits}
+use Rattle.player.proofs.Telling.{fits-in}
 use borrow.Author.Needs.{needs}
 use Rattle.player.proofs.write_answer.Statement.{statement}
 use Rattle.player.proofs.write_answer.Tie as tie
@@ -32,7 +34,8 @@ returns c =
     let b = length-take-le (a .size) (a .t4) (rw m (c .before .before .before .pre)) in
     let p = c .before .before .before .pre in
     let n : length (now (a .out)) ≡ outputRoom = search needs in
-    let e = answer-fits (a .number) (a .reply) (a .index) (take (a .size) (a .t4)) (now (a .out)) (omega arith) in
+    let bytes = take (a .size) (a .t4) in
+    let e = fits-in (eventRoom bytes) (length (now (a .out))) (lineOf (a .number) (answerOf (a .reply) bytes) (a .index)) (omega arith) in
     (c .write-event .ensures .0 ∙ ap length e, c .write-event .ensures .1 ∙ ap (λ (bytes : List ℕ). front bytes (now (a .out))) e)
 
 pub write-answer-spec : {M : Type 1} → statement M

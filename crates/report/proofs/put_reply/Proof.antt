@@ -1,6 +1,7 @@
 -- Absent, or the answer of one end.
 -- Assumes nothing.
-use Rattle.report.specs.Print.{answered, answerFields}
+use Rattle.model.specs.World.{answerOf}
+use Rattle.report.specs.Print.{answerFields}
 use borrow.Author.Needs.{needs}
 use Rattle.report.proofs.put_reply.Statement.{statement}
 use Rattle.report.proofs.put_reply.Tie as tie
@@ -30,21 +31,21 @@ same-length : tie.Need-same-length
 same-length c = search needs
 
 returns : tie.Need-returns
-unfolding answered answerFields
+unfolding answerOf answerFields
 returns c = (rw (c .before .before .before .before .before .enum-told .given .1) (c .before .before .put-word .ensures .0), search needs)
 
 same-length-2 : tie.Need-same-length-2
 same-length-2 c = search needs
 
 returns-2 : tie.Need-returns-2
-unfolding answered answerFields
+unfolding answerOf answerFields
 returns-2 c = (rw (c .before .before .before .before .before .reply .given .1) (c .before .before .put-sequencer .ensures .0), search needs)
 
 same-length-3 : tie.Need-same-length-3
 same-length-3 c = search needs
 
 returns-3 : tie.Need-returns-3
-unfolding answered answerFields
+unfolding answerOf answerFields
 returns-3 c = (rw (c .before .before .before .before .before .reply2 .given .1) (c .before .before .put-member .ensures .0), search needs)
 
 pub put-reply-spec : {M : Type 1} → statement M

@@ -6,7 +6,8 @@ use denote.Ref.{now}
 use lib.ListN.{length}
 use Rattle.text.proofs.Decimal.{decimal-most}
 use Rattle.text.specs.Written.{decimalOf, countDigits}
-use Rattle.report.specs.Print.{eventRoom, answered, answerFields, lineOf}
+use Rattle.model.specs.World.{answerOf}
+use Rattle.report.specs.Print.{eventRoom, answerFields, lineOf}
 use Rattle.text.proofs.Pieces.{laid-line}
 use Rattle.report.proofs.Pieces.{written, unwritten}
 use borrow.Author.Tests.{leb-true, leb-false}
@@ -41,7 +42,7 @@ same-length c = search needs
 returns : tie.Need-returns
 returns c =
     let a = c .before .before .before .before .before .before .before .before .before .before .before .before .before .before .before .before .args in
-    let w = answered (a .reply) (now (a .payload)) in
+    let w = answerOf (a .reply) (now (a .payload)) in
     let h = leb-true (eventRoom (now (c .before .before .before .before .before .before .before .before .before .before .before .before .before .before .before .before .args .payload))) (length (now (c .before .before .before .before .before .before .before .before .before .before .before .before .before .before .before .before .args .out))) (sym (c .before .before .before .before .before .before .before .before .before .before .before .before .before .event-fits .ensures) ∙ c .before .before .before .before .before .before .before .before .before .before .before .before .if1 .taken) in
     written (eventRoom (now (a .payload))) (lineOf (a .number) w (a .index)) (now (a .out)) (c .before .before .put .result) _ h
     (laid-line (decimalOf (a .number)) (answerFields w (a .index)) (c .before .before .before .before .before .before .before .before .before .before .put-decimal .ensures) (c .before .before .before .before .before .before .put-reply .ensures .0) (c .before .before .put .ensures))
@@ -49,7 +50,7 @@ returns c =
 returns-2 : tie.Need-returns-2
 returns-2 c =
     let a = c .before .before .before .before .args in
-    unwritten (eventRoom (now (a .payload))) (lineOf (a .number) (answered (a .reply) (now (a .payload))) (a .index)) (now (a .out)) (leb-false _ _ (sym (c .before .event-fits .ensures) ∙ c .if1 .left))
+    unwritten (eventRoom (now (a .payload))) (lineOf (a .number) (answerOf (a .reply) (now (a .payload))) (a .index)) (now (a .out)) (leb-false _ _ (sym (c .before .event-fits .ensures) ∙ c .if1 .left))
 
 pub write-event-spec : {M : Type 1} → statement M
 write-event-spec =

@@ -5,11 +5,13 @@ use mathlib.Core.List.{[], _∷_, map}
 use Rattle.group.specs.Choice.{if_then_else_}
 use Rattle.group.specs.declared.Refusal.the-variants.{OtherEnd}
 use Rattle.member.specs.declared.Answer.the-variants as member
+use Rattle.member.specs.Wording as memberWording
 use Rattle.model.specs.World.{Answer, absent, bySequencer, byMember}
 use Rattle.sequencer.specs.declared.Answer.the-variants as sequencer
+use Rattle.sequencer.specs.Wording as sequencerWording
 use Rattle.text.specs.Text.{textOf, glyphOf}
 use Rattle.text.specs.Written.{decimalDigits, decimalOf, hexOf, payloadText, spaced}
-use Rattle.report.specs.Print.{sequencerFields, moreText, memberFields, answerFields, lineOf, badLine, noSpace, badOpening, refusedOpening, lastLine}
+use Rattle.report.specs.Print.{moreText, valueText, wordingFields, answerFields, lineOf, badLine, noSpace, badOpening, refusedOpening, lastLine}
 
 -- the document's schedule
 schedule : lineOf 1 (byMember member.Sent []) 0
@@ -20,7 +22,7 @@ schedule : lineOf 1 (byMember member.Sent []) 0
     ∷ lastLine 1 0 (0 ∷ 1 ∷ [])
     ∷ []
     ≡ map textOf ("1 sent 0\n" ∷ "2 numbered 1 1\n" ∷ "3 kept\n" ∷ "4 took 1 1 1 6162 last\n" ∷ "5 none\n" ∷ "top 1 floor 0 taken 0 1\n" ∷ [])
-unfolding answerFields sequencerFields memberFields spaced decimalOf decimalDigits glyphOf payloadText hexOf moreText if_then_else_
+unfolding answerFields wordingFields valueText sequencerWording.wordingOf memberWording.wordingOf spaced decimalOf decimalDigits glyphOf payloadText hexOf moreText if_then_else_
 schedule = refl
 
 -- every other answer
@@ -60,10 +62,10 @@ answers : map (λ (answer : Answer). lineOf 10 answer 199)
     ∷ "10 status 199\n"
     ∷ "10 took 20 15 30 - more\n"
     ∷ [])
-unfolding answerFields sequencerFields memberFields spaced decimalOf decimalDigits glyphOf payloadText hexOf moreText if_then_else_
+unfolding answerFields wordingFields valueText sequencerWording.wordingOf memberWording.wordingOf spaced decimalOf decimalDigits glyphOf payloadText hexOf moreText if_then_else_
 answers = refl
 
 -- the lines without an answer
 notes : badLine 7 ∷ noSpace 201 ∷ badOpening ∷ refusedOpening ∷ [] ≡ map textOf ("7 bad line\n" ∷ "201 no space\n" ∷ "bad line\n" ∷ "refused 18\n" ∷ [])
-unfolding spaced decimalOf decimalDigits glyphOf if_then_else_
+unfolding wordingFields spaced decimalOf decimalDigits glyphOf if_then_else_
 notes = refl

@@ -20,9 +20,9 @@ use Rattle.report.specs.Print.{fitting}
 
 -- a line, where some of its fields are laid with the first
 pub laid-longer : {x y z : ℕ} {lent between behind after : List ℕ} (first : List ℕ) (fields rest : List (List ℕ)) → LaidAt 0 (first ++ spaced fields) lent between x → LaidAt x (spaced rest) between behind y
-    → LaidAt y (lineFeed ∷ []) behind after z → LaidAt 0 (line first (fields ++ rest)) lent after z
+    → LaidAt y (lineFeed ∷ []) behind after z → LaidAt 0 (line (first ∷ (fields ++ rest))) lent after z
 laid-longer first fields rest f g h =
-    let e : line first (fields ++ rest) ≡ (first ++ spaced fields) ++ (spaced rest ++ (lineFeed ∷ [])) = rw spaced-append (simp append-assoc) in
+    let e : line (first ∷ (fields ++ rest)) ≡ (first ++ spaced fields) ++ (spaced rest ++ (lineFeed ∷ [])) = rw spaced-append (simp append-assoc) in
     rw e (laid-then (first ++ spaced fields) (spaced rest ++ (lineFeed ∷ [])) f (laid-then (spaced rest) (lineFeed ∷ []) g h))
 
 -- a line that was laid from the front on where the room was there, and nothing where it was not

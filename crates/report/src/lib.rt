@@ -18,11 +18,14 @@ ghost use Prim.Native.Nat.{_+_, _*_, _≤_, _<_};
 ghost use lib.ListN.{length};
 ghost use Rattle.group.specs.Choice.{_≤?_};
 ghost use Rattle.group.specs.Lent.{front};
+ghost use Rattle.group.specs.Wording.{refusedWording};
+ghost use Rattle.member.specs.Wording as memberWording;
 ghost use Rattle.model.specs.World.{answerOf};
+ghost use Rattle.sequencer.specs.Wording as sequencerWording;
 ghost use Rattle.text.specs.Text.{textOf};
 ghost use Rattle.text.specs.Written.{decimalOf, payloadText, spaced, line, numberDigits, countDigits};
 ghost use Rattle.text.specs.LaidAt.{LaidAt};
-ghost use Rattle.report.specs.Print.{refusedFields, sequencerFields, moreText, memberFields, answerFields, lineOf, badLine, noSpace, badOpening, refusedOpening, lastLine, answerRoom, lineRoom, eventRoom, lastRoom, fitting};
+ghost use Rattle.report.specs.Print.{moreText, wordingFields, answerFields, lineOf, badLine, noSpace, badOpening, refusedOpening, lastLine, answerRoom, lineRoom, eventRoom, lastRoom, fitting};
 
 // The room of the longest answer, which is a take's, beside the digits of its payload: `took`, three numbers, `-`, `more`, and
 // a space before each.
@@ -79,7 +82,7 @@ fn put_wanted(first: u32, last: u32, out: &mut [u8], at: usize) -> usize
 // A refusal and its number.
 fn put_refused(refusal: Refusal, out: &mut [u8], at: usize) -> usize
     requires { ⌜ at + length (textOf "refused") + 2 + numberDigits ≤ length (now out) ⌝ }
-    ensures laid { λ r. ⌜ LaidAt at (spaced (refusedFields refusal)) (now (out .entry)) (now (out .exit)) r ⌝ }
+    ensures laid { λ r. ⌜ LaidAt at (spaced (wordingFields (refusedWording refusal) [] 0)) (now (out .entry)) (now (out .exit)) r ⌝ }
     ensures short { λ r. ⌜ r ≤ at + length (textOf "refused") + 2 + numberDigits ⌝ }
 {
     let next = put_word(b"refused", out, at);
@@ -134,7 +137,7 @@ fn put_took(
 // The sequencer's answer.
 fn put_sequencer(answer: sequencer::Answer, index: usize, out: &mut [u8], at: usize) -> usize
     requires { ⌜ at + answerRoom ≤ length (now out) ⌝ }
-    ensures laid { λ r. ⌜ LaidAt at (spaced (sequencerFields answer index)) (now (out .entry)) (now (out .exit)) r ⌝ }
+    ensures laid { λ r. ⌜ LaidAt at (spaced (wordingFields (sequencerWording.wordingOf answer) [] index)) (now (out .entry)) (now (out .exit)) r ⌝ }
     ensures short { λ r. ⌜ r ≤ at + answerRoom ⌝ }
 {
     match answer {
@@ -158,7 +161,7 @@ fn put_member(
     at: usize,
 ) -> usize
     requires { ⌜ at + answerRoom + 2 * length (now payload) ≤ length (now out) ⌝ }
-    ensures laid { λ r. ⌜ LaidAt at (spaced (memberFields answer (now (payload .entry)) index)) (now (out .entry)) (now (out .exit)) r ⌝ }
+    ensures laid { λ r. ⌜ LaidAt at (spaced (wordingFields (memberWording.wordingOf answer) (now (payload .entry)) index)) (now (out .entry)) (now (out .exit)) r ⌝ }
     ensures short { λ r. ⌜ r ≤ at + answerRoom + 2 * length (now (payload .entry)) ⌝ }
 {
     match answer {
@@ -231,8 +234,8 @@ pub fn write_event(number: u64, reply: Reply, index: usize, payload: &[u8], out:
 // An event's number and a text of at most eight characters.
 fn write_note(number: u64, text: &[u8], out: &mut [u8]) -> usize
     requires { ⌜ length (now text) ≤ 8 ⌝ }
-    ensures size { λ r. ⌜ r ≡ length (fitting lineRoom (length (now (out .entry))) (line (decimalOf number) (now (text .entry) ∷ []))) ⌝ }
-    ensures lent { λ _. ⌜ now (out .exit) ≡ front (fitting lineRoom (length (now (out .entry))) (line (decimalOf number) (now (text .entry) ∷ []))) (now (out .entry)) ⌝ }
+    ensures size { λ r. ⌜ r ≡ length (fitting lineRoom (length (now (out .entry))) (line (decimalOf number ∷ now (text .entry) ∷ []))) ⌝ }
+    ensures lent { λ _. ⌜ now (out .exit) ≡ front (fitting lineRoom (length (now (out .entry))) (line (decimalOf number ∷ now (text .entry) ∷ []))) (now (out .entry)) ⌝ }
 {
     if out.len() < LINE_ROOM {
         return 0;

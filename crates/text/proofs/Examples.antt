@@ -36,6 +36,6 @@ unfolding letterOf digitOf all isHex hexBytes pairsOf if_then_else_
 hexes = refl
 
 -- a line of them
-written : line (textOf "S") (decimalOf 0 ∷ decimalOf 201 ∷ payloadText (0x61 ∷ 0xff ∷ []) ∷ payloadText [] ∷ []) ≡ textOf "S 0 201 61ff -\n"
+written : line (textOf "S" ∷ decimalOf 0 ∷ decimalOf 201 ∷ payloadText (0x61 ∷ 0xff ∷ []) ∷ payloadText [] ∷ []) ≡ textOf "S 0 201 61ff -\n"
 unfolding spaced decimalOf decimalDigits glyphOf payloadText hexOf if_then_else_
 written = refl

@@ -73,5 +73,5 @@ module _ {at x y : ℕ} {lent between after : List ℕ} where
 module _ {x y z : ℕ} {lent between behind after : List ℕ} where
   -- a line: its first field, the others, and the line feed
   pub laid-line : (first : List ℕ) (rest : List (List ℕ)) → LaidAt 0 first lent between x → LaidAt x (spaced rest) between behind y → LaidAt y (lineFeed ∷ []) behind after z
-      → LaidAt 0 (line first rest) lent after z
+      → LaidAt 0 (line (first ∷ rest)) lent after z
   laid-line first rest f g h = laid-then first (spaced rest ++ (lineFeed ∷ [])) f (laid-then (spaced rest) (lineFeed ∷ []) g h)

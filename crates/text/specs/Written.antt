@@ -29,8 +29,9 @@ spaced [] = []
 spaced (field ∷ rest) = space ∷ (field ++ spaced rest)
 
 -- a line: its first field, the others, and the line feed
-abbrev pub line : List ℕ → List (List ℕ) → List ℕ
-line first rest = first ++ (spaced rest ++ (lineFeed ∷ []))
+abbrev pub line : List (List ℕ) → List ℕ
+line [] = lineFeed ∷ []
+line (first ∷ rest) = first ++ (spaced rest ++ (lineFeed ∷ []))
 
 -- the most digits of a number up to the largest, and of one of 64 bits, such as an event's number
 abbrev pub numberDigits : ℕ

@@ -4,6 +4,7 @@ use mathlib.Core.List.{[], _∷_}
 use Rattle.text.proofs.Pieces.{laid-fields}
 use Rattle.text.specs.Written.{decimalOf}
 use Rattle.text.specs.Text.{textOf}
+use Rattle.report.specs.Print.{wordingFields}
 use borrow.Author.Needs.{needs}
 use Rattle.report.proofs.put_refused.Statement.{statement}
 use Rattle.report.proofs.put_refused.Tie as tie
@@ -27,6 +28,7 @@ same-length : tie.Need-same-length
 same-length c = search needs
 
 returns : tie.Need-returns
+unfolding wordingFields
 returns c =
     let a = c .before .before .before .before .before .before .before .before .before .before .before .args in
     (rw (← c .before .before .before .before .number .ensures) (laid-fields (textOf "refused" ∷ []) (decimalOf (c .before .before .before .before .number .result) ∷ []) (c .before .before .before .before .before .before .before .put-word .ensures .0) (c .before .before .put-number .ensures .0)), search needs)

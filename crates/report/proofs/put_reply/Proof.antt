@@ -1,7 +1,10 @@
 -- Absent, or the answer of one end.
 -- Assumes nothing.
+use mathlib.Core.List.{[]}
+use denote.Ref.{now}
 use Rattle.model.specs.World.{answerOf}
 use Rattle.report.specs.Print.{answerFields}
+use Rattle.report.proofs.Wordings.{same-wording}
 use borrow.Author.Needs.{needs}
 use Rattle.report.proofs.put_reply.Statement.{statement}
 use Rattle.report.proofs.put_reply.Tie as tie
@@ -39,7 +42,9 @@ same-length-2 c = search needs
 
 returns-2 : tie.Need-returns-2
 unfolding answerOf answerFields
-returns-2 c = (rw (c .before .before .before .before .before .reply .given .1) (c .before .before .put-sequencer .ensures .0), search needs)
+returns-2 c =
+    let a = c .before .before .before .before .before .before .before .before .before .args in
+    (rw (c .before .before .before .before .before .reply .given .1, same-wording _ (now (a .payload)) [] (a .index)) (c .before .before .put-sequencer .ensures .0), search needs)
 
 same-length-3 : tie.Need-same-length-3
 same-length-3 c = search needs

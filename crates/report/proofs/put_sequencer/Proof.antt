@@ -1,6 +1,7 @@
 -- Each answer has its own writer.
 -- Assumes nothing.
-use Rattle.report.specs.Print.{sequencerFields}
+use Rattle.sequencer.specs.Wording.{wordingOf}
+use Rattle.report.specs.Print.{valueText, wordingFields}
 use borrow.Author.Needs.{needs}
 use Rattle.report.proofs.put_sequencer.Statement.{statement}
 use Rattle.report.proofs.put_sequencer.Tie as tie
@@ -75,56 +76,56 @@ same-length : tie.Need-same-length
 same-length c = search needs
 
 returns : tie.Need-returns
-unfolding sequencerFields
+unfolding wordingOf wordingFields valueText
 returns c = (rw (c .before .before .before .before .before .answer .given .1) (c .before .before .put-refused .ensures .0), search needs)
 
 same-length-2 : tie.Need-same-length-2
 same-length-2 c = search needs
 
 returns-2 : tie.Need-returns-2
-unfolding sequencerFields
+unfolding wordingOf wordingFields valueText
 returns-2 c = (rw (c .before .before .before .before .before .enum-told .given .1) (c .before .before .put-word .ensures .0), search needs)
 
 same-length-3 : tie.Need-same-length-3
 same-length-3 c = search needs
 
 returns-3 : tie.Need-returns-3
-unfolding sequencerFields
+unfolding wordingOf wordingFields valueText
 returns-3 c = (rw (c .before .before .before .before .before .before .answer2 .given .1) (c .before .before .put-numbered .ensures .0), search needs)
 
 same-length-4 : tie.Need-same-length-4
 same-length-4 c = search needs
 
 returns-4 : tie.Need-returns-4
-unfolding sequencerFields
+unfolding wordingOf wordingFields valueText
 returns-4 c = (rw (c .before .before .before .before .before .enum-told2 .given .1) (c .before .before .put-indexed .ensures .0), search needs)
 
 same-length-5 : tie.Need-same-length-5
 same-length-5 c = search needs
 
 returns-5 : tie.Need-returns-5
-unfolding sequencerFields
+unfolding wordingOf wordingFields valueText
 returns-5 c = (rw (c .before .before .before .before .before .before .answer3 .given .1) (c .before .before .put-numbered2 .ensures .0), search needs)
 
 same-length-6 : tie.Need-same-length-6
 same-length-6 c = search needs
 
 returns-6 : tie.Need-returns-6
-unfolding sequencerFields
+unfolding wordingOf wordingFields valueText
 returns-6 c = (rw (c .before .before .before .before .before .enum-told3 .given .1) (c .before .before .put-word2 .ensures .0), search needs)
 
 same-length-7 : tie.Need-same-length-7
 same-length-7 c = search needs
 
 returns-7 : tie.Need-returns-7
-unfolding sequencerFields
+unfolding wordingOf wordingFields valueText
 returns-7 c = (rw (c .before .before .before .before .before .answer4 .given .1) (c .before .before .put-wanted .ensures .0), search needs)
 
 same-length-8 : tie.Need-same-length-8
 same-length-8 c = search needs
 
 returns-8 : tie.Need-returns-8
-unfolding sequencerFields
+unfolding wordingOf wordingFields valueText
 returns-8 c = (rw (c .before .before .before .before .before .enum-told4 .given .1) (c .before .before .put-indexed2 .ensures .0), search needs)
 
 pub put-sequencer-spec : {M : Type 1} → statement M

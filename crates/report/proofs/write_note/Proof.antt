@@ -13,7 +13,7 @@ use Rattle.report.proofs.write_note.Statement.{statement}
 use Rattle.report.proofs.write_note.Tie as tie
 
 returns : tie.Need-returns
-returns c = let a = c .before .before .before .args in unwritten lineRoom (line (decimalOf (a .number)) (now (a .text) ∷ [])) (now (a .out)) (search needs)
+returns c = let a = c .before .before .before .args in unwritten lineRoom (line (decimalOf (a .number) ∷ now (a .text) ∷ [])) (now (a .out)) (search needs)
 
 put-decimal-requires : tie.Need-put-decimal-requires
 put-decimal-requires c κs = let m = decimal-most countDigits (c .before .before .before .before .args .number) (omega arith) (omega arith) in omega arith
@@ -30,7 +30,7 @@ same-length c = search needs
 returns-2 : tie.Need-returns-2
 returns-2 c =
     let a = c .before .before .before .before .before .before .before .before .before .before .before .before .before .before .before .args in
-    written lineRoom (line (decimalOf (a .number)) (now (a .text) ∷ [])) (now (a .out)) (c .before .before .put .result) _ (search needs)
+    written lineRoom (line (decimalOf (a .number) ∷ now (a .text) ∷ [])) (now (a .out)) (c .before .before .put .result) _ (search needs)
     (laid-line (decimalOf (a .number)) (now (a .text) ∷ []) (c .before .before .before .before .before .before .before .before .before .before .put-decimal .ensures) (c .before .before .before .before .before .before .put-word .ensures .0) (c .before .before .put .ensures))
 
 pub write-note-spec : {M : Type 1} → statement M

@@ -3,7 +3,7 @@
 use mathlib.Core.List.{[], _∷_}
 use denote.Ref.{now}
 use Rattle.text.specs.Written.{decimalOf}
-use Rattle.report.specs.Print.{lineRoom, refusedOpening}
+use Rattle.report.specs.Print.{wordingFields, lineRoom, refusedOpening}
 use Rattle.text.specs.Text.{textOf}
 use Rattle.text.proofs.Pieces.{laid-line}
 use Rattle.report.proofs.Pieces.{written, unwritten}
@@ -36,6 +36,7 @@ same-length : tie.Need-same-length
 same-length c = search needs
 
 returns-2 : tie.Need-returns-2
+unfolding wordingFields
 returns-2 c =
     let e = c .before .before .before .before .before .before .before .before .number .ensures in
     written lineRoom refusedOpening (now (c .before .before .before .before .before .before .before .before .before .before .before .before .before .before .before .before .args .out)) (c .before .before .put .result) _ (search needs)

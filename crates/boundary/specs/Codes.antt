@@ -1,25 +1,47 @@
--- How answers cross the boundary: as numbers.
-use Prim.Native.Nat.{ℕ}
+-- How answers cross the boundary: as numbers, by their wording.
 use mathlib.Core.List.{List, [], _∷_}
-use Rattle.group.specs.Refusal.{numberOf}
+use Prim.Native.Nat.{ℕ}
+use lib.ListN.{getD}
+use Rattle.group.specs.Wording.{Value, Wording}
+use Rattle.packet.specs.Wording.{readingWording, writingWording}
 use Rattle.packet.specs.declared.Header.{Header}
 use Rattle.packet.specs.declared.Reading.{Reading}
 use Rattle.packet.specs.declared.Writing.{Writing}
 
+-- the numbers among the values of an answer
+unfoldable pub numbersIn : List Value → List ℕ
+numbersIn [] = []
+numbersIn (Value.number n ∷ rest) = n ∷ numbersIn rest
+numbersIn (Value.payload ∷ rest) = numbersIn rest
+numbersIn (Value.more m ∷ rest) = numbersIn rest
+numbersIn (Value.packet ∷ rest) = numbersIn rest
+
+-- 0 for a word, else the number of the refusal
+unfoldable pub codeOf : Wording → ℕ
+codeOf (Wording.refusal k) = k
+codeOf (Wording.word w values) = 0
+
+-- the lent numbers after the answer: its own; where it is a refusal they keep their values
+unfoldable pub numbersAfter : Wording → List ℕ → List ℕ
+numbersAfter (Wording.refusal k) lent = lent
+numbersAfter (Wording.word w values) lent = numbersIn values
+
+-- the first number of the answer, else the number of the refusal
+unfoldable pub firstNumber : Wording → ℕ
+firstNumber (Wording.refusal k) = k
+firstNumber (Wording.word w values) = getD (numbersIn values) 0 0
+
 -- 0 for fields, else the number of the refusal
-unfoldable pub readCode : Reading → ℕ
-readCode (Reading.Fields h) = 0
-readCode (Reading.Refused q) = numberOf q
+abbrev pub readCode : Reading → ℕ
+readCode reading = codeOf (readingWording reading)
 
 -- the lent fields after reading: kind, member, group, A, B, C; where it is refused they keep their values
-unfoldable pub fieldsAfter : Reading → List ℕ → List ℕ
-fieldsAfter (Reading.Fields h) lent = h .kind ∷ h .member .0 ∷ h .group ∷ h .a ∷ h .b ∷ h .c ∷ []
-fieldsAfter (Reading.Refused q) lent = lent
+abbrev pub fieldsAfter : Reading → List ℕ → List ℕ
+fieldsAfter reading lent = numbersAfter (readingWording reading) lent
 
 -- how many bytes were written, at least 20, else the number of the refusal, at most 18
-unfoldable pub writeCode : Writing → ℕ
-writeCode (Writing.Bytes k) = k
-writeCode (Writing.Refused q) = numberOf q
+abbrev pub writeCode : Writing → ℕ
+writeCode writing = firstNumber (writingWording writing)
 
 -- the fields of a header
 unfoldable pub headerWith : ℕ → ℕ → ℕ → ℕ → ℕ → ℕ → Header

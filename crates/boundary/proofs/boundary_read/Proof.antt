@@ -2,7 +2,8 @@
 -- Assumes nothing.
 use denote.Ref.{now}
 use mathlib.Core.Path.{sym, ap, _∙_}
-use Rattle.boundary.specs.Codes.{readCode, fieldsAfter}
+use Rattle.packet.specs.Wording.{readingWording}
+use Rattle.boundary.specs.Codes.{numbersIn, codeOf, numbersAfter, readCode, fieldsAfter}
 use borrow.Author.Needs.{needs}
 use Rattle.boundary.proofs.boundary_read.Statement.{statement}
 use Rattle.boundary.proofs.boundary_read.Tie as tie
@@ -26,15 +27,15 @@ number-requires : tie.Need-number-requires
 number-requires c κs = search needs
 
 returns : tie.Need-returns
-unfolding readCode fieldsAfter
+unfolding readingWording numbersIn codeOf numbersAfter
 returns c =
-    let e = sym (c .before .before .before .before .reading .given .1) ∙ c .before .before .before .before .before .before .read .ensures in
+    let e = sym (c .before .before .before .before .reading .given .1) ∙ c .before .before .before .before .before .before .read .ensures .0 in
     (ap readCode e, ap (λ r. fieldsAfter r (now (c .before .before .before .before .before .before .before .before .args .fields))) e)
 
 returns-2 : tie.Need-returns-2
-unfolding readCode fieldsAfter
+unfolding readingWording numbersIn codeOf numbersAfter
 returns-2 c =
-    let e = sym (c .before .before .reading2 .given .1) ∙ c .before .before .before .before .read .ensures in
+    let e = sym (c .before .before .reading2 .given .1) ∙ c .before .before .before .before .read .ensures .0 in
     (c .number .ensures ∙ ap readCode e, ap (λ r. fieldsAfter r (now (c .before .before .before .before .before .before .args .fields))) e)
 
 pub boundary-read-spec : {M : Type 1} → statement M

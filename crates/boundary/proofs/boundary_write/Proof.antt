@@ -1,7 +1,8 @@
 -- What is written settles the code.
 -- Assumes nothing.
 use mathlib.Core.Path.{sym, ap, _∙_}
-use Rattle.boundary.specs.Codes.{writeCode, headerWith}
+use Rattle.packet.specs.Wording.{writingWording}
+use Rattle.boundary.specs.Codes.{numbersIn, firstNumber, writeCode, headerWith}
 use borrow.Author.Needs.{needs}
 use Rattle.boundary.proofs.boundary_write.Statement.{statement}
 use Rattle.boundary.proofs.boundary_write.Tie as tie
@@ -25,19 +26,19 @@ same-length : tie.Need-same-length
 same-length c = search needs
 
 returns : tie.Need-returns
-unfolding writeCode headerWith
+unfolding writingWording numbersIn firstNumber headerWith
 returns c =
     let e = sym (c .before .writing .given .1) ∙ c .before .before .before .before .before .write .ensures .0 in
-    (ap writeCode e, c .before .before .before .before .before .write .ensures .1)
+    (ap writeCode e, c .before .before .before .before .before .write .ensures .1 .0)
 
 same-length-2 : tie.Need-same-length-2
 same-length-2 c = search needs
 
 returns-2 : tie.Need-returns-2
-unfolding writeCode headerWith
+unfolding writingWording numbersIn firstNumber headerWith
 returns-2 c =
     let e = sym (c .before .before .writing2 .given .1) ∙ c .before .before .before .before .before .before .write .ensures .0 in
-    (c .number .ensures ∙ ap writeCode e, c .before .before .before .before .before .before .write .ensures .1)
+    (c .number .ensures ∙ ap writeCode e, c .before .before .before .before .before .before .write .ensures .1 .0)
 
 pub boundary-write-spec : {M : Type 1} → statement M
 boundary-write-spec =

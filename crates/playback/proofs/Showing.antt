@@ -1,18 +1,16 @@
 -- A text behind what is shown, as much of it as has room. Assumes nothing.
 use mathlib.Core.Path.{_≡_, refl, sym, ap, _∙_, subst}
-use mathlib.Core.List.{List, [], _++_, append-nil, append-assoc}
-use Prim.Native.Nat.{ℕ, _+_, _-_, _≤_, _<_}
+use mathlib.Core.List.{List, [], _++_, append-nil}
+use Prim.Native.Nat.{ℕ, _+_, _-_, _≤_}
 use native.Mathlib.Omega.{arith}
 use borrow.Author.Tests.{ltb-true, ltb-false}
 use lib.ListN.{length, take, drop, length-append, length-drop}
-use lib.Seq.{length-take-le, take-at, take-all, take-nil, take-take, take-append-le, take-append-add, drop-drop}
+use lib.Seq.{length-take-le, take-all, take-nil, take-take, take-append-le, take-append-add}
 use Rattle.group.proofs.Lists.{if-elim, le-or}
 use Rattle.group.specs.Choice.{if_then_else_, _<?_}
 use Rattle.group.specs.Lent.{front}
 use Rattle.packet.proofs.Parts.{behind}
 use Rattle.player.proofs.Keeping.{smaller-fits}
-use Rattle.player.specs.Feed.{State, start, fedOf}
-use Rattle.player.specs.Laws.{Prints, feeds}
 use Rattle.playback.specs.Shown.{shownOf, Shows}
 
 shown-more : (printed text : List ℕ) (room : ℕ) → shownOf (printed ++ text) room ≡ shownOf printed room ++ take (room - length (shownOf printed room)) text
@@ -86,33 +84,9 @@ whole-text text size most n =
     if-elim (λ (x : ℕ). take x text ≡ take size text) (size <? most) (λ t. refl)
     (λ t. let z = ltb-false size most t in take-all most text (omega arith) ∙ sym (take-all size text (omega arith)))
 
--- the rest of the input, part by part
-pub feeds-on : (input rest printed : List ℕ) (s : State) (from used : ℕ) → rest ≡ take (length input - from) (drop from input) → used ≡ fedOf s rest .used
-    → from < length input
-    → ((output : List ℕ) → Prints s (drop from input) output → Prints start input (printed ++ output))
-    → (output : List ℕ) → Prints (fedOf s rest .state) (drop (from + used) input) output → Prints start input ((printed ++ fedOf s rest .text) ++ output)
-feeds-on input rest printed s from used r u h k output p =
-    let all : rest ≡ drop from input = r ∙ take-all (length input - from) (drop from input) (let d = length-drop from input in omega arith) in
-    let d : drop (from + used) input ≡ drop (fedOf s rest .used) rest = sym (drop-drop used from input) ∙ ap (drop used) (sym all) ∙ ap (λ (x : ℕ). drop x rest) u in
-    let q : Prints (fedOf s rest .state) (drop (fedOf s rest .used) rest ++ []) output = subst (λ (l : List ℕ). Prints (fedOf s rest .state) l output) (d ∙ sym (append-nil _)) p in
-    let f : Prints s (rest ++ []) (fedOf s rest .text ++ output) = feeds s rest [] q in
-    let g : Prints s (drop from input) (fedOf s rest .text ++ output) = subst (λ (l : List ℕ). Prints s l (fedOf s rest .text ++ output)) (append-nil rest ∙ all) f in
-    subst (λ (l : List ℕ). Prints start input l) (sym (append-assoc printed (fedOf s rest .text) output)) (k (fedOf s rest .text ++ output) g)
-
--- the text that was laid at the front of an output
-pub laid-front : (text lent after : List ℕ) (size : ℕ) → after ≡ front text lent → size ≡ length text → take size after ≡ text
-laid-front text lent after size a e = rw (a, e) (take-at text (drop (length text) lent) (length text) refl)
-
 -- nothing is shown of nothing
 pub shows-none : (lent : List ℕ) → Shows [] lent lent 0
 shows-none lent = record { size = sym (ap length (take-nil (length lent))); text = ap (λ (l : List ℕ). front l lent) (sym (take-nil (length lent))) }
 
 pub as-shown : {x y lent now : List ℕ} {at : ℕ} → x ≡ y → Shows x lent now at → Shows y lent now at
 as-shown {x} {y} {lent} {now} {at} e s = subst (λ (z : List ℕ). Shows z lent now at) e s
-
--- a state, and the rest of the input, under another name
-pub prints-from : {s t : State} {input output : List ℕ} → s ≡ t → Prints s input output → Prints t input output
-prints-from {s} {t} {input} {output} e p = subst (λ (x : State). Prints x input output) e p
-
-pub prints-rest : {s : State} {input rest output : List ℕ} → input ≡ rest → Prints s input output → Prints s rest output
-prints-rest {s} {input} {rest} {output} e p = subst (λ (x : List ℕ). Prints s x output) e p

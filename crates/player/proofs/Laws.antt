@@ -9,10 +9,11 @@ use native.Mathlib.Omega.{arith}
 use native.Mathlib.Nat.{zero-add, le-refl}
 use native.Mathlib.Numerals.{add-one}
 use lib.ListN.{length, take, drop, length-drop}
-use lib.Seq.{length-take-le, take-all, drop-length}
+use lib.Seq.{length-take-le, take-at, take-all, drop-length, drop-drop}
 use Rattle.group.proofs.Choice.{if-eq, if-ne, if-nle}
 use Rattle.group.proofs.Lists.{le-or}
 use Rattle.group.specs.Choice.{if_then_else_, _=?_}
+use Rattle.group.specs.Lent.{front}
 use borrow.Author.Tests.{eqb-true, eqb-false}
 use Rattle.text.proofs.Split.{found-from}
 use Rattle.text.specs.Field.{firstFrom, lineEnd, before, linesOf}
@@ -21,9 +22,9 @@ use Rattle.text.specs.Text.{lineFeed}
 use Rattle.text.specs.declared.Found.{Found}
 use Rattle.text.specs.declared.Found.the-variants.{At, Nothing}
 use Rattle.schedule.specs.declared.Opening.{Opening}
-use Rattle.player.specs.Play.{Stage, opening, running, ended, closed, Told, eventTold, openTold, lineTold, lastOf, linesTold}
-use Rattle.player.specs.Feed.{keptMost, keptOf, State, Fed, fedUpTo, fedOf, endOf}
-use Rattle.player.specs.Laws.{Prints, ends, feeds, ReadsOn, PrintsPlay}
+use Rattle.player.specs.Play.{Stage, opening, running, ended, closed, Told, eventTold, openTold, lineTold, lastOf, linesTold, playOf}
+use Rattle.player.specs.Feed.{keptMost, keptOf, State, start, Fed, fedUpTo, fedOf, endOf}
+use Rattle.player.specs.Laws.{Prints, ends, feeds, Continues, ReadsOn, PrintsPlay}
 use Rattle.player.proofs.Keeping.{kept-kept}
 
 -- a line over 1,000 characters is of another form, cut or not
@@ -192,3 +193,29 @@ reads-within s part rest from used r h e =
     let lo = k .0 in
     let hi = k .1 in
     (omega arith, omega arith)
+
+-- the text that was laid at the front of an output
+pub laid-front : (text lent after : List ℕ) (size : ℕ) → after ≡ front text lent → size ≡ length text → take size after ≡ text
+laid-front text lent after size a e = rw (a, e) (take-at text (drop (length text) lent) (length text) refl)
+
+-- nothing was read; a part of what is left was fed; nothing is left
+pub continues-none : (s t : State) (input : List ℕ) → t ≡ s → Continues s input [] t input
+continues-none s t input e rest output p = subst (λ (x : State). Prints x (input ++ rest) output) e p
+
+pub continues-fed : (s t u : State) (input printed part : List ℕ) (from used : ℕ) → part ≡ take (length input - from) (drop from input) → used ≡ fedOf t part .used → u ≡ fedOf t part .state
+    → Continues s input printed t (drop from input) → Continues s input (printed ++ fedOf t part .text) u (drop (from + used) input)
+continues-fed s t u input printed part from used r n e k rest output p =
+    let fed = fedOf t part in
+    let all : part ≡ drop from input = r ∙ take-all (length input - from) (drop from input) (let d = length-drop from input in omega arith) in
+    let d : drop (from + used) input ≡ drop (fed .used) part = sym (drop-drop used from input) ∙ ap (drop used) (sym all) ∙ ap (λ (x : ℕ). drop x part) n in
+    let q : Prints (fed .state) (drop (fed .used) part ++ rest) output =
+    subst (λ (x : State). Prints x (drop (fed .used) part ++ rest) output) e (subst (λ (l : List ℕ). Prints u (l ++ rest) output) d p) in
+    let f : Prints t (drop from input ++ rest) (fed .text ++ output) = subst (λ (l : List ℕ). Prints t (l ++ rest) (fed .text ++ output)) all (feeds t part rest q) in
+    subst (λ (l : List ℕ). Prints s (input ++ rest) l) (sym (append-assoc printed (fed .text) output)) (k rest (fed .text ++ output) f)
+
+pub continues-end : (s : State) (input printed left : List ℕ) → left ≡ [] → Continues start input printed s left
+    → printed ++ (endOf s .text ++ lastOf (endOf s .state .stage)) ≡ playOf input
+continues-end s input printed left e k =
+    let last = endOf s .text ++ lastOf (endOf s .state .stage) in
+    let p : Prints s (left ++ []) last = subst (λ (l : List ℕ). Prints s l last) (sym (append-nil left ∙ e)) (ends s) in
+    prints-play input (printed ++ last) (subst (λ (l : List ℕ). Prints start l (printed ++ last)) (append-nil input) (k [] last p))

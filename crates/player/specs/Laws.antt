@@ -12,6 +12,12 @@ pub data Prints : State → List ℕ → List ℕ → Type 0 where
   feeds : {output : List ℕ} (s : State) (part rest : List ℕ) → Prints (fedOf s part .state) (drop (fedOf s part .used) part ++ rest) output
       → Prints s (part ++ rest) (fedOf s part .text ++ output)
 
+-- an input was read but for what is left of it, and something printed: whatever stands behind the input, what the rest prints
+-- goes behind what was printed
+abbrev pub Continues : State → List ℕ → List ℕ → State → List ℕ → Type 0
+Continues from input printed to left =
+    (rest output : List ℕ) → Prints to (left ++ rest) output → Prints from (input ++ rest) (printed ++ output)
+
 -- a part that is not empty is read further, and no further than its end
 abbrev pub ReadsOn : Type 0
 ReadsOn = (s : State) (part : List ℕ) → 1 ≤ length part → (1 ≤ fedOf s part .used) × (fedOf s part .used ≤ length part)

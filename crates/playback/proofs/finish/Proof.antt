@@ -1,14 +1,13 @@
 -- The line that is left, and then the last.
 -- Assumes nothing.
-use mathlib.Core.Path.{_≡_, sym, ap, _∙_, subst}
+use mathlib.Core.Path.{ap, _∙_}
 use mathlib.Core.List.{List, _++_, append-assoc}
 use Prim.Native.Nat.{ℕ}
-use denote.Ref.{now}
-use lib.ListN.{length, take}
+use Rattle.player.proofs.Laws.{laid-front}
 use Rattle.player.specs.Feed.{State, endOf}
 use Rattle.player.specs.Play.{lastOf}
 use Rattle.player.specs.Player.{stateOf}
-use Rattle.playback.proofs.Showing.{laid-front, as-shown}
+use Rattle.playback.proofs.Showing.{as-shown}
 use borrow.Author.Needs.{needs}
 use Rattle.playback.proofs.finish.Statement.{statement}
 use Rattle.playback.proofs.finish.Tie as tie

@@ -1,23 +1,23 @@
 -- What the rest of the input prints goes behind what is shown.
 -- Assumes nothing.
-use mathlib.Core.Path.{_≡_, refl, sym, ap}
+use mathlib.Core.Path.{_≡_, refl, ap}
 use mathlib.Core.List.{List, [], _++_}
 use Prim.Native.Nat.{ℕ, _+_, _-_, _≤_, _<_}
 use native.Mathlib.Omega.{arith}
 use denote.Ref.{now}
 use lib.ListN.{length, take, drop, drop-of-length-le}
-use Rattle.player.proofs.Laws.{prints-play, reads-within}
+use Rattle.player.proofs.Laws.{reads-within, laid-front, continues-none, continues-fed, continues-end}
 use Rattle.player.specs.Feed.{start, fedOf}
-use Rattle.player.specs.Laws.{Prints, ends}
+use Rattle.player.specs.Laws.{Continues}
 use Rattle.player.specs.Player.{stateOf}
 use Rattle.playback.specs.Shown.{Shows}
-use Rattle.playback.proofs.Showing.{laid-front, feeds-on, shows-none, as-shown, prints-from, prints-rest}
+use Rattle.playback.proofs.Showing.{shows-none, as-shown}
 use borrow.Author.Needs.{needs}
 use Rattle.playback.proofs.play.Statement.{statement}
 use Rattle.playback.proofs.play.Tie as tie
 
 abbrev Inv-loop : tie.InvT-loop
-Inv-loop input out₀ player₀ from₀ at₀ out player from at = (from ≤ length input) × (at ≤ length out) × (length out ≡ length out₀) × ((printed : List ℕ) × Shows printed out₀ out at × ((output : List ℕ) → Prints (stateOf player) (drop from input) output → Prints start input (printed ++ output)))
+Inv-loop input out₀ player₀ from₀ at₀ out player from at = (from ≤ length input) × (at ≤ length out) × (length out ≡ length out₀) × ((printed : List ℕ) × Shows printed out₀ out at × Continues start input printed (stateOf player) (drop from input))
 
 abbrev μ-loop : tie.MeasureT-loop
 μ-loop input out₀ player₀ from₀ at₀ out player from at = length input - from
@@ -27,7 +27,7 @@ fresh-requires c κs = search needs
 
 loop-holds : tie.Need-loop-holds Inv-loop μ-loop
 loop-holds c =
-    (search needs, search needs, refl, ([], shows-none _, λ output p. prints-from (c .fresh .ensures) p))
+    (search needs, search needs, refl, ([], shows-none _, continues-none start _ (now (c .before .before .before .args .input)) (c .fresh .ensures)))
 
 sub-feed : tie.Need-sub-feed Inv-loop μ-loop
 sub-feed c = search needs
@@ -60,8 +60,8 @@ loop-again c =
     let t = laid-front (fedOf (stateOf (l .player)) (take (length (now (c .before .before .before .before .before .before .before .before .before .before .before .before .before .before .args .input)) - l .from) (drop (l .from) (now (c .before .before .before .before .before .before .before .before .before .before .before .before .before .before .args .input)))) .text) _ _ _ (d .output) (d .written) in
     let k = l .inv .3 in
     let s = as-shown (ap (λ (x : List ℕ). k .0 ++ x) t) (c .before .before .before .before .put .ensures .0 (k .0) _ (k .1)) in
-    let f = feeds-on (now (c .before .before .before .before .before .before .before .before .before .before .before .before .before .before .args .input)) _ (k .0) (stateOf (l .player)) (l .from) _ refl (d .used) (c .before .before .before .before .before .before .before .before .before .loop-test .taken) (k .2) in
-    (w .1, c .before .before .before .before .put .ensures .1, search needs, (_, s, λ output p. f output (prints-from (d .state) p)))
+    let f = continues-fed start (stateOf (l .player)) _ (now (c .before .before .before .before .before .before .before .before .before .before .before .before .before .before .args .input)) (k .0) _ (l .from) _ refl (d .used) (d .state) (k .2) in
+    (w .1, c .before .before .before .before .put .ensures .1, search needs, (_, s, f))
 
 finish-requires : tie.Need-finish-requires Inv-loop μ-loop
 finish-requires c κs = search needs
@@ -75,8 +75,7 @@ returns c =
     let l = c .before .before .before .before .before .loop in
     let k = l .inv .3 in
     let none : drop (l .from) (now (a .input)) ≡ [] = drop-of-length-le (now (a .input)) {i = l .from} (c .before .before .before .before .loop-test .left) in
-    let p = k .2 _ (prints-rest (sym none) (ends (stateOf (l .player)))) in
-    let s = as-shown (prints-play (now (a .input)) _ p) (c .before .before .finish .ensures (k .0) _ (k .1)) in
+    let s = as-shown (continues-end (stateOf (l .player)) (now (a .input)) (k .0) _ none (k .2)) (c .before .before .finish .ensures (k .0) _ (k .1)) in
     (s .size, s .text)
 
 pub play-spec : {M : Type 1} → statement M

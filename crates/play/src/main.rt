@@ -1,4 +1,9 @@
 // Plays the schedule on standard input, and prints what each event answers.
+use descriptor::Sink;
+use descriptor::Source;
+
 fn main() {
-    stream::play(libc::STDIN_FILENO, libc::STDOUT_FILENO);
+    let source = Source::of(libc::STDIN_FILENO);
+    let sink = Sink::to(libc::STDOUT_FILENO);
+    stream::play(source, sink);
 }

@@ -1,5 +1,7 @@
 // Plays the stored schedules one after the other: files 000, 001 and so on, up to the first that is not there.
 ghost use Prim.Native.Nat.{_<_};
+use descriptor::Sink;
+use descriptor::Source;
 use libc::STDOUT_FILENO;
 
 fn digit(n: u32) -> u8
@@ -21,7 +23,9 @@ fn play_stored(number: u32) -> bool
     if input < 0 {
         return false;
     }
-    stream::play(input, STDOUT_FILENO);
+    let source = Source::of(input);
+    let sink = Sink::to(STDOUT_FILENO);
+    stream::play(source, sink);
     libc::close(input);
     true
 }

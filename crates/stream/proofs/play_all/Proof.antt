@@ -1,20 +1,25 @@
--- The turns that are left grow fewer. Nothing has to hold from turn to turn.
+-- The loop's invariant: what was played since its first turn.
 -- Assumes nothing.
+use Rattle.stream.specs.Steps.{Turns}
+use Rattle.stream.proofs.Laws.{turns-none, turns-both}
 use borrow.Author.Needs.{needs}
 use Rattle.stream.proofs.play_all.Statement.{statement}
 use Rattle.stream.proofs.play_all.Tie as tie
 
 abbrev Inv-loop : tie.InvT-loop
-Inv-loop player₀ input output turns₀ player turns = Unit {0}
+Inv-loop turn₀ turns₀ turn turns = Turns (turn₀ .player) (turn₀ .source) (turn₀ .sink) turn
 
 abbrev μ-loop : tie.MeasureT-loop
-μ-loop player₀ input output turns₀ player turns = turns
-
-loop-holds : tie.Need-loop-holds Inv-loop μ-loop
-loop-holds c = search needs
+μ-loop turn₀ turns₀ turn turns = turns
 
 play-some-requires : tie.Need-play-some-requires Inv-loop μ-loop
 play-some-requires c κs = search needs
+
+loop-holds : tie.Need-loop-holds Inv-loop μ-loop
+loop-holds c = turns-none _
+
+play-some-requires-2 : tie.Need-play-some-requires-2 Inv-loop μ-loop
+play-some-requires-2 c κs = search needs
 
 sub-turns : tie.Need-sub-turns Inv-loop μ-loop
 sub-turns c = search needs
@@ -23,13 +28,13 @@ loop-less : tie.Need-loop-less Inv-loop μ-loop
 loop-less c = search needs
 
 loop-again : tie.Need-loop-again Inv-loop μ-loop
-loop-again c = search needs
+loop-again c = turns-both (c .before .before .before .before .before .before .loop .inv) (c .play-some2 .ensures)
 
 returns : tie.Need-returns Inv-loop μ-loop
-returns c = search needs
+returns c = turns-both (c .before .before .before .play-some .ensures) (c .before .before .loop .inv)
 
 returns-2 : tie.Need-returns-2 Inv-loop μ-loop
-returns-2 c = search needs
+returns-2 c = turns-both (c .before .before .play-some .ensures) (c .before .loop .inv)
 
 pub play-all-spec : {M : Type 1} → statement M
 play-all-spec =
@@ -37,8 +42,9 @@ play-all-spec =
     (tie.spec
     Inv-loop
     μ-loop
-    loop-holds
     play-some-requires
+    loop-holds
+    play-some-requires-2
     sub-turns
     loop-less
     loop-again

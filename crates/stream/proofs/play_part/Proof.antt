@@ -1,22 +1,30 @@
--- The loop goes on from where the part was read to.
+-- What the rest of the part prints goes behind what the sink took.
 -- Assumes nothing.
 use mathlib.Core.Path.{refl}
-use Prim.Native.Nat.{_+_, _-_, _≤_}
+use Prim.Native.Nat.{_+_, _-_, _≤_, _<_}
+use native.Mathlib.Omega.{arith}
 use denote.Ref.{now}
-use lib.ListN.{length}
-use Rattle.player.proofs.Laws.{reads-within}
+use lib.ListN.{length, take, drop, drop-of-length-le}
+use Rattle.descriptor.proofs.Laws.{takes-both}
+use Rattle.player.proofs.Laws.{reads-within, laid-front, continues-fed}
+use Rattle.player.specs.Feed.{fedOf}
+use Rattle.player.specs.Player.{stateOf}
+use Rattle.stream.specs.Steps.{Puts}
+use Rattle.stream.proofs.Laws.{puts-none}
 use borrow.Author.Needs.{needs}
 use Rattle.stream.proofs.play_part.Statement.{statement}
 use Rattle.stream.proofs.play_part.Tie as tie
 
 abbrev Inv-loop : tie.InvT-loop
-Inv-loop player₀ part output from₀ player from = from ≤ length part
+Inv-loop player₀ part sink₀ from₀ player sink from = (from ≤ length part) × Puts (stateOf player₀) part (stateOf player) (drop from part) sink₀ sink
 
 abbrev μ-loop : tie.MeasureT-loop
-μ-loop player₀ part output from₀ player from = length part - from
+μ-loop player₀ part sink₀ from₀ player sink from = length part - from
 
 loop-holds : tie.Need-loop-holds Inv-loop μ-loop
-loop-holds c = search needs
+loop-holds c =
+    let a = c .before .args in
+    (search needs, puts-none (stateOf (a .player)) (now (a .part)) (a .sink))
 
 sub-feed : tie.Need-sub-feed Inv-loop μ-loop
 sub-feed c = search needs
@@ -30,26 +38,51 @@ part-feed-end c = search needs
 feed-requires : tie.Need-feed-requires Inv-loop μ-loop
 feed-requires c κs = search needs
 
-write-requires : tie.Need-write-requires Inv-loop μ-loop
-write-requires c κs = search needs
+put-requires : tie.Need-put-requires Inv-loop μ-loop
+put-requires c κs = search needs
 
 add-from : tie.Need-add-from Inv-loop μ-loop
 add-from c =
-    let w = reads-within _ (now (c .before .before .before .before .before .before .before .before .before .before .args .part)) _ (c .before .before .before .before .before .before .before .before .loop .from) _ refl (c .before .before .before .before .before .before .before .loop-test .taken) (c .before .before .before .before .feed .ensures .used) .1 in let y : c .before .before .before .before .before .before .before .before .loop .from + c .before .before .before .before .feed .result .used ≤ length (now (c .before .before .before .before .before .before .before .before .before .before .args .part)) = w in search needs
+    let a = c .before .before .before .before .before .before .before .before .before .args in
+    let l = c .before .before .before .before .before .before .before .loop in
+    let r = c .before .before .before .feed in
+    let w = reads-within _ (now (a .part)) _ (l .from) _ refl (c .before .before .before .before .before .before .loop-test .taken) (r .ensures .used) in
+    let y : l .from + r .result .used ≤ length (now (a .part)) = w .1 in
+    let g = c .before .before .before .before .before .before .before .before .before .good .1 .0 in
+    let z : l .from + r .result .used < 18446744073709551616 = omega arith in
+    record { fits = z }
 
 loop-less : tie.Need-loop-less Inv-loop μ-loop
 loop-less c =
-    let w = reads-within _ (now (c .before .before .before .before .before .before .before .before .before .before .args .part)) _ (c .before .before .before .before .before .before .before .before .loop .from) _ refl (c .before .before .before .before .before .before .before .loop-test .taken) (c .before .before .before .before .feed .ensures .used) in let y : c .before .before .before .before .before .before .before .before .loop .from + c .before .before .before .before .feed .result .used ≤ length (now (c .before .before .before .before .before .before .before .before .before .before .args .part)) = w .1 in let z : 1 ≤ c .before .before .before .before .feed .result .used = w .0 in search needs
+    let a = c .before .before .before .before .before .before .before .before .before .args in
+    let l = c .before .before .before .before .before .before .before .loop in
+    let r = c .before .before .before .feed in
+    let w = reads-within _ (now (a .part)) _ (l .from) _ refl (c .before .before .before .before .before .before .loop-test .taken) (r .ensures .used) in
+    let y : l .from + r .result .used ≤ length (now (a .part)) = w .1 in
+    let z : 1 ≤ r .result .used = w .0 in
+    search needs
 
 loop-again : tie.Need-loop-again Inv-loop μ-loop
 loop-again c =
-    reads-within _ (now (c .before .before .before .before .before .before .before .before .before .before .args .part)) _ (c .before .before .before .before .before .before .before .before .loop .from) _ refl (c .before .before .before .before .before .before .before .loop-test .taken) (c .before .before .before .before .feed .ensures .used) .1
+    let part = now (c .before .before .before .before .before .before .before .before .before .args .part) in
+    let l = c .before .before .before .before .before .before .before .loop in
+    let d = c .before .before .before .feed .ensures in
+    let w = reads-within _ part _ (l .from) _ refl (c .before .before .before .before .before .before .loop-test .taken) (d .used) in
+    let t = laid-front (fedOf (stateOf (l .player)) (take (length part - l .from) (drop (l .from) part)) .text) _ _ _ (d .output) (d .written) in
+    let k = l .inv .1 in (
+      w .1,
+      record {
+        printed = _;
+        takes = takes-both (k .takes) (rw t at (c .before .before .put .ensures));
+        continues = continues-fed _ (stateOf (l .player)) _ part (k .printed) _ (l .from) _ refl (d .used) (d .state) (k .continues);
+      },
+    )
 
 returns : tie.Need-returns Inv-loop μ-loop
-returns c = search needs
-
-returns-2 : tie.Need-returns-2 Inv-loop μ-loop
-returns-2 c = search needs
+returns c =
+    let part = now (c .before .before .before .args .part) in
+    let l = c .before .loop in
+    rw (drop-of-length-le part {i = l .from} (c .loop-test .left)) at (l .inv .1)
 
 pub play-part-spec : {M : Type 1} → statement M
 play-part-spec =
@@ -62,9 +95,8 @@ play-part-spec =
     part-feed-start
     part-feed-end
     feed-requires
-    write-requires
+    put-requires
     add-from
     loop-less
     loop-again
-    returns
-    returns-2)
+    returns)

@@ -9,6 +9,7 @@ use lib.Seq.{take-all}
 use Rattle.group.proofs.Lists.{eq-or}
 use Rattle.group.specs.Limits.{membersMost, placesMost, largestNumber}
 use Rattle.history.proofs.Soundness.{takenIn}
+use Rattle.history.specs.State.{messageAt}
 use Rattle.member.specs.declared.Member.{Member}
 use Rattle.model.proofs.Invariant.{WorldInv, takenOf}
 use Rattle.model.proofs.Round.{closes-one}
@@ -101,7 +102,7 @@ claim n g lo hn hg w v =
           omega arith) in
           subst (λ (k : ℕ). length (closing w) ≤ closingMost * k) (v .members) y;
       closing-order = c .order-is;
-      closing-empties = ap (messagesAbove (w′ .group .sequencer .history) (w′ .group .sequencer .floor .0)) z;
+      closing-empties = ap (messagesAbove (messageAt (w′ .group .sequencer .history)) (w′ .group .sequencer .floor .0)) z;
       closing-gives = λ i b.
           let h = v′ .terminal i b in
           let y = c .entries i b in

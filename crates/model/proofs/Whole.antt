@@ -74,7 +74,7 @@ runs-drop b (suc f) [] h s m e = absurd (at-nil s e)
 runs-drop b (suc f) (x ∷ l) h s m e = let z = runs-drop (suc b) f l (runs-tail b x l h) s m e in omega arith
 
 -- the history is the order without its first floor
-ordered-is : (n g : ℕ) (s : Sequencer) (ord : List Ordered) → SequencerInv n g s ord → (k : ℕ) (m : Ordered) → at ord k ≡ some m → s .floor .0 < k → orderedAt (s .history) k ≡ m
+ordered-is : (n g : ℕ) (s : Sequencer) (ord : List Ordered) → SequencerInv n g s ord → (k : ℕ) (m : Ordered) → at ord k ≡ some m → s .floor .0 < k → orderedAt (messageAt (s .history)) k ≡ m
 unfolding messageOf
 ordered-is n g s ord v k m e b =
     let o : Message = messageOf (record { 0 = m .originator }) (m .count) (m .payload) in
@@ -83,14 +83,14 @@ ordered-is n g s ord v k m e b =
     let q : k ≡ m .number = sym (v .number-is k m e) in
     λ i. record { number = q i; originator = h i .originator .0; count = h i .count; payload = p i }
 
-pub history-is : (n g : ℕ) (s : Sequencer) (ord : List Ordered) → SequencerInv n g s ord → (k f : ℕ) → s .floor .0 ≤ f → f + k ≡ length ord → messagesAbove (s .history) f k ≡ drop f ord
+pub history-is : (n g : ℕ) (s : Sequencer) (ord : List Ordered) → SequencerInv n g s ord → (k f : ℕ) → s .floor .0 ≤ f → f + k ≡ length ord → messagesAbove (messageAt (s .history)) f k ≡ drop f ord
 unfolding messagesAbove
 history-is n g s ord v zero f a e = sym (drop-of-length-le ord {i = f} (omega arith))
 history-is n g s ord v (suc k) f a e =
     let y = at-some ord (suc f) (omega arith) (omega arith) in
     let one : f + 1 ≡ suc f = omega arith in
-    let here : orderedAt (s .history) (f + 1) ≡ y .0 = rw one (ordered-is n g s ord v (suc f) (y .0) (y .1) (omega arith)) in
-    let rest : messagesAbove (s .history) (f + 1) k ≡ drop (suc f) ord = history-is n g s ord v k (f + 1) (omega arith) (omega arith) ∙ rw one in
+    let here : orderedAt (messageAt (s .history)) (f + 1) ≡ y .0 = rw one (ordered-is n g s ord v (suc f) (y .0) (y .1) (omega arith)) in
+    let rest : messagesAbove (messageAt (s .history)) (f + 1) k ≡ drop (suc f) ord = history-is n g s ord v k (f + 1) (omega arith) (omega arith) ∙ rw one in
     ap₂ (λ (m : Ordered) (l : List Ordered). m ∷ l) here rest ∙ sym (drop-at-suc ord f (y .1))
 
 -- floor is at most what each terminal took

@@ -70,24 +70,24 @@ submitted i log = gather (λ entry. submittedAt i (entry .event) (entry .answer)
 abbrev pub accepted : ℕ → List Entry → List Submission
 accepted i log = countedFrom 1 (submitted i log)
 
--- the message that lies in the history under a number
-abbrev pub orderedAt : List Message → ℕ → Ordered
-orderedAt history number =
+-- the message that lies under a number, where `lies` says which one does
+abbrev pub orderedAt : (ℕ → Message) → ℕ → Ordered
+orderedAt lies number =
     record {
       number = number;
-      originator = messageAt history number .originator .0;
-      count = messageAt history number .count;
-      payload = payloadOf (messageAt history number);
+      originator = lies number .originator .0;
+      count = lies number .count;
+      payload = payloadOf (lies number);
     }
 
 -- those of the k numbers above f, lowest first
-unfoldable pub messagesAbove : List Message → ℕ → ℕ → List Ordered
-messagesAbove history f zero = []
-messagesAbove history f (suc k) = orderedAt history (f + 1) ∷ messagesAbove history (f + 1) k
+unfoldable pub messagesAbove : (ℕ → Message) → ℕ → ℕ → List Ordered
+messagesAbove lies f zero = []
+messagesAbove lies f (suc k) = orderedAt lies (f + 1) ∷ messagesAbove lies (f + 1) k
 
 -- the history's messages: floor + 1 to top
 abbrev pub historyOf : Sequencer → List Ordered
-historyOf s = messagesAbove (s .history) (s .floor .0) (s .top .0 - s .floor .0)
+historyOf s = messagesAbove (messageAt (s .history)) (s .floor .0) (s .top .0 - s .floor .0)
 
 -- the number of the last message; 0: there is none
 unfoldable pub lastNumber : List Ordered → ℕ

@@ -17,7 +17,7 @@ use Rattle.message.specs.Message.{messageOf, payloadOf}
 use Rattle.message.specs.Order.{Ordered, Submission, ownOf, countedFrom}
 use Rattle.message.specs.declared.Message.{Message}
 use Rattle.model.proofs.Invariant.{WorldInv, takenOf}
-use Rattle.model.specs.Claim.{sum, allButLast}
+use Rattle.model.specs.Claim.{sum, withoutLast}
 use Rattle.model.specs.Log.{order, taken, submitted, accepted, orderedAt, messagesAbove, historyOf, lastNumber, above, owed}
 use Rattle.model.specs.World.{World, noMember}
 use Rattle.packet.proofs.Facts.{ordered}
@@ -149,7 +149,7 @@ counted-take a (suc k) [] = refl
 counted-take a (suc k) (x ∷ l) = ap (λ (r : List Submission). record { count = a; payload = x } ∷ r) (counted-take (a + 1) k l)
 
 pub owns : (n g : ℕ) (w : World) (i : ℕ) → WorldInv n g w → i < n
-    → (ownOf i (order (w .log)) ≡ accepted i (w .log)) ⊎ (ownOf i (order (w .log)) ≡ allButLast (accepted i (w .log)))
+    → (ownOf i (order (w .log)) ≡ accepted i (w .log)) ⊎ (ownOf i (order (w .log)) ≡ withoutLast 1 (accepted i (w .log)))
 owns n g w i v b =
     let h = v .terminal i b in
     let sb : List (List ℕ) = submitted i (w .log) in

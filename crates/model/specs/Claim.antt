@@ -20,9 +20,9 @@ unfoldable pub sum : ℕ → (ℕ → ℕ) → ℕ
 sum zero f = 0
 sum (suc n) f = sum n f + f n
 
--- all but the last
-abbrev pub allButLast : List Submission → List Submission
-allButLast l = list.take (length l - 1) l
+-- a list without its last k
+abbrev pub withoutLast : ℕ → List Submission → List Submission
+withoutLast k l = list.take (length l - k) l
 
 pub record Claim (n : ℕ) (w : World) : Type 0 where
   -- for each terminal, what it took followed by what it is owed, the history's messages numbered above that, equals the whole
@@ -33,7 +33,7 @@ pub record Claim (n : ℕ) (w : World) : Type 0 where
   -- each terminal's own messages in the order are exactly its accepted submissions, once each, in its order, all or all but
   -- the last
   pub own : (i : ℕ) → i < n
-      → (ownOf i (order (w .log)) ≡ accepted i (w .log)) ⊎ (ownOf i (order (w .log)) ≡ allButLast (accepted i (w .log)))
+      → (ownOf i (order (w .log)) ≡ accepted i (w .log)) ⊎ (ownOf i (order (w .log)) ≡ withoutLast 1 (accepted i (w .log)))
   -- from there a closing round of at most 98 × n events
   pub closing-short : length (closing w) ≤ closingMost * n
   -- (which changes no order)

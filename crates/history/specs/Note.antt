@@ -19,7 +19,11 @@ largerOf a b = if a <? b then b else a
 abbrev pub withTaken : Acknowledgement → SequenceNumber → Acknowledgement
 withTaken a taken = record { taken = record { 0 = largerOf (a .taken .0) (taken .0) }; count = a .count }
 
--- the table with the member's entry so
+-- an entry with another count
+abbrev pub withCount : Acknowledgement → ℕ → Acknowledgement
+withCount a count = record { taken = a .taken; count = count }
+
+-- the table with the member's entry so noted
 unfoldable pub tableNoted : List Acknowledgement → MemberNumber → SequenceNumber → List Acknowledgement
 tableNoted table m taken = set table (m .0) (withTaken (acknowledgementOf table m) taken)
 

@@ -18,7 +18,8 @@ use Rattle.packet.specs.Packet.{packetOf, fieldsOf, readOf, writeOf}
 use Rattle.packet.specs.declared.Packet.{Packet}
 use Rattle.packet.specs.declared.Reading.{Reading}
 use Rattle.packet.specs.declared.Writing.{Writing}
-use Rattle.history.specs.State.{floorOf}
+use Rattle.history.specs.Note.{withTaken}
+use Rattle.history.specs.State.{floorOf, noAcknowledgement}
 use Rattle.history.specs.declared.Acknowledgement.{Acknowledgement}
 use Rattle.sequencer.specs.Calls as sequencer
 use Rattle.sequencer.specs.State.{freshSequencer}
@@ -27,7 +28,7 @@ use Rattle.sequencer.specs.declared.Sequencer.{Sequencer}
 
 -- an acknowledgement of that number
 abbrev pub acknowledgedUpTo : ℕ → Acknowledgement
-acknowledgedUpTo number = record { taken = record { 0 = number }; count = 0 }
+acknowledgedUpTo number = withTaken noAcknowledgement (record { 0 = number })
 
 -- member 1's request in group 7, and the broadcast of its message with that number and count
 unfoldable pub request : ℕ → ℕ → List ℕ → List ℕ

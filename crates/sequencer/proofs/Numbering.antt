@@ -15,6 +15,7 @@ use Rattle.message.proofs.Kept.{kept-zero}
 use Rattle.message.specs.Message.{messageOf, blank, isEmpty}
 use Rattle.message.specs.declared.Message.{Message}
 use Rattle.history.proofs.Soundness.{takenIn, countIn, KeptFacts, floor-same}
+use Rattle.history.specs.Note.{withCount}
 use Rattle.history.specs.State.{noAcknowledgement, acknowledgementOf, placeOf, messageAt}
 use Rattle.history.specs.declared.Acknowledgement.{Acknowledgement}
 use Rattle.sequencer.specs.Calls.{withMessage}
@@ -22,29 +23,29 @@ use Rattle.sequencer.specs.Laws.{Typed}
 use Rattle.sequencer.specs.declared.Sequencer.{Sequencer}
 use Rattle.sequencer.proofs.Soundness.{Sound}
 
--- the member's entry, with the count
-abbrev pub countedEntry : Sequencer → MemberNumber → ℕ → Acknowledgement
-countedEntry s m count = record { taken = acknowledgementOf (s .acknowledgements) m .taken; count = count }
-
 module _ (s : Sequencer) (m : MemberNumber) (count : ℕ) (payload : List ℕ) (typed : Typed s) (sound : Sound s) (member : m .0 < s .group .n) where
   abbrev table : List Acknowledgement
   table = s .acknowledgements
 
+  -- the member's entry, with the count
+  abbrev entry : Acknowledgement
+  entry = withCount (acknowledgementOf (s .acknowledgements) m) count
+
   abbrev table′ : List Acknowledgement
-  table′ = set table (m .0) (countedEntry s m count)
+  table′ = set table (m .0) entry
 
   abbrev history′ : List Message
   history′ = set (s .history) (placeOf (s .top .0 + 1)) (messageOf m count payload)
 
-  pub counted-each : (P : ℕ → Acknowledgement → Type 0) (i : ℕ) → (i ≡ m .0 → P i (countedEntry s m count))
+  pub counted-each : (P : ℕ → Acknowledgement → Type 0) (i : ℕ) → (i ≡ m .0 → P i entry)
       → (i ≢ m .0 → P i (getD table i noAcknowledgement)) → P i (getD table′ i noAcknowledgement)
-  counted-each P i same other = set-each P table (m .0) (countedEntry s m count) noAcknowledgement i same other (omega arith)
+  counted-each P i same other = set-each P table (m .0) entry noAcknowledgement i same other (omega arith)
 
   pub counted-taken : (i : ℕ) → takenIn table′ i ≡ takenIn table i
   counted-taken i = counted-each (λ j a. a .taken .0 ≡ takenIn table j) i (λ q. rw q) (λ q. refl)
 
   pub counted-same : countIn table′ (m .0) ≡ count
-  counted-same = ap (λ (a : Acknowledgement). a .count) (getD-set-same table (m .0) (countedEntry s m count) noAcknowledgement (omega arith))
+  counted-same = ap (λ (a : Acknowledgement). a .count) (getD-set-same table (m .0) entry noAcknowledgement (omega arith))
 
   pub counted-up : countIn table (m .0) ≤ count → (i : ℕ) → countIn table i ≤ countIn table′ i
   counted-up h i = counted-each (λ j a. countIn table j ≤ a .count) i (λ q. rw q h) (λ q. le-refl (countIn table i))
@@ -66,7 +67,7 @@ module _ (s : Sequencer) (m : MemberNumber) (count : ℕ) (payload : List ℕ) (
           group = typed .group;
           top = omega arith;
           repeats = typed .repeats;
-          table = length-set table (m .0) (countedEntry s m count) ∙ typed .table;
+          table = length-set table (m .0) entry ∙ typed .table;
           history = length-set (s .history) (placeOf (s .top .0 + 1)) (messageOf m count payload) ∙ typed .history;
           counts = λ i. counted-each (λ j a. a .count ≤ largestNumber) i (λ q. fits) (λ q. typed .counts i);
         }
@@ -77,7 +78,7 @@ module _ (s : Sequencer) (m : MemberNumber) (count : ℕ) (payload : List ℕ) (
         record {
           n-least = sound .n-least;
           n-most = sound .n-most;
-          floor-is = floor-same (s .group .n) table′ table (length-set table (m .0) (countedEntry s m count)) counted-taken ∙ sound .floor-is;
+          floor-is = floor-same (s .group .n) table′ table (length-set table (m .0) entry) counted-taken ∙ sound .floor-is;
           floor-le = omega arith;
           window = omega arith;
           taken-le = λ i h. let z = counted-taken i in let y = sound .taken-le i h in omega arith;

@@ -19,7 +19,7 @@ use Rattle.packet.specs.declared.Packet.{Packet}
 use Rattle.packet.specs.declared.Packet.the-variants.{Request, Broadcast, Gap, Status, Poll}
 use Rattle.packet.specs.declared.Reading.{Reading}
 use Rattle.packet.specs.declared.Reading.the-variants.{Fields}
-use Rattle.history.specs.Note.{largerOf}
+use Rattle.history.specs.Note.{largerOf, withCount}
 use Rattle.history.specs.State.{acknowledgementOf, placeOf, messageAt}
 use Rattle.history.specs.Repeat.{oneMore, findOf}
 use Rattle.history.specs.Ask.{senderVerdict, countVerdict, wantedVerdict}
@@ -92,7 +92,7 @@ unfoldable pub withMessage : Sequencer → MemberNumber → ℕ → List ℕ →
 withMessage s m count payload =
     record {
       group = s .group;
-      acknowledgements = set (s .acknowledgements) (m .0) (record { taken = acknowledgementOf (s .acknowledgements) m .taken; count = count });
+      acknowledgements = set (s .acknowledgements) (m .0) (withCount (acknowledgementOf (s .acknowledgements) m) count);
       top = record { 0 = s .top .0 + 1 };
       floor = s .floor;
       history = set (s .history) (placeOf (s .top .0 + 1)) (messageOf m count payload);

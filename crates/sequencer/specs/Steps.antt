@@ -11,7 +11,7 @@ use Rattle.message.specs.declared.Message.{Message}
 use Rattle.packet.specs.Packet.{fieldsOf, packetOf}
 use Rattle.packet.specs.declared.Packet.{Packet}
 use Rattle.packet.specs.declared.Packet.the-variants.{Request, Broadcast, Gap, Status, Poll}
-use Rattle.history.specs.Note.{largerOf}
+use Rattle.history.specs.Note.{largerOf, withCount}
 use Rattle.history.specs.Repeat.{oneMore, findOf}
 use Rattle.history.specs.State.{acknowledgementOf, placeOf, messageAt}
 use Rattle.sequencer.specs.Calls.{Outcome, answered, requestOf, gapOf}
@@ -97,7 +97,7 @@ unfoldable pub changed : Sequencer → MemberNumber → Change → Message → S
 changed s m change message =
     record {
       group = s .group;
-      acknowledgements = set (s .acknowledgements) (m .0) (record { taken = acknowledgementOf (s .acknowledgements) m .taken; count = change .count });
+      acknowledgements = set (s .acknowledgements) (m .0) (withCount (acknowledgementOf (s .acknowledgements) m) (change .count));
       top = change .top;
       floor = s .floor;
       history = set (s .history) (placeOf (change .number .0)) message;

@@ -13,6 +13,7 @@ use Rattle.packet.proofs.Facts.{KnownBy}
 use Rattle.member.specs.Calls.{Outcome}
 use Rattle.member.specs.Laws.{Typed}
 use Rattle.member.specs.Sound.{soundOf}
+use Rattle.member.specs.State.{firstCount}
 use Rattle.window.specs.Places.{messageAt}
 use Rattle.member.specs.declared.Member.{Member}
 
@@ -38,7 +39,7 @@ pub record Terminal (n g i acknowledged count : ℕ) (m : Member) (order took : 
   pub idle : m .waiting ≡ false → count ≡ m .submitted
   -- the waiting message is the last submission
   pub waiting-is : m .waiting ≡ true
-      → (payload : List ℕ) × (at submitted (m .submitted) ≡ some payload) × (m .message ≡ messageOf (record { 0 = i }) (m .submitted) payload)
+      → (payload : List ℕ) × (at submitted (firstCount m) ≡ some payload) × (m .message ≡ messageOf (record { 0 = i }) (firstCount m) payload)
   -- its own messages in the order are its first submissions
   pub own-is : ownOf i order ≡ countedFrom 1 (take count submitted)
   pub payload-ok : (c : ℕ) (payload : List ℕ) → at submitted c ≡ some payload → length payload ≤ payloadMost

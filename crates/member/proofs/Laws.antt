@@ -30,7 +30,7 @@ use Rattle.member.specs.Calls.{Outcome, answered, requestPacket, statusP
 use Rattle.member.specs.Laws.{Typed, Keeps, WritesPacket, SubmitKeeps, RepeatKeeps, StatusKeeps, ReceiveKeeps, TakeKeeps}
 use Rattle.member.specs.Sound.{soundOf}
 use Rattle.window.specs.Places.{messageAt, isHeld}
-use Rattle.member.specs.State.{acknowledgedOf}
+use Rattle.member.specs.State.{acknowledgedOf, firstCount}
 use Rattle.member.specs.declared.Answer.{Answer}
 use Rattle.member.specs.declared.Member.{Member}
 use Rattle.member.proofs.Keeping.{waiting-typed, waiting-sound, held-typed, held-sound, taken-typed, taken-sound}
@@ -79,12 +79,10 @@ writes : (bytes : List ℕ) (g : ℕ) (content : Packet) (payload : List ℕ) �
     → (bytes ≡ []) ⊎ ((h : Header) × (readOf bytes ≡ Reading.Fields h))
 writes bytes g content payload e a = inr (fieldsOf g content, ap readOf e ∙ read-written (fieldsOf g content) payload a .0)
 
-request-writes : (m : Member) (answer : Answer) → Typed m → Sound m → 1 ≤ m .submitted → m .message .length ≤ payloadMost
-    → WritesPacket (record { member = m; answer = answer; bytes = requestPacket m })
+request-writes : (m : Member) (answer : Answer) → Typed m → Sound m → m .waiting ≡ true → WritesPacket (record { member = m; answer = answer; bytes = requestPacket m })
 unfolding requestPacket
-request-writes m answer typed s some short =
-    writes _ (m .group .number) (Request (m .number) (acknowledgedOf m) (m .submitted)) (payloadOf (m .message)) refl
-    (request-allowed m typed s (payloadOf (m .message)) some (payload-short (m .message) short))
+request-writes m answer typed s waits =
+    writes _ (m .group .number) (Request (m .number) (acknowledgedOf m) (firstCount m)) (payloadOf (m .message)) refl (request-allowed m typed s waits)
 
 pub submit-keeps : SubmitKeeps
 unfolding submitOf withWaiting
@@ -94,8 +92,7 @@ submit-keeps m payload room typed =
     (λ f. let a = submittable m (length payload) f in
     let s = waiting-sound m typed payload (a .short) (sound-of m (call-sound m room e)) in
     let t = waiting-typed m typed payload (a .left) in
-    let w = s .waiting .waits refl in
-    (kept m typed (withWaiting m payload) Answer.Sent _ t s, request-writes (withWaiting m payload) Answer.Sent t s (w .submitted-pos) (w .short))))
+    (kept m typed (withWaiting m payload) Answer.Sent _ t s, request-writes (withWaiting m payload) Answer.Sent t s refl)))
 
 pub repeat-keeps : RepeatKeeps
 unfolding repeatOf
@@ -103,8 +100,7 @@ repeat-keeps m room typed =
     judged-elim (Good m typed) (callVerdict m room) (λ r _. quiet m typed (Answer.Refused r))
     (λ e. if-elim (Good m typed) (m .waiting)
     (λ f. let s = sound-of m (call-sound m room e) in
-    let w = s .waiting .waits f in
-    (same m typed Answer.Sent _, request-writes m Answer.Sent typed s (w .submitted-pos) (w .short)))
+    (same m typed Answer.Sent _, request-writes m Answer.Sent typed s f))
     (λ _. quiet m typed (Answer.Refused Refusal.NothingWaiting)))
 
 pub status-keeps : StatusKeeps

@@ -29,6 +29,7 @@ use Rattle.packet.proofs.Laws.{read-written, content-fields}
 use Rattle.packet.proofs.RoundTrip.{header-back}
 use Rattle.member.specs.Calls.{Outcome, answered, requestPacket, callVerdict, submitVerdict, withWaiting, submitOf, repeatOf, statusOf, withHeld, readStep, receiveOf}
 use Rattle.member.specs.Order.{acceptedBy}
+use Rattle.member.specs.State.{firstCount}
 use Rattle.member.specs.declared.Answer.{Answer}
 use Rattle.member.specs.declared.Member.{Member}
 use Rattle.member.proofs.Invariant.{Terminal, MemberGood}
@@ -72,10 +73,9 @@ module _ (n g i acknowledged count : ℕ) (order took : List Ordered) (submitted
         judged-elim Good (callVerdict m longestPacket) (λ r _. quiet (Answer.Refused r))
         (λ _. if-elim Good (m .waiting)
         (λ e. let s = sound-of m (h .sound) in
-        let w = s .waiting .waits e in
         let last = h .waiting-is e in
-        let p : payloadOf (m .message) ≡ last .0 = ap payloadOf (last .2) ∙ kept-payload (record { 0 = i }) (m .submitted) (last .0) in
-        same _ refl (request-own m (h .typed) s submitted Answer.Sent (w .submitted-pos) (w .short) (last .1 ∙ ap some (sym p))))
+        let p : payloadOf (m .message) ≡ last .0 = ap payloadOf (last .2) ∙ kept-payload (record { 0 = i }) (firstCount m) (last .0) in
+        same _ refl (request-own m (h .typed) s submitted Answer.Sent e (last .1 ∙ ap some (sym p))))
         (λ _. quiet (Answer.Refused Refusal.NothingWaiting)))
 
     -- submit
@@ -126,7 +126,6 @@ module _ (n g i acknowledged count : ℕ) (order took : List Ordered) (submitted
       unfolding withWaiting acceptedBy messageOf
       submits-good =
           let o : Outcome = record { member = withWaiting m payload; answer = Answer.Sent; bytes = requestPacket (withWaiting m payload) } in
-          let w = waiting-sound′ .waiting .waits refl in
           let k = kept-payload (m .number) (m .submitted + 1) payload in
           record {
             terminal = waiting-terminal;
@@ -134,7 +133,7 @@ module _ (n g i acknowledged count : ℕ) (order took : List Ordered) (submitted
             grown = λ c p e. at-append submitted (payload ∷ []) c e;
             known =
                 own-known o took (submitted ++ (payload ∷ [])) waiting-terminal
-                (request-own (withWaiting m payload) (waiting-terminal .typed) waiting-sound′ (submitted ++ (payload ∷ [])) Answer.Sent (w .submitted-pos) (w .short) (last ∙ ap some (sym k)));
+                (request-own (withWaiting m payload) (waiting-terminal .typed) waiting-sound′ (submitted ++ (payload ∷ [])) Answer.Sent refl (last ∙ ap some (sym k)));
           }
 
     pub submit-good : (payload : List ℕ) → GoodSubmit payload (submitOf m payload longestPacket)

@@ -28,6 +28,7 @@ use Rattle.member.specs.Wording.{wordingOf}
 use Rattle.member.specs.Calls.{Outcome, stepOf, answered, gapPacket, callVerdict, refused, submitVerdict, withHeld, gapUpTo, keptOf, isOwn, withTaken, tookOf, contentStep, readStep}
 use Rattle.window.specs.Sound.{placeSound, waitingSound}
 use Rattle.member.specs.Sound.{soundOf}
+use Rattle.member.specs.State.{firstCount}
 use Rattle.window.specs.Places.{placeOf, messageAt, lowestMissing}
 use Rattle.window.proofs.Missing.{lowest-other}
 use Rattle.window.specs.Steps.{Laid}
@@ -231,7 +232,7 @@ module _ (m : Member) (e : soundOf m ≡ true) where
       (search says depth 9, search says depth 9)
 
 -- the test of the code is the definition's
-pub own-is : (m : Member) (message : Message) (r b : Bool) → r ≡ (m .waiting and message .originator .0 =? m .number .0 and message .count =? m .submitted) → r ≡ b
+pub own-is : (m : Member) (message : Message) (r b : Bool) → r ≡ (m .waiting and message .originator .0 =? m .number .0 and message .count =? firstCount m) → r ≡ b
     → isOwn m message ≡ b
 unfolding isOwn
 own-is m message r b e t = sym e ∙ t

@@ -20,6 +20,7 @@ use Rattle.message.proofs.Kept.{kept-payload}
 use Rattle.packet.proofs.Facts.{ordered}
 use Rattle.member.specs.Calls.{Outcome, answered, callVerdict, isOwn, withTaken, tookOf, takeOf}
 use Rattle.member.specs.Order.{tookBy}
+use Rattle.member.specs.State.{firstCount}
 use Rattle.window.specs.Places.{messageAt, isHeld}
 use Rattle.member.specs.declared.Answer.{Answer}
 use Rattle.member.specs.declared.Member.{Member}
@@ -61,7 +62,7 @@ module _ (n g i acknowledged count : ℕ) (order took : List Ordered) (submitted
       unfolding isOwn messageOf
       own-numbered e =
           let a : next .originator .0 ≡ m .number .0 = search says in
-          let b : next .count ≡ m .submitted = search says in
+          let b : next .count ≡ firstCount m = search says in
           let y = this .0 in
           let c : next .originator .0 ≡ y .originator = ap (λ (z : Message). z .originator .0) (this .2) in
           let d : next .count ≡ y .count = ap (λ (z : Message). z .count) (this .2) in
@@ -69,7 +70,7 @@ module _ (n g i acknowledged count : ℕ) (order took : List Ordered) (submitted
           omega arith
 
       still-waits : (own : Bool) → (if own then false else m .waiting) ≡ true
-          → (payload : List ℕ) × (at submitted (m .submitted) ≡ some payload) × ((if own then emptyMessage else m .message) ≡ messageOf (record { 0 = i }) (m .submitted) payload)
+          → (payload : List ℕ) × (at submitted (firstCount m) ≡ some payload) × ((if own then emptyMessage else m .message) ≡ messageOf (record { 0 = i }) (firstCount m) payload)
       unfolding if_then_else_
       still-waits true e = let z : _≡_ {A = ℕ} 0 1 = cc in absurd (omega arith)
       still-waits false e = h .waiting-is e

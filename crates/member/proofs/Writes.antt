@@ -1,6 +1,7 @@
 -- The packets that a member writes are allowed, and its own: a sound state within its types has fields that fit and obey their
 -- kind. Assumes nothing.
 use mathlib.Core.Path.{_≡_, refl}
+use mathlib.Core.Bool.{true}
 use mathlib.Core.Option.{some}
 use mathlib.Core.List.{List, []}
 use Prim.Native.Nat.{ℕ, _≤_, _<_}
@@ -20,7 +21,7 @@ use Rattle.packet.proofs.Facts.{KnownBy}
 use Rattle.packet.proofs.Verdicts.{accepted}
 use Rattle.member.specs.Calls.{Outcome, requestPacket, gapPacket, statusPacket}
 use Rattle.member.specs.Laws.{Typed}
-use Rattle.member.specs.State.{acknowledgedOf}
+use Rattle.member.specs.State.{acknowledgedOf, firstCount}
 use Rattle.member.specs.declared.Answer.{Answer}
 use Rattle.member.specs.declared.Member.{Member}
 use Rattle.member.proofs.Soundness.{Sound}
@@ -31,14 +32,15 @@ unfolding payloadOf
 payload-short x h = simp length-take (omega arith)
 
 module _ (m : Member) (typed : Typed m) (s : Sound m) where
-  pub request-allowed : (payload : List ℕ) → 1 ≤ m .submitted → length payload ≤ payloadMost
-      → Allowed (fieldsOf (m .group .number) (Request (m .number) (acknowledgedOf m) (m .submitted))) payload
+  pub request-allowed : m .waiting ≡ true → Allowed (fieldsOf (m .group .number) (Request (m .number) (acknowledgedOf m) (firstCount m))) (payloadOf (m .message))
   unfolding fieldsOf fieldsVerdict knownKind payloadFits obeys if_then_else_
-  request-allowed payload pos short = (
-    record { kind = omega arith; member = omega arith; group = typed .group; a = typed .taken; b = typed .submitted; c = omega arith },
-    accepted _ (length payload) longestPacket
-        (record { enough = omega arith; fields = rw (eq-eqb (length payload) (length payload) refl, le-leb 1 (m .submitted) pos); short = short }),
-  )
+  request-allowed waits =
+      let w = s .waiting .waits waits in
+      let size = length (payloadOf (m .message)) in (
+        record { kind = omega arith; member = omega arith; group = typed .group; a = typed .taken; b = typed .submitted; c = omega arith },
+        accepted _ size longestPacket
+            (record { enough = omega arith; fields = rw (eq-eqb size size refl, le-leb 1 (firstCount m) (w .submitted-pos)); short = payload-short (m .message) (w .short) }),
+      )
 
   pub gap-allowed : (first last : ℕ) → m .taken .0 < first → first ≤ last → last ≤ largestNumber
       → Allowed (fieldsOf (m .group .number) (Gap (m .number) (acknowledgedOf m) (record { 0 = first }) (record { 0 = last }))) []
@@ -80,15 +82,15 @@ module _ (m : Member) (typed : Typed m) (sound : Sound m) (submitted : List (Lis
   status-own answer =
       (record { content = Status (m .number) (acknowledgedOf m); payload = []; bytes-are = refl; allowed = status-allowed m typed sound; says = (refl, le-refl _) }, tt)
 
-  pub request-own : (answer : Answer) → 1 ≤ m .submitted → m .message .length ≤ payloadMost → at submitted (m .submitted) ≡ some (payloadOf (m .message))
+  pub request-own : (answer : Answer) → m .waiting ≡ true → at submitted (firstCount m) ≡ some (payloadOf (m .message))
       → Own submitted (record { member = m; answer = answer; bytes = requestPacket m })
   unfolding requestPacket packetOf headerBytes fieldsOf written
-  request-own answer pos short last = (
+  request-own answer waits last = (
     record {
-      content = Request (m .number) (acknowledgedOf m) (m .submitted);
+      content = Request (m .number) (acknowledgedOf m) (firstCount m);
       payload = payloadOf (m .message);
       bytes-are = refl;
-      allowed = request-allowed m typed sound (payloadOf (m .message)) pos (payload-short (m .message) short);
+      allowed = request-allowed m typed sound waits;
       says = (refl, le-refl _, last);
     },
     tt,

@@ -21,7 +21,7 @@ use Rattle.packet.specs.declared.Reading.{Reading}
 use Rattle.packet.specs.declared.Reading.the-variants.{Fields}
 use Rattle.member.specs.Sound.{soundOf}
 use Rattle.window.specs.Places.{smallerOf, placeOf, messageAt, isHeld, lowestMissing}
-use Rattle.member.specs.State.{acknowledgedOf, freshMember}
+use Rattle.member.specs.State.{acknowledgedOf, firstCount, freshMember}
 use Rattle.member.specs.declared.Answer.{Answer}
 use Rattle.member.specs.declared.Member.{Member}
 use Rattle.member.specs.declared.Opening.{Opening}
@@ -48,7 +48,7 @@ refused m refusal = answered m (Answer.Refused refusal)
 -- the packets that a member writes: its request with its count and payload, a gap, a status
 unfoldable pub requestPacket : Member → List ℕ
 requestPacket m =
-    packetOf (fieldsOf (m .group .number) (Packet.Request (m .number) (acknowledgedOf m) (m .submitted))) (payloadOf (m .message))
+    packetOf (fieldsOf (m .group .number) (Packet.Request (m .number) (acknowledgedOf m) (firstCount m))) (payloadOf (m .message))
 
 unfoldable pub gapPacket : Member → ℕ → ℕ → List ℕ
 gapPacket m first last =
@@ -170,7 +170,7 @@ unfoldable pub isOwn : Member → Message → Bool
 isOwn m message =
     m .waiting
     and message .originator .0 =? m .number .0
-    and message .count =? m .submitted
+    and message .count =? firstCount m
 
 -- t + 1 handed out: its place is cleared, t grows by 1, and if it is the member's own waiting count nothing waits any more
 unfoldable pub withTaken : Member → Message → Member

@@ -1,6 +1,7 @@
 -- What a member holds: n, its number, group, t (last taken), u (submissions so far), at most one waiting message (its count
 -- is u), and 8 places for numbers t + 1 to t + 8.
 use mathlib.Core.Bool.{false}
+use Prim.Native.Nat.{ℕ}
 use lib.ListN.{replicate}
 use Rattle.group.specs.Limits.{heldMost}
 use Rattle.group.specs.declared.Group.{Group}
@@ -12,6 +13,10 @@ use Rattle.member.specs.declared.Member.{Member}
 -- the number that a member acknowledges in every packet that it writes
 abbrev pub acknowledgedOf : Member → SequenceNumber
 acknowledgedOf m = m .taken
+
+-- the count of the waiting message
+abbrev pub firstCount : Member → ℕ
+firstCount m = m .submitted
 
 -- fresh: t and u zero, nothing held
 unfoldable pub freshMember : Group → MemberNumber → Member

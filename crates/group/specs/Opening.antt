@@ -2,12 +2,17 @@
 use Prim.Native.Nat.{ℕ}
 use Rattle.group.specs.Choice.{ask_or_then_, _and_, _≤?_}
 use Rattle.group.specs.Limits.{membersMost}
+use Rattle.group.specs.declared.Group.{Group}
 use Rattle.group.specs.declared.Opened.{Opened}
 use Rattle.group.specs.declared.Opened.the-variants.{Open, Refused}
 use Rattle.group.specs.declared.Refusal.the-variants.{Opening}
+
+-- the group of n members with a group number
+abbrev pub groupOf : ℕ → ℕ → Group
+groupOf n number = record { n = n; number = number }
 
 -- question 18: is n 1 to 16?
 unfoldable pub openOf : ℕ → ℕ → Opened
 openOf n number =
     ask 1 ≤? n and n ≤? membersMost or Refused Opening then
-    Open (record { n = n; number = number })
+    Open (groupOf n number)

@@ -1,6 +1,6 @@
 -- What the closing round does with a terminal's member: the next number is handed over and held, taken, and acknowledged; and a
 -- fresh member is a fresh terminal's. Assumes nothing.
-use mathlib.Core.Path.{_≡_, refl, sym, ap, _∙_}
+use mathlib.Core.Path.{_≡_, refl, sym, ap, _∙_, subst}
 use mathlib.Core.Bool.{true}
 use mathlib.Core.List.{List, []}
 use Prim.Native.Nat.{ℕ, _+_, _-_, _≤_, _<_}
@@ -22,13 +22,12 @@ use Rattle.packet.specs.Laws.{Allowed}
 use Rattle.packet.specs.Packet.{obeys, fieldsOf, packetOf}
 use Rattle.packet.specs.declared.Packet.{Packet}
 use Rattle.packet.specs.declared.Packet.the-variants.{Broadcast, Status}
-use Rattle.packet.proofs.Facts.{Known}
 use Rattle.packet.proofs.Laws.{read-written, content-fields, fields-group}
 use Rattle.packet.proofs.Verdicts.{askable, writable}
 use Rattle.member.specs.Calls.{Outcome, answered, statusPacket, callVerdict, statusOf, withHeld, gapUpTo, keptOf, broadcastOf, contentStep, readStep, receiveOf, withTaken, tookOf, takeOf}
 use Rattle.member.specs.Sound.{soundOf}
 use Rattle.window.specs.Places.{messageAt, isHeld, lowestMissing}
-use Rattle.member.specs.State.{freshMember}
+use Rattle.member.specs.State.{acknowledgedOf, freshMember}
 use Rattle.member.specs.declared.Answer.{Answer}
 use Rattle.member.specs.declared.Member.{Member}
 use Rattle.member.proofs.Invariant.{Terminal}
@@ -104,23 +103,16 @@ module _ (n g i acknowledged count : ℕ) (order took : List Ordered) (submitted
         (λ a. let z = leb-false (number .0) (m .taken .0 + heldMost) a in absurd (omega arith))))
         (λ a. let z = ltb-false (originator .0) (m .group .n) a in let y = h .n-is in absurd (omega arith)))
 
-  -- the same of a broadcast that the group knows
-  pub hand-known : (t : ℕ → ℕ) (subs : ℕ → List (List ℕ)) (bytes : List ℕ) (k : Known g order t subs bytes) (originator : MemberNumber) (number : SequenceNumber) (c : ℕ) (floor : SequenceNumber)
-      → k .content ≡ Broadcast originator number c floor → originator .0 < n → number .0 ≡ m .taken .0 + 1 → HandOk m (receiveOf m bytes longestPacket)
-  hand-known t subs bytes k originator number c floor e member next =
-      let allowed : Allowed (fieldsOf g (Broadcast originator number c floor)) (k .payload) = rw e at (k .allowed) in
-      rw (k .bytes-are, e) (hand-ok originator number c floor (k .payload) allowed member next)
-
   pub take-ok : 1 ≤ messageAt (m .held) (m .taken .0 + 1) .count → takeOf m longestPacket .member .taken .0 ≡ m .taken .0 + 1
   unfolding tookOf withTaken
   take-ok c = ap (λ (o : Outcome). o .member .taken .0) (take-is m (h .sound) c)
 
   -- the status that is written, as the group knows it
-  pub status-ok : (statusPacket m ≡ packetOf (fieldsOf g (Status (m .number) (m .taken))) []) × Allowed (fieldsOf g (Status (m .number) (m .taken))) []
+  pub status-ok : (statusPacket m ≡ packetOf (fieldsOf g (Status (m .number) (acknowledgedOf m))) []) × Allowed (fieldsOf g (Status (m .number) (acknowledgedOf m))) []
   unfolding statusPacket
   status-ok = (
-    ap (λ (k : ℕ). packetOf (fieldsOf k (Status (m .number) (m .taken))) []) (h .g-is),
-    rw (h .g-is) at (status-allowed m (h .typed) (sound-of m (h .sound))),
+    ap (λ (k : ℕ). packetOf (fieldsOf k (Status (m .number) (acknowledgedOf m))) []) (h .g-is),
+    subst (λ (k : ℕ). Allowed (fieldsOf k (Status (m .number) (acknowledgedOf m))) []) (h .g-is) (status-allowed m (h .typed) (sound-of m (h .sound))),
   )
 
 pub fresh-terminal : (n g i : ℕ) → 1 ≤ n → n ≤ membersMost → i < n → g ≤ largestNumber

@@ -13,7 +13,7 @@ use Rattle.packet.proofs.Facts.{KnownBy}
 use Rattle.member.specs.Calls.{Outcome}
 use Rattle.member.specs.Laws.{Typed}
 use Rattle.member.specs.Sound.{soundOf}
-use Rattle.member.specs.State.{firstCount}
+use Rattle.member.specs.State.{acknowledgedOf, firstCount}
 use Rattle.window.specs.Places.{messageAt}
 use Rattle.member.specs.declared.Member.{Member}
 
@@ -25,7 +25,7 @@ pub record Terminal (n g i acknowledged count : ℕ) (m : Member) (order took : 
   pub number-is : m .number .0 ≡ i
   pub typed : Typed m
   pub sound : soundOf m ≡ true
-  pub acknowledged-le : acknowledged ≤ m .taken .0
+  pub acknowledged-le : acknowledged ≤ acknowledgedOf m .0
   pub taken-le : m .taken .0 ≤ length order
   -- what it took is the first t of the order
   pub took-is : took ≡ take (m .taken .0) order
@@ -48,6 +48,6 @@ pub record Terminal (n g i acknowledged count : ℕ) (m : Member) (order took : 
 -- submitted by then, and `packets` what was written
 pub record MemberGood (n g i acknowledged count : ℕ) (order : List Ordered) (submitted : List (List ℕ)) (m : Member) (took′ : List Ordered) (submitted′ packets : List (List ℕ)) (o : Outcome) : Type 0 where
   pub terminal : Terminal n g i acknowledged count (o .member) order took′ submitted′
-  pub up : m .taken .0 ≤ o .member .taken .0
+  pub up : acknowledgedOf m .0 ≤ acknowledgedOf (o .member) .0
   pub grown : (c : ℕ) (payload : List ℕ) → at submitted c ≡ some payload → at submitted′ c ≡ some payload
-  pub known : All (KnownBy g i (o .member .taken .0) submitted′) packets
+  pub known : All (KnownBy g i (acknowledgedOf (o .member) .0) submitted′) packets

@@ -139,7 +139,7 @@ keepable : (m : Member) (g : ℕ) (content : Packet) (payload : List ℕ) → ob
 unfolding fieldsOf obeys if_then_else_ messageOf
 keepable m g (Request sender taken count) payload obey most short right = tt
 keepable m g (Broadcast originator number count floor) payload obey most short (typed, s) =
-    λ a lo hi. (
+    λ a lo hi _. (
       held-typed m typed (number .0) (messageOf originator count payload),
       held-sound m typed (number .0) (messageOf originator count payload) lo hi (search says)
           (record { originator-lt = a; short = short; zero-behind = kept-zero originator count payload; number-le = most }) s,
@@ -153,7 +153,7 @@ own-writes : (o : Outcome) → Own [] o → WritesPacket o
 unfolding written
 own-writes o = go (o .bytes) refl
   where
-    go : (bytes : List ℕ) → o .bytes ≡ bytes → All (KnownBy (o .member .group .number) (o .member .number .0) (o .member .taken .0) []) (written bytes) → WritesPacket o
+    go : (bytes : List ℕ) → o .bytes ≡ bytes → All (KnownBy (o .member .group .number) (o .member .number .0) (acknowledgedOf (o .member) .0) []) (written bytes) → WritesPacket o
     go [] e k = inl e
     go (b ∷ rest) e (k, _) = writes (o .bytes) (o .member .group .number) (k .content) (k .payload) (e ∙ k .bytes-are) (k .allowed)
 

@@ -1,6 +1,7 @@
 pub mod Invariant
 pub mod Soundness
 pub mod Keeping
+pub mod Acknowledged
 pub mod Writes
 pub mod Receiving
 pub mod Laws

@@ -1,12 +1,12 @@
 -- Each call of a terminal's member owes the group what demand 3's invariant asks: the state that it leaves is a terminal's, and
 -- the packets that it wrote say what is so. Assumes nothing.
-use mathlib.Core.Path.{_≡_, refl, sym, ap, _∙_}
+use mathlib.Core.Path.{_≡_, refl, sym, ap, _∙_, subst}
 use mathlib.Core.Bool.{false}
 use mathlib.Core.Logic.{_⊎_, inl, inr}
 use mathlib.Core.Option.{some}
 use mathlib.Core.List.{List, [], _∷_, _++_, append-nil}
 use Prim.Native.Nat.{ℕ, suc, _+_, _≤_, _<_}
-use native.Mathlib.Nat.{le-refl}
+use native.Mathlib.Nat.{le-refl, le-trans}
 use native.Mathlib.Numerals.{add-one}
 use native.Mathlib.Omega.{arith}
 use lib.ListN.{length, length-append}
@@ -29,12 +29,14 @@ use Rattle.packet.proofs.Laws.{read-written, content-fields}
 use Rattle.packet.proofs.RoundTrip.{header-back}
 use Rattle.member.specs.Calls.{Outcome, answered, requestPacket, callVerdict, submitVerdict, withWaiting, submitOf, repeatOf, statusOf, withHeld, readStep, receiveOf}
 use Rattle.member.specs.Order.{acceptedBy}
-use Rattle.member.specs.State.{firstCount}
+use Rattle.member.specs.State.{acknowledgedOf, firstCount}
 use Rattle.member.specs.declared.Answer.{Answer}
 use Rattle.member.specs.declared.Member.{Member}
 use Rattle.member.proofs.Invariant.{Terminal, MemberGood}
 use Rattle.member.proofs.Keeping.{waiting-typed, waiting-sound}
 use Rattle.member.proofs.Laws.{Right, submittable, read-keepable}
+use Rattle.member.proofs.Acknowledged.{acknowledged-waiting, acknowledged-held}
+use Rattle.window.specs.Places.{isHeld}
 use Rattle.window.proofs.Missing.{place-one, held-each}
 use Rattle.member.proofs.Receiving.{Keepable, read-heard}
 use Rattle.member.proofs.Soundness.{Sound, sound-of, of-sound}
@@ -43,8 +45,11 @@ use Rattle.member.proofs.Writes.{Own, request-own, status-own}
 module _ (n g i acknowledged count : ℕ) (order took : List Ordered) (submitted : List (List ℕ)) where
   -- packets that are the member's own are terminal i's
   own-known : (o : Outcome) (took′ : List Ordered) (submitted′ : List (List ℕ)) → Terminal n g i acknowledged count (o .member) order took′ submitted′ → Own submitted′ o
-      → All (KnownBy g i (o .member .taken .0) submitted′) (written (o .bytes))
-  own-known o took′ submitted′ h k = rw (h .g-is, h .number-is) at k
+      → All (KnownBy g i (acknowledgedOf (o .member) .0) submitted′) (written (o .bytes))
+  own-known o took′ submitted′ h k =
+      let a = acknowledgedOf (o .member) .0 in
+      subst (λ (x : ℕ). All (KnownBy x i a submitted′) (written (o .bytes))) (h .g-is)
+      (subst (λ (x : ℕ). All (KnownBy (o .member .group .number) x a submitted′) (written (o .bytes))) (h .number-is) k)
 
   module _ (m : Member) (h : Terminal n g i acknowledged count m order took submitted) where
     abbrev Good : Outcome → Type 0
@@ -109,7 +114,7 @@ module _ (n g i acknowledged count : ℕ) (order took : List Ordered) (submitted
             number-is = h .number-is;
             typed = waiting-typed m (h .typed) payload left;
             sound = of-sound _ waiting-sound′;
-            acknowledged-le = h .acknowledged-le;
+            acknowledged-le = le-trans (h .acknowledged-le) (acknowledged-waiting m payload);
             taken-le = h .taken-le;
             took-is = h .took-is;
             held-is = h .held-is;
@@ -129,7 +134,7 @@ module _ (n g i acknowledged count : ℕ) (order took : List Ordered) (submitted
           let k = kept-payload (m .number) (m .submitted + 1) payload in
           record {
             terminal = waiting-terminal;
-            up = le-refl _;
+            up = acknowledged-waiting m payload;
             grown = λ c p e. at-append submitted (payload ∷ []) c e;
             known =
                 own-known o took (submitted ++ (payload ∷ [])) waiting-terminal
@@ -149,16 +154,16 @@ module _ (n g i acknowledged count : ℕ) (order took : List Ordered) (submitted
 
     -- the order's message of number k is held
     held-terminal : (originator : MemberNumber) (k c : ℕ) (payload : List ℕ) → at order k ≡ some (ordered k (originator .0) c payload)
-        → m .taken .0 < k → k ≤ m .taken .0 + heldMost → Right (withHeld m k (messageOf originator c payload)) → Here (withHeld m k (messageOf originator c payload))
+        → m .taken .0 < k → k ≤ m .taken .0 + heldMost → isHeld (m .held) k ≡ false → Right (withHeld m k (messageOf originator c payload)) → Here (withHeld m k (messageOf originator c payload))
     unfolding withHeld
-    held-terminal originator k c payload this lo hi (t, s) =
+    held-terminal originator k c payload this lo hi empty (t, s) =
         record {
           n-is = h .n-is;
           g-is = h .g-is;
           number-is = h .number-is;
           typed = t;
           sound = of-sound _ s;
-          acknowledged-le = h .acknowledged-le;
+          acknowledged-le = le-trans (h .acknowledged-le) (acknowledged-held m k (messageOf originator c payload) lo hi empty);
           taken-le = h .taken-le;
           took-is = h .took-is;
           held-is = λ j a b.
@@ -178,7 +183,7 @@ module _ (n g i acknowledged count : ℕ) (order took : List Ordered) (submitted
     module _ (t : ℕ → ℕ) (subs : ℕ → List (List ℕ)) where
       says-keepable : (content : Packet) (payload : List ℕ) → Says order t subs content payload → Keepable Right m content payload → Keepable Here m content payload
       says-keepable (Request sender taken c) payload so keep = tt
-      says-keepable (Broadcast originator number c floor) payload so keep = λ a lo hi. held-terminal originator (number .0) c payload so lo hi (keep a lo hi)
+      says-keepable (Broadcast originator number c floor) payload so keep = λ a lo hi e. held-terminal originator (number .0) c payload so lo hi e (keep a lo hi e)
       says-keepable (Gap sender taken first last) payload so keep = tt
       says-keepable (Status sender taken) payload so keep = tt
       says-keepable (Poll top floor) payload so keep = tt
@@ -206,4 +211,4 @@ module _ (n g i acknowledged count : ℕ) (order took : List Ordered) (submitted
             judged-elim Good (callVerdict m longestPacket) (λ r _. quiet (Answer.Refused r))
             (λ _. let o : Outcome = readStep m (readOf bytes) (payloadAt bytes) in
             let a = read-heard Here (λ m′ e. e .typed) (λ m′ e. sound-of m′ (e .sound)) m h (readOf bytes) (payloadAt bytes) known-keepable in
-            record { terminal = a .state; up = (let z = a .taken-is in omega arith); grown = λ c payload e. e; known = own-known o took submitted (a .state) (a .own submitted) })
+            record { terminal = a .state; up = a .up; grown = λ c payload e. e; known = own-known o took submitted (a .state) (a .own submitted) })

@@ -1,10 +1,11 @@
 -- What a step was promised, carried up to the call that took it; and what a verdict's yes says. Assumes nothing.
 use mathlib.Core.Path.{_≡_, refl, sym, ap, _∙_, subst}
+use mathlib.Core.Logic.{_≢_}
 use mathlib.Core.Bool.{Bool, true, false}
 use mathlib.Core.List.{List, [], _∷_}
 use Prim.Native.Nat.{ℕ, _+_, _-_, _≤_, _<_}
 use native.Mathlib.Omega.{arith}
-use borrow.Author.Tests.{leb-true, ltb-true, lt-ltb}
+use borrow.Author.Tests.{leb-true, ltb-true, lt-ltb, eqb-false}
 use lib.ListN.{length, getD, set, take, drop, length-drop}
 use lib.Seq.{take-all}
 use Rattle.group.specs.Choice.{if_then_else_, _and_, _≤?_, _<?_, _=?_}
@@ -14,14 +15,16 @@ use Rattle.group.specs.Limits.{heldMost, headerSize, payloadMost, longestPacket
 use Rattle.group.specs.Question.{judged}
 use Rattle.group.specs.declared.MemberNumber.{MemberNumber}
 use Rattle.group.specs.declared.Refusal.{Refusal}
+use Rattle.group.specs.declared.SequenceNumber.{SequenceNumber}
 use Rattle.group.specs.declared.Verdict.{Verdict}
 use Rattle.group.specs.declared.Verdict.the-variants.{Accepted, Refused}
 use Rattle.group.proofs.Choice.{if-true, if-false, if-eq, if-ne, if-eq-of, if-was, both-first, both-then, says}
 use Rattle.message.specs.Message.{messageOf, emptyMessage, payloadOf, blank}
 use Rattle.message.specs.declared.Message.{Message}
-use Rattle.packet.specs.Packet.{contentOf}
+use Rattle.packet.specs.Packet.{contentOf, fieldsOf, packetOf}
 use Rattle.packet.proofs.RoundTrip.{packet-length}
 use Rattle.packet.specs.declared.Header.{Header}
+use Rattle.packet.specs.declared.Packet.{Packet}
 use Rattle.packet.specs.declared.Reading.{Reading}
 use Rattle.packet.specs.declared.Reading.the-variants.{Fields}
 use Rattle.member.specs.Wording.{wordingOf}
@@ -30,6 +33,7 @@ use Rattle.window.specs.Sound.{placeSound, waitingSound}
 use Rattle.member.specs.Sound.{soundOf}
 use Rattle.member.specs.State.{firstCount}
 use Rattle.window.specs.Places.{placeOf, messageAt, lowestMissing}
+use Rattle.member.proofs.Acknowledged.{acknowledged-gapped}
 use Rattle.window.proofs.Missing.{lowest-other}
 use Rattle.window.specs.Steps.{Laid}
 use Rattle.member.specs.Steps.{Spoken, Replied, withPlace, Hears}
@@ -143,12 +147,20 @@ module _ (m : Member) (last : ℕ) (gapped alone : Answer) (whole : Outcome) (r 
       go true e = absurd (n (replied-of (if-true (low =? 0) (answered m alone) _ _ e refl) .spoken .written-is))
       go false e = replied-as (if-false (low =? 0) gap whole gap e refl) (replied-of (if-false (low =? 0) gap _ _ e refl))
 
--- a message that is kept: what is below it is missing or not whether it is held or not
+-- a message that is kept: what is below it is missing or not whether it is held or not, and the gap is the same
+gap-kept : (m : Member) (number : ℕ) (x : Message) → m .taken .0 < number → number ≤ m .taken .0 + heldMost
+    → let below = lowestMissing (m .held) (m .taken .0) (number - 1 - m .taken .0) in
+    below ≢ 0 → gapPacket (withHeld m number x) below (number - 1) ≡ gapPacket m below (number - 1)
+unfolding gapPacket withHeld
+gap-kept m number x lo hi n =
+    ap (λ (a : SequenceNumber). packetOf (fieldsOf (m .group .number) (Packet.Gap (m .number) a (record { 0 = lowestMissing (m .held) (m .taken .0) (number - 1 - m .taken .0) }) (record { 0 = number - 1 }))) [])
+    (acknowledged-gapped m number x lo hi n)
+
 pub hears-kept : (m : Member) (originator : MemberNumber) (number count : ℕ) (payload : List ℕ) (at : ℕ) (reply : Reply) (x y : List ℕ)
     → m .taken .0 < number → number ≤ m .taken .0 + heldMost → at ≡ placeOf number
     → Replied m (gapUpTo m (number - 1) Answer.KeptGap (answered m Answer.Kept)) reply x y
     → Hears m (keptOf m originator number count payload) (record { answer = reply .answer; written = reply .written; at = at; message = messageOf originator count payload }) x y
-unfolding keptOf gapUpTo answered withHeld withPlace gapPacket
+unfolding keptOf gapUpTo answered withHeld withPlace
 hears-kept m originator number count payload at reply x y lo hi e d =
     let z : lowestMissing (set (m .held) (placeOf number) message) (m .taken .0) (number - 1 - m .taken .0) ≡ below = lowest-other (m .held) (m .taken .0) (number - 1 - m .taken .0) number message (omega arith) hi in
     rw (e, z) (go (below =? 0) refl)
@@ -172,7 +184,12 @@ hears-kept m originator number count payload at reply x y lo hi e d =
         hears-as (if-true (below =? 0) (answered left Answer.Kept) _ _ q refl) (record { inside = omega arith; kept = refl; spoken = k .spoken })
     go false q =
         let k = subst (λ (o : Outcome). Replied m o reply x y) (sym (if-false (below =? 0) (record { member = m; answer = Answer.KeptGap; bytes = gapPacket m below (number - 1) }) _ _ q refl)) d in
-        hears-as (if-false (below =? 0) (record { member = left; answer = Answer.KeptGap; bytes = gapPacket left below (number - 1) }) _ _ q refl) (record { inside = omega arith; kept = refl; spoken = k .spoken })
+        hears-as (if-false (below =? 0) (record { member = left; answer = Answer.KeptGap; bytes = gapPacket left below (number - 1) }) _ _ q refl)
+        (record {
+          inside = omega arith;
+          kept = refl;
+          spoken = subst (λ (bytes : List ℕ). Spoken Answer.KeptGap bytes reply x y) (sym (gap-kept m number message lo hi (eqb-false below 0 q))) (k .spoken);
+        })
 
 module _ {A : Type 0} (v : Verdict) (refused : Refusal → A) (accepted : A) where
   -- what a verdict that is known comes to

@@ -5,7 +5,7 @@ use mathlib.Core.Bool.{Bool, true, false}
 use mathlib.Core.Option.{some}
 use mathlib.Core.List.{List, [], _∷_, _++_, append-nil}
 use Prim.Native.Nat.{ℕ, _+_, _≤_}
-use native.Mathlib.Nat.{le-refl}
+use native.Mathlib.Nat.{le-refl, le-trans}
 use native.Mathlib.Numerals.{add-one}
 use native.Mathlib.Omega.{arith}
 use borrow.Author.Tests.{ltb-true}
@@ -25,6 +25,7 @@ use Rattle.window.specs.Places.{messageAt, isHeld}
 use Rattle.member.specs.declared.Answer.{Answer}
 use Rattle.member.specs.declared.Member.{Member}
 use Rattle.member.proofs.Invariant.{Terminal, MemberGood}
+use Rattle.member.proofs.Acknowledged.{acknowledged-took}
 use Rattle.window.proofs.Keeping.{empty-none}
 use Rattle.member.proofs.Keeping.{taken-typed, taken-sound}
 use Rattle.window.proofs.Missing.{place-near, held-each}
@@ -86,7 +87,7 @@ module _ (n g i acknowledged count : ℕ) (order took : List Ordered) (submitted
             number-is = h .number-is;
             typed = taken-typed m (h .typed) next (let z = f .number-le in omega arith);
             sound = of-sound _ (taken-sound m (h .typed) next s);
-            acknowledged-le = (let z = h .acknowledged-le in omega arith);
+            acknowledged-le = le-trans (h .acknowledged-le) (acknowledged-took m next (h .typed) holds);
             taken-le = at-le order (m .taken .0 + 1) (this .1);
             took-is =
                 rw (handed, add-one) (ap (λ (l : List Ordered). l ++ (this .0 ∷ [])) (h .took-is) ∙ sym (take-at-suc order (m .taken .0) (rw add-one at (this .1))));
@@ -106,7 +107,7 @@ module _ (n g i acknowledged count : ℕ) (order took : List Ordered) (submitted
 
       takes-good : GoodTake (tookOf m next)
       unfolding tookOf tookBy withTaken
-      takes-good = record { terminal = taken-terminal; up = omega arith; grown = λ c payload e. e; known = tt }
+      takes-good = record { terminal = taken-terminal; up = acknowledged-took m next (h .typed) holds; grown = λ c payload e. e; known = tt }
 
     take-none : (answer : Answer) → tookBy answer [] ≡ [] → GoodTake (answered m answer)
     unfolding answered

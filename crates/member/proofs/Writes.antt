@@ -24,6 +24,7 @@ use Rattle.member.specs.Laws.{Typed}
 use Rattle.member.specs.State.{acknowledgedOf, firstCount}
 use Rattle.member.specs.declared.Answer.{Answer}
 use Rattle.member.specs.declared.Member.{Member}
+use Rattle.member.proofs.Acknowledged.{acknowledged-fits}
 use Rattle.member.proofs.Soundness.{Sound}
 
 -- a message's payload is as long as it says, or shorter
@@ -37,33 +38,33 @@ module _ (m : Member) (typed : Typed m) (s : Sound m) where
   request-allowed waits =
       let w = s .waiting .waits waits in
       let size = length (payloadOf (m .message)) in (
-        record { kind = omega arith; member = omega arith; group = typed .group; a = typed .taken; b = typed .submitted; c = omega arith },
+        record { kind = omega arith; member = omega arith; group = typed .group; a = acknowledged-fits m typed s; b = typed .submitted; c = omega arith },
         accepted _ size longestPacket
             (record { enough = omega arith; fields = rw (eq-eqb size size refl, le-leb 1 (firstCount m) (w .submitted-pos)); short = payload-short (m .message) (w .short) }),
       )
 
-  pub gap-allowed : (first last : ℕ) → m .taken .0 < first → first ≤ last → last ≤ largestNumber
+  pub gap-allowed : (first last : ℕ) → acknowledgedOf m .0 < first → first ≤ last → last ≤ largestNumber
       → Allowed (fieldsOf (m .group .number) (Gap (m .number) (acknowledgedOf m) (record { 0 = first }) (record { 0 = last }))) []
   unfolding fieldsOf fieldsVerdict knownKind payloadFits obeys if_then_else_
   gap-allowed first last lo hi most = (
-    record { kind = omega arith; member = omega arith; group = typed .group; a = typed .taken; b = omega arith; c = most },
+    record { kind = omega arith; member = omega arith; group = typed .group; a = acknowledged-fits m typed s; b = omega arith; c = most },
     accepted _ 0 longestPacket
-        (record { enough = omega arith; fields = rw (lt-ltb (m .taken .0) first lo, le-leb first last hi); short = omega arith }),
+        (record { enough = omega arith; fields = rw (lt-ltb (acknowledgedOf m .0) first lo, le-leb first last hi); short = omega arith }),
   )
 
   pub status-allowed : Allowed (fieldsOf (m .group .number) (Status (m .number) (acknowledgedOf m))) []
   unfolding fieldsOf fieldsVerdict knownKind payloadFits obeys if_then_else_
   status-allowed = (
-    record { kind = omega arith; member = omega arith; group = typed .group; a = typed .taken; b = omega arith; c = omega arith },
+    record { kind = omega arith; member = omega arith; group = typed .group; a = acknowledged-fits m typed s; b = omega arith; c = omega arith },
     accepted _ 0 longestPacket (record { enough = omega arith; fields = refl; short = omega arith }),
   )
 
--- the packets that a call wrote are its member's, which took what it acknowledges in them
+-- the packets that a call wrote are its member's, and acknowledge no more than it does
 abbrev pub Own : List (List ℕ) → Outcome → Type 0
-Own submitted o = All (KnownBy (o .member .group .number) (o .member .number .0) (o .member .taken .0) submitted) (written (o .bytes))
+Own submitted o = All (KnownBy (o .member .group .number) (o .member .number .0) (acknowledgedOf (o .member) .0) submitted) (written (o .bytes))
 
 module _ (m : Member) (typed : Typed m) (sound : Sound m) (submitted : List (List ℕ)) where
-  pub gap-own : (first last : ℕ) (answer : Answer) → m .taken .0 < first → first ≤ last → last ≤ largestNumber
+  pub gap-own : (first last : ℕ) (answer : Answer) → acknowledgedOf m .0 < first → first ≤ last → last ≤ largestNumber
       → Own submitted (record { member = m; answer = answer; bytes = gapPacket m first last })
   unfolding gapPacket packetOf headerBytes fieldsOf written
   gap-own first last answer lo hi most = (

@@ -11,7 +11,7 @@ use Rattle.message.specs.Message.{emptyMessage}
 use Rattle.member.specs.declared.Member.{Member}
 
 -- the number that a member acknowledges in every packet that it writes
-abbrev pub acknowledgedOf : Member → SequenceNumber
+unfoldable pub acknowledgedOf : Member → SequenceNumber
 acknowledgedOf m = m .taken
 
 -- the count of the waiting message

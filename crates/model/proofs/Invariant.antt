@@ -5,6 +5,7 @@ use Prim.Native.Nat.{ℕ, _<_}
 use lib.ListN.{length, getD}
 use Rattle.group.proofs.Lists.{All}
 use Rattle.member.proofs.Invariant.{Terminal}
+use Rattle.member.specs.State.{acknowledgedOf}
 use Rattle.member.specs.declared.Member.{Member}
 use Rattle.message.specs.Order.{Ordered}
 use Rattle.model.specs.Log.{order, taken, submitted}
@@ -17,13 +18,17 @@ use Rattle.sequencer.proofs.Invariant.{SequencerInv}
 abbrev pub takenOf : List Member → ℕ → ℕ
 takenOf members i = getD members i noMember .taken .0
 
+-- the number that it acknowledges
+abbrev pub acknowledgedIn : List Member → ℕ → ℕ
+acknowledgedIn members i = acknowledgedOf (getD members i noMember) .0
+
 -- the group under an order, what each terminal took, and what it submitted
 pub record Inv (n g : ℕ) (w : Group) (ord : List Ordered) (tk : ℕ → List Ordered) (sb : ℕ → List (List ℕ)) : Type 0 where
   pub sequencer : SequencerInv n g (w .sequencer) ord
   pub members : length (w .members) ≡ n
   pub terminal : (i : ℕ) → i < n
       → Terminal n g i (takenIn (w .sequencer .acknowledgements) i) (countIn (w .sequencer .acknowledgements) i) (getD (w .members) i noMember) ord (tk i) (sb i)
-  pub packets : All (Known g ord (takenOf (w .members)) sb) (w .packets)
+  pub packets : All (Known g ord (acknowledgedIn (w .members)) sb) (w .packets)
 
 -- the same where the three are read off the log
 abbrev pub WorldInv : ℕ → ℕ → World → Type 0

@@ -11,10 +11,11 @@ use lib.Seq.{take-append-le, getD-set-same}
 use Rattle.group.proofs.Lists.{at, All, all-append, all-map, at-append, set-each, eq-or}
 use Rattle.member.proofs.Invariant.{Terminal, MemberGood}
 use Rattle.member.specs.Calls as member
+use Rattle.member.specs.State.{acknowledgedOf}
 use Rattle.member.specs.declared.Member.{Member}
 use Rattle.message.specs.Order.{Ordered, ownOf, countedFrom}
 use Rattle.model.specs.World.{Group, noMember, withMember, withSequencer}
-use Rattle.model.proofs.Invariant.{Inv, takenOf}
+use Rattle.model.proofs.Invariant.{Inv, acknowledgedIn}
 use Rattle.packet.proofs.Facts.{Known, KnownBy, known-grows, known-by}
 use Rattle.packet.specs.Packet.{written}
 use Rattle.history.proofs.Soundness.{takenIn, countIn}
@@ -24,7 +25,7 @@ use Rattle.sequencer.specs.Order.{numberedBy}
 
 -- a terminal after a call of the sequencer: the order grew, and so may have its entry
 terminal-grows : (n g i a a′ c c′ : ℕ) (m : Member) (ord more tk : List Ordered) (sb : List (List ℕ))
-    → Terminal n g i a c m ord tk sb → a′ ≤ m .taken .0 → c ≤ c′ → c′ ≤ length sb
+    → Terminal n g i a c m ord tk sb → a′ ≤ acknowledgedOf m .0 → c ≤ c′ → c′ ≤ length sb
     → ownOf i (ord ++ more) ≡ countedFrom 1 (take c′ sb)
     → Terminal n g i a′ c′ m (ord ++ more) tk sb
 terminal-grows n g i a a′ c c′ m ord more tk sb h ha hc hs ho =
@@ -50,7 +51,7 @@ terminal-grows n g i a a′ c c′ m ord more tk sb h ha hc hs ho =
 -- a call of the sequencer
 pub keep-sequencer : (n g : ℕ) (w : Group) (ord : List Ordered) (tk : ℕ → List Ordered) (sb : ℕ → List (List ℕ)) (o : sequencer.Outcome)
     → Inv n g w ord tk sb
-    → SequencerGood n g (w .sequencer .acknowledgements) ord (takenOf (w .members)) sb (written (o .bytes)) o
+    → SequencerGood n g (w .sequencer .acknowledgements) ord (acknowledgedIn (w .members)) sb (written (o .bytes)) o
     → Inv n g (withSequencer w o .group) (ord ++ numberedBy (o .answer) (o .bytes)) tk sb
 keep-sequencer n g w ord tk sb o v h =
     record {
@@ -61,7 +62,7 @@ keep-sequencer n g w ord tk sb o v h =
       packets =
           all-append _ (w .packets) (written (o .bytes))
           (all-map _ _
-          (known-grows ord (ord ++ numberedBy (o .answer) (o .bytes)) (takenOf (w .members)) (takenOf (w .members)) sb sb
+          (known-grows ord (ord ++ numberedBy (o .answer) (o .bytes)) (acknowledgedIn (w .members)) (acknowledgedIn (w .members)) sb sb
           (λ s m e. at-append ord (numberedBy (o .answer) (o .bytes)) s e) (λ i. le-refl _) (λ i c p e. e) g)
           (w .packets) (v .packets))
           (h .known);
@@ -86,18 +87,18 @@ keep-member n g w ord tk tk′ sb sb′ i o packets hi ht hs v h =
           inside;
       packets =
           all-append _ (w .packets) packets
-          (all-map _ _ (known-grows ord ord (takenOf (w .members)) (takenOf (set (w .members) i (o .member))) sb sb′ (λ s m e. e) up grown g) (w .packets) (v .packets))
+          (all-map _ _ (known-grows ord ord (acknowledgedIn (w .members)) (acknowledgedIn (set (w .members) i (o .member))) sb sb′ (λ s m e. e) up grown g) (w .packets) (v .packets))
           (all-map _ _
-          (λ p y. known-by g i ord (takenOf (set (w .members) i (o .member))) sb′ p
-          (subst (λ (x : Member). KnownBy g i (x .taken .0) (sb′ i) p) (sym (getD-set-same (w .members) i (o .member) noMember inside)) y))
+          (λ p y. known-by g i ord (acknowledgedIn (set (w .members) i (o .member))) sb′ p
+          (subst (λ (x : Member). KnownBy g i (acknowledgedOf x .0) (sb′ i) p) (sym (getD-set-same (w .members) i (o .member) noMember inside)) y))
           packets (h .known));
     }
   where
     inside : i < length (w .members)
     inside = let z = v .members in omega arith
 
-    up : (j : ℕ) → takenOf (w .members) j ≤ takenOf (set (w .members) i (o .member)) j
-    up j = set-each (λ (k : ℕ) (m : Member). takenOf (w .members) k ≤ m .taken .0) (w .members) i (o .member) noMember j (λ e. rw e (h .up)) (λ e. le-refl _) inside
+    up : (j : ℕ) → acknowledgedIn (w .members) j ≤ acknowledgedIn (set (w .members) i (o .member)) j
+    up j = set-each (λ (k : ℕ) (m : Member). acknowledgedIn (w .members) k ≤ acknowledgedOf m .0) (w .members) i (o .member) noMember j (λ e. rw e (h .up)) (λ e. le-refl _) inside
 
     grown : (j c : ℕ) (p : List ℕ) → at (sb j) c ≡ some p → at (sb′ j) c ≡ some p
     grown j c p e = eq-or j i (λ q. rw q (h .grown c p (rw q at e))) (λ q. rw (hs j q) e)

@@ -15,16 +15,17 @@ use Rattle.group.specs.Choice.{if_then_else_, _<?_}
 use Rattle.group.specs.Limits.{membersMost, largestNumber, longestPacket}
 use Rattle.group.specs.declared.MemberNumber.{MemberNumber}
 use Rattle.group.specs.declared.SequenceNumber.{SequenceNumber}
+use Rattle.member.proofs.Acknowledged.{acknowledged-least, acknowledged-most}
 use Rattle.member.proofs.Closing.{HandOk, hand-ok, take-ok, status-is, status-ok}
 use Rattle.member.specs.Calls as member
 use Rattle.member.specs.Sound as memberSound
+use Rattle.member.specs.State.{acknowledgedOf}
 use Rattle.window.specs.Places.{messageAt}
 use Rattle.member.specs.declared.Answer as memberAnswer
 use Rattle.member.specs.declared.Member.{Member}
 use Rattle.message.specs.Order.{Ordered}
 use Rattle.model.proofs.Invariant.{WorldInv, takenOf}
 use Rattle.model.proofs.Step.{gather-snoc, next-keeps, run-keeps}
-use Rattle.model.proofs.Whole.{floor-le}
 use Rattle.model.specs.Closing.{closeMember}
 use Rattle.model.specs.Log.{numberedIn, order}
 use Rattle.model.specs.World.{Event, status, copy, handMember, handSequencer, Group, Happened, bySequencer, missing, withMember, withSequencer, noMember, atMember, happen, World, step, run}
@@ -35,11 +36,9 @@ use Rattle.packet.specs.Packet.{packetOf, fieldsOf, written}
 use Rattle.packet.specs.declared.Packet.{Packet}
 use Rattle.packet.specs.declared.Packet.the-variants.{Broadcast, Status}
 use Rattle.history.proofs.Soundness.{takenIn}
-use Rattle.history.specs.Note.{largerOf, withTaken, tableNoted}
-use Rattle.history.specs.State.{noAcknowledgement, acknowledgementOf}
-use Rattle.history.specs.declared.Acknowledgement.{Acknowledgement}
 use Rattle.sequencer.proofs.Histories.{broadcast-may}
-use Rattle.sequencer.proofs.Ordering.{copy-ok}
+use Rattle.sequencer.proofs.Invariant.{SequencerInv}
+use Rattle.sequencer.proofs.Ordering.{copy-ok, status-own, status-other}
 use Rattle.sequencer.proofs.Ordering as sequencerOrdering
 use Rattle.sequencer.specs.Calls as sequencer
 use Rattle.sequencer.specs.Note.{withTable, noteOf}
@@ -160,25 +159,18 @@ record NotedEffect (g : Group) (i a : ℕ) (d : Happened) : Type 0 where
   entry-other : (j : ℕ) → j ≢ i → takenIn (d .group .sequencer .acknowledgements) j ≡ takenIn (g .sequencer .acknowledgements) j
   quiet : numberedIn (d .answer) ≡ []
 
-larger-ge : (a b : ℕ) → b ≤ largerOf a b
-unfolding largerOf
-larger-ge a b = if-elim (λ (x : ℕ). b ≤ x) (a <? b) (λ t. omega arith) (λ f. ltb-false a b f)
-
-noted-effect : (g : Group) (i : MemberNumber) (t : SequenceNumber) (b : ℕ) (bytes : List ℕ) → getElem? (g .packets) b ≡ some bytes
+noted-effect : (n number : ℕ) (ord : List Ordered) (g : Group) (i : MemberNumber) (t : SequenceNumber) (b : ℕ) (bytes : List ℕ) → getElem? (g .packets) b ≡ some bytes
     → sequencer.receiveOf (g .sequencer) bytes longestPacket ≡ sequencer.answered (noteOf (g .sequencer) i t) Noted
-    → i .0 < length (g .sequencer .acknowledgements) → NotedEffect g (i .0) (t .0) (happen g (handSequencer b))
-unfolding happen written numberedIn numberedBy sequencer.answered noteOf withTable tableNoted
-noted-effect g i t b bytes e o hi =
-    let table = g .sequencer .acknowledgements in
-    let entry = withTaken (acknowledgementOf table i) t in
+    → SequencerInv n number (g .sequencer) ord → i .0 < n → NotedEffect g (i .0) (t .0) (happen g (handSequencer b))
+unfolding happen written numberedIn numberedBy sequencer.answered noteOf withTable
+noted-effect n number ord g i t b bytes e o v hi =
     rw (e, o)
     (record {
       members-are = refl;
       packets-are = append-nil (g .packets);
       top-is = refl;
-      entry-is =
-          subst (λ (a : Acknowledgement). t .0 ≤ a .taken .0) (sym (getD-set-same table (i .0) entry noAcknowledgement hi)) (larger-ge (acknowledgementOf table i .taken .0) (t .0));
-      entry-other = λ j q. ap (λ (a : Acknowledgement). a .taken .0) (getD-set-other table (i .0) j entry noAcknowledgement q);
+      entry-is = status-own n number ord (g .sequencer) v i t hi;
+      entry-other = status-other n number ord (g .sequencer) v i t hi;
       quiet = refl;
     })
 
@@ -197,9 +189,10 @@ record Trip (i t′ : ℕ) (w w′ : World) : Type 0 where
   order-is : order (w′ .log) ≡ order (w .log)
   length-is : length (w′ .group .packets) ≡ length (w .group .packets) + 1
 
--- the terminal has all, and the sequencer knows it
+-- the terminal took all, and the sequencer knows it
 pub record Closed (i k : ℕ) (w w′ : World) : Type 0 where
   pub top-is : w′ .group .sequencer .top .0 ≡ w .group .sequencer .top .0
+  pub taken-is : takenOf (w′ .group .members) i ≡ w .group .sequencer .top .0
   pub entry-is : w .group .sequencer .top .0 ≤ takenIn (w′ .group .sequencer .acknowledgements) i
   pub entry-other : (j : ℕ) → j ≢ i → takenIn (w′ .group .sequencer .acknowledgements) j ≡ takenIn (w .group .sequencer .acknowledgements) j
   pub taken-other : (j : ℕ) → j ≢ i → takenOf (w′ .group .members) j ≡ takenOf (w .group .members) j
@@ -210,13 +203,12 @@ module _ (n g : ℕ) (hn : n ≤ membersMost) (hg : g ≤ largestNumber) (i : �
   inside : (w : World) → WorldInv n g w → i < length (w .group .members)
   inside w v = let z = v .members in omega arith
 
-  trip : (w : World) (t b : ℕ) → WorldInv n g w → takenOf (w .group .members) i ≡ t → t < w .group .sequencer .top .0 → length (w .group .packets) ≡ b
+  trip : (w : World) (t b : ℕ) → WorldInv n g w → takenOf (w .group .members) i ≡ t → w .group .sequencer .floor .0 ≤ t → t < w .group .sequencer .top .0 → length (w .group .packets) ≡ b
       → Trip i (t + 1) w (step (step (step w (copy (t + 1))) (handMember b i)) (world.take i))
-  trip w t b v et lt eb =
+  trip w t b v et fl lt eb =
       let q : Sequencer = w .group .sequencer in
       let s = v .sequencer in
       let top = s .top-is in
-      let fl = floor-le n g w i v hi in
       let y = at-some (order (w .log)) (t + 1) (omega arith) (omega arith) in
       let x : Ordered = y .0 in
       let above : q .floor .0 < t + 1 = omega arith in
@@ -258,14 +250,17 @@ module _ (n g : ℕ) (hn : n ≤ membersMost) (hg : g ≤ largestNumber) (i : �
       let top1 : q1 .top .0 ≡ w .group .sequencer .top .0 = ap (λ (q : Sequencer). q .top .0) (c .effect .sequencer-is) in
       let at-b : getElem? (w1 .group .packets) b ≡ some (member.statusPacket m) = rw (c .packets-are, ← eb) (get-last (w .group .packets) (member.statusPacket m)) in
       let number = h .number-is in
+      let least = acknowledged-least m in
+      let most = acknowledged-most h in
+      let top0 = v .sequencer .top-is in
       let top = s1 .top-is in
       let sent = status-ok n g i _ _ _ _ _ m h in
-      let noted : sequencer.receiveOf q1 (member.statusPacket m) longestPacket ≡ sequencer.answered (noteOf q1 (m .number) (m .taken)) Noted =
-      rw (sent .0) (sequencerOrdering.status-ok n g (order (w1 .log)) q1 s1 (m .number) (m .taken) (sent .1) (omega arith) (omega arith)) in
-      let table : length (q1 .acknowledgements) ≡ membersMost = s1 .typed .table in
-      let d = noted-effect (w1 .group) (m .number) (m .taken) b (member.statusPacket m) at-b noted (omega arith) in
+      let noted : sequencer.receiveOf q1 (member.statusPacket m) longestPacket ≡ sequencer.answered (noteOf q1 (m .number) (acknowledgedOf m)) Noted =
+      rw (sent .0) (sequencerOrdering.status-ok n g (order (w1 .log)) q1 s1 (m .number) (acknowledgedOf m) (sent .1) (omega arith) (omega arith)) in
+      let d = noted-effect n g (order (w1 .log)) (w1 .group) (m .number) (acknowledgedOf m) b (member.statusPacket m) at-b noted s1 (omega arith) in
       record {
         top-is = d .top-is ∙ top1;
+        taken-is = ap (λ (l : List Member). takenOf l i) (d .members-are) ∙ c .effect .taken-is ∙ et;
         entry-is =
             subst (λ (k : ℕ). w .group .sequencer .top .0 ≤ takenIn (step w1 (handSequencer b) .group .sequencer .acknowledgements) k) number (let z = d .entry-is in omega arith);
         entry-other = λ j k. d .entry-other j (λ x. k (x ∙ number)) ∙ ap (λ (q : Sequencer). takenIn (q .acknowledgements) j) (c .effect .sequencer-is);
@@ -276,18 +271,20 @@ module _ (n g : ℕ) (hn : n ≤ membersMost) (hg : g ≤ largestNumber) (i : �
             ap length (d .packets-are ∙ c .packets-are) ∙ z;
       }
 
-  pub closes-one : (k t b : ℕ) (w : World) → WorldInv n g w → takenOf (w .group .members) i ≡ t → t + k ≡ w .group .sequencer .top .0 → length (w .group .packets) ≡ b
+  pub closes-one : (k t b : ℕ) (w : World) → WorldInv n g w → takenOf (w .group .members) i ≡ t → w .group .sequencer .floor .0 ≤ t → t + k ≡ w .group .sequencer .top .0 → length (w .group .packets) ≡ b
       → Closed i k w (run w (closeMember i t k b))
   unfolding run closeMember
-  closes-one zero t b w v et ek eb = ends w b v (omega arith) eb
-  closes-one (suc k) t b w v et ek eb =
+  closes-one zero t b w v et fl ek eb = ends w b v (omega arith) eb
+  closes-one (suc k) t b w v et fl ek eb =
       let w3 : World = step (step (step w (copy (t + 1))) (handMember b i)) (world.take i) in
       let v3 : WorldInv n g w3 = run-keeps n g hn hg w (copy (t + 1) ∷ handMember b i ∷ world.take i ∷ []) v in
-      let c = trip w t b v et (omega arith) eb in
+      let c = trip w t b v et fl (omega arith) eb in
       let top3 : w3 .group .sequencer .top .0 ≡ w .group .sequencer .top .0 = ap (λ (q : Sequencer). q .top .0) (c .sequencer-is) in
-      let d = closes-one k (t + 1) (b + 1) w3 v3 (c .taken-is) (omega arith) (c .length-is ∙ ap (λ (x : ℕ). x + 1) eb) in
+      let floor3 : w3 .group .sequencer .floor .0 ≡ w .group .sequencer .floor .0 = ap (λ (q : Sequencer). q .floor .0) (c .sequencer-is) in
+      let d = closes-one k (t + 1) (b + 1) w3 v3 (c .taken-is) (omega arith) (omega arith) (c .length-is ∙ ap (λ (x : ℕ). x + 1) eb) in
       record {
         top-is = d .top-is ∙ top3;
+        taken-is = d .taken-is ∙ top3;
         entry-is = let z = d .entry-is in omega arith;
         entry-other = λ j x. d .entry-other j x ∙ ap (λ (q : Sequencer). takenIn (q .acknowledgements) j) (c .sequencer-is);
         taken-other = λ j x. d .taken-other j x ∙ c .taken-other j x;

@@ -16,6 +16,7 @@ use Rattle.group.specs.Choice.{if_then_else_, _<?_, _≤?_, _=?_}
 use Rattle.group.specs.Limits.{membersMost, placesMost, largestNumber, longestPacket}
 use Rattle.group.specs.Opening.{openOf}
 use Rattle.group.specs.declared.Opened.{Opened}
+use Rattle.member.proofs.Acknowledged.{acknowledged-most}
 use Rattle.member.proofs.Closing.{fresh-terminal}
 use Rattle.member.proofs.Invariant.{Terminal, MemberGood}
 use Rattle.member.proofs.Ordering as memberOrdering
@@ -26,7 +27,7 @@ use Rattle.member.specs.State.{freshMember}
 use Rattle.member.specs.declared.Member.{Member}
 use Rattle.member.specs.declared.Opening.{Opening}
 use Rattle.message.specs.Order.{Ordered, ownOf, countedFrom}
-use Rattle.model.proofs.Invariant.{Inv, WorldInv, takenOf}
+use Rattle.model.proofs.Invariant.{Inv, WorldInv, acknowledgedIn}
 use Rattle.model.proofs.Keep.{keep-sequencer, keep-member}
 use Rattle.model.specs.Log.{gather, numberedIn, order, tookIn, acceptedIn, tookAt, submittedAt, taken, submitted}
 use Rattle.model.specs.World.{Event, submit, repeat, status, poll, copy, handMember, handSequencer, Answer, absent, bySequencer, byMember, Group, Happened, missing, withMember, withSequencer, noMember, atMember, takeAt, handToMember, handToSequencer, happen, World, step, run, freshMembers, fresh}
@@ -158,7 +159,7 @@ module _ (n g : ℕ) (w : Group) (ord : List Ordered) (tk : ℕ → List Ordered
       at-i p e =
           if-elim (Kept (handMember k i)) (i <? length (w .members))
           (λ b. still-kept i (handMember k i) _ _ (inside i b) (λ j. refl) (λ j. refl)
-          (memberOrdering.receive-good n g i _ _ ord (tk i) (sb i) (getD (w .members) i noMember) (v .terminal i (inside i b)) (takenOf (w .members)) sb p (all-get _ (w .packets) k (v .packets) e)))
+          (memberOrdering.receive-good n g i _ _ ord (tk i) (sb i) (getD (w .members) i noMember) (v .terminal i (inside i b)) (acknowledgedIn (w .members)) sb p (all-get _ (w .packets) k (v .packets) e)))
           (λ b. absent-kept (handMember k i))
 
       go : (x : Option (List ℕ)) → getElem? (w .packets) k ≡ x → Kept (handMember k i) (handToMember w i x)
@@ -168,16 +169,16 @@ module _ (n g : ℕ) (w : Group) (ord : List Ordered) (tk : ℕ → List Ordered
   -- an event of the sequencer
   sequencer-kept : (e : Event) (o : sequencer.Outcome)
       → ((j : ℕ) → tookAt j e (bySequencer (o .answer) (o .bytes)) ≡ []) → ((j : ℕ) → submittedAt j e (bySequencer (o .answer) (o .bytes)) ≡ [])
-      → SequencerGood n g (w .sequencer .acknowledgements) ord (takenOf (w .members)) sb (written (o .bytes)) o → Kept e (withSequencer w o)
+      → SequencerGood n g (w .sequencer .acknowledgements) ord (acknowledgedIn (w .members)) sb (written (o .bytes)) o → Kept e (withSequencer w o)
   unfolding numberedIn
   sequencer-kept e o ot os h =
       inv-ext n g _ _ _ tk _ sb _ refl (λ j. rw (ot j) (append-nil (tk j))) (λ j. rw (os j) (append-nil (sb j))) (keep-sequencer n g w ord tk sb o v h)
 
-  acked : (i : ℕ) → i < n → takenIn (w .sequencer .acknowledgements) i ≤ takenOf (w .members) i
+  acked : (i : ℕ) → i < n → takenIn (w .sequencer .acknowledgements) i ≤ acknowledgedIn (w .members) i
   acked i b = v .terminal i b .acknowledged-le
 
-  t-le : (i : ℕ) → i < n → takenOf (w .members) i ≤ length ord
-  t-le i b = v .terminal i b .taken-le
+  t-le : (i : ℕ) → i < n → acknowledgedIn (w .members) i ≤ length ord
+  t-le i b = acknowledged-most (v .terminal i b)
 
   counts : (i : ℕ) → i < n → countIn (w .sequencer .acknowledgements) i ≤ length (sb i)
   counts i b = let z = v .terminal i b .count-le in let y = v .terminal i b .submitted-is in omega arith
@@ -196,7 +197,7 @@ module _ (n g : ℕ) (w : Group) (ord : List Ordered) (tk : ℕ → List Ordered
       go none e = absent-kept (handSequencer k)
       go (some p) e =
           sequencer-kept (handSequencer k) _ (λ j. refl) (λ j. refl)
-          (sequencerOrdering.receive-good n g ord (w .sequencer) (v .sequencer) (takenOf (w .members)) sb acked t-le counts sizes owns p (all-get _ (w .packets) k (v .packets) e))
+          (sequencerOrdering.receive-good n g ord (w .sequencer) (v .sequencer) (acknowledgedIn (w .members)) sb acked t-le counts sizes owns p (all-get _ (w .packets) k (v .packets) e))
 
   pub step-keeps : (e : Event) → Kept e (happen w e)
   unfolding happen tookAt submittedAt
@@ -205,10 +206,10 @@ module _ (n g : ℕ) (w : Group) (ord : List Ordered) (tk : ℕ → List Ordered
   step-keeps (world.take i) = take-kept i
   step-keeps (status i) = status-kept i
   step-keeps poll =
-      sequencer-kept poll _ (λ j. refl) (λ j. refl) (sequencerOrdering.poll-good n g ord (w .sequencer) (v .sequencer) (takenOf (w .members)) sb acked t-le counts sizes owns)
+      sequencer-kept poll _ (λ j. refl) (λ j. refl) (sequencerOrdering.poll-good n g ord (w .sequencer) (v .sequencer) (acknowledgedIn (w .members)) sb acked t-le counts sizes owns)
   step-keeps (copy number) =
       sequencer-kept (copy number) _ (λ j. refl) (λ j. refl)
-      (sequencerOrdering.copy-good n g ord (w .sequencer) (v .sequencer) (takenOf (w .members)) sb acked t-le counts sizes owns (record { 0 = number }))
+      (sequencerOrdering.copy-good n g ord (w .sequencer) (v .sequencer) (acknowledgedIn (w .members)) sb acked t-le counts sizes owns (record { 0 = number }))
   step-keeps (handMember k i) = hand-kept k i
   step-keeps (handSequencer k) = hand-sequencer-kept k
 

@@ -14,7 +14,7 @@ use Rattle.member.specs.declared.Member.{Member}
 use Rattle.model.proofs.Invariant.{WorldInv, takenOf}
 use Rattle.model.proofs.Round.{closes-one}
 use Rattle.model.proofs.Step.{run-keeps, fresh-inv}
-use Rattle.model.proofs.Whole.{floor-le, whole, total, owns}
+use Rattle.model.proofs.Whole.{floor-taken, whole, total, owns}
 use Rattle.model.specs.Claim.{Claim, Demand3}
 use Rattle.model.specs.Closing.{closeMember, closeFrom, closing, closingMost}
 use Rattle.model.specs.Log.{order, messagesAbove}
@@ -27,19 +27,22 @@ unfolding run
 run-append w [] b = refl
 run-append w (e ∷ a) b = run-append _ a b
 
--- every terminal has all, and the sequencer knows it
+-- terminal j took all up to top, and the sequencer knows it
+abbrev Has : World → ℕ → ℕ → Type 0
+Has w top j = (takenOf (w .group .members) j ≡ top) × (top ≤ takenIn (w .group .sequencer .acknowledgements) j)
+
 record Closes (n : ℕ) (w w′ : World) : Type 0 where
   top-is : w′ .group .sequencer .top .0 ≡ w .group .sequencer .top .0
-  entries : (j : ℕ) → j < n → w .group .sequencer .top .0 ≤ takenIn (w′ .group .sequencer .acknowledgements) j
+  each : (j : ℕ) → j < n → Has w′ (w .group .sequencer .top .0) j
   order-is : order (w′ .log) ≡ order (w .log)
 
 module _ (n g : ℕ) (hn : n ≤ membersMost) (hg : g ≤ largestNumber) where
   closes-from : (ms : List Member) (i b : ℕ) (w : World) → WorldInv n g w → length (w .group .packets) ≡ b → i + length ms ≡ n
       → ((k : ℕ) → k < length ms → takenOf (w .group .members) (i + k) ≡ getD ms k noMember .taken .0)
-      → ((j : ℕ) → j < i → w .group .sequencer .top .0 ≤ takenIn (w .group .sequencer .acknowledgements) j)
+      → ((j : ℕ) → j < i → Has w (w .group .sequencer .top .0) j)
       → Closes n w (run w (closeFrom ms i (w .group .sequencer .top .0) b))
   unfolding closeFrom run
-  closes-from [] i b w v eb ei ht ha = record { top-is = refl; entries = λ j x. ha j (omega arith); order-is = refl }
+  closes-from [] i b w v eb ei ht ha = record { top-is = refl; each = λ j x. ha j (omega arith); order-is = refl }
   closes-from (m ∷ ms) i b w v eb ei ht ha =
       let top : ℕ = w .group .sequencer .top .0 in
       let t : ℕ = m .taken .0 in
@@ -50,17 +53,19 @@ module _ (n g : ℕ) (hn : n ≤ membersMost) (hg : g ≤ largestNumber) where
       let es : List Event = closeMember i t (top - t) b in
       let w1 : World = run w es in
       let v1 : WorldInv n g w1 = run-keeps n g hn hg w es v in
-      let c = closes-one n g hn hg i hi (top - t) t b w v et (omega arith) eb in
+      let fl = floor-taken n g w i v hi in
+      let c = closes-one n g hn hg i hi (top - t) t b w v et (omega arith) (omega arith) eb in
       let d = closes-from ms (i + 1) (b + (top - t) + 1) w1 v1 (c .length-is ∙ (omega arith)) (omega arith)
       (λ k x. let e : i + 1 + k ≡ i + suc k = omega arith in
       c .taken-other (i + 1 + k) (λ z. omega arith) ∙ ap (takenOf (w .group .members)) e ∙ ht (suc k) (omega arith))
-      (λ j x. let z = c .top-is in
-      eq-or j i (λ e. rw e (let y = c .entry-is in omega arith)) (λ e. rw (c .entry-other j e) (let y = ha j (omega arith) in omega arith))) in
+      (λ j x. rw (c .top-is)
+      (eq-or j i (λ e. rw e (c .taken-is, c .entry-is))
+      (λ e. let y = ha j (omega arith) in (c .taken-other j e ∙ y .0, rw (c .entry-other j e) (y .1))))) in
       let top1 : w1 .group .sequencer .top .0 ≡ top = c .top-is in
       let rest : List Event = closeFrom ms (i + 1) top (b + (top - t) + 1) in
       let d′ : Closes n w1 (run w1 rest) = subst (λ (k : ℕ). Closes n w1 (run w1 (closeFrom ms (i + 1) k (b + (top - t) + 1)))) top1 d in
       subst (λ (x : World). Closes n w x) (sym (run-append w es rest))
-      (record { top-is = d′ .top-is ∙ top1; entries = λ j x. let z = d′ .entries j x in omega arith; order-is = d′ .order-is ∙ c .order-is })
+      (record { top-is = d′ .top-is ∙ top1; each = λ j x. rw top1 at (d′ .each j x); order-is = d′ .order-is ∙ c .order-is })
 
 -- its length
 member-length : (i t k b : ℕ) → length (closeMember i t k b) ≡ 3 * k + 2
@@ -88,7 +93,7 @@ claim n g lo hn hg w v =
     let s′ = v′ .sequencer in
     let tp = c .top-is in
     let same = s′ .top-is in
-    let fl = floor-all n g (order (w′ .log)) (w′ .group .sequencer) s′ (λ i b. let y = c .entries i b in omega arith) in
+    let fl = floor-all n g (order (w′ .log)) (w′ .group .sequencer) s′ (λ i b. let y = c .each i b .1 in omega arith) in
     let z : w′ .group .sequencer .top .0 - w′ .group .sequencer .floor .0 ≡ 0 = omega arith in
     record {
       whole = λ i b. whole n g w i v b;
@@ -97,7 +102,7 @@ claim n g lo hn hg w v =
       closing-short =
           let y = from-length (w .group .members) 0 (w .group .sequencer .top .0) (length (w .group .packets))
           (λ k a. let b : k < n = (let e = v .members in omega arith) in
-          let f = floor-le n g w k v b in
+          let f = floor-taken n g w k v b in
           let x = sound-of (w .group .sequencer) (v .sequencer .sound) in
           omega arith) in
           subst (λ (k : ℕ). length (closing w) ≤ closingMost * k) (v .members) y;
@@ -105,9 +110,7 @@ claim n g lo hn hg w v =
       closing-empties = ap (messagesAbove (messageAt (w′ .group .sequencer .history)) (w′ .group .sequencer .floor .0)) z;
       closing-gives = λ i b.
           let h = v′ .terminal i b in
-          let y = c .entries i b in
-          let x = s′ .top-is in
-          let a = h .acknowledged-le in
+          let y = c .each i b .0 in
           h .took-is ∙ take-all (takenOf (w′ .group .members) i) (order (w′ .log)) (omega arith) ∙ c .order-is;
     }
 

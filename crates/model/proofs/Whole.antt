@@ -5,18 +5,19 @@ use mathlib.Core.Bool.{Bool, true, false}
 use mathlib.Core.Option.{some}
 use mathlib.Core.List.{List, [], _∷_, _++_}
 use Prim.Native.Nat.{ℕ, zero, suc, _+_, _-_, _*_, _≤_, _<_}
-use native.Mathlib.Nat.{le-refl, suc-mul, zero-mul}
+use native.Mathlib.Nat.{le-refl, le-trans, suc-mul, zero-mul}
 use native.Mathlib.Omega.{arith}
 use borrow.Author.Tests.{ltb-true, ltb-false}
 use lib.ListN.{length, getD, take, drop, take-append-drop, drop-of-length-le, length-append}
 use lib.Seq.{length-take-le, drop-drop, take-all}
 use Rattle.group.proofs.Lists.{if-elim, none≢some, at, at-nil, at-some, at-append, drop-at-suc, le-or}
 use Rattle.group.specs.Choice.{if_then_else_, _<?_}
+use Rattle.member.proofs.Acknowledged.{acknowledged-is}
 use Rattle.message.proofs.Kept.{kept-payload}
 use Rattle.message.specs.Message.{messageOf, payloadOf}
 use Rattle.message.specs.Order.{Ordered, Submission, ownOf, countedFrom}
 use Rattle.message.specs.declared.Message.{Message}
-use Rattle.model.proofs.Invariant.{WorldInv, takenOf}
+use Rattle.model.proofs.Invariant.{WorldInv, takenOf, acknowledgedIn}
 use Rattle.model.specs.Claim.{sum, withoutLast}
 use Rattle.model.specs.Log.{order, taken, submitted, accepted, orderedAt, messagesAbove, historyOf, lastNumber, above, owed}
 use Rattle.model.specs.World.{World, noMember}
@@ -93,9 +94,12 @@ history-is n g s ord v (suc k) f a e =
     let rest : messagesAbove (messageAt (s .history)) (f + 1) k ≡ drop (suc f) ord = history-is n g s ord v k (f + 1) (omega arith) (omega arith) ∙ rw one in
     ap₂ (λ (m : Ordered) (l : List Ordered). m ∷ l) here rest ∙ sym (drop-at-suc ord f (y .1))
 
--- floor is at most what each terminal took
-pub floor-le : (n g : ℕ) (w : World) (i : ℕ) → WorldInv n g w → i < n → w .group .sequencer .floor .0 ≤ takenOf (w .group .members) i
-floor-le n g w i v b = let z = floor-below n g _ (w .group .sequencer) (v .sequencer) i b in let y = v .terminal i b .acknowledged-le in omega arith
+-- floor is at most what each terminal acknowledges, so at most what it took
+pub floor-le : (n g : ℕ) (w : World) (i : ℕ) → WorldInv n g w → i < n → w .group .sequencer .floor .0 ≤ acknowledgedIn (w .group .members) i
+floor-le n g w i v b = le-trans (floor-below n g _ (w .group .sequencer) (v .sequencer) i b) (v .terminal i b .acknowledged-le)
+
+pub floor-taken : (n g : ℕ) (w : World) (i : ℕ) → WorldInv n g w → i < n → w .group .sequencer .floor .0 ≤ takenOf (w .group .members) i
+floor-taken n g w i v b = rw (acknowledged-is (getD (w .group .members) i noMember)) at (floor-le n g w i v b)
 
 -- what a terminal took, and is owed
 pub whole : (n g : ℕ) (w : World) (i : ℕ) → WorldInv n g w → i < n → taken i (w .log) ++ owed w i ≡ order (w .log)
@@ -106,7 +110,7 @@ whole n g w i v b =
     let h = v .terminal i b in
     let s = v .sequencer in
     let tle : t ≤ length ord = h .taken-le in
-    let fle : q .floor .0 ≤ t = floor-le n g w i v b in
+    let fle : q .floor .0 ≤ t = floor-taken n g w i v b in
     let top : q .floor .0 ≤ q .top .0 = (let z = s .top-is in omega arith) in
     let last : lastNumber (taken i (w .log)) ≡ t =
     rw (h .took-is) (last-is (take t ord) (runs-take 0 t ord (runs ord s)) ∙ length-take-le t ord tle) in

@@ -9,6 +9,7 @@ use native.Mathlib.Nat.{le-refl}
 use native.Mathlib.Omega.{arith}
 use lib.ListN.{length}
 use Rattle.group.specs.Limits.{heldMost, largestNumber}
+use Rattle.group.specs.declared.Group.{Group}
 use Rattle.message.specs.Order.{Ordered}
 use Rattle.message.specs.declared.Message.{Message}
 use Rattle.member.specs.Calls.{withWaiting, withHeld, withTaken}
@@ -60,7 +61,7 @@ module _ (m : Member) where
   acknowledged-took x typed c = omega arith
 
 -- a terminal acknowledges no more than was numbered
-pub acknowledged-most : {n g i acknowledged count : ℕ} {m : Member} {order took : List Ordered} {submitted : List (List ℕ)}
-    → Terminal n g i acknowledged count m order took submitted → acknowledgedOf m .0 ≤ length order
+pub acknowledged-most : {group : Group} {i acknowledged count : ℕ} {m : Member} {order took : List Ordered} {submitted : List (List ℕ)}
+    → Terminal group i acknowledged count m order took submitted → acknowledgedOf m .0 ≤ length order
 unfolding acknowledgedOf
 acknowledged-most h = h .taken-le

@@ -51,12 +51,12 @@ unfolding takeOf judged if_then_else_
 take-is m h c = rw (call-accepted m h, lt-ltb 0 (messageAt (m .held) (m .taken .0 + 1) .count) c)
 
 -- a packet of the group is received as what it says
-pub receive-is : (m : Member) (g : ℕ) (content : Packet) (payload : List ℕ) → soundOf m ≡ true → m .group .number ≡ g → Allowed (fieldsOf g content) payload
-    → receiveOf m (packetOf (fieldsOf g content) payload) longestPacket ≡ contentStep m content payload
+pub receive-is : (m : Member) (group : Group) (content : Packet) (payload : List ℕ) → soundOf m ≡ true → m .group ≡ group → Allowed (fieldsOf (group .number) content) payload
+    → receiveOf m (packetOf (fieldsOf (group .number) content) payload) longestPacket ≡ contentStep m content payload
 unfolding receiveOf judged readStep if_then_else_
-receive-is m g content payload h e allowed =
-    let r = read-written (fieldsOf g content) payload allowed in
-    rw (call-accepted m h, r .0, r .1, content-fields g content, eq-eqb (fieldsOf g content .group) (m .group .number) (fields-group g content ∙ sym e))
+receive-is m group content payload h e allowed =
+    let r = read-written (fieldsOf (group .number) content) payload allowed in
+    rw (call-accepted m h, r .0, r .1, content-fields (group .number) content, eq-eqb (fieldsOf (group .number) content .group) (m .group .number) (fields-group (group .number) content ∙ sym (ap (λ (x : Group). x .number) e)))
 
 -- what handing over the broadcast of number t + 1 leaves
 pub record HandOk (m : Member) (o : Outcome) : Type 0 where
@@ -64,9 +64,9 @@ pub record HandOk (m : Member) (o : Outcome) : Type 0 where
   pub held : 1 ≤ messageAt (o .member .held) (m .taken .0 + 1) .count
   pub bytes-are : o .bytes ≡ []
 
-module _ (n g i acknowledged count : ℕ) (order took : List Ordered) (submitted : List (List ℕ)) (m : Member) (h : Terminal n g i acknowledged count m order took submitted) where
+module _ (group : Group) (i acknowledged count : ℕ) (order took : List Ordered) (submitted : List (List ℕ)) (m : Member) (h : Terminal group i acknowledged count m order took submitted) where
   module _ (originator : MemberNumber) (number : SequenceNumber) (c : ℕ) (floor : SequenceNumber) (payload : List ℕ)
-      (allowed : Allowed (fieldsOf g (Broadcast originator number c floor)) payload) (member : originator .0 < n) (next : number .0 ≡ m .taken .0 + 1) where
+      (allowed : Allowed (fieldsOf (group .number) (Broadcast originator number c floor)) payload) (member : originator .0 < group .n) (next : number .0 ≡ m .taken .0 + 1) where
     -- a count of a broadcast is at least 1
     count-pos : 1 ≤ c
     unfolding fieldsOf obeys if_then_else_
@@ -87,10 +87,10 @@ module _ (n g i acknowledged count : ℕ) (order took : List Ordered) (submitted
     unfolding lowestMissing
     none = let z : number .0 - 1 - m .taken .0 ≡ 0 = omega arith in rw z
 
-    pub hand-ok : HandOk m (receiveOf m (packetOf (fieldsOf g (Broadcast originator number c floor)) payload) longestPacket)
+    pub hand-ok : HandOk m (receiveOf m (packetOf (fieldsOf (group .number) (Broadcast originator number c floor)) payload) longestPacket)
     unfolding contentStep broadcastOf keptOf gapUpTo withHeld answered
     hand-ok =
-        rw (receive-is m g (Broadcast originator number c floor) payload (h .sound) (h .g-is) allowed)
+        rw (receive-is m group (Broadcast originator number c floor) payload (h .sound) (h .group-is) allowed)
         (if-elim (HandOk m) (originator .0 <? m .group .n)
         (λ _. if-elim (HandOk m) (number .0 ≤? m .taken .0)
         (λ a. let z = leb-true (number .0) (m .taken .0) a in absurd (omega arith))
@@ -101,29 +101,27 @@ module _ (n g i acknowledged count : ℕ) (order took : List Ordered) (submitted
         (λ _. record { taken-is = refl; held = kept; bytes-are = refl })
         (λ a. absurd (eqb-false low 0 a none))))
         (λ a. let z = leb-false (number .0) (m .taken .0 + heldMost) a in absurd (omega arith))))
-        (λ a. let z = ltb-false (originator .0) (m .group .n) a in let y = h .n-is in absurd (omega arith)))
+        (λ a. let z = ltb-false (originator .0) (m .group .n) a in let y = ap (λ (x : Group). x .n) (h .group-is) in absurd (omega arith)))
 
   pub take-ok : 1 ≤ messageAt (m .held) (m .taken .0 + 1) .count → takeOf m longestPacket .member .taken .0 ≡ m .taken .0 + 1
   unfolding tookOf withTaken
   take-ok c = ap (λ (o : Outcome). o .member .taken .0) (take-is m (h .sound) c)
 
   -- the status that is written, as the group knows it
-  pub status-ok : (statusPacket m ≡ packetOf (fieldsOf g (Status (m .number) (acknowledgedOf m))) []) × Allowed (fieldsOf g (Status (m .number) (acknowledgedOf m))) []
+  pub status-ok : (statusPacket m ≡ packetOf (fieldsOf (group .number) (Status (m .number) (acknowledgedOf m))) []) × Allowed (fieldsOf (group .number) (Status (m .number) (acknowledgedOf m))) []
   unfolding statusPacket
   status-ok = (
-    ap (λ (k : ℕ). packetOf (fieldsOf k (Status (m .number) (acknowledgedOf m))) []) (h .g-is),
-    subst (λ (k : ℕ). Allowed (fieldsOf k (Status (m .number) (acknowledgedOf m))) []) (h .g-is) (status-allowed m (h .typed) (sound-of m (h .sound))),
+    ap (λ (x : Group). packetOf (fieldsOf (x .number) (Status (m .number) (acknowledgedOf m))) []) (h .group-is),
+    subst (λ (x : Group). Allowed (fieldsOf (x .number) (Status (m .number) (acknowledgedOf m))) []) (h .group-is) (status-allowed m (h .typed) (sound-of m (h .sound))),
   )
 
-pub fresh-terminal : (n g i : ℕ) → 1 ≤ n → n ≤ membersMost → i < n → g ≤ largestNumber
-    → Terminal n g i 0 0 (freshMember (record { n = n; number = g }) (record { 0 = i })) [] [] []
+pub fresh-terminal : (group : Group) (i : ℕ) → 1 ≤ group .n → group .n ≤ membersMost → i < group .n → group .number ≤ largestNumber
+    → Terminal group i 0 0 (freshMember group (record { 0 = i })) [] [] []
 unfolding freshMember ownOf countedFrom
-fresh-terminal n g i lo hi inside most =
-    let group : Group = record { n = n; number = g } in
+fresh-terminal group i lo hi inside most =
     let number : MemberNumber = record { 0 = i } in
     record {
-      n-is = refl;
-      g-is = refl;
+      group-is = refl;
       number-is = refl;
       typed = fresh-typed group number most;
       sound = of-sound (freshMember group number) (fresh-sound group number lo hi inside);

@@ -7,6 +7,7 @@ use Prim.Native.Nat.{ℕ, _+_, _≤_, _<_}
 use lib.ListN.{length, take}
 use Rattle.group.proofs.Lists.{at, All}
 use Rattle.group.specs.Limits.{heldMost, payloadMost}
+use Rattle.group.specs.declared.Group.{Group}
 use Rattle.message.specs.Message.{messageOf}
 use Rattle.message.specs.Order.{Ordered, ownOf, countedFrom}
 use Rattle.packet.proofs.Facts.{KnownBy}
@@ -17,11 +18,10 @@ use Rattle.member.specs.State.{acknowledgedOf, firstCount}
 use Rattle.window.specs.Places.{messageAt}
 use Rattle.member.specs.declared.Member.{Member}
 
--- terminal i: `acknowledged` and `count` are its entry at the sequencer, `took` what it took, `submitted` the payloads that it
+-- terminal i of the group: `acknowledged` and `count` are its entry at the sequencer, `took` what it took, `submitted` the payloads that it
 -- submitted
-pub record Terminal (n g i acknowledged count : ℕ) (m : Member) (order took : List Ordered) (submitted : List (List ℕ)) : Type 0 where
-  pub n-is : m .group .n ≡ n
-  pub g-is : m .group .number ≡ g
+pub record Terminal (group : Group) (i acknowledged count : ℕ) (m : Member) (order took : List Ordered) (submitted : List (List ℕ)) : Type 0 where
+  pub group-is : m .group ≡ group
   pub number-is : m .number .0 ≡ i
   pub typed : Typed m
   pub sound : soundOf m ≡ true
@@ -46,8 +46,8 @@ pub record Terminal (n g i acknowledged count : ℕ) (m : Member) (order took : 
 
 -- what a call of terminal i's member owes, where m is the member before it, took′ and submitted′ what the terminal took and
 -- submitted by then, and `packets` what was written
-pub record MemberGood (n g i acknowledged count : ℕ) (order : List Ordered) (submitted : List (List ℕ)) (m : Member) (took′ : List Ordered) (submitted′ packets : List (List ℕ)) (o : Outcome) : Type 0 where
-  pub terminal : Terminal n g i acknowledged count (o .member) order took′ submitted′
+pub record MemberGood (group : Group) (i acknowledged count : ℕ) (order : List Ordered) (submitted : List (List ℕ)) (m : Member) (took′ : List Ordered) (submitted′ packets : List (List ℕ)) (o : Outcome) : Type 0 where
+  pub terminal : Terminal group i acknowledged count (o .member) order took′ submitted′
   pub up : acknowledgedOf m .0 ≤ acknowledgedOf (o .member) .0
   pub grown : (c : ℕ) (payload : List ℕ) → at submitted c ≡ some payload → at submitted′ c ≡ some payload
-  pub known : All (KnownBy g i (acknowledgedOf (o .member) .0) submitted′) packets
+  pub known : All (KnownBy (group .number) i (acknowledgedOf (o .member) .0) submitted′) packets

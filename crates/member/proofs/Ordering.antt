@@ -12,6 +12,7 @@ use native.Mathlib.Omega.{arith}
 use lib.ListN.{length, length-append}
 use lib.Seq.{take-append-le}
 use Rattle.group.specs.Limits.{heldMost, payloadMost, longestPacket, largestNumber}
+use Rattle.group.specs.declared.Group.{Group}
 use Rattle.group.specs.declared.MemberNumber.{MemberNumber}
 use Rattle.group.specs.declared.Refusal.{Refusal}
 use Rattle.group.proofs.Lists.{if-elim, judged-elim, at, All, at-append, at-last, at-snoc}
@@ -42,23 +43,23 @@ use Rattle.member.proofs.Receiving.{Keepable, read-heard}
 use Rattle.member.proofs.Soundness.{Sound, sound-of, of-sound}
 use Rattle.member.proofs.Writes.{Own, request-own, status-own}
 
-module _ (n g i acknowledged count : ℕ) (order took : List Ordered) (submitted : List (List ℕ)) where
+module _ (group : Group) (i acknowledged count : ℕ) (order took : List Ordered) (submitted : List (List ℕ)) where
   -- packets that are the member's own are terminal i's
-  own-known : (o : Outcome) (took′ : List Ordered) (submitted′ : List (List ℕ)) → Terminal n g i acknowledged count (o .member) order took′ submitted′ → Own submitted′ o
-      → All (KnownBy g i (acknowledgedOf (o .member) .0) submitted′) (written (o .bytes))
+  own-known : (o : Outcome) (took′ : List Ordered) (submitted′ : List (List ℕ)) → Terminal group i acknowledged count (o .member) order took′ submitted′ → Own submitted′ o
+      → All (KnownBy (group .number) i (acknowledgedOf (o .member) .0) submitted′) (written (o .bytes))
   own-known o took′ submitted′ h k =
       let a = acknowledgedOf (o .member) .0 in
-      subst (λ (x : ℕ). All (KnownBy x i a submitted′) (written (o .bytes))) (h .g-is)
+      subst (λ (x : Group). All (KnownBy (x .number) i a submitted′) (written (o .bytes))) (h .group-is)
       (subst (λ (x : ℕ). All (KnownBy (o .member .group .number) x a submitted′) (written (o .bytes))) (h .number-is) k)
 
-  module _ (m : Member) (h : Terminal n g i acknowledged count m order took submitted) where
+  module _ (m : Member) (h : Terminal group i acknowledged count m order took submitted) where
     abbrev Good : Outcome → Type 0
-    Good o = MemberGood n g i acknowledged count order submitted m took submitted (written (o .bytes)) o
+    Good o = MemberGood group i acknowledged count order submitted m took submitted (written (o .bytes)) o
 
     -- a call that leaves the state
     same : (o : Outcome) → o .member ≡ m → Own submitted o → Good o
     same o e k =
-        let h′ : Terminal n g i acknowledged count (o .member) order took submitted = rw e h in
+        let h′ : Terminal group i acknowledged count (o .member) order took submitted = rw e h in
         record { terminal = h′; up = rw e (le-refl _); grown = λ c payload z. z; known = own-known o took submitted h′ k }
 
     quiet : (answer : Answer) → Good (answered m answer)
@@ -85,7 +86,7 @@ module _ (n g i acknowledged count : ℕ) (order took : List Ordered) (submitted
 
     -- submit
     abbrev GoodSubmit : List ℕ → Outcome → Type 0
-    GoodSubmit payload o = MemberGood n g i acknowledged count order submitted m took (submitted ++ acceptedBy (o .answer) payload) (written (o .bytes)) o
+    GoodSubmit payload o = MemberGood group i acknowledged count order submitted m took (submitted ++ acceptedBy (o .answer) payload) (written (o .bytes)) o
 
     submit-refused : (payload : List ℕ) (refusal : Refusal) → GoodSubmit payload (answered m (Answer.Refused refusal))
     unfolding answered acceptedBy
@@ -105,12 +106,11 @@ module _ (n g i acknowledged count : ℕ) (order took : List Ordered) (submitted
       waiting-sound′ : Sound (withWaiting m payload)
       waiting-sound′ = waiting-sound m (h .typed) payload short (sound-of m (h .sound))
 
-      waiting-terminal : Terminal n g i acknowledged count (withWaiting m payload) order took (submitted ++ (payload ∷ []))
+      waiting-terminal : Terminal group i acknowledged count (withWaiting m payload) order took (submitted ++ (payload ∷ []))
       unfolding withWaiting
       waiting-terminal =
           record {
-            n-is = h .n-is;
-            g-is = h .g-is;
+            group-is = h .group-is;
             number-is = h .number-is;
             typed = waiting-typed m (h .typed) payload left;
             sound = of-sound _ waiting-sound′;
@@ -150,7 +150,7 @@ module _ (n g i acknowledged count : ℕ) (order took : List Ordered) (submitted
 
     -- a packet
     abbrev Here : Member → Type 0
-    Here m′ = Terminal n g i acknowledged count m′ order took submitted
+    Here m′ = Terminal group i acknowledged count m′ order took submitted
 
     -- the order's message of number k is held
     held-terminal : (originator : MemberNumber) (k c : ℕ) (payload : List ℕ) → at order k ≡ some (ordered k (originator .0) c payload)
@@ -158,8 +158,7 @@ module _ (n g i acknowledged count : ℕ) (order took : List Ordered) (submitted
     unfolding withHeld
     held-terminal originator k c payload this lo hi empty (t, s) =
         record {
-          n-is = h .n-is;
-          g-is = h .g-is;
+          group-is = h .group-is;
           number-is = h .number-is;
           typed = t;
           sound = of-sound _ s;
@@ -188,19 +187,19 @@ module _ (n g i acknowledged count : ℕ) (order took : List Ordered) (submitted
       says-keepable (Status sender taken) payload so keep = tt
       says-keepable (Poll top floor) payload so keep = tt
 
-      module _ (bytes : List ℕ) (k : Known g order t subs bytes) where
+      module _ (bytes : List ℕ) (k : Known (group .number) order t subs bytes) where
         -- what is read of a packet that the group knows
-        known-read : (readOf bytes ≡ Reading.Fields (fieldsOf g (k .content))) × (payloadAt bytes ≡ k .payload)
-        known-read = rw (k .bytes-are) (read-written (fieldsOf g (k .content)) (k .payload) (k .allowed))
+        known-read : (readOf bytes ≡ Reading.Fields (fieldsOf (group .number) (k .content))) × (payloadAt bytes ≡ k .payload)
+        known-read = rw (k .bytes-are) (read-written (fieldsOf (group .number) (k .content)) (k .payload) (k .allowed))
 
         known-most : headerOf bytes .a ≤ largestNumber
-        known-most = rw (k .bytes-are, header-back (fieldsOf g (k .content)) (k .payload) (k .allowed .0)) (k .allowed .0 .a)
+        known-most = rw (k .bytes-are, header-back (fieldsOf (group .number) (k .content)) (k .payload) (k .allowed .0)) (k .allowed .0 .a)
 
         known-keepable : (e : Header) → readOf bytes ≡ Reading.Fields e → (fieldsOf (e .group) (contentOf e) .a ≤ largestNumber) × Keepable Here m (contentOf e) (payloadAt bytes)
         known-keepable e r =
             let z = known-read .0 in
-            let q : e ≡ fieldsOf g (k .content) = cc in
-            let c : contentOf e ≡ k .content = ap contentOf q ∙ content-fields g (k .content) in
+            let q : e ≡ fieldsOf (group .number) (k .content) = cc in
+            let c : contentOf e ≡ k .content = ap contentOf q ∙ content-fields (group .number) (k .content) in
             let right = read-keepable m bytes known-most (h .typed, sound-of m (h .sound)) e r in
             let so : Says order t subs (contentOf e) (payloadAt bytes) = rw (c, known-read .1) (k .says) in
             (right .0, says-keepable (contentOf e) (payloadAt bytes) so (right .1))

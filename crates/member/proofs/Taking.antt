@@ -13,6 +13,7 @@ use Rattle.group.specs.Choice.{if_then_else_}
 use Rattle.group.specs.Limits.{longestPacket}
 use Rattle.group.proofs.Choice.{says}
 use Rattle.group.proofs.Lists.{if-elim, judged-elim, at, at-le, take-at-suc}
+use Rattle.group.specs.declared.Group.{Group}
 use Rattle.message.specs.Message.{messageOf, emptyMessage, payloadOf}
 use Rattle.message.specs.Order.{Ordered}
 use Rattle.message.specs.declared.Message.{Message}
@@ -31,9 +32,9 @@ use Rattle.member.proofs.Keeping.{taken-typed, taken-sound}
 use Rattle.window.proofs.Missing.{place-near, held-each}
 use Rattle.member.proofs.Soundness.{sound-of, of-sound}
 
-module _ (n g i acknowledged count : ℕ) (order took : List Ordered) (submitted : List (List ℕ)) (m : Member) (h : Terminal n g i acknowledged count m order took submitted) where
+module _ (group : Group) (i acknowledged count : ℕ) (order took : List Ordered) (submitted : List (List ℕ)) (m : Member) (h : Terminal group i acknowledged count m order took submitted) where
   abbrev GoodTake : Outcome → Type 0
-  GoodTake o = MemberGood n g i acknowledged count order submitted m (took ++ tookBy (o .answer) (o .bytes)) submitted [] o
+  GoodTake o = MemberGood group i acknowledged count order submitted m (took ++ tookBy (o .answer) (o .bytes)) submitted [] o
 
   -- the message held under number t + 1
   abbrev next : Message
@@ -76,14 +77,13 @@ module _ (n g i acknowledged count : ℕ) (order took : List Ordered) (submitted
       still-waits true e = let z : _≡_ {A = ℕ} 0 1 = cc in absurd (omega arith)
       still-waits false e = h .waiting-is e
 
-      taken-terminal : Terminal n g i acknowledged count (withTaken m next) order (took ++ (ordered (m .taken .0 + 1) (next .originator .0) (next .count) (payloadOf next) ∷ [])) submitted
+      taken-terminal : Terminal group i acknowledged count (withTaken m next) order (took ++ (ordered (m .taken .0 + 1) (next .originator .0) (next .count) (payloadOf next) ∷ [])) submitted
       unfolding withTaken
       taken-terminal =
           let s = sound-of m (h .sound) in
           let f = s .places .holds (m .taken .0 + 1) (omega arith) (omega arith) holds in
           record {
-            n-is = h .n-is;
-            g-is = h .g-is;
+            group-is = h .group-is;
             number-is = h .number-is;
             typed = taken-typed m (h .typed) next (let z = f .number-le in omega arith);
             sound = of-sound _ (taken-sound m (h .typed) next s);

@@ -4,6 +4,7 @@ use mathlib.Core.List.{List}
 use Prim.Native.Nat.{ℕ, _<_}
 use lib.ListN.{length, getD}
 use Rattle.group.proofs.Lists.{All}
+use Rattle.group.specs.declared.Group as description
 use Rattle.member.proofs.Invariant.{Terminal}
 use Rattle.member.specs.State.{acknowledgedOf}
 use Rattle.member.specs.declared.Member.{Member}
@@ -23,13 +24,13 @@ abbrev pub acknowledgedIn : List Member → ℕ → ℕ
 acknowledgedIn members i = acknowledgedOf (getD members i noMember) .0
 
 -- the group under an order, what each terminal took, and what it submitted
-pub record Inv (n g : ℕ) (w : Group) (ord : List Ordered) (tk : ℕ → List Ordered) (sb : ℕ → List (List ℕ)) : Type 0 where
-  pub sequencer : SequencerInv n g (w .sequencer) ord
-  pub members : length (w .members) ≡ n
-  pub terminal : (i : ℕ) → i < n
-      → Terminal n g i (takenIn (w .sequencer .acknowledgements) i) (countIn (w .sequencer .acknowledgements) i) (getD (w .members) i noMember) ord (tk i) (sb i)
-  pub packets : All (Known g ord (acknowledgedIn (w .members)) sb) (w .packets)
+pub record Inv (group : description.Group) (w : Group) (ord : List Ordered) (tk : ℕ → List Ordered) (sb : ℕ → List (List ℕ)) : Type 0 where
+  pub sequencer : SequencerInv group (w .sequencer) ord
+  pub members : length (w .members) ≡ group .n
+  pub terminal : (i : ℕ) → i < group .n
+      → Terminal group i (takenIn (w .sequencer .acknowledgements) i) (countIn (w .sequencer .acknowledgements) i) (getD (w .members) i noMember) ord (tk i) (sb i)
+  pub packets : All (Known (group .number) ord (acknowledgedIn (w .members)) sb) (w .packets)
 
 -- the same where the three are read off the log
-abbrev pub WorldInv : ℕ → ℕ → World → Type 0
-WorldInv n g w = Inv n g (w .group) (order (w .log)) (λ i. taken i (w .log)) (λ i. submitted i (w .log))
+abbrev pub WorldInv : description.Group → World → Type 0
+WorldInv group w = Inv group (w .group) (order (w .log)) (λ i. taken i (w .log)) (λ i. submitted i (w .log))

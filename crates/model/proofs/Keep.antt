@@ -9,6 +9,7 @@ use native.Mathlib.Omega.{arith}
 use lib.ListN.{length, getD, set, take, length-set, length-append}
 use lib.Seq.{take-append-le, getD-set-same}
 use Rattle.group.proofs.Lists.{at, All, all-append, all-map, at-append, set-each, eq-or}
+use Rattle.group.specs.declared.Group as description
 use Rattle.member.proofs.Invariant.{Terminal, MemberGood}
 use Rattle.member.specs.Calls as member
 use Rattle.member.specs.State.{acknowledgedOf}
@@ -24,14 +25,13 @@ use Rattle.sequencer.specs.Calls as sequencer
 use Rattle.sequencer.specs.Order.{numberedBy}
 
 -- a terminal after a call of the sequencer: the order grew, and so may have its entry
-terminal-grows : (n g i a a′ c c′ : ℕ) (m : Member) (ord more tk : List Ordered) (sb : List (List ℕ))
-    → Terminal n g i a c m ord tk sb → a′ ≤ acknowledgedOf m .0 → c ≤ c′ → c′ ≤ length sb
+terminal-grows : (group : description.Group) (i a a′ c c′ : ℕ) (m : Member) (ord more tk : List Ordered) (sb : List (List ℕ))
+    → Terminal group i a c m ord tk sb → a′ ≤ acknowledgedOf m .0 → c ≤ c′ → c′ ≤ length sb
     → ownOf i (ord ++ more) ≡ countedFrom 1 (take c′ sb)
-    → Terminal n g i a′ c′ m (ord ++ more) tk sb
-terminal-grows n g i a a′ c c′ m ord more tk sb h ha hc hs ho =
+    → Terminal group i a′ c′ m (ord ++ more) tk sb
+terminal-grows group i a a′ c c′ m ord more tk sb h ha hc hs ho =
     record {
-      n-is = h .n-is;
-      g-is = h .g-is;
+      group-is = h .group-is;
       number-is = h .number-is;
       typed = h .typed;
       sound = h .sound;
@@ -49,48 +49,48 @@ terminal-grows n g i a a′ c c′ m ord more tk sb h ha hc hs ho =
     }
 
 -- a call of the sequencer
-pub keep-sequencer : (n g : ℕ) (w : Group) (ord : List Ordered) (tk : ℕ → List Ordered) (sb : ℕ → List (List ℕ)) (o : sequencer.Outcome)
-    → Inv n g w ord tk sb
-    → SequencerGood n g (w .sequencer .acknowledgements) ord (acknowledgedIn (w .members)) sb (written (o .bytes)) o
-    → Inv n g (withSequencer w o .group) (ord ++ numberedBy (o .answer) (o .bytes)) tk sb
-keep-sequencer n g w ord tk sb o v h =
+pub keep-sequencer : (group : description.Group) (w : Group) (ord : List Ordered) (tk : ℕ → List Ordered) (sb : ℕ → List (List ℕ)) (o : sequencer.Outcome)
+    → Inv group w ord tk sb
+    → SequencerGood group (w .sequencer .acknowledgements) ord (acknowledgedIn (w .members)) sb (written (o .bytes)) o
+    → Inv group (withSequencer w o .group) (ord ++ numberedBy (o .answer) (o .bytes)) tk sb
+keep-sequencer group w ord tk sb o v h =
     record {
       sequencer = h .inv;
       members = v .members;
       terminal = λ i b.
-          terminal-grows n g i _ _ _ _ _ ord (numberedBy (o .answer) (o .bytes)) (tk i) (sb i) (v .terminal i b) (h .acknowledged i b) (h .counts-up i b) (h .counts-most i b) (h .own i b);
+          terminal-grows group i _ _ _ _ _ ord (numberedBy (o .answer) (o .bytes)) (tk i) (sb i) (v .terminal i b) (h .acknowledged i b) (h .counts-up i b) (h .counts-most i b) (h .own i b);
       packets =
           all-append _ (w .packets) (written (o .bytes))
           (all-map _ _
           (known-grows ord (ord ++ numberedBy (o .answer) (o .bytes)) (acknowledgedIn (w .members)) (acknowledgedIn (w .members)) sb sb
-          (λ s m e. at-append ord (numberedBy (o .answer) (o .bytes)) s e) (λ i. le-refl _) (λ i c p e. e) g)
+          (λ s m e. at-append ord (numberedBy (o .answer) (o .bytes)) s e) (λ i. le-refl _) (λ i c p e. e) (group .number))
           (w .packets) (v .packets))
           (h .known);
     }
 
 -- a call of member i
-pub keep-member : (n g : ℕ) (w : Group) (ord : List Ordered) (tk tk′ : ℕ → List Ordered) (sb sb′ : ℕ → List (List ℕ)) (i : ℕ) (o : member.Outcome) (packets : List (List ℕ))
-    → i < n → ((j : ℕ) → j ≢ i → tk′ j ≡ tk j) → ((j : ℕ) → j ≢ i → sb′ j ≡ sb j)
-    → Inv n g w ord tk sb
-    → MemberGood n g i (takenIn (w .sequencer .acknowledgements) i) (countIn (w .sequencer .acknowledgements) i) ord (sb i) (getD (w .members) i noMember) (tk′ i) (sb′ i) packets o
-    → Inv n g (withMember w i o packets .group) ord tk′ sb′
-keep-member n g w ord tk tk′ sb sb′ i o packets hi ht hs v h =
+pub keep-member : (group : description.Group) (w : Group) (ord : List Ordered) (tk tk′ : ℕ → List Ordered) (sb sb′ : ℕ → List (List ℕ)) (i : ℕ) (o : member.Outcome) (packets : List (List ℕ))
+    → i < group .n → ((j : ℕ) → j ≢ i → tk′ j ≡ tk j) → ((j : ℕ) → j ≢ i → sb′ j ≡ sb j)
+    → Inv group w ord tk sb
+    → MemberGood group i (takenIn (w .sequencer .acknowledgements) i) (countIn (w .sequencer .acknowledgements) i) ord (sb i) (getD (w .members) i noMember) (tk′ i) (sb′ i) packets o
+    → Inv group (withMember w i o packets .group) ord tk′ sb′
+keep-member group w ord tk tk′ sb sb′ i o packets hi ht hs v h =
     record {
       sequencer = v .sequencer;
       members = length-set (w .members) i (o .member) ∙ v .members;
       terminal = λ j b.
           set-each
-          (λ (k : ℕ) (m : Member). Terminal n g k (takenIn (w .sequencer .acknowledgements) k) (countIn (w .sequencer .acknowledgements) k) m ord (tk′ k) (sb′ k))
+          (λ (k : ℕ) (m : Member). Terminal group k (takenIn (w .sequencer .acknowledgements) k) (countIn (w .sequencer .acknowledgements) k) m ord (tk′ k) (sb′ k))
           (w .members) i (o .member) noMember j
           (λ e. rw e (h .terminal))
           (λ e. rw (ht j e, hs j e) (v .terminal j b))
           inside;
       packets =
           all-append _ (w .packets) packets
-          (all-map _ _ (known-grows ord ord (acknowledgedIn (w .members)) (acknowledgedIn (set (w .members) i (o .member))) sb sb′ (λ s m e. e) up grown g) (w .packets) (v .packets))
+          (all-map _ _ (known-grows ord ord (acknowledgedIn (w .members)) (acknowledgedIn (set (w .members) i (o .member))) sb sb′ (λ s m e. e) up grown (group .number)) (w .packets) (v .packets))
           (all-map _ _
-          (λ p y. known-by g i ord (acknowledgedIn (set (w .members) i (o .member))) sb′ p
-          (subst (λ (x : Member). KnownBy g i (acknowledgedOf x .0) (sb′ i) p) (sym (getD-set-same (w .members) i (o .member) noMember inside)) y))
+          (λ p y. known-by (group .number) i ord (acknowledgedIn (set (w .members) i (o .member))) sb′ p
+          (subst (λ (x : Member). KnownBy (group .number) i (acknowledgedOf x .0) (sb′ i) p) (sym (getD-set-same (w .members) i (o .member) noMember inside)) y))
           packets (h .known));
     }
   where

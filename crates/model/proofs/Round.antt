@@ -15,6 +15,7 @@ use Rattle.group.specs.Choice.{if_then_else_, _<?_}
 use Rattle.group.specs.Limits.{membersMost, largestNumber, longestPacket}
 use Rattle.group.specs.declared.MemberNumber.{MemberNumber}
 use Rattle.group.specs.declared.SequenceNumber.{SequenceNumber}
+use Rattle.group.specs.declared.Group as description
 use Rattle.member.proofs.Acknowledged.{acknowledged-least, acknowledged-most}
 use Rattle.member.proofs.Closing.{HandOk, hand-ok, take-ok, status-is, status-ok}
 use Rattle.member.specs.Calls as member
@@ -159,18 +160,18 @@ record NotedEffect (g : Group) (i a : ℕ) (d : Happened) : Type 0 where
   entry-other : (j : ℕ) → j ≢ i → takenIn (d .group .sequencer .acknowledgements) j ≡ takenIn (g .sequencer .acknowledgements) j
   quiet : numberedIn (d .answer) ≡ []
 
-noted-effect : (n number : ℕ) (ord : List Ordered) (g : Group) (i : MemberNumber) (t : SequenceNumber) (b : ℕ) (bytes : List ℕ) → getElem? (g .packets) b ≡ some bytes
+noted-effect : (group : description.Group) (ord : List Ordered) (g : Group) (i : MemberNumber) (t : SequenceNumber) (b : ℕ) (bytes : List ℕ) → getElem? (g .packets) b ≡ some bytes
     → sequencer.receiveOf (g .sequencer) bytes longestPacket ≡ sequencer.answered (noteOf (g .sequencer) i t) Noted
-    → SequencerInv n number (g .sequencer) ord → i .0 < n → NotedEffect g (i .0) (t .0) (happen g (handSequencer b))
+    → SequencerInv group (g .sequencer) ord → i .0 < group .n → NotedEffect g (i .0) (t .0) (happen g (handSequencer b))
 unfolding happen written numberedIn numberedBy sequencer.answered noteOf withTable
-noted-effect n number ord g i t b bytes e o v hi =
+noted-effect group ord g i t b bytes e o v hi =
     rw (e, o)
     (record {
       members-are = refl;
       packets-are = append-nil (g .packets);
       top-is = refl;
-      entry-is = status-own n number ord (g .sequencer) v i t hi;
-      entry-other = status-other n number ord (g .sequencer) v i t hi;
+      entry-is = status-own group ord (g .sequencer) v i t hi;
+      entry-other = status-other group ord (g .sequencer) v i t hi;
       quiet = refl;
     })
 
@@ -199,11 +200,11 @@ pub record Closed (i k : ℕ) (w w′ : World) : Type 0 where
   pub order-is : order (w′ .log) ≡ order (w .log)
   pub length-is : length (w′ .group .packets) ≡ length (w .group .packets) + k + 1
 
-module _ (n g : ℕ) (hn : n ≤ membersMost) (hg : g ≤ largestNumber) (i : ℕ) (hi : i < n) where
-  inside : (w : World) → WorldInv n g w → i < length (w .group .members)
+module _ (group : description.Group) (hn : group .n ≤ membersMost) (hg : group .number ≤ largestNumber) (i : ℕ) (hi : i < group .n) where
+  inside : (w : World) → WorldInv group w → i < length (w .group .members)
   inside w v = let z = v .members in omega arith
 
-  trip : (w : World) (t b : ℕ) → WorldInv n g w → takenOf (w .group .members) i ≡ t → w .group .sequencer .floor .0 ≤ t → t < w .group .sequencer .top .0 → length (w .group .packets) ≡ b
+  trip : (w : World) (t b : ℕ) → WorldInv group w → takenOf (w .group .members) i ≡ t → w .group .sequencer .floor .0 ≤ t → t < w .group .sequencer .top .0 → length (w .group .packets) ≡ b
       → Trip i (t + 1) w (step (step (step w (copy (t + 1))) (handMember b i)) (world.take i))
   trip w t b v et fl lt eb =
       let q : Sequencer = w .group .sequencer in
@@ -215,20 +216,20 @@ module _ (n g : ℕ) (hn : n ≤ membersMost) (hg : g ≤ largestNumber) (i : �
       let originator : MemberNumber = record { 0 = x .originator } in
       let number : SequenceNumber = record { 0 = t + 1 } in
       let content : Packet = Broadcast originator number (x .count) (q .floor) in
-      let bytes : List ℕ = packetOf (fieldsOf g content) (x .payload) in
-      let c = copy-effect (w .group) (t + 1) content g (x .payload) (copy-ok n g (order (w .log)) q s (t + 1) x (y .1) above) in
+      let bytes : List ℕ = packetOf (fieldsOf (group .number) content) (x .payload) in
+      let c = copy-effect (w .group) (t + 1) content (group .number) (x .payload) (copy-ok group (order (w .log)) q s (t + 1) x (y .1) above) in
       let w1 : World = step w (copy (t + 1)) in
-      let v1 : WorldInv n g w1 = next-keeps n g hn hg w (copy (t + 1)) v in
+      let v1 : WorldInv group w1 = next-keeps group hn hg w (copy (t + 1)) v in
       let m : Member = getD (w1 .group .members) i noMember in
       let et1 : takenOf (w1 .group .members) i ≡ t = ap (λ (l : List Member). takenOf l i) (c .members-are) ∙ et in
       let at-b : getElem? (w1 .group .packets) b ≡ some bytes = rw (c .packets-are, ← eb) (get-last (w .group .packets) bytes) in
       let ok : HandOk m (member.receiveOf m bytes longestPacket) =
-      hand-ok n g i _ _ _ _ _ m (v1 .terminal i hi) originator number (x .count) (q .floor) (x .payload)
-      (broadcast-may n g (order (w .log)) q s (t + 1) x (y .1) above) (s .originator-ok (t + 1) x (y .1)) (omega arith) in
+      hand-ok group i _ _ _ _ _ m (v1 .terminal i hi) originator number (x .count) (q .floor) (x .payload)
+      (broadcast-may group (order (w .log)) q s (t + 1) x (y .1) above) (s .originator-ok (t + 1) x (y .1)) (omega arith) in
       let d = hand-effect (w1 .group) i b bytes (inside w1 v1) at-b ok in
       let w2 : World = step w1 (handMember b i) in
-      let v2 : WorldInv n g w2 = next-keeps n g hn hg w1 (handMember b i) v1 in
-      let e = take-effect (w2 .group) i (inside w2 v2) (take-ok n g i _ _ _ _ _ (getD (w2 .group .members) i noMember) (v2 .terminal i hi) (d .held)) in
+      let v2 : WorldInv group w2 = next-keeps group hn hg w1 (handMember b i) v1 in
+      let e = take-effect (w2 .group) i (inside w2 v2) (take-ok group i _ _ _ _ _ (getD (w2 .group .members) i noMember) (v2 .terminal i hi) (d .held)) in
       record {
         sequencer-is = e .effect .sequencer-is ∙ d .effect .sequencer-is ∙ c .sequencer-is;
         taken-is = e .effect .taken-is ∙ ap (λ (k : ℕ). k + 1) (d .effect .taken-is ∙ et1);
@@ -237,14 +238,14 @@ module _ (n g : ℕ) (hn : n ≤ membersMost) (hg : g ≤ largestNumber) (i : �
         length-is = ap length (e .packets-are ∙ d .packets-are ∙ c .packets-are) ∙ length-snoc (w .group .packets) bytes;
       }
 
-  ends : (w : World) (b : ℕ) → WorldInv n g w → takenOf (w .group .members) i ≡ w .group .sequencer .top .0 → length (w .group .packets) ≡ b
+  ends : (w : World) (b : ℕ) → WorldInv group w → takenOf (w .group .members) i ≡ w .group .sequencer .top .0 → length (w .group .packets) ≡ b
       → Closed i 0 w (step (step w (status i)) (handSequencer b))
   ends w b v et eb =
       let m : Member = getD (w .group .members) i noMember in
       let h = v .terminal i hi in
       let c = status-effect (w .group) i (inside w v) (h .sound) in
       let w1 : World = step w (status i) in
-      let v1 : WorldInv n g w1 = next-keeps n g hn hg w (status i) v in
+      let v1 : WorldInv group w1 = next-keeps group hn hg w (status i) v in
       let s1 = v1 .sequencer in
       let q1 : Sequencer = w1 .group .sequencer in
       let top1 : q1 .top .0 ≡ w .group .sequencer .top .0 = ap (λ (q : Sequencer). q .top .0) (c .effect .sequencer-is) in
@@ -254,10 +255,10 @@ module _ (n g : ℕ) (hn : n ≤ membersMost) (hg : g ≤ largestNumber) (i : �
       let most = acknowledged-most h in
       let top0 = v .sequencer .top-is in
       let top = s1 .top-is in
-      let sent = status-ok n g i _ _ _ _ _ m h in
+      let sent = status-ok group i _ _ _ _ _ m h in
       let noted : sequencer.receiveOf q1 (member.statusPacket m) longestPacket ≡ sequencer.answered (noteOf q1 (m .number) (acknowledgedOf m)) Noted =
-      rw (sent .0) (sequencerOrdering.status-ok n g (order (w1 .log)) q1 s1 (m .number) (acknowledgedOf m) (sent .1) (omega arith) (omega arith)) in
-      let d = noted-effect n g (order (w1 .log)) (w1 .group) (m .number) (acknowledgedOf m) b (member.statusPacket m) at-b noted s1 (omega arith) in
+      rw (sent .0) (sequencerOrdering.status-ok group (order (w1 .log)) q1 s1 (m .number) (acknowledgedOf m) (sent .1) (omega arith) (omega arith)) in
+      let d = noted-effect group (order (w1 .log)) (w1 .group) (m .number) (acknowledgedOf m) b (member.statusPacket m) at-b noted s1 (omega arith) in
       record {
         top-is = d .top-is ∙ top1;
         taken-is = ap (λ (l : List Member). takenOf l i) (d .members-are) ∙ c .effect .taken-is ∙ et;
@@ -271,13 +272,13 @@ module _ (n g : ℕ) (hn : n ≤ membersMost) (hg : g ≤ largestNumber) (i : �
             ap length (d .packets-are ∙ c .packets-are) ∙ z;
       }
 
-  pub closes-one : (k t b : ℕ) (w : World) → WorldInv n g w → takenOf (w .group .members) i ≡ t → w .group .sequencer .floor .0 ≤ t → t + k ≡ w .group .sequencer .top .0 → length (w .group .packets) ≡ b
+  pub closes-one : (k t b : ℕ) (w : World) → WorldInv group w → takenOf (w .group .members) i ≡ t → w .group .sequencer .floor .0 ≤ t → t + k ≡ w .group .sequencer .top .0 → length (w .group .packets) ≡ b
       → Closed i k w (run w (closeMember i t k b))
   unfolding run closeMember
   closes-one zero t b w v et fl ek eb = ends w b v (omega arith) eb
   closes-one (suc k) t b w v et fl ek eb =
       let w3 : World = step (step (step w (copy (t + 1))) (handMember b i)) (world.take i) in
-      let v3 : WorldInv n g w3 = run-keeps n g hn hg w (copy (t + 1) ∷ handMember b i ∷ world.take i ∷ []) v in
+      let v3 : WorldInv group w3 = run-keeps group hn hg w (copy (t + 1) ∷ handMember b i ∷ world.take i ∷ []) v in
       let c = trip w t b v et fl (omega arith) eb in
       let top3 : w3 .group .sequencer .top .0 ≡ w .group .sequencer .top .0 = ap (λ (q : Sequencer). q .top .0) (c .sequencer-is) in
       let floor3 : w3 .group .sequencer .floor .0 ≡ w .group .sequencer .floor .0 = ap (λ (q : Sequencer). q .floor .0) (c .sequencer-is) in

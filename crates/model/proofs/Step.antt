@@ -14,8 +14,9 @@ use Rattle.group.proofs.Choice.{choices, tests, if-true, if-false}
 use Rattle.group.proofs.Lists.{if-elim, at, All, all-get}
 use Rattle.group.specs.Choice.{if_then_else_, _<?_, _≤?_, _=?_}
 use Rattle.group.specs.Limits.{membersMost, placesMost, largestNumber, longestPacket}
-use Rattle.group.specs.Opening.{openOf}
+use Rattle.group.specs.Opening.{groupOf, openOf}
 use Rattle.group.specs.declared.Opened.{Opened}
+use Rattle.group.specs.declared.Group as description
 use Rattle.member.proofs.Acknowledged.{acknowledged-most}
 use Rattle.member.proofs.Closing.{fresh-terminal}
 use Rattle.member.proofs.Invariant.{Terminal, MemberGood}
@@ -41,9 +42,9 @@ use Rattle.sequencer.proofs.Ordering as sequencerOrdering
 use Rattle.sequencer.specs.Calls as sequencer
 use Rattle.sequencer.specs.State.{freshSequencer}
 
-inv-ext : (n g : ℕ) (w : Group) (ord ord′ : List Ordered) (tk tk′ : ℕ → List Ordered) (sb sb′ : ℕ → List (List ℕ))
-    → ord′ ≡ ord → ((j : ℕ) → tk′ j ≡ tk j) → ((j : ℕ) → sb′ j ≡ sb j) → Inv n g w ord tk sb → Inv n g w ord′ tk′ sb′
-inv-ext n g w ord ord′ tk tk′ sb sb′ eo et es v = rw (eo, fun-ext et, fun-ext es) v
+inv-ext : (group : description.Group) (w : Group) (ord ord′ : List Ordered) (tk tk′ : ℕ → List Ordered) (sb sb′ : ℕ → List (List ℕ))
+    → ord′ ≡ ord → ((j : ℕ) → tk′ j ≡ tk j) → ((j : ℕ) → sb′ j ≡ sb j) → Inv group w ord tk sb → Inv group w ord′ tk′ sb′
+inv-ext group w ord ord′ tk tk′ sb sb′ eo et es v = rw (eo, fun-ext et, fun-ext es) v
 
 -- a choice by whether two terminals are the same
 if-same : {A : Type 0} (i : ℕ) (x y : A) → (if i =? i then x else y) ≡ x
@@ -79,38 +80,38 @@ submitted-absent (copy s) j = refl
 submitted-absent (handMember k i) j = refl
 submitted-absent (handSequencer k) j = refl
 
-module _ (n g : ℕ) (w : Group) (ord : List Ordered) (tk : ℕ → List Ordered) (sb : ℕ → List (List ℕ)) (hn : n ≤ membersMost) (hg : g ≤ largestNumber) (v : Inv n g w ord tk sb) where
+module _ (group : description.Group) (w : Group) (ord : List Ordered) (tk : ℕ → List Ordered) (sb : ℕ → List (List ℕ)) (hn : group .n ≤ membersMost) (hg : group .number ≤ largestNumber) (v : Inv group w ord tk sb) where
   abbrev Kept : Event → Happened → Type 0
-  Kept e d = Inv n g (d .group) (ord ++ numberedIn (d .answer)) (λ j. tk j ++ tookAt j e (d .answer)) (λ j. sb j ++ submittedAt j e (d .answer))
+  Kept e d = Inv group (d .group) (ord ++ numberedIn (d .answer)) (λ j. tk j ++ tookAt j e (d .answer)) (λ j. sb j ++ submittedAt j e (d .answer))
 
   absent-kept : (e : Event) → Kept e (missing w)
   unfolding numberedIn
   absent-kept e =
-      inv-ext n g w ord _ tk _ sb _ (append-nil ord) (λ j. rw (took-absent e j) (append-nil (tk j))) (λ j. rw (submitted-absent e j) (append-nil (sb j))) v
+      inv-ext group w ord _ tk _ sb _ (append-nil ord) (λ j. rw (took-absent e j) (append-nil (tk j))) (λ j. rw (submitted-absent e j) (append-nil (sb j))) v
 
   abbrev Owes : ℕ → List Ordered → List (List ℕ) → List (List ℕ) → member.Outcome → Type 0
   Owes i tk′ sb′ packets o =
-      MemberGood n g i (takenIn (w .sequencer .acknowledgements) i) (countIn (w .sequencer .acknowledgements) i) ord (sb i) (getD (w .members) i noMember) tk′ sb′ packets o
+      MemberGood group i (takenIn (w .sequencer .acknowledgements) i) (countIn (w .sequencer .acknowledgements) i) ord (sb i) (getD (w .members) i noMember) tk′ sb′ packets o
 
   -- an event of member i
-  member-kept : (i : ℕ) (e : Event) (o : member.Outcome) (packets : List (List ℕ)) (x : List Ordered) (y : List (List ℕ)) → i < n
+  member-kept : (i : ℕ) (e : Event) (o : member.Outcome) (packets : List (List ℕ)) (x : List Ordered) (y : List (List ℕ)) → i < group .n
       → tookAt i e (byMember (o .answer) (o .bytes)) ≡ x → submittedAt i e (byMember (o .answer) (o .bytes)) ≡ y
       → ((j : ℕ) → j ≢ i → tookAt j e (byMember (o .answer) (o .bytes)) ≡ [])
       → ((j : ℕ) → j ≢ i → submittedAt j e (byMember (o .answer) (o .bytes)) ≡ [])
       → Owes i (tk i ++ x) (sb i ++ y) packets o → Kept e (withMember w i o packets)
   unfolding numberedIn
   member-kept i e o packets x y hi ex ey ot os h =
-      inv-ext n g _ ord _ _ _ _ _ (append-nil ord) (λ j. refl) (λ j. refl)
-      (keep-member n g w ord tk (λ j. tk j ++ tookAt j e (byMember (o .answer) (o .bytes))) sb (λ j. sb j ++ submittedAt j e (byMember (o .answer) (o .bytes))) i o packets hi
+      inv-ext group _ ord _ _ _ _ _ (append-nil ord) (λ j. refl) (λ j. refl)
+      (keep-member group w ord tk (λ j. tk j ++ tookAt j e (byMember (o .answer) (o .bytes))) sb (λ j. sb j ++ submittedAt j e (byMember (o .answer) (o .bytes))) i o packets hi
       (λ j q. rw (ot j q) (append-nil (tk j))) (λ j q. rw (os j q) (append-nil (sb j))) v (rw (ex, ey) h))
 
   -- an event that takes nothing and submits nothing
-  still-kept : (i : ℕ) (e : Event) (o : member.Outcome) (packets : List (List ℕ)) → i < n
+  still-kept : (i : ℕ) (e : Event) (o : member.Outcome) (packets : List (List ℕ)) → i < group .n
       → ((j : ℕ) → tookAt j e (byMember (o .answer) (o .bytes)) ≡ []) → ((j : ℕ) → submittedAt j e (byMember (o .answer) (o .bytes)) ≡ [])
       → Owes i (tk i) (sb i) packets o → Kept e (withMember w i o packets)
   still-kept i e o packets hi ot os h = member-kept i e o packets [] [] hi (ot i) (os i) (λ j q. ot j) (λ j q. os j) (rw (append-nil (tk i), append-nil (sb i)) h)
 
-  inside : (i : ℕ) → (i <? length (w .members)) ≡ true → i < n
+  inside : (i : ℕ) → (i <? length (w .members)) ≡ true → i < group .n
   inside i b = let z = ltb-true i _ b in let y = v .members in omega arith
 
   order-fits : length ord ≤ largestNumber
@@ -122,7 +123,7 @@ module _ (n g : ℕ) (w : Group) (ord : List Ordered) (tk : ℕ → List Ordered
       if-elim (Kept (submit i p)) (i <? length (w .members))
       (λ b. let m = getD (w .members) i noMember in let o = member.submitOf m p longestPacket in
       member-kept i (submit i p) o (written (o .bytes)) [] (acceptedBy (o .answer) p) (inside i b) refl (if-same i _ _) (λ j q. refl) (λ j q. if-other i j _ _ q)
-      (rw (append-nil (tk i)) (memberOrdering.submit-good n g i _ _ ord (tk i) (sb i) m (v .terminal i (inside i b)) p)))
+      (rw (append-nil (tk i)) (memberOrdering.submit-good group i _ _ ord (tk i) (sb i) m (v .terminal i (inside i b)) p)))
       (λ b. absent-kept (submit i p))
 
   take-kept : (i : ℕ) → Kept (world.take i) (takeAt w i)
@@ -131,7 +132,7 @@ module _ (n g : ℕ) (w : Group) (ord : List Ordered) (tk : ℕ → List Ordered
       if-elim (Kept (world.take i)) (i <? length (w .members))
       (λ b. let m = getD (w .members) i noMember in let o = member.takeOf m longestPacket in
       member-kept i (world.take i) o [] (tookBy (o .answer) (o .bytes)) [] (inside i b) (if-same i _ _) refl (λ j q. if-other i j _ _ q) (λ j q. refl)
-      (rw (append-nil (sb i)) (take-good n g i _ _ ord (tk i) (sb i) m (v .terminal i (inside i b))
+      (rw (append-nil (sb i)) (take-good group i _ _ ord (tk i) (sb i) m (v .terminal i (inside i b))
       (λ s x e z. subst (λ (k : ℕ). x .count ≤ countIn (w .sequencer .acknowledgements) k) z (v .sequencer .count-most s x e)) (v .sequencer .number-is))))
       (λ b. absent-kept (world.take i))
 
@@ -140,7 +141,7 @@ module _ (n g : ℕ) (w : Group) (ord : List Ordered) (tk : ℕ → List Ordered
   repeat-kept i =
       if-elim (Kept (repeat i)) (i <? length (w .members))
       (λ b. still-kept i (repeat i) _ _ (inside i b) (λ j. refl) (λ j. refl)
-      (memberOrdering.repeat-good n g i _ _ ord (tk i) (sb i) (getD (w .members) i noMember) (v .terminal i (inside i b))))
+      (memberOrdering.repeat-good group i _ _ ord (tk i) (sb i) (getD (w .members) i noMember) (v .terminal i (inside i b))))
       (λ b. absent-kept (repeat i))
 
   status-kept : (i : ℕ) → Kept (status i) (atMember w i (λ m. member.statusOf m longestPacket))
@@ -148,7 +149,7 @@ module _ (n g : ℕ) (w : Group) (ord : List Ordered) (tk : ℕ → List Ordered
   status-kept i =
       if-elim (Kept (status i)) (i <? length (w .members))
       (λ b. still-kept i (status i) _ _ (inside i b) (λ j. refl) (λ j. refl)
-      (memberOrdering.status-good n g i _ _ ord (tk i) (sb i) (getD (w .members) i noMember) (v .terminal i (inside i b))))
+      (memberOrdering.status-good group i _ _ ord (tk i) (sb i) (getD (w .members) i noMember) (v .terminal i (inside i b))))
       (λ b. absent-kept (status i))
 
   hand-kept : (k i : ℕ) → Kept (handMember k i) (handToMember w i (getElem? (w .packets) k))
@@ -159,7 +160,7 @@ module _ (n g : ℕ) (w : Group) (ord : List Ordered) (tk : ℕ → List Ordered
       at-i p e =
           if-elim (Kept (handMember k i)) (i <? length (w .members))
           (λ b. still-kept i (handMember k i) _ _ (inside i b) (λ j. refl) (λ j. refl)
-          (memberOrdering.receive-good n g i _ _ ord (tk i) (sb i) (getD (w .members) i noMember) (v .terminal i (inside i b)) (acknowledgedIn (w .members)) sb p (all-get _ (w .packets) k (v .packets) e)))
+          (memberOrdering.receive-good group i _ _ ord (tk i) (sb i) (getD (w .members) i noMember) (v .terminal i (inside i b)) (acknowledgedIn (w .members)) sb p (all-get _ (w .packets) k (v .packets) e)))
           (λ b. absent-kept (handMember k i))
 
       go : (x : Option (List ℕ)) → getElem? (w .packets) k ≡ x → Kept (handMember k i) (handToMember w i x)
@@ -169,24 +170,24 @@ module _ (n g : ℕ) (w : Group) (ord : List Ordered) (tk : ℕ → List Ordered
   -- an event of the sequencer
   sequencer-kept : (e : Event) (o : sequencer.Outcome)
       → ((j : ℕ) → tookAt j e (bySequencer (o .answer) (o .bytes)) ≡ []) → ((j : ℕ) → submittedAt j e (bySequencer (o .answer) (o .bytes)) ≡ [])
-      → SequencerGood n g (w .sequencer .acknowledgements) ord (acknowledgedIn (w .members)) sb (written (o .bytes)) o → Kept e (withSequencer w o)
+      → SequencerGood group (w .sequencer .acknowledgements) ord (acknowledgedIn (w .members)) sb (written (o .bytes)) o → Kept e (withSequencer w o)
   unfolding numberedIn
   sequencer-kept e o ot os h =
-      inv-ext n g _ _ _ tk _ sb _ refl (λ j. rw (ot j) (append-nil (tk j))) (λ j. rw (os j) (append-nil (sb j))) (keep-sequencer n g w ord tk sb o v h)
+      inv-ext group _ _ _ tk _ sb _ refl (λ j. rw (ot j) (append-nil (tk j))) (λ j. rw (os j) (append-nil (sb j))) (keep-sequencer group w ord tk sb o v h)
 
-  acked : (i : ℕ) → i < n → takenIn (w .sequencer .acknowledgements) i ≤ acknowledgedIn (w .members) i
+  acked : (i : ℕ) → i < group .n → takenIn (w .sequencer .acknowledgements) i ≤ acknowledgedIn (w .members) i
   acked i b = v .terminal i b .acknowledged-le
 
-  t-le : (i : ℕ) → i < n → acknowledgedIn (w .members) i ≤ length ord
+  t-le : (i : ℕ) → i < group .n → acknowledgedIn (w .members) i ≤ length ord
   t-le i b = acknowledged-most (v .terminal i b)
 
-  counts : (i : ℕ) → i < n → countIn (w .sequencer .acknowledgements) i ≤ length (sb i)
+  counts : (i : ℕ) → i < group .n → countIn (w .sequencer .acknowledgements) i ≤ length (sb i)
   counts i b = let z = v .terminal i b .count-le in let y = v .terminal i b .submitted-is in omega arith
 
-  sizes : (i : ℕ) → i < n → length (sb i) ≤ largestNumber
+  sizes : (i : ℕ) → i < group .n → length (sb i) ≤ largestNumber
   sizes i b = let z = v .terminal i b .typed .submitted in let y = v .terminal i b .submitted-is in omega arith
 
-  owns : (i : ℕ) → i < n → ownOf i ord ≡ countedFrom 1 (take (countIn (w .sequencer .acknowledgements) i) (sb i))
+  owns : (i : ℕ) → i < group .n → ownOf i ord ≡ countedFrom 1 (take (countIn (w .sequencer .acknowledgements) i) (sb i))
   owns i b = v .terminal i b .own-is
 
   hand-sequencer-kept : (k : ℕ) → Kept (handSequencer k) (handToSequencer w (getElem? (w .packets) k))
@@ -197,7 +198,7 @@ module _ (n g : ℕ) (w : Group) (ord : List Ordered) (tk : ℕ → List Ordered
       go none e = absent-kept (handSequencer k)
       go (some p) e =
           sequencer-kept (handSequencer k) _ (λ j. refl) (λ j. refl)
-          (sequencerOrdering.receive-good n g ord (w .sequencer) (v .sequencer) (acknowledgedIn (w .members)) sb acked t-le counts sizes owns p (all-get _ (w .packets) k (v .packets) e))
+          (sequencerOrdering.receive-good group ord (w .sequencer) (v .sequencer) (acknowledgedIn (w .members)) sb acked t-le counts sizes owns p (all-get _ (w .packets) k (v .packets) e))
 
   pub step-keeps : (e : Event) → Kept e (happen w e)
   unfolding happen tookAt submittedAt
@@ -206,10 +207,10 @@ module _ (n g : ℕ) (w : Group) (ord : List Ordered) (tk : ℕ → List Ordered
   step-keeps (world.take i) = take-kept i
   step-keeps (status i) = status-kept i
   step-keeps poll =
-      sequencer-kept poll _ (λ j. refl) (λ j. refl) (sequencerOrdering.poll-good n g ord (w .sequencer) (v .sequencer) (acknowledgedIn (w .members)) sb acked t-le counts sizes owns)
+      sequencer-kept poll _ (λ j. refl) (λ j. refl) (sequencerOrdering.poll-good group ord (w .sequencer) (v .sequencer) (acknowledgedIn (w .members)) sb acked t-le counts sizes owns)
   step-keeps (copy number) =
       sequencer-kept (copy number) _ (λ j. refl) (λ j. refl)
-      (sequencerOrdering.copy-good n g ord (w .sequencer) (v .sequencer) (acknowledgedIn (w .members)) sb acked t-le counts sizes owns (record { 0 = number }))
+      (sequencerOrdering.copy-good group ord (w .sequencer) (v .sequencer) (acknowledgedIn (w .members)) sb acked t-le counts sizes owns (record { 0 = number }))
   step-keeps (handMember k i) = hand-kept k i
   step-keeps (handSequencer k) = hand-sequencer-kept k
 
@@ -219,30 +220,30 @@ unfolding gather
 gather-snoc f [] x = append-nil (f x)
 gather-snoc f (y ∷ l) x = rw (gather-snoc f l x) (sym (append-assoc (f y) (gather f l) (f x)))
 
-module _ (n g : ℕ) (hn : n ≤ membersMost) (hg : g ≤ largestNumber) where
-  pub next-keeps : (w : World) (e : Event) → WorldInv n g w → WorldInv n g (step w e)
+module _ (group : description.Group) (hn : group .n ≤ membersMost) (hg : group .number ≤ largestNumber) where
+  pub next-keeps : (w : World) (e : Event) → WorldInv group w → WorldInv group (step w e)
   next-keeps w e v =
-      inv-ext n g _ _ _ _ _ _ _ (gather-snoc _ (w .log) _) (λ j. gather-snoc _ (w .log) _) (λ j. gather-snoc _ (w .log) _)
-      (step-keeps n g (w .group) (order (w .log)) (λ i. taken i (w .log)) (λ i. submitted i (w .log)) hn hg v e)
+      inv-ext group _ _ _ _ _ _ _ (gather-snoc _ (w .log) _) (λ j. gather-snoc _ (w .log) _) (λ j. gather-snoc _ (w .log) _)
+      (step-keeps group (w .group) (order (w .log)) (λ i. taken i (w .log)) (λ i. submitted i (w .log)) hn hg v e)
 
-  pub run-keeps : (w : World) (es : List Event) → WorldInv n g w → WorldInv n g (run w es)
+  pub run-keeps : (w : World) (es : List Event) → WorldInv group w → WorldInv group (run w es)
   unfolding run
   run-keeps w [] v = v
   run-keeps w (e ∷ es) v = run-keeps (step w e) es (next-keeps w e v)
 
 -- a fresh group
-open-group : (n g : ℕ) → 1 ≤ n → n ≤ membersMost → openOf n g ≡ Opened.Open (record { n = n; number = g })
+open-group : (n g : ℕ) → 1 ≤ n → n ≤ membersMost → openOf n g ≡ Opened.Open (groupOf n g)
 unfolding openOf
 open-group n g lo hi = sym (search (choices, tests, needs) depth 9)
 
-open-sequencer : (n g : ℕ) → 1 ≤ n → n ≤ membersMost → sequencer.freshOf n g .sequencer ≡ freshSequencer (record { n = n; number = g })
+open-sequencer : (n g : ℕ) → 1 ≤ n → n ≤ membersMost → sequencer.freshOf n g .sequencer ≡ freshSequencer (groupOf n g)
 unfolding sequencer.freshOf sequencer.openedOf
 open-sequencer n g lo hi = rw (open-group n g lo hi)
 
 open-member : (n g i : ℕ) → 1 ≤ n → n ≤ membersMost → i < n
-    → member.freshOf n (record { 0 = i }) g .member ≡ freshMember (record { n = n; number = g }) (record { 0 = i })
+    → member.freshOf n (record { 0 = i }) g .member ≡ freshMember (groupOf n g) (record { 0 = i })
 unfolding member.freshOf member.openedOf
-open-member n g i lo hi b = rw (open-group n g lo hi) (if-elim (λ (o : Opening). o .member ≡ freshMember (record { n = n; number = g }) (record { 0 = i })) (i <? n) (λ t. refl) (λ f. absurd (let z = ltb-false i n f in omega arith)))
+open-member n g i lo hi b = rw (open-group n g lo hi) (if-elim (λ (o : Opening). o .member ≡ freshMember (groupOf n g) (record { 0 = i })) (i <? n) (λ t. refl) (λ f. absurd (let z = ltb-false i n f in omega arith)))
 
 members-length : (n g i k : ℕ) → length (freshMembers n g i k) ≡ k
 unfolding freshMembers
@@ -257,16 +258,16 @@ members-at n g i (suc k) (suc j) h =
     let e : i + 1 + j ≡ i + suc j = omega arith in
     members-at n g (i + 1) k j (le-of-suc-le-suc h) ∙ ap (λ (x : ℕ). member.freshOf n (record { 0 = x }) g .member) e
 
-pub fresh-inv : (n g : ℕ) → 1 ≤ n → n ≤ membersMost → g ≤ largestNumber → WorldInv n g (fresh n g)
+pub fresh-inv : (n g : ℕ) → 1 ≤ n → n ≤ membersMost → g ≤ largestNumber → WorldInv (groupOf n g) (fresh n g)
 unfolding fresh freshSequencer gather
 fresh-inv n g lo hi hg =
     record {
-      sequencer = rw (open-sequencer n g lo hi) (histories.fresh-inv n g lo hi hg);
+      sequencer = rw (open-sequencer n g lo hi) (histories.fresh-inv (groupOf n g) lo hi hg);
       members = members-length n g 0 n;
       terminal = λ i b.
           let z : getD (replicate membersMost noAcknowledgement) i noAcknowledgement ≡ noAcknowledgement = getD-replicate membersMost i noAcknowledgement noAcknowledgement (omega arith) in
-          let y : getD (freshMembers n g 0 n) i noMember ≡ freshMember (record { n = n; number = g }) (record { 0 = i }) =
+          let y : getD (freshMembers n g 0 n) i noMember ≡ freshMember (groupOf n g) (record { 0 = i }) =
           members-at n g 0 n i b ∙ ap (λ (x : ℕ). member.freshOf n (record { 0 = x }) g .member) (zero-add i) ∙ open-member n g i lo hi b in
-          rw (open-sequencer n g lo hi, z, y) (fresh-terminal n g i lo hi b hg);
+          rw (open-sequencer n g lo hi, z, y) (fresh-terminal (groupOf n g) i lo hi b hg);
       packets = tt;
     }

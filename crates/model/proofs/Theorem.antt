@@ -8,6 +8,8 @@ use lib.ListN.{length, getD, length-append}
 use lib.Seq.{take-all}
 use Rattle.group.proofs.Lists.{eq-or}
 use Rattle.group.specs.Limits.{membersMost, placesMost, largestNumber}
+use Rattle.group.specs.Opening.{groupOf}
+use Rattle.group.specs.declared.Group as description
 use Rattle.history.proofs.Soundness.{takenIn}
 use Rattle.history.specs.State.{messageAt}
 use Rattle.member.specs.declared.Member.{Member}
@@ -36,25 +38,25 @@ record Closes (n : ℕ) (w w′ : World) : Type 0 where
   each : (j : ℕ) → j < n → Has w′ (w .group .sequencer .top .0) j
   order-is : order (w′ .log) ≡ order (w .log)
 
-module _ (n g : ℕ) (hn : n ≤ membersMost) (hg : g ≤ largestNumber) where
-  closes-from : (ms : List Member) (i b : ℕ) (w : World) → WorldInv n g w → length (w .group .packets) ≡ b → i + length ms ≡ n
+module _ (group : description.Group) (hn : group .n ≤ membersMost) (hg : group .number ≤ largestNumber) where
+  closes-from : (ms : List Member) (i b : ℕ) (w : World) → WorldInv group w → length (w .group .packets) ≡ b → i + length ms ≡ group .n
       → ((k : ℕ) → k < length ms → takenOf (w .group .members) (i + k) ≡ getD ms k noMember .taken .0)
       → ((j : ℕ) → j < i → Has w (w .group .sequencer .top .0) j)
-      → Closes n w (run w (closeFrom ms i (w .group .sequencer .top .0) b))
+      → Closes (group .n) w (run w (closeFrom ms i (w .group .sequencer .top .0) b))
   unfolding closeFrom run
   closes-from [] i b w v eb ei ht ha = record { top-is = refl; each = λ j x. ha j (omega arith); order-is = refl }
   closes-from (m ∷ ms) i b w v eb ei ht ha =
       let top : ℕ = w .group .sequencer .top .0 in
       let t : ℕ = m .taken .0 in
-      let hi : i < n = omega arith in
+      let hi : i < group .n = omega arith in
       let et : takenOf (w .group .members) i ≡ t = subst (λ (k : ℕ). takenOf (w .group .members) k ≡ t) (omega arith) (ht 0 (omega arith)) in
       let le = v .terminal i hi .taken-le in
       let tp = v .sequencer .top-is in
       let es : List Event = closeMember i t (top - t) b in
       let w1 : World = run w es in
-      let v1 : WorldInv n g w1 = run-keeps n g hn hg w es v in
-      let fl = floor-taken n g w i v hi in
-      let c = closes-one n g hn hg i hi (top - t) t b w v et (omega arith) (omega arith) eb in
+      let v1 : WorldInv group w1 = run-keeps group hn hg w es v in
+      let fl = floor-taken group w i v hi in
+      let c = closes-one group hn hg i hi (top - t) t b w v et (omega arith) (omega arith) eb in
       let d = closes-from ms (i + 1) (b + (top - t) + 1) w1 v1 (c .length-is ∙ (omega arith)) (omega arith)
       (λ k x. let e : i + 1 + k ≡ i + suc k = omega arith in
       c .taken-other (i + 1 + k) (λ z. omega arith) ∙ ap (takenOf (w .group .members)) e ∙ ht (suc k) (omega arith))
@@ -63,8 +65,8 @@ module _ (n g : ℕ) (hn : n ≤ membersMost) (hg : g ≤ largestNumber) where
       (λ e. let y = ha j (omega arith) in (c .taken-other j e ∙ y .0, rw (c .entry-other j e) (y .1))))) in
       let top1 : w1 .group .sequencer .top .0 ≡ top = c .top-is in
       let rest : List Event = closeFrom ms (i + 1) top (b + (top - t) + 1) in
-      let d′ : Closes n w1 (run w1 rest) = subst (λ (k : ℕ). Closes n w1 (run w1 (closeFrom ms (i + 1) k (b + (top - t) + 1)))) top1 d in
-      subst (λ (x : World). Closes n w x) (sym (run-append w es rest))
+      let d′ : Closes (group .n) w1 (run w1 rest) = subst (λ (k : ℕ). Closes (group .n) w1 (run w1 (closeFrom ms (i + 1) k (b + (top - t) + 1)))) top1 d in
+      subst (λ (x : World). Closes (group .n) w x) (sym (run-append w es rest))
       (record { top-is = d′ .top-is ∙ top1; each = λ j x. rw top1 at (d′ .each j x); order-is = d′ .order-is ∙ c .order-is })
 
 -- its length
@@ -83,26 +85,26 @@ from-length (m ∷ ms) i top b h =
     let z = from-length ms (i + 1) top (b + (top - t) + 1) (λ k a. h (suc k) (omega arith)) in
     simp length-append (omega arith)
 
-claim : (n g : ℕ) → 1 ≤ n → n ≤ membersMost → g ≤ largestNumber → (w : World) → WorldInv n g w → Claim n w
+claim : (group : description.Group) → 1 ≤ group .n → group .n ≤ membersMost → group .number ≤ largestNumber → (w : World) → WorldInv group w → Claim (group .n) w
 unfolding messagesAbove
-claim n g lo hn hg w v =
+claim group lo hn hg w v =
     let w′ : World = run w (closing w) in
-    let v′ : WorldInv n g w′ = run-keeps n g hn hg w (closing w) v in
-    let c = closes-from n g hn hg (w .group .members) 0 (length (w .group .packets)) w v refl (zero-add _ ∙ v .members)
+    let v′ : WorldInv group w′ = run-keeps group hn hg w (closing w) v in
+    let c = closes-from group hn hg (w .group .members) 0 (length (w .group .packets)) w v refl (zero-add _ ∙ v .members)
     (λ k x. ap (takenOf (w .group .members)) (zero-add k)) (λ j x. absurd (not-suc-le-zero x)) in
     let s′ = v′ .sequencer in
     let tp = c .top-is in
     let same = s′ .top-is in
-    let fl = floor-all n g (order (w′ .log)) (w′ .group .sequencer) s′ (λ i b. let y = c .each i b .1 in omega arith) in
+    let fl = floor-all group (order (w′ .log)) (w′ .group .sequencer) s′ (λ i b. let y = c .each i b .1 in omega arith) in
     let z : w′ .group .sequencer .top .0 - w′ .group .sequencer .floor .0 ≡ 0 = omega arith in
     record {
-      whole = λ i b. whole n g w i v b;
-      total = total n g w v;
-      own = λ i b. owns n g w i v b;
+      whole = λ i b. whole group w i v b;
+      total = total group w v;
+      own = λ i b. owns group w i v b;
       closing-short =
           let y = from-length (w .group .members) 0 (w .group .sequencer .top .0) (length (w .group .packets))
-          (λ k a. let b : k < n = (let e = v .members in omega arith) in
-          let f = floor-taken n g w k v b in
+          (λ k a. let b : k < group .n = (let e = v .members in omega arith) in
+          let f = floor-taken group w k v b in
           let x = sound-of (w .group .sequencer) (v .sequencer .sound) in
           omega arith) in
           subst (λ (k : ℕ). length (closing w) ≤ closingMost * k) (v .members) y;
@@ -116,4 +118,4 @@ claim n g lo hn hg w v =
 
 pub demand3 : Demand3
 demand3 n number lo hn hg events =
-    claim n number lo hn hg (run (fresh n number) events) (run-keeps n number hn hg (fresh n number) events (fresh-inv n number lo hn hg))
+    claim (groupOf n number) lo hn hg (run (fresh n number) events) (run-keeps (groupOf n number) hn hg (fresh n number) events (fresh-inv n number lo hn hg))

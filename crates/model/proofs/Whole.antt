@@ -12,6 +12,7 @@ use lib.ListN.{length, getD, take, drop, take-append-drop, drop-of-length-le, le
 use lib.Seq.{length-take-le, drop-drop, take-all}
 use Rattle.group.proofs.Lists.{if-elim, none≢some, at, at-nil, at-some, at-append, drop-at-suc, le-or}
 use Rattle.group.specs.Choice.{if_then_else_, _<?_}
+use Rattle.group.specs.declared.Group as description
 use Rattle.member.proofs.Acknowledged.{acknowledged-is}
 use Rattle.message.proofs.Kept.{kept-payload}
 use Rattle.message.specs.Message.{messageOf, payloadOf}
@@ -75,46 +76,46 @@ runs-drop b (suc f) [] h s m e = absurd (at-nil s e)
 runs-drop b (suc f) (x ∷ l) h s m e = let z = runs-drop (suc b) f l (runs-tail b x l h) s m e in omega arith
 
 -- the history is the order without its first floor
-ordered-is : (n g : ℕ) (s : Sequencer) (ord : List Ordered) → SequencerInv n g s ord → (k : ℕ) (m : Ordered) → at ord k ≡ some m → s .floor .0 < k → orderedAt (messageAt (s .history)) k ≡ m
+ordered-is : (group : description.Group) (s : Sequencer) (ord : List Ordered) → SequencerInv group s ord → (k : ℕ) (m : Ordered) → at ord k ≡ some m → s .floor .0 < k → orderedAt (messageAt (s .history)) k ≡ m
 unfolding messageOf
-ordered-is n g s ord v k m e b =
+ordered-is group s ord v k m e b =
     let o : Message = messageOf (record { 0 = m .originator }) (m .count) (m .payload) in
     let h : messageAt (s .history) k ≡ o = v .history-is k m e b in
     let p : payloadOf (messageAt (s .history) k) ≡ m .payload = ap payloadOf h ∙ kept-payload (record { 0 = m .originator }) (m .count) (m .payload) in
     let q : k ≡ m .number = sym (v .number-is k m e) in
     λ i. record { number = q i; originator = h i .originator .0; count = h i .count; payload = p i }
 
-pub history-is : (n g : ℕ) (s : Sequencer) (ord : List Ordered) → SequencerInv n g s ord → (k f : ℕ) → s .floor .0 ≤ f → f + k ≡ length ord → messagesAbove (messageAt (s .history)) f k ≡ drop f ord
+pub history-is : (group : description.Group) (s : Sequencer) (ord : List Ordered) → SequencerInv group s ord → (k f : ℕ) → s .floor .0 ≤ f → f + k ≡ length ord → messagesAbove (messageAt (s .history)) f k ≡ drop f ord
 unfolding messagesAbove
-history-is n g s ord v zero f a e = sym (drop-of-length-le ord {i = f} (omega arith))
-history-is n g s ord v (suc k) f a e =
+history-is group s ord v zero f a e = sym (drop-of-length-le ord {i = f} (omega arith))
+history-is group s ord v (suc k) f a e =
     let y = at-some ord (suc f) (omega arith) (omega arith) in
     let one : f + 1 ≡ suc f = omega arith in
-    let here : orderedAt (messageAt (s .history)) (f + 1) ≡ y .0 = rw one (ordered-is n g s ord v (suc f) (y .0) (y .1) (omega arith)) in
-    let rest : messagesAbove (messageAt (s .history)) (f + 1) k ≡ drop (suc f) ord = history-is n g s ord v k (f + 1) (omega arith) (omega arith) ∙ rw one in
+    let here : orderedAt (messageAt (s .history)) (f + 1) ≡ y .0 = rw one (ordered-is group s ord v (suc f) (y .0) (y .1) (omega arith)) in
+    let rest : messagesAbove (messageAt (s .history)) (f + 1) k ≡ drop (suc f) ord = history-is group s ord v k (f + 1) (omega arith) (omega arith) ∙ rw one in
     ap₂ (λ (m : Ordered) (l : List Ordered). m ∷ l) here rest ∙ sym (drop-at-suc ord f (y .1))
 
 -- floor is at most what each terminal acknowledges, so at most what it took
-pub floor-le : (n g : ℕ) (w : World) (i : ℕ) → WorldInv n g w → i < n → w .group .sequencer .floor .0 ≤ acknowledgedIn (w .group .members) i
-floor-le n g w i v b = le-trans (floor-below n g _ (w .group .sequencer) (v .sequencer) i b) (v .terminal i b .acknowledged-le)
+pub floor-le : (group : description.Group) (w : World) (i : ℕ) → WorldInv group w → i < group .n → w .group .sequencer .floor .0 ≤ acknowledgedIn (w .group .members) i
+floor-le group w i v b = le-trans (floor-below group _ (w .group .sequencer) (v .sequencer) i b) (v .terminal i b .acknowledged-le)
 
-pub floor-taken : (n g : ℕ) (w : World) (i : ℕ) → WorldInv n g w → i < n → w .group .sequencer .floor .0 ≤ takenOf (w .group .members) i
-floor-taken n g w i v b = rw (acknowledged-is (getD (w .group .members) i noMember)) at (floor-le n g w i v b)
+pub floor-taken : (group : description.Group) (w : World) (i : ℕ) → WorldInv group w → i < group .n → w .group .sequencer .floor .0 ≤ takenOf (w .group .members) i
+floor-taken group w i v b = rw (acknowledged-is (getD (w .group .members) i noMember)) at (floor-le group w i v b)
 
 -- what a terminal took, and is owed
-pub whole : (n g : ℕ) (w : World) (i : ℕ) → WorldInv n g w → i < n → taken i (w .log) ++ owed w i ≡ order (w .log)
-whole n g w i v b =
+pub whole : (group : description.Group) (w : World) (i : ℕ) → WorldInv group w → i < group .n → taken i (w .log) ++ owed w i ≡ order (w .log)
+whole group w i v b =
     let q : Sequencer = w .group .sequencer in
     let ord : List Ordered = order (w .log) in
     let t : ℕ = takenOf (w .group .members) i in
     let h = v .terminal i b in
     let s = v .sequencer in
     let tle : t ≤ length ord = h .taken-le in
-    let fle : q .floor .0 ≤ t = floor-taken n g w i v b in
+    let fle : q .floor .0 ≤ t = floor-taken group w i v b in
     let top : q .floor .0 ≤ q .top .0 = (let z = s .top-is in omega arith) in
     let last : lastNumber (taken i (w .log)) ≡ t =
     rw (h .took-is) (last-is (take t ord) (runs-take 0 t ord (runs ord s)) ∙ length-take-le t ord tle) in
-    let hist : historyOf q ≡ drop (q .floor .0) ord = history-is n g q ord s (q .top .0 - q .floor .0) (q .floor .0) (le-refl _) (let z = s .top-is in omega arith) in
+    let hist : historyOf q ≡ drop (q .floor .0) ord = history-is group q ord s (q .top .0 - q .floor .0) (q .floor .0) (le-refl _) (let z = s .top-is in omega arith) in
     let cut : q .floor .0 + (t - q .floor .0) ≡ t = omega arith in
     let owes : owed w i ≡ drop t ord =
     ap₂ above last hist
@@ -124,7 +125,7 @@ whole n g w i v b =
     ∙ ap (λ (k : ℕ). drop k ord) cut in
     ap₂ (λ (x y : List Ordered). x ++ y) (h .took-is) owes ∙ take-append-drop t ord
   where
-    runs : (ord : List Ordered) → SequencerInv n g (w .group .sequencer) ord → Runs 0 ord
+    runs : (ord : List Ordered) → SequencerInv group (w .group .sequencer) ord → Runs 0 ord
     runs ord s r m e = let z = s .number-is r m e in omega arith
 
 -- the sum over all terminals
@@ -136,9 +137,9 @@ sum-is (suc n) x f h =
     let y = h n (le-refl _) in
     rw (z, y) (sym (suc-mul n x))
 
-pub total : (n g : ℕ) (w : World) → WorldInv n g w → sum n (λ i. length (taken i (w .log)) + length (owed w i)) ≡ n * length (order (w .log))
-total n g w v =
-    sum-is n (length (order (w .log))) _ (λ i b. sym (length-append (taken i (w .log)) (owed w i)) ∙ ap length (whole n g w i v b))
+pub total : (group : description.Group) (w : World) → WorldInv group w → sum (group .n) (λ i. length (taken i (w .log)) + length (owed w i)) ≡ group .n * length (order (w .log))
+total group w v =
+    sum-is (group .n) (length (order (w .log))) _ (λ i b. sym (length-append (taken i (w .log)) (owed w i)) ∙ ap length (whole group w i v b))
 
 -- a terminal's own messages
 counted-length : (a : ℕ) (l : List (List ℕ)) → length (countedFrom a l) ≡ length l
@@ -152,9 +153,9 @@ counted-take a zero l = refl
 counted-take a (suc k) [] = refl
 counted-take a (suc k) (x ∷ l) = ap (λ (r : List Submission). record { count = a; payload = x } ∷ r) (counted-take (a + 1) k l)
 
-pub owns : (n g : ℕ) (w : World) (i : ℕ) → WorldInv n g w → i < n
+pub owns : (group : description.Group) (w : World) (i : ℕ) → WorldInv group w → i < group .n
     → (ownOf i (order (w .log)) ≡ accepted i (w .log)) ⊎ (ownOf i (order (w .log)) ≡ withoutLast 1 (accepted i (w .log)))
-owns n g w i v b =
+owns group w i v b =
     let h = v .terminal i b in
     let sb : List (List ℕ) = submitted i (w .log) in
     let p : ℕ = countIn (w .group .sequencer .acknowledgements) i in

@@ -12,6 +12,7 @@ use lib.ListN.{length, take, length-append}
 use Rattle.group.proofs.Lists.{if-elim, at, at-le, at-last, All}
 use Rattle.group.specs.Choice.{_<?_, _≤?_, _=?_}
 use Rattle.group.specs.Limits.{placesMost, payloadMost, largestNumber}
+use Rattle.group.specs.declared.Group.{Group}
 use Rattle.group.specs.declared.MemberNumber.{MemberNumber}
 use Rattle.group.specs.declared.SequenceNumber.{SequenceNumber}
 use Rattle.message.specs.Order.{Ordered, ownOf, countedFrom}
@@ -40,27 +41,27 @@ use Rattle.sequencer.proofs.Packets.{poll-allowed}
 use Rattle.sequencer.proofs.Soundness.{Sound, sound-of}
 
 -- the order of the group, what its terminals took and submitted, and the table of acknowledgements before the call
-module _ (n g : ℕ) (order : List Ordered) (t : ℕ → ℕ) (submitted : ℕ → List (List ℕ)) (base : List Acknowledgement) where
+module _ (group : Group) (order : List Ordered) (t : ℕ → ℕ) (submitted : ℕ → List (List ℕ)) (base : List Acknowledgement) where
   abbrev pub Good : Outcome → Type 0
-  Good o = SequencerGood n g base order t submitted (written (o .bytes)) o
+  Good o = SequencerGood group base order t submitted (written (o .bytes)) o
 
   -- a state with its invariant, and its part of the group's
   pub record Ready (s : Sequencer) : Type 0 where
-    pub inv : SequencerInv n g s order
-    pub acked : (i : ℕ) → i < n → takenIn (s .acknowledgements) i ≤ t i
-    pub ups : (i : ℕ) → i < n → countIn base i ≤ countIn (s .acknowledgements) i
-    pub counts : (i : ℕ) → i < n → countIn (s .acknowledgements) i ≤ length (submitted i)
-    pub owns : (i : ℕ) → i < n → ownOf i order ≡ countedFrom 1 (take (countIn (s .acknowledgements) i) (submitted i))
+    pub inv : SequencerInv group s order
+    pub acked : (i : ℕ) → i < group .n → takenIn (s .acknowledgements) i ≤ t i
+    pub ups : (i : ℕ) → i < group .n → countIn base i ≤ countIn (s .acknowledgements) i
+    pub counts : (i : ℕ) → i < group .n → countIn (s .acknowledgements) i ≤ length (submitted i)
+    pub owns : (i : ℕ) → i < group .n → ownOf i order ≡ countedFrom 1 (take (countIn (s .acknowledgements) i) (submitted i))
 
   -- what is known of the bytes that a call wrote is known of its packets
-  packets-known : (order : List Ordered) (bytes : List ℕ) → Known g order t submitted bytes → All (Known g order t submitted) (written bytes)
+  packets-known : (order : List Ordered) (bytes : List ℕ) → Known (group .number) order t submitted bytes → All (Known (group .number) order t submitted) (written bytes)
   unfolding written
   packets-known order [] k = tt
   packets-known order (b ∷ rest) k = (k, tt)
 
   -- a step that numbers nothing
   module _ (s : Sequencer) (r : Ready s) where
-    settled : (answer : Answer) (bytes : List ℕ) → numberedBy answer bytes ≡ [] → All (Known g order t submitted) (written bytes)
+    settled : (answer : Answer) (bytes : List ℕ) → numberedBy answer bytes ≡ [] → All (Known (group .number) order t submitted) (written bytes)
         → Good (record { sequencer = s; answer = answer; bytes = bytes })
     settled answer bytes e known =
         let z : order ++ numberedBy answer bytes ≡ order = ap (λ (l : List Ordered). order ++ l) e ∙ append-nil order in
@@ -77,7 +78,7 @@ module _ (n g : ℕ) (order : List Ordered) (t : ℕ → ℕ) (submitted : ℕ �
     unfolding answered written
     silent answer e = settled answer [] e tt
 
-    pub writing : (answer : Answer) (bytes : List ℕ) → numberedBy answer bytes ≡ [] → Known g order t submitted bytes
+    pub writing : (answer : Answer) (bytes : List ℕ) → numberedBy answer bytes ≡ [] → Known (group .number) order t submitted bytes
         → Good (record { sequencer = s; answer = answer; bytes = bytes })
     writing answer bytes e k = settled answer bytes e (packets-known order bytes k)
 
@@ -88,39 +89,39 @@ module _ (n g : ℕ) (order : List Ordered) (t : ℕ → ℕ) (submitted : ℕ �
     repeated-ready : Ready (repeatedOf s)
     unfolding repeatedOf
     repeated-ready =
-        record { inv = repeated-inv n g order s (r .inv); acked = r .acked; ups = r .ups; counts = r .counts; owns = r .owns }
+        record { inv = repeated-inv group order s (r .inv); acked = r .acked; ups = r .ups; counts = r .counts; owns = r .owns }
 
-    pub note-ready : (m : MemberNumber) (taken : SequenceNumber) → m .0 < n → taken .0 ≤ t (m .0) → t (m .0) ≤ length order
+    pub note-ready : (m : MemberNumber) (taken : SequenceNumber) → m .0 < group .n → taken .0 ≤ t (m .0) → t (m .0) ≤ length order
         → Ready (noteOf s m taken)
     unfolding noteOf withTable
     note-ready m taken member known below =
         let v = r .inv in
-        let member′ : m .0 < s .group .n = rw (v .n-is) member in
+        let member′ : m .0 < s .group .n = rw (v .group-is) member in
         let c = noted-count s m taken (v .typed) sound member′ in
         record {
-          inv = note-inv n g order s v m taken member (le-trans known below);
-          acked = rw (v .n-is) at (noted-most s m taken (v .typed) sound member′ t (rw (v .n-is) (r .acked)) known);
+          inv = note-inv group order s v m taken member (le-trans known below);
+          acked = rw (v .group-is) at (noted-most s m taken (v .typed) sound member′ t (rw (v .group-is) (r .acked)) known);
           ups = λ i h. rw (c i) (r .ups i h);
           counts = λ i h. rw (c i) (r .counts i h);
           owns = λ i h. rw (c i) (r .owns i h);
         }
 
-    pub poll-known : Known g order t submitted (pollPacket s)
+    pub poll-known : Known (group .number) order t submitted (pollPacket s)
     unfolding pollPacket
     poll-known =
         record {
           content = Poll (s .top) (s .floor);
           payload = [];
-          bytes-are = rw (r .inv .g-is);
-          allowed = rw (r .inv .g-is) at (poll-allowed s (r .inv .typed) sound);
+          bytes-are = rw (r .inv .group-is);
+          allowed = rw (r .inv .group-is) at (poll-allowed s (r .inv .typed) sound);
           says = tt;
         }
 
-    pub copy-known : (k : ℕ) → s .floor .0 < k → k ≤ s .top .0 → Known g order t submitted (broadcastOf s k)
-    copy-known k a b = broadcast-known n g order s (r .inv) t submitted k a (rw (r .inv .top-is) at b)
+    pub copy-known : (k : ℕ) → s .floor .0 < k → k ≤ s .top .0 → Known (group .number) order t submitted (broadcastOf s k)
+    copy-known k a b = broadcast-known group order s (r .inv) t submitted k a (rw (r .inv .top-is) at b)
 
     -- a message that is numbered
-    module _ (m : MemberNumber) (count : ℕ) (payload : List ℕ) (member : m .0 < n) (submission : at (submitted (m .0)) count ≡ some payload)
+    module _ (m : MemberNumber) (count : ℕ) (payload : List ℕ) (member : m .0 < group .n) (submission : at (submitted (m .0)) count ≡ some payload)
         (next : count ≡ countIn (s .acknowledgements) (m .0) + 1) (most : count ≤ largestNumber) (short : length payload ≤ payloadMost)
         (room : s .top .0 < s .floor .0 + placesMost) (left : s .top .0 < largestNumber) where
       abbrev message : Ordered
@@ -132,8 +133,8 @@ module _ (n g : ℕ) (order : List Ordered) (t : ℕ → ℕ) (submitted : ℕ �
       abbrev s′ : Sequencer
       s′ = withMessage s m count payload
 
-      inv′ : SequencerInv n g s′ order′
-      inv′ = numbered-inv n g order s (r .inv) m count payload member next most short room left
+      inv′ : SequencerInv group s′ order′
+      inv′ = numbered-inv group order s (r .inv) m count payload member next most short room left
 
       above : s .floor .0 < s .top .0 + 1
       above = let f = sound .floor-le in omega arith
@@ -144,8 +145,8 @@ module _ (n g : ℕ) (order : List Ordered) (t : ℕ → ℕ) (submitted : ℕ �
       numbered-by =
           let k : s .top .0 + 1 ≡ suc (length order) = (let z = r .inv .top-is in omega arith) in
           let e : at order′ (s .top .0 + 1) ≡ some message = ap (λ (j : ℕ). at order′ j) k ∙ at-last order message in
-          let b = broadcast-is n g order′ s′ inv′ (s .top .0 + 1) message e above in
-          let a = broadcast-may n g order′ s′ inv′ (s .top .0 + 1) message e above in
+          let b = broadcast-is group order′ s′ inv′ (s .top .0 + 1) message e above in
+          let a = broadcast-may group order′ s′ inv′ (s .top .0 + 1) message e above in
           rw (b, header-back _ payload (a .0), payload-back _ payload)
 
       own-numbered : ownOf (m .0) order′ ≡ countedFrom 1 (take count (submitted (m .0)))
@@ -159,7 +160,7 @@ module _ (n g : ℕ) (order : List Ordered) (t : ℕ → ℕ) (submitted : ℕ �
           let z = ap (λ (l : List Ordered). order ++ l) numbered-by in
           let last = at-le (submitted (m .0)) count submission in
           let l : s .top .0 + 1 ≤ length order′ = (let e = v .top-is in simp length-append (omega arith)) in
-          let each = counted-each s m count payload (v .typed) sound (rw (v .n-is) member) in
+          let each = counted-each s m count payload (v .typed) sound (rw (v .group-is) member) in
           record {
             inv = rw z inv′;
             acknowledged = λ i h. each (λ j a. a .taken .0 ≤ t j) i (λ q. rw q (r .acked (m .0) member)) (λ q. r .acked i h);
@@ -171,7 +172,7 @@ module _ (n g : ℕ) (order : List Ordered) (t : ℕ → ℕ) (submitted : ℕ �
                 (λ q. own-other i order message (λ w. q (sym w)) ∙ r .owns i h));
             known =
                 rw z
-                (packets-known order′ (broadcastOf s′ (s .top .0 + 1)) (broadcast-known n g order′ s′ inv′ t submitted (s .top .0 + 1) above l));
+                (packets-known order′ (broadcastOf s′ (s .top .0 + 1)) (broadcast-known group order′ s′ inv′ t submitted (s .top .0 + 1) above l));
           }
 
   module _ (s : Sequencer) (r : Ready s) where
@@ -185,7 +186,7 @@ module _ (n g : ℕ) (order : List Ordered) (t : ℕ → ℕ) (submitted : ℕ �
         writing (repeatedOf s) (repeated-ready s r) (Again (record { 0 = number })) (broadcastOf s number) refl (copy-known s r number (f .0) (omega arith)))
 
     -- a request, once A is noted
-    pub request-good : (m : MemberNumber) (count : ℕ) (payload : List ℕ) → m .0 < n → at (submitted (m .0)) count ≡ some payload
+    pub request-good : (m : MemberNumber) (count : ℕ) (payload : List ℕ) → m .0 < group .n → at (submitted (m .0)) count ≡ some payload
         → length (submitted (m .0)) ≤ largestNumber → length payload ≤ payloadMost
         → count ≤ lastCount s m + 1 → (lastCount s m < count → s .top .0 < largestNumber) → Good (requestOf s m count payload)
     unfolding requestOf oldOf fullOf numberedBy

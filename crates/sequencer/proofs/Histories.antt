@@ -10,6 +10,7 @@ use native.Mathlib.Omega.{arith}
 use lib.ListN.{length, getD, length-append, getD-replicate, List·getD-eq-default}
 use Rattle.group.proofs.Lists.{at, at-le, at-nil, at-snoc, at-some, le-or}
 use Rattle.group.specs.Limits.{membersMost, placesMost, payloadMost, largestNumber}
+use Rattle.group.specs.declared.Group.{Group}
 use Rattle.group.specs.declared.MemberNumber.{MemberNumber}
 use Rattle.group.specs.declared.SequenceNumber.{SequenceNumber}
 use Rattle.message.proofs.Kept.{kept-payload, empty-zero}
@@ -35,22 +36,21 @@ use Rattle.sequencer.proofs.Numbering.{counted-same, counted-up, kept-h
 use Rattle.sequencer.proofs.Packets.{broadcast-allowed}
 use Rattle.sequencer.proofs.Soundness.{Sound, sound-of, of-sound}
 
-module _ (n g : ℕ) (order : List Ordered) (s : Sequencer) (v : SequencerInv n g s order) where
+module _ (group : Group) (order : List Ordered) (s : Sequencer) (v : SequencerInv group s order) where
   sound : Sound s
   sound = sound-of s (v .sound)
 
   -- a member of the group and a number that it can have taken
-  module _ (m : MemberNumber) (taken : SequenceNumber) (member : m .0 < n) (known : taken .0 ≤ length order) where
-    pub note-inv : SequencerInv n g (noteOf s m taken) order
+  module _ (m : MemberNumber) (taken : SequenceNumber) (member : m .0 < group .n) (known : taken .0 ≤ length order) where
+    pub note-inv : SequencerInv group (noteOf s m taken) order
     unfolding noteOf withTable
     note-inv =
         let f = sound in
-        let member′ : m .0 < s .group .n = rw (v .n-is) member in
+        let member′ : m .0 < s .group .n = rw (v .group-is) member in
         let known′ : taken .0 ≤ s .top .0 = rw (v .top-is) known in
         let up = floor-up s m taken (v .typed) f member′ in
         record {
-          n-is = v .n-is;
-          g-is = v .g-is;
+          group-is = v .group-is;
           typed = note-typed s m taken (v .typed) f member′ known′;
           sound = of-sound (noteOf s m taken) (note-sound s m taken (v .typed) f member′ known′);
           top-is = v .top-is;
@@ -66,12 +66,11 @@ module _ (n g : ℕ) (order : List Ordered) (s : Sequencer) (v : SequencerInv n 
           payload-ok = v .payload-ok;
         }
 
-  pub repeated-inv : SequencerInv n g (repeatedOf s) order
+  pub repeated-inv : SequencerInv group (repeatedOf s) order
   unfolding repeatedOf
   repeated-inv =
       record {
-        n-is = v .n-is;
-        g-is = v .g-is;
+        group-is = v .group-is;
         typed = repeated-typed s (v .typed) sound;
         sound = of-sound (repeatedOf s) (repeated-sound s (v .typed) sound);
         top-is = v .top-is;
@@ -84,7 +83,7 @@ module _ (n g : ℕ) (order : List Ordered) (s : Sequencer) (v : SequencerInv n 
       }
 
   -- a message of a member with the count after its last, where a place and a number are left
-  module _ (m : MemberNumber) (count : ℕ) (payload : List ℕ) (member : m .0 < n) (next : count ≡ countIn (s .acknowledgements) (m .0) + 1)
+  module _ (m : MemberNumber) (count : ℕ) (payload : List ℕ) (member : m .0 < group .n) (next : count ≡ countIn (s .acknowledgements) (m .0) + 1)
       (most : count ≤ largestNumber) (short : length payload ≤ payloadMost) (room : s .top .0 < s .floor .0 + placesMost) (left : s .top .0 < largestNumber) where
     abbrev message : Ordered
     message = ordered (s .top .0 + 1) (m .0) count payload
@@ -93,16 +92,15 @@ module _ (n g : ℕ) (order : List Ordered) (s : Sequencer) (v : SequencerInv n 
     abbrev Had : ℕ → Ordered → Type 0
     Had k x = (at order k ≡ some x) ⊎ ((k ≡ suc (length order)) × (message ≡ x))
 
-    pub numbered-inv : SequencerInv n g (withMessage s m count payload) (order ++ (message ∷ []))
+    pub numbered-inv : SequencerInv group (withMessage s m count payload) (order ++ (message ∷ []))
     unfolding withMessage
     numbered-inv =
         let f = sound in
         let typed = v .typed in
-        let member′ : m .0 < s .group .n = rw (v .n-is) member in
+        let member′ : m .0 < s .group .n = rw (v .group-is) member in
         let up : countIn (s .acknowledgements) (m .0) ≤ count = omega arith in
         record {
-          n-is = v .n-is;
-          g-is = v .g-is;
+          group-is = v .group-is;
           typed = numbered-typed s m count payload typed f member′ up most left;
           sound = of-sound (withMessage s m count payload) (numbered-sound s m count payload typed f member′ up most left (omega arith) short room);
           top-is = let t = v .top-is in simp length-append (omega arith);
@@ -119,16 +117,16 @@ module _ (n g : ℕ) (order : List Ordered) (s : Sequencer) (v : SequencerInv n 
         history k x h (inl e) =
             let l = at-le order k e in
             let t = v .top-is in
-            kept-other s m count payload (v .typed) sound (rw (v .n-is) member) room k h (let w = sound .window in omega arith) (omega arith) ∙ v .history-is k x e h
+            kept-other s m count payload (v .typed) sound (rw (v .group-is) member) room k h (let w = sound .window in omega arith) (omega arith) ∙ v .history-is k x e h
         history k x h (inr e) =
             let z : k ≡ s .top .0 + 1 = (let w = e .0 in let t = v .top-is in omega arith) in
-            rw (z, ← (e .1)) (kept-here s m count payload (v .typed) sound (rw (v .n-is) member))
+            rw (z, ← (e .1)) (kept-here s m count payload (v .typed) sound (rw (v .group-is) member))
 
         number : (k : ℕ) (x : Ordered) → Had k x → x .number ≡ k
         number k x (inl e) = v .number-is k x e
         number k x (inr e) = rw (← (e .1)) (let w = e .0 in let t = v .top-is in omega arith)
 
-        originator : (k : ℕ) (x : Ordered) → Had k x → x .originator < n
+        originator : (k : ℕ) (x : Ordered) → Had k x → x .originator < group .n
         originator k x (inl e) = v .originator-ok k x e
         originator k x (inr e) = rw (← (e .1)) member
 
@@ -137,8 +135,8 @@ module _ (n g : ℕ) (order : List Ordered) (s : Sequencer) (v : SequencerInv n 
         least k x (inr e) = rw (← (e .1)) (omega arith)
 
         counted : (k : ℕ) (x : Ordered) → Had k x → x .count ≤ countIn (withMessage s m count payload .acknowledgements) (x .originator)
-        counted k x (inl e) = le-trans (v .count-most k x e) (counted-up s m count payload (v .typed) sound (rw (v .n-is) member) (omega arith) (x .originator))
-        counted k x (inr e) = rw (← (e .1)) (let z = counted-same s m count payload (v .typed) sound (rw (v .n-is) member) in omega arith)
+        counted k x (inl e) = le-trans (v .count-most k x e) (counted-up s m count payload (v .typed) sound (rw (v .group-is) member) (omega arith) (x .originator))
+        counted k x (inr e) = rw (← (e .1)) (let z = counted-same s m count payload (v .typed) sound (rw (v .group-is) member) in omega arith)
 
         size : (k : ℕ) (x : Ordered) → Had k x → length (x .payload) ≤ payloadMost
         size k x (inl e) = v .payload-ok k x e
@@ -149,19 +147,19 @@ module _ (n g : ℕ) (order : List Ordered) (s : Sequencer) (v : SequencerInv n 
     abbrev broadcast : Packet
     broadcast = Broadcast (record { 0 = m .originator }) (record { 0 = k }) (m .count) (s .floor)
 
-    pub broadcast-is : broadcastOf s k ≡ packetOf (fieldsOf g broadcast) (m .payload)
+    pub broadcast-is : broadcastOf s k ≡ packetOf (fieldsOf (group .number) broadcast) (m .payload)
     unfolding broadcastOf messageOf
-    broadcast-is = rw (v .g-is, v .history-is k m e above, kept-payload (record { 0 = m .originator }) (m .count) (m .payload))
+    broadcast-is = rw (v .group-is, v .history-is k m e above, kept-payload (record { 0 = m .originator }) (m .count) (m .payload))
 
-    pub broadcast-may : Allowed (fieldsOf g broadcast) (m .payload)
+    pub broadcast-may : Allowed (fieldsOf (group .number) broadcast) (m .payload)
     unfolding messageOf
     broadcast-may =
         let l = at-le order k e in
         let t = v .top-is in
-        rw (v .g-is, v .history-is k m e above, kept-payload (record { 0 = m .originator }) (m .count) (m .payload)) at
+        rw (v .group-is, v .history-is k m e above, kept-payload (record { 0 = m .originator }) (m .count) (m .payload)) at
         (broadcast-allowed s (v .typed) sound k above (omega arith))
 
-  pub broadcast-known : (t : ℕ → ℕ) (submitted : ℕ → List (List ℕ)) (k : ℕ) → s .floor .0 < k → k ≤ length order → Known g order t submitted (broadcastOf s k)
+  pub broadcast-known : (t : ℕ → ℕ) (submitted : ℕ → List (List ℕ)) (k : ℕ) → s .floor .0 < k → k ≤ length order → Known (group .number) order t submitted (broadcastOf s k)
   broadcast-known t submitted k above below =
       let found = at-some order k (omega arith) below in
       let m : Ordered = found .0 in
@@ -177,9 +175,9 @@ module _ (n g : ℕ) (order : List Ordered) (s : Sequencer) (v : SequencerInv n 
       }
 
 -- nothing was numbered in a fresh state
-module _ (n g : ℕ) (low : 1 ≤ n) (high : n ≤ membersMost) (fits : g ≤ largestNumber) where
+module _ (group : Group) (low : 1 ≤ group .n) (high : group .n ≤ membersMost) (fits : group .number ≤ largestNumber) where
   abbrev opened : Sequencer
-  opened = freshSequencer (record { n = n; number = g })
+  opened = freshSequencer group
 
   fresh-entry : (i : ℕ) → getD (opened .acknowledgements) i noAcknowledgement ≡ noAcknowledgement
   unfolding freshSequencer
@@ -197,7 +195,7 @@ module _ (n g : ℕ) (low : 1 ≤ n) (high : n ≤ membersMost) (fits : g ≤ la
       record {
         n-least = low;
         n-most = high;
-        floor-is = let z = floor-most n (opened .acknowledgements) 0 low (omega arith) in omega arith;
+        floor-is = let z = floor-most (group .n) (opened .acknowledgements) 0 low (omega arith) in omega arith;
         floor-le = omega arith;
         window = omega arith;
         taken-le = λ i h. let z = ap (λ (a : Acknowledgement). a .taken .0) (fresh-entry i) in omega arith;
@@ -206,12 +204,11 @@ module _ (n g : ℕ) (low : 1 ≤ n) (high : n ≤ membersMost) (fits : g ≤ la
         empty = λ k a b. ap isEmpty (fresh-place k) ∙ empty-zero;
       }
 
-  pub fresh-inv : SequencerInv n g opened []
+  pub fresh-inv : SequencerInv group opened []
   unfolding freshSequencer
   fresh-inv =
       record {
-        n-is = refl;
-        g-is = refl;
+        group-is = refl;
         typed =
             record {
               group = fits;

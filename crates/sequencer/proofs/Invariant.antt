@@ -7,6 +7,7 @@ use Prim.Native.Nat.{ℕ, _≤_, _<_}
 use lib.ListN.{length, take}
 use Rattle.group.proofs.Lists.{at, All}
 use Rattle.group.specs.Limits.{payloadMost}
+use Rattle.group.specs.declared.Group.{Group}
 use Rattle.message.specs.Message.{messageOf}
 use Rattle.message.specs.Order.{Ordered, ownOf, countedFrom}
 use Rattle.packet.proofs.Facts.{Known}
@@ -19,10 +20,9 @@ use Rattle.sequencer.specs.Order.{numberedBy}
 use Rattle.sequencer.specs.Sound.{soundOf}
 use Rattle.sequencer.specs.declared.Sequencer.{Sequencer}
 
--- the sequencer of a group of n members numbered g, whose order so far is `order`
-pub record SequencerInv (n g : ℕ) (s : Sequencer) (order : List Ordered) : Type 0 where
-  pub n-is : s .group .n ≡ n
-  pub g-is : s .group .number ≡ g
+-- the group's sequencer, where `order` is the order so far
+pub record SequencerInv (group : Group) (s : Sequencer) (order : List Ordered) : Type 0 where
+  pub group-is : s .group ≡ group
   pub typed : Typed s
   pub sound : soundOf s ≡ true
   pub top-is : s .top .0 ≡ length order
@@ -30,18 +30,18 @@ pub record SequencerInv (n g : ℕ) (s : Sequencer) (order : List Ordered) : Typ
   pub history-is : (k : ℕ) (m : Ordered) → at order k ≡ some m → s .floor .0 < k
       → messageAt (s .history) k ≡ messageOf (record { 0 = m .originator }) (m .count) (m .payload)
   pub number-is : (k : ℕ) (m : Ordered) → at order k ≡ some m → m .number ≡ k
-  pub originator-ok : (k : ℕ) (m : Ordered) → at order k ≡ some m → m .originator < n
+  pub originator-ok : (k : ℕ) (m : Ordered) → at order k ≡ some m → m .originator < group .n
   pub count-least : (k : ℕ) (m : Ordered) → at order k ≡ some m → 1 ≤ m .count
   pub count-most : (k : ℕ) (m : Ordered) → at order k ≡ some m → m .count ≤ countIn (s .acknowledgements) (m .originator)
   pub payload-ok : (k : ℕ) (m : Ordered) → at order k ≡ some m → length (m .payload) ≤ payloadMost
 
 -- what a call of the sequencer owes, where `table` is the table before it, `t` and `submitted` what the terminals took and
 -- submitted, and `packets` what was written
-pub record SequencerGood (n g : ℕ) (table : List Acknowledgement) (order : List Ordered) (t : ℕ → ℕ) (submitted : ℕ → List (List ℕ)) (packets : List (List ℕ)) (o : Outcome) : Type 0 where
-  pub inv : SequencerInv n g (o .sequencer) (order ++ numberedBy (o .answer) (o .bytes))
-  pub acknowledged : (i : ℕ) → i < n → takenIn (o .sequencer .acknowledgements) i ≤ t i
-  pub counts-up : (i : ℕ) → i < n → countIn table i ≤ countIn (o .sequencer .acknowledgements) i
-  pub counts-most : (i : ℕ) → i < n → countIn (o .sequencer .acknowledgements) i ≤ length (submitted i)
-  pub own : (i : ℕ) → i < n
+pub record SequencerGood (group : Group) (table : List Acknowledgement) (order : List Ordered) (t : ℕ → ℕ) (submitted : ℕ → List (List ℕ)) (packets : List (List ℕ)) (o : Outcome) : Type 0 where
+  pub inv : SequencerInv group (o .sequencer) (order ++ numberedBy (o .answer) (o .bytes))
+  pub acknowledged : (i : ℕ) → i < group .n → takenIn (o .sequencer .acknowledgements) i ≤ t i
+  pub counts-up : (i : ℕ) → i < group .n → countIn table i ≤ countIn (o .sequencer .acknowledgements) i
+  pub counts-most : (i : ℕ) → i < group .n → countIn (o .sequencer .acknowledgements) i ≤ length (submitted i)
+  pub own : (i : ℕ) → i < group .n
       → ownOf i (order ++ numberedBy (o .answer) (o .bytes)) ≡ countedFrom 1 (take (countIn (o .sequencer .acknowledgements) i) (submitted i))
-  pub known : All (Known g (order ++ numberedBy (o .answer) (o .bytes)) t submitted) packets
+  pub known : All (Known (group .number) (order ++ numberedBy (o .answer) (o .bytes)) t submitted) packets

@@ -1,6 +1,6 @@
 -- Each call of the sequencer owes the group what the invariant of demand 3 asks: the call's text, with a proof for each way
 -- that a choice goes. Assumes nothing.
-use mathlib.Core.Path.{_≡_, refl, sym, _∙_, subst}
+use mathlib.Core.Path.{_≡_, refl, sym, ap, _∙_, subst}
 use mathlib.Core.Logic.{_≢_}
 use mathlib.Core.Option.{some}
 use mathlib.Core.List.{List, []}
@@ -14,6 +14,7 @@ use Rattle.group.proofs.Lists.{if-elim, judged-elim, at, at-le}
 use Rattle.group.specs.Choice.{if_then_else_, _and_, _<?_, _≤?_}
 use Rattle.group.specs.Limits.{payloadMost, longestPacket, largestNumber}
 use Rattle.group.specs.Question.{judged}
+use Rattle.group.specs.declared.Group.{Group}
 use Rattle.group.specs.declared.MemberNumber.{MemberNumber}
 use Rattle.group.specs.declared.Refusal.{Refusal}
 use Rattle.group.specs.declared.Refusal.the-variants.{OtherEnd, NotInHistory}
@@ -44,94 +45,95 @@ use Rattle.sequencer.proofs.Soundness.{sound-of}
 use Rattle.sequencer.proofs.Answering.{Good, Ready, silent, writing, note-ready, poll-known, copy-known, request-good, gap-good}
 
 -- a state with its invariant
-module _ (n g : ℕ) (order : List Ordered) (s : Sequencer) (v : SequencerInv n g s order) where
+module _ (group : Group) (order : List Ordered) (s : Sequencer) (v : SequencerInv group s order) where
   called : callVerdict s longestPacket ≡ Verdict.Accepted
   unfolding callVerdict if_then_else_
   called = rw (v .sound)
 
   -- a packet of the group that may be written reaches its step
-  pub received : (content : Packet) (payload : List ℕ) → Allowed (fieldsOf g content) payload
-      → receiveOf s (packetOf (fieldsOf g content) payload) longestPacket ≡ contentStep s content payload
+  pub received : (content : Packet) (payload : List ℕ) → Allowed (fieldsOf (group .number) content) payload
+      → receiveOf s (packetOf (fieldsOf (group .number) content) payload) longestPacket ≡ contentStep s content payload
   unfolding receiveOf judged readStep if_then_else_
   received content payload allowed =
-      let r = read-written (fieldsOf g content) payload allowed in
-      let e = eq-eqb (fieldsOf g content .group) (s .group .number) (fields-group g content ∙ sym (v .g-is)) in
-      rw (called, r .0, r .1, e, content-fields g content)
+      let r = read-written (fieldsOf (group .number) content) payload allowed in
+      let e = eq-eqb (fieldsOf (group .number) content .group) (s .group .number) (fields-group (group .number) content ∙ sym (ap (λ (x : Group). x .number) (v .group-is))) in
+      rw (called, r .0, r .1, e, content-fields (group .number) content)
 
   -- the copy of a number of the history is the broadcast of the order's message
   pub copy-ok : (k : ℕ) (m : Ordered) → at order k ≡ some m → s .floor .0 < k
       → let broadcast : Packet = Broadcast (record { 0 = m .originator }) (record { 0 = k }) (m .count) (s .floor) in
-      copyOf s (record { 0 = k }) longestPacket ≡ record { sequencer = s; answer = Sent; bytes = packetOf (fieldsOf g broadcast) (m .payload) }
+      copyOf s (record { 0 = k }) longestPacket ≡ record { sequencer = s; answer = Sent; bytes = packetOf (fieldsOf (group .number) broadcast) (m .payload) }
   unfolding copyOf judged if_then_else_
   copy-ok k m e above =
       let l = at-le order k e in
       let z = v .top-is in
-      rw (called, lt-ltb (s .floor .0) k above, le-leb k (s .top .0) (omega arith), broadcast-is n g order s v k m e above)
+      rw (called, lt-ltb (s .floor .0) k above, le-leb k (s .top .0) (omega arith), broadcast-is group order s v k m e above)
 
   -- a member's status is noted
-  pub status-ok : (sender : MemberNumber) (taken : SequenceNumber) → Allowed (fieldsOf g (Status sender taken)) [] → sender .0 < n → taken .0 ≤ length order
-      → receiveOf s (packetOf (fieldsOf g (Status sender taken)) []) longestPacket ≡ answered (noteOf s sender taken) Noted
+  pub status-ok : (sender : MemberNumber) (taken : SequenceNumber) → Allowed (fieldsOf (group .number) (Status sender taken)) [] → sender .0 < group .n → taken .0 ≤ length order
+      → receiveOf s (packetOf (fieldsOf (group .number) (Status sender taken)) []) longestPacket ≡ answered (noteOf s sender taken) Noted
   unfolding contentStep senderVerdict judged if_then_else_
   status-ok sender taken allowed member known =
       received (Status sender taken) [] allowed
-      ∙ rw (v .n-is, v .top-is, lt-ltb (sender .0) n member, le-leb (taken .0) (length order) known)
+      ∙ rw (v .group-is, v .top-is, lt-ltb (sender .0) (group .n) member, le-leb (taken .0) (length order) known)
 
   -- of which that member's entry shows as much, and the others' entries what they did
-  pub status-own : (sender : MemberNumber) (taken : SequenceNumber) → sender .0 < n → taken .0 ≤ takenIn (noteOf s sender taken .acknowledgements) (sender .0)
+  pub status-own : (sender : MemberNumber) (taken : SequenceNumber) → sender .0 < group .n → taken .0 ≤ takenIn (noteOf s sender taken .acknowledgements) (sender .0)
   unfolding noteOf withTable
-  status-own sender taken member = noted-own s sender taken (v .typed) (sound-of s (v .sound)) (rw (v .n-is) member)
+  status-own sender taken member = noted-own s sender taken (v .typed) (sound-of s (v .sound)) (rw (v .group-is) member)
 
-  pub status-other : (sender : MemberNumber) (taken : SequenceNumber) → sender .0 < n → (i : ℕ) → i ≢ sender .0
+  pub status-other : (sender : MemberNumber) (taken : SequenceNumber) → sender .0 < group .n → (i : ℕ) → i ≢ sender .0
       → takenIn (noteOf s sender taken .acknowledgements) i ≡ takenIn (s .acknowledgements) i
   unfolding noteOf withTable
-  status-other sender taken member = noted-other s sender taken (v .typed) (sound-of s (v .sound)) (rw (v .n-is) member)
+  status-other sender taken member = noted-other s sender taken (v .typed) (sound-of s (v .sound)) (rw (v .group-is) member)
 
   -- floor is at most each member's entry, and the length of the order where all of them are
-  pub floor-below : (i : ℕ) → i < n → s .floor .0 ≤ takenIn (s .acknowledgements) i
+  pub floor-below : (i : ℕ) → i < group .n → s .floor .0 ≤ takenIn (s .acknowledgements) i
   floor-below i h =
       let f = sound-of s (v .sound) in
       let l = v .typed .table in
-      rw (f .floor-is) at (floor-most (s .group .n) (s .acknowledgements) i (rw (v .n-is) h) (omega arith))
+      let inside : i < s .group .n = rw (v .group-is) h in
+      rw (f .floor-is) at (floor-most (s .group .n) (s .acknowledgements) i inside (omega arith))
 
-  pub floor-all : ((i : ℕ) → i < n → length order ≤ takenIn (s .acknowledgements) i) → s .floor .0 ≡ length order
+  pub floor-all : ((i : ℕ) → i < group .n → length order ≤ takenIn (s .acknowledgements) i) → s .floor .0 ≡ length order
   floor-all all =
       let f = sound-of s (v .sound) in
       let e = v .top-is in
-      let low = floor-least (s .group .n) (s .acknowledgements) (length order) (omega arith) (λ i h k. all i (rw (v .n-is) at h)) in
+      let low = floor-least (s .group .n) (s .acknowledgements) (length order) (omega arith) (λ i h k. all i (rw (v .group-is) at h)) in
       omega arith
 
   -- the group's other facts: what its terminals took and submitted
   module _ (t : ℕ → ℕ) (submitted : ℕ → List (List ℕ))
-      (acked : (i : ℕ) → i < n → takenIn (s .acknowledgements) i ≤ t i) (t-le : (i : ℕ) → i < n → t i ≤ length order)
-      (counts : (i : ℕ) → i < n → countIn (s .acknowledgements) i ≤ length (submitted i))
-      (sizes : (i : ℕ) → i < n → length (submitted i) ≤ largestNumber)
-      (owns : (i : ℕ) → i < n → ownOf i order ≡ countedFrom 1 (take (countIn (s .acknowledgements) i) (submitted i))) where
+      (acked : (i : ℕ) → i < group .n → takenIn (s .acknowledgements) i ≤ t i) (t-le : (i : ℕ) → i < group .n → t i ≤ length order)
+      (counts : (i : ℕ) → i < group .n → countIn (s .acknowledgements) i ≤ length (submitted i))
+      (sizes : (i : ℕ) → i < group .n → length (submitted i) ≤ largestNumber)
+      (owns : (i : ℕ) → i < group .n → ownOf i order ≡ countedFrom 1 (take (countIn (s .acknowledgements) i) (submitted i))) where
     abbrev Owes : Outcome → Type 0
-    Owes = Good n g order t submitted (s .acknowledgements)
+    Owes = Good group order t submitted (s .acknowledgements)
 
-    ready : Ready n g order t submitted (s .acknowledgements) s
+    ready : Ready group order t submitted (s .acknowledgements) s
     ready = record { inv = v; acked = acked; ups = λ i h. le-refl (countIn (s .acknowledgements) i); counts = counts; owns = owns }
 
     refused-good : (refusal : Refusal) → Owes (refused s refusal)
     unfolding numberedBy
-    refused-good refusal = silent n g order t submitted (s .acknowledgements) s ready (Answer.Refused refusal) refl
+    refused-good refusal = silent group order t submitted (s .acknowledgements) s ready (Answer.Refused refusal) refl
 
     -- the steps, once a sender was accepted and its number is noted
     module _ (sender : MemberNumber) (taken : SequenceNumber) (known : taken .0 ≤ t (sender .0))
         (e : senderVerdict (s .group .n) (s .top .0) sender taken ≡ Verdict.Accepted) where
-      member : sender .0 < n
-      member = rw (v .n-is) at (sender-was (s .group .n) (s .top .0) sender taken e .0)
+      member : sender .0 < group .n
+      member = rw (v .group-is) at (sender-was (s .group .n) (s .top .0) sender taken e .0)
 
-      noted : Ready n g order t submitted (s .acknowledgements) (noteOf s sender taken)
-      noted = note-ready n g order t submitted (s .acknowledgements) s ready sender taken member known (t-le (sender .0) member)
+      noted : Ready group order t submitted (s .acknowledgements) (noteOf s sender taken)
+      noted = note-ready group order t submitted (s .acknowledgements) s ready sender taken member known (t-le (sender .0) member)
 
       noted-request : (count : ℕ) (payload : List ℕ) → at (submitted (sender .0)) count ≡ some payload → length payload ≤ payloadMost
           → countVerdict (lastCount s sender) (s .top .0) count ≡ Verdict.Accepted → Owes (requestOf (noteOf s sender taken) sender count payload)
       unfolding noteOf withTable
       noted-request count payload submission short f =
           let b = count-was (lastCount s sender) (s .top .0) count f in
-          let c = noted-count s sender taken (v .typed) (sound-of s (v .sound)) (rw (v .n-is) member) (sender .0) in
-          request-good n g order t submitted (s .acknowledgements) (noteOf s sender taken) noted
+          let c = noted-count s sender taken (v .typed) (sound-of s (v .sound)) (rw (v .group-is) member) (sender .0) in
+          request-good group order t submitted (s .acknowledgements) (noteOf s sender taken) noted
           sender count payload member submission (sizes (sender .0) member) short (omega arith) (λ h. b .1 (omega arith))
 
     content-good : (content : Packet) (payload : List ℕ) → length payload ≤ payloadMost → Says order t submitted content payload
@@ -145,27 +147,27 @@ module _ (n g : ℕ) (order : List Ordered) (s : Sequencer) (v : SequencerInv n 
     content-good (Gap sender taken first last) payload short says =
         judged-elim Owes (senderVerdict (s .group .n) (s .top .0) sender taken) (λ r e. refused-good r)
         (λ e. judged-elim Owes (wantedVerdict (s .top .0) last) (λ r f. refused-good r)
-        (λ f. gap-good n g order t submitted (s .acknowledgements) (noteOf s sender taken) (noted sender taken says e) first last))
+        (λ f. gap-good group order t submitted (s .acknowledgements) (noteOf s sender taken) (noted sender taken says e) first last))
     content-good (Status sender taken) payload short says =
         judged-elim Owes (senderVerdict (s .group .n) (s .top .0) sender taken) (λ r e. refused-good r)
-        (λ e. silent n g order t submitted (s .acknowledgements) (noteOf s sender taken) (noted sender taken says e) Noted refl)
+        (λ e. silent group order t submitted (s .acknowledgements) (noteOf s sender taken) (noted sender taken says e) Noted refl)
     content-good (Poll top floor) payload short says = refused-good OtherEnd
 
-    pub receive-good : (bytes : List ℕ) → Known g order t submitted bytes
-        → SequencerGood n g (s .acknowledgements) order t submitted (written (receiveOf s bytes longestPacket .bytes)) (receiveOf s bytes longestPacket)
+    pub receive-good : (bytes : List ℕ) → Known (group .number) order t submitted bytes
+        → SequencerGood group (s .acknowledgements) order t submitted (written (receiveOf s bytes longestPacket .bytes)) (receiveOf s bytes longestPacket)
     receive-good bytes k =
-        let w = writable (fieldsOf g (k .content)) (length (k .payload)) longestPacket (k .allowed .1) in
+        let w = writable (fieldsOf (group .number) (k .content)) (length (k .payload)) longestPacket (k .allowed .1) in
         let e : receiveOf s bytes longestPacket ≡ contentStep s (k .content) (k .payload) = rw (k .bytes-are) (received (k .content) (k .payload) (k .allowed)) in
         subst Owes (sym e) (content-good (k .content) (k .payload) (w .short) (k .says))
 
-    pub poll-good : SequencerGood n g (s .acknowledgements) order t submitted (written (pollOf s longestPacket .bytes)) (pollOf s longestPacket)
+    pub poll-good : SequencerGood group (s .acknowledgements) order t submitted (written (pollOf s longestPacket .bytes)) (pollOf s longestPacket)
     unfolding pollOf numberedBy
     poll-good =
         judged-elim Owes (callVerdict s longestPacket) (λ r e. refused-good r)
-        (λ e. writing n g order t submitted (s .acknowledgements) s ready Sent (pollPacket s) refl (poll-known n g order t submitted (s .acknowledgements) s ready))
+        (λ e. writing group order t submitted (s .acknowledgements) s ready Sent (pollPacket s) refl (poll-known group order t submitted (s .acknowledgements) s ready))
 
     pub copy-good : (number : SequenceNumber)
-        → SequencerGood n g (s .acknowledgements) order t submitted (written (copyOf s number longestPacket .bytes)) (copyOf s number longestPacket)
+        → SequencerGood group (s .acknowledgements) order t submitted (written (copyOf s number longestPacket .bytes)) (copyOf s number longestPacket)
     unfolding copyOf numberedBy
     copy-good number =
         let inside = s .floor .0 <? number .0 and number .0 ≤? s .top .0 in
@@ -174,6 +176,6 @@ module _ (n g : ℕ) (order : List Ordered) (s : Sequencer) (v : SequencerInv n 
         (λ h.
         let a = ltb-true (s .floor .0) (number .0) (both-first (s .floor .0 <? number .0) (number .0 ≤? s .top .0) h) in
         let b = leb-true (number .0) (s .top .0) (both-then (s .floor .0 <? number .0) (number .0 ≤? s .top .0) h) in
-        writing n g order t submitted (s .acknowledgements) s ready Sent (broadcastOf s (number .0)) refl
-        (copy-known n g order t submitted (s .acknowledgements) s ready (number .0) a b))
+        writing group order t submitted (s .acknowledgements) s ready Sent (broadcastOf s (number .0)) refl
+        (copy-known group order t submitted (s .acknowledgements) s ready (number .0) a b))
         (λ h. refused-good NotInHistory))

@@ -61,7 +61,7 @@ module _ (m : Member) where
   acknowledged-took x typed c = omega arith
 
 -- a terminal acknowledges no more than was numbered
-pub acknowledged-most : {group : Group} {i acknowledged count : ℕ} {m : Member} {order took : List Ordered} {submitted : List (List ℕ)}
-    → Terminal group i acknowledged count m order took submitted → acknowledgedOf m .0 ≤ length order
+pub acknowledged-most : {group : Group} {i acknowledged : ℕ} {m : Member} {order took : List Ordered} {submitted : List (List ℕ)}
+    → Terminal group i acknowledged m order took submitted → acknowledgedOf m .0 ≤ length order
 unfolding acknowledgedOf
 acknowledged-most h = h .taken-le

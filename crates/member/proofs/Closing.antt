@@ -64,7 +64,7 @@ pub record HandOk (m : Member) (o : Outcome) : Type 0 where
   pub held : 1 ≤ messageAt (o .member .held) (m .taken .0 + 1) .count
   pub bytes-are : o .bytes ≡ []
 
-module _ (group : Group) (i acknowledged count : ℕ) (order took : List Ordered) (submitted : List (List ℕ)) (m : Member) (h : Terminal group i acknowledged count m order took submitted) where
+module _ (group : Group) (i acknowledged : ℕ) (order took : List Ordered) (submitted : List (List ℕ)) (m : Member) (h : Terminal group i acknowledged m order took submitted) where
   module _ (originator : MemberNumber) (number : SequenceNumber) (c : ℕ) (floor : SequenceNumber) (payload : List ℕ)
       (allowed : Allowed (fieldsOf (group .number) (Broadcast originator number c floor)) payload) (member : originator .0 < group .n) (next : number .0 ≡ m .taken .0 + 1) where
     -- a count of a broadcast is at least 1
@@ -116,7 +116,7 @@ module _ (group : Group) (i acknowledged count : ℕ) (order took : List Ordered
   )
 
 pub fresh-terminal : (group : Group) (i : ℕ) → 1 ≤ group .n → group .n ≤ membersMost → i < group .n → group .number ≤ largestNumber
-    → Terminal group i 0 0 (freshMember group (record { 0 = i })) [] [] []
+    → Terminal group i 0 (freshMember group (record { 0 = i })) [] [] []
 unfolding freshMember ownOf countedFrom
 fresh-terminal group i lo hi inside most =
     let number : MemberNumber = record { 0 = i } in

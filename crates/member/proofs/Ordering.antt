@@ -17,7 +17,7 @@ use Rattle.group.specs.declared.MemberNumber.{MemberNumber}
 use Rattle.group.specs.declared.Refusal.{Refusal}
 use Rattle.group.proofs.Lists.{if-elim, judged-elim, at, All, at-append, at-last, at-snoc}
 use Rattle.message.specs.Message.{messageOf, payloadOf}
-use Rattle.message.specs.Order.{Ordered, countedFrom}
+use Rattle.message.specs.Order.{Ordered, ownOf, countedFrom}
 use Rattle.message.specs.declared.Message.{Message}
 use Rattle.message.proofs.Kept.{kept-payload}
 use Rattle.packet.specs.Packet.{headerOf, contentOf, fieldsOf, payloadAt, readOf, written}
@@ -43,23 +43,23 @@ use Rattle.member.proofs.Receiving.{Keepable, read-heard}
 use Rattle.member.proofs.Soundness.{Sound, sound-of, of-sound}
 use Rattle.member.proofs.Writes.{Own, request-own, status-own}
 
-module _ (group : Group) (i acknowledged count : ℕ) (order took : List Ordered) (submitted : List (List ℕ)) where
+module _ (group : Group) (i acknowledged : ℕ) (order took : List Ordered) (submitted : List (List ℕ)) where
   -- packets that are the member's own are terminal i's
-  own-known : (o : Outcome) (took′ : List Ordered) (submitted′ : List (List ℕ)) → Terminal group i acknowledged count (o .member) order took′ submitted′ → Own submitted′ o
+  own-known : (o : Outcome) (took′ : List Ordered) (submitted′ : List (List ℕ)) → Terminal group i acknowledged (o .member) order took′ submitted′ → Own submitted′ o
       → All (KnownBy (group .number) i (acknowledgedOf (o .member) .0) submitted′) (written (o .bytes))
   own-known o took′ submitted′ h k =
       let a = acknowledgedOf (o .member) .0 in
       subst (λ (x : Group). All (KnownBy (x .number) i a submitted′) (written (o .bytes))) (h .group-is)
       (subst (λ (x : ℕ). All (KnownBy (o .member .group .number) x a submitted′) (written (o .bytes))) (h .number-is) k)
 
-  module _ (m : Member) (h : Terminal group i acknowledged count m order took submitted) where
+  module _ (m : Member) (h : Terminal group i acknowledged m order took submitted) where
     abbrev Good : Outcome → Type 0
-    Good o = MemberGood group i acknowledged count order submitted m took submitted (written (o .bytes)) o
+    Good o = MemberGood group i acknowledged order submitted m took submitted (written (o .bytes)) o
 
     -- a call that leaves the state
     same : (o : Outcome) → o .member ≡ m → Own submitted o → Good o
     same o e k =
-        let h′ : Terminal group i acknowledged count (o .member) order took submitted = rw e h in
+        let h′ : Terminal group i acknowledged (o .member) order took submitted = rw e h in
         record { terminal = h′; up = rw e (le-refl _); grown = λ c payload z. z; known = own-known o took submitted h′ k }
 
     quiet : (answer : Answer) → Good (answered m answer)
@@ -86,7 +86,7 @@ module _ (group : Group) (i acknowledged count : ℕ) (order took : List Ordered
 
     -- submit
     abbrev GoodSubmit : List ℕ → Outcome → Type 0
-    GoodSubmit payload o = MemberGood group i acknowledged count order submitted m took (submitted ++ acceptedBy (o .answer) payload) (written (o .bytes)) o
+    GoodSubmit payload o = MemberGood group i acknowledged order submitted m took (submitted ++ acceptedBy (o .answer) payload) (written (o .bytes)) o
 
     submit-refused : (payload : List ℕ) (refusal : Refusal) → GoodSubmit payload (answered m (Answer.Refused refusal))
     unfolding answered acceptedBy
@@ -106,7 +106,7 @@ module _ (group : Group) (i acknowledged count : ℕ) (order took : List Ordered
       waiting-sound′ : Sound (withWaiting m payload)
       waiting-sound′ = waiting-sound m (h .typed) payload short (sound-of m (h .sound))
 
-      waiting-terminal : Terminal group i acknowledged count (withWaiting m payload) order took (submitted ++ (payload ∷ []))
+      waiting-terminal : Terminal group i acknowledged (withWaiting m payload) order took (submitted ++ (payload ∷ []))
       unfolding withWaiting
       waiting-terminal =
           record {
@@ -123,7 +123,7 @@ module _ (group : Group) (i acknowledged count : ℕ) (order took : List Ordered
             count-near = (let z = h .idle idle in omega arith);
             idle = λ e. let z : _≡_ {A = ℕ} 0 1 = cc in absurd (omega arith);
             waiting-is = λ _. (payload, last, ap (λ (k : ℕ). messageOf (record { 0 = k }) (m .submitted + 1) payload) (h .number-is));
-            own-is = h .own-is ∙ ap (countedFrom 1) (sym (take-append-le count submitted (payload ∷ []) (omega arith)));
+            own-is = h .own-is ∙ ap (countedFrom 1) (sym (take-append-le (length (ownOf i order)) submitted (payload ∷ []) (omega arith)));
             payload-ok = all-short;
           }
 
@@ -150,7 +150,7 @@ module _ (group : Group) (i acknowledged count : ℕ) (order took : List Ordered
 
     -- a packet
     abbrev Here : Member → Type 0
-    Here m′ = Terminal group i acknowledged count m′ order took submitted
+    Here m′ = Terminal group i acknowledged m′ order took submitted
 
     -- the order's message of number k is held
     held-terminal : (originator : MemberNumber) (k c : ℕ) (payload : List ℕ) → at order k ≡ some (ordered k (originator .0) c payload)

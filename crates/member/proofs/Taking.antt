@@ -6,6 +6,7 @@ use mathlib.Core.Option.{some}
 use mathlib.Core.List.{List, [], _∷_, _++_, append-nil}
 use Prim.Native.Nat.{ℕ, _+_, _≤_}
 use native.Mathlib.Nat.{le-refl, le-trans}
+use lib.ListN.{length}
 use native.Mathlib.Numerals.{add-one}
 use native.Mathlib.Omega.{arith}
 use borrow.Author.Tests.{ltb-true}
@@ -15,7 +16,7 @@ use Rattle.group.proofs.Choice.{says}
 use Rattle.group.proofs.Lists.{if-elim, judged-elim, at, at-le, take-at-suc}
 use Rattle.group.specs.declared.Group.{Group}
 use Rattle.message.specs.Message.{messageOf, emptyMessage, payloadOf}
-use Rattle.message.specs.Order.{Ordered}
+use Rattle.message.specs.Order.{Ordered, ownOf}
 use Rattle.message.specs.declared.Message.{Message}
 use Rattle.message.proofs.Kept.{kept-payload}
 use Rattle.packet.proofs.Facts.{ordered}
@@ -32,15 +33,15 @@ use Rattle.member.proofs.Keeping.{taken-typed, taken-sound}
 use Rattle.window.proofs.Missing.{place-near, held-each}
 use Rattle.member.proofs.Soundness.{sound-of, of-sound}
 
-module _ (group : Group) (i acknowledged count : ℕ) (order took : List Ordered) (submitted : List (List ℕ)) (m : Member) (h : Terminal group i acknowledged count m order took submitted) where
+module _ (group : Group) (i acknowledged : ℕ) (order took : List Ordered) (submitted : List (List ℕ)) (m : Member) (h : Terminal group i acknowledged m order took submitted) where
   abbrev GoodTake : Outcome → Type 0
-  GoodTake o = MemberGood group i acknowledged count order submitted m (took ++ tookBy (o .answer) (o .bytes)) submitted [] o
+  GoodTake o = MemberGood group i acknowledged order submitted m (took ++ tookBy (o .answer) (o .bytes)) submitted [] o
 
   -- the message held under number t + 1
   abbrev next : Message
   next = messageAt (m .held) (m .taken .0 + 1)
 
-  module _ (cap : (k : ℕ) (x : Ordered) → at order k ≡ some x → x .originator ≡ i → x .count ≤ count)
+  module _ (cap : (k : ℕ) (x : Ordered) → at order k ≡ some x → x .originator ≡ i → x .count ≤ length (ownOf i order))
       (numbered : (k : ℕ) (x : Ordered) → at order k ≡ some x → x .number ≡ k) where
     module _ (holds : 1 ≤ next .count) where
       -- the order's message of number t + 1
@@ -60,7 +61,7 @@ module _ (group : Group) (i acknowledged count : ℕ) (order took : List Ordered
           λ j. record { number = a j; originator = b j; count = c j; payload = d j }
 
       -- where it is the member's own waiting message, every submission is numbered
-      own-numbered : isOwn m next ≡ true → count ≡ m .submitted
+      own-numbered : isOwn m next ≡ true → length (ownOf i order) ≡ m .submitted
       unfolding isOwn messageOf
       own-numbered e =
           let a : next .originator .0 ≡ m .number .0 = search says in
@@ -77,7 +78,7 @@ module _ (group : Group) (i acknowledged count : ℕ) (order took : List Ordered
       still-waits true e = let z : _≡_ {A = ℕ} 0 1 = cc in absurd (omega arith)
       still-waits false e = h .waiting-is e
 
-      taken-terminal : Terminal group i acknowledged count (withTaken m next) order (took ++ (ordered (m .taken .0 + 1) (next .originator .0) (next .count) (payloadOf next) ∷ [])) submitted
+      taken-terminal : Terminal group i acknowledged (withTaken m next) order (took ++ (ordered (m .taken .0 + 1) (next .originator .0) (next .count) (payloadOf next) ∷ [])) submitted
       unfolding withTaken
       taken-terminal =
           let s = sound-of m (h .sound) in
@@ -99,7 +100,7 @@ module _ (group : Group) (i acknowledged count : ℕ) (order took : List Ordered
             submitted-is = h .submitted-is;
             count-le = h .count-le;
             count-near = h .count-near;
-            idle = if-elim (λ (w : Bool). w ≡ false → count ≡ m .submitted) (isOwn m next) (λ own _. own-numbered own) (λ _. h .idle);
+            idle = if-elim (λ (w : Bool). w ≡ false → length (ownOf i order) ≡ m .submitted) (isOwn m next) (λ own _. own-numbered own) (λ _. h .idle);
             waiting-is = still-waits (isOwn m next);
             own-is = h .own-is;
             payload-ok = h .payload-ok;

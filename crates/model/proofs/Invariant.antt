@@ -12,7 +12,7 @@ use Rattle.message.specs.Order.{Ordered}
 use Rattle.model.specs.Log.{order, taken, submitted}
 use Rattle.model.specs.World.{Group, World, noMember}
 use Rattle.packet.proofs.Facts.{Known}
-use Rattle.history.proofs.Soundness.{takenIn, countIn}
+use Rattle.history.proofs.Soundness.{takenIn}
 use Rattle.sequencer.proofs.Invariant.{SequencerInv}
 
 -- the last number that member i took
@@ -28,7 +28,7 @@ pub record Inv (group : description.Group) (w : Group) (ord : List Ordered) (tk 
   pub sequencer : SequencerInv group (w .sequencer) ord
   pub members : length (w .members) ≡ group .n
   pub terminal : (i : ℕ) → i < group .n
-      → Terminal group i (takenIn (w .sequencer .acknowledgements) i) (countIn (w .sequencer .acknowledgements) i) (getD (w .members) i noMember) ord (tk i) (sb i)
+      → Terminal group i (takenIn (w .sequencer .acknowledgements) i) (getD (w .members) i noMember) ord (tk i) (sb i)
   pub packets : All (Known (group .number) ord (acknowledgedIn (w .members)) sb) (w .packets)
 
 -- the same where the three are read off the log

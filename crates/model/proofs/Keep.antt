@@ -1,35 +1,37 @@
 -- The invariant after a call of one end, from what that call owes. Assumes nothing.
-use mathlib.Core.Path.{_≡_, refl, sym, ap, _∙_, subst}
+use mathlib.Core.Path.{_≡_, sym, _∙_, subst}
 use mathlib.Core.Logic.{_≢_}
 use mathlib.Core.Option.{some}
-use mathlib.Core.List.{List, [], _∷_, _++_}
+use mathlib.Core.List.{List, _++_}
 use Prim.Native.Nat.{ℕ, _+_, _≤_, _<_}
 use native.Mathlib.Nat.{le-refl}
 use native.Mathlib.Omega.{arith}
-use lib.ListN.{length, getD, set, take, length-set, length-append}
+use lib.ListN.{length, getD, set, length-set, length-append}
 use lib.Seq.{take-append-le, getD-set-same}
-use Rattle.group.proofs.Lists.{at, All, all-append, all-map, at-append, set-each, eq-or}
+use Rattle.group.proofs.Lists.{at, all-append, all-map, at-append, set-each, eq-or}
 use Rattle.group.specs.declared.Group as description
 use Rattle.member.proofs.Invariant.{Terminal, MemberGood}
 use Rattle.member.specs.Calls as member
 use Rattle.member.specs.State.{acknowledgedOf}
 use Rattle.member.specs.declared.Member.{Member}
-use Rattle.message.specs.Order.{Ordered, ownOf, countedFrom}
+use Rattle.message.proofs.Owning.{Owns, own-grows, own-most}
+use Rattle.message.specs.Order.{Ordered}
 use Rattle.model.specs.World.{Group, noMember, withMember, withSequencer}
 use Rattle.model.proofs.Invariant.{Inv, acknowledgedIn}
-use Rattle.packet.proofs.Facts.{Known, KnownBy, known-grows, known-by}
+use Rattle.packet.proofs.Facts.{KnownBy, known-grows, known-by}
 use Rattle.packet.specs.Packet.{written}
-use Rattle.history.proofs.Soundness.{takenIn, countIn}
+use Rattle.history.proofs.Soundness.{takenIn}
 use Rattle.sequencer.proofs.Invariant.{SequencerGood}
 use Rattle.sequencer.specs.Calls as sequencer
 use Rattle.sequencer.specs.Order.{numberedBy}
 
 -- a terminal after a call of the sequencer: the order grew, and so may have its entry
-terminal-grows : (group : description.Group) (i a a′ c c′ : ℕ) (m : Member) (ord more tk : List Ordered) (sb : List (List ℕ))
-    → Terminal group i a c m ord tk sb → a′ ≤ acknowledgedOf m .0 → c ≤ c′ → c′ ≤ length sb
-    → ownOf i (ord ++ more) ≡ countedFrom 1 (take c′ sb)
-    → Terminal group i a′ c′ m (ord ++ more) tk sb
-terminal-grows group i a a′ c c′ m ord more tk sb h ha hc hs ho =
+terminal-grows : (group : description.Group) (i a a′ : ℕ) (m : Member) (ord more tk : List Ordered) (sb : List (List ℕ))
+    → Terminal group i a m ord tk sb → a′ ≤ acknowledgedOf m .0 → Owns i (ord ++ more) sb
+    → Terminal group i a′ m (ord ++ more) tk sb
+terminal-grows group i a a′ m ord more tk sb h ha ho =
+    let hc = own-grows i ord more in
+    let hs = own-most i (ord ++ more) sb ho in
     record {
       group-is = h .group-is;
       number-is = h .number-is;
@@ -51,14 +53,14 @@ terminal-grows group i a a′ c c′ m ord more tk sb h ha hc hs ho =
 -- a call of the sequencer
 pub keep-sequencer : (group : description.Group) (w : Group) (ord : List Ordered) (tk : ℕ → List Ordered) (sb : ℕ → List (List ℕ)) (o : sequencer.Outcome)
     → Inv group w ord tk sb
-    → SequencerGood group (w .sequencer .acknowledgements) ord (acknowledgedIn (w .members)) sb (written (o .bytes)) o
+    → SequencerGood group ord (acknowledgedIn (w .members)) sb (written (o .bytes)) o
     → Inv group (withSequencer w o .group) (ord ++ numberedBy (o .answer) (o .bytes)) tk sb
 keep-sequencer group w ord tk sb o v h =
     record {
       sequencer = h .inv;
       members = v .members;
       terminal = λ i b.
-          terminal-grows group i _ _ _ _ _ ord (numberedBy (o .answer) (o .bytes)) (tk i) (sb i) (v .terminal i b) (h .acknowledged i b) (h .counts-up i b) (h .counts-most i b) (h .own i b);
+          terminal-grows group i _ _ _ ord (numberedBy (o .answer) (o .bytes)) (tk i) (sb i) (v .terminal i b) (h .acknowledged i b) (h .own i b);
       packets =
           all-append _ (w .packets) (written (o .bytes))
           (all-map _ _
@@ -72,7 +74,7 @@ keep-sequencer group w ord tk sb o v h =
 pub keep-member : (group : description.Group) (w : Group) (ord : List Ordered) (tk tk′ : ℕ → List Ordered) (sb sb′ : ℕ → List (List ℕ)) (i : ℕ) (o : member.Outcome) (packets : List (List ℕ))
     → i < group .n → ((j : ℕ) → j ≢ i → tk′ j ≡ tk j) → ((j : ℕ) → j ≢ i → sb′ j ≡ sb j)
     → Inv group w ord tk sb
-    → MemberGood group i (takenIn (w .sequencer .acknowledgements) i) (countIn (w .sequencer .acknowledgements) i) ord (sb i) (getD (w .members) i noMember) (tk′ i) (sb′ i) packets o
+    → MemberGood group i (takenIn (w .sequencer .acknowledgements) i) ord (sb i) (getD (w .members) i noMember) (tk′ i) (sb′ i) packets o
     → Inv group (withMember w i o packets .group) ord tk′ sb′
 keep-member group w ord tk tk′ sb sb′ i o packets hi ht hs v h =
     record {
@@ -80,7 +82,7 @@ keep-member group w ord tk tk′ sb sb′ i o packets hi ht hs v h =
       members = length-set (w .members) i (o .member) ∙ v .members;
       terminal = λ j b.
           set-each
-          (λ (k : ℕ) (m : Member). Terminal group k (takenIn (w .sequencer .acknowledgements) k) (countIn (w .sequencer .acknowledgements) k) m ord (tk′ k) (sb′ k))
+          (λ (k : ℕ) (m : Member). Terminal group k (takenIn (w .sequencer .acknowledgements) k) m ord (tk′ k) (sb′ k))
           (w .members) i (o .member) noMember j
           (λ e. rw e (h .terminal))
           (λ e. rw (ht j e, hs j e) (v .terminal j b))

@@ -10,7 +10,7 @@ use native.Mathlib.Omega.{arith}
 use borrow.Author.Tests.{ltb-false}
 use lib.ListN.{length, getD, set, getElem?, length-append}
 use lib.Seq.{getD-set-same, getD-set-other}
-use Rattle.group.proofs.Lists.{if-elim, at, all-get, get-last, at-some}
+use Rattle.group.proofs.Lists.{if-elim, get-last, at-some}
 use Rattle.group.specs.Choice.{if_then_else_, _<?_}
 use Rattle.group.specs.Limits.{membersMost, largestNumber, longestPacket}
 use Rattle.group.specs.declared.MemberNumber.{MemberNumber}
@@ -29,13 +29,12 @@ use Rattle.model.proofs.Invariant.{WorldInv, takenOf}
 use Rattle.model.proofs.Step.{gather-snoc, next-keeps, run-keeps}
 use Rattle.model.specs.Closing.{closeMember}
 use Rattle.model.specs.Log.{numberedIn, order}
-use Rattle.model.specs.World.{Event, status, copy, handMember, handSequencer, Group, Happened, bySequencer, missing, withMember, withSequencer, noMember, atMember, happen, World, step, run}
+use Rattle.model.specs.World.{Event, status, copy, handMember, handSequencer, Group, Happened, missing, withMember, noMember, happen, World, step, run}
 use Rattle.model.specs.World as world
-use Rattle.packet.proofs.Facts.{Known}
 use Rattle.packet.proofs.RoundTrip.{packet-length}
 use Rattle.packet.specs.Packet.{packetOf, fieldsOf, written}
 use Rattle.packet.specs.declared.Packet.{Packet}
-use Rattle.packet.specs.declared.Packet.the-variants.{Broadcast, Status}
+use Rattle.packet.specs.declared.Packet.the-variants.{Broadcast}
 use Rattle.history.proofs.Soundness.{takenIn}
 use Rattle.sequencer.proofs.Histories.{broadcast-may}
 use Rattle.sequencer.proofs.Invariant.{SequencerInv}
@@ -224,12 +223,12 @@ module _ (group : description.Group) (hn : group .n ≤ membersMost) (hg : group
       let et1 : takenOf (w1 .group .members) i ≡ t = ap (λ (l : List Member). takenOf l i) (c .members-are) ∙ et in
       let at-b : getElem? (w1 .group .packets) b ≡ some bytes = rw (c .packets-are, ← eb) (get-last (w .group .packets) bytes) in
       let ok : HandOk m (member.receiveOf m bytes longestPacket) =
-      hand-ok group i _ _ _ _ _ m (v1 .terminal i hi) originator number (x .count) (q .floor) (x .payload)
+      hand-ok group i _ _ _ _ m (v1 .terminal i hi) originator number (x .count) (q .floor) (x .payload)
       (broadcast-may group (order (w .log)) q s (t + 1) x (y .1) above) (s .originator-ok (t + 1) x (y .1)) (omega arith) in
       let d = hand-effect (w1 .group) i b bytes (inside w1 v1) at-b ok in
       let w2 : World = step w1 (handMember b i) in
       let v2 : WorldInv group w2 = next-keeps group hn hg w1 (handMember b i) v1 in
-      let e = take-effect (w2 .group) i (inside w2 v2) (take-ok group i _ _ _ _ _ (getD (w2 .group .members) i noMember) (v2 .terminal i hi) (d .held)) in
+      let e = take-effect (w2 .group) i (inside w2 v2) (take-ok group i _ _ _ _ (getD (w2 .group .members) i noMember) (v2 .terminal i hi) (d .held)) in
       record {
         sequencer-is = e .effect .sequencer-is ∙ d .effect .sequencer-is ∙ c .sequencer-is;
         taken-is = e .effect .taken-is ∙ ap (λ (k : ℕ). k + 1) (d .effect .taken-is ∙ et1);
@@ -255,7 +254,7 @@ module _ (group : description.Group) (hn : group .n ≤ membersMost) (hg : group
       let most = acknowledged-most h in
       let top0 = v .sequencer .top-is in
       let top = s1 .top-is in
-      let sent = status-ok group i _ _ _ _ _ m h in
+      let sent = status-ok group i _ _ _ _ m h in
       let noted : sequencer.receiveOf q1 (member.statusPacket m) longestPacket ≡ sequencer.answered (noteOf q1 (m .number) (acknowledgedOf m)) Noted =
       rw (sent .0) (sequencerOrdering.status-ok group (order (w1 .log)) q1 s1 (m .number) (acknowledgedOf m) (sent .1) (omega arith) (omega arith)) in
       let d = noted-effect group (order (w1 .log)) (w1 .group) (m .number) (acknowledgedOf m) b (member.statusPacket m) at-b noted s1 (omega arith) in

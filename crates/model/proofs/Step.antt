@@ -9,35 +9,35 @@ use native.Mathlib.Nat.{not-suc-le-zero, le-of-suc-le-suc, zero-add}
 use native.Mathlib.Omega.{arith}
 use borrow.Author.Tests.{ltb-true, ltb-false, eq-eqb, ne-eqb}
 use borrow.Author.Needs.{needs}
-use lib.ListN.{length, getD, take, getElem?, replicate, getD-replicate}
+use lib.ListN.{length, getD, getElem?, replicate, getD-replicate}
 use Rattle.group.proofs.Choice.{choices, tests, if-true, if-false}
-use Rattle.group.proofs.Lists.{if-elim, at, All, all-get}
-use Rattle.group.specs.Choice.{if_then_else_, _<?_, _≤?_, _=?_}
-use Rattle.group.specs.Limits.{membersMost, placesMost, largestNumber, longestPacket}
+use Rattle.group.proofs.Lists.{if-elim, at, all-get}
+use Rattle.group.specs.Choice.{if_then_else_, _<?_, _=?_}
+use Rattle.group.specs.Limits.{membersMost, largestNumber, longestPacket}
 use Rattle.group.specs.Opening.{groupOf, openOf}
 use Rattle.group.specs.declared.Opened.{Opened}
 use Rattle.group.specs.declared.Group as description
 use Rattle.member.proofs.Acknowledged.{acknowledged-most}
 use Rattle.member.proofs.Closing.{fresh-terminal}
-use Rattle.member.proofs.Invariant.{Terminal, MemberGood}
+use Rattle.member.proofs.Invariant.{MemberGood}
 use Rattle.member.proofs.Ordering as memberOrdering
 use Rattle.member.proofs.Taking.{take-good}
 use Rattle.member.specs.Calls as member
 use Rattle.member.specs.Order.{tookBy, acceptedBy}
 use Rattle.member.specs.State.{freshMember}
-use Rattle.member.specs.declared.Member.{Member}
 use Rattle.member.specs.declared.Opening.{Opening}
-use Rattle.message.specs.Order.{Ordered, ownOf, countedFrom}
+use Rattle.message.proofs.Owning.{Owns}
+use Rattle.message.specs.Order.{Ordered, ownOf}
 use Rattle.model.proofs.Invariant.{Inv, WorldInv, acknowledgedIn}
 use Rattle.model.proofs.Keep.{keep-sequencer, keep-member}
 use Rattle.model.specs.Log.{gather, numberedIn, order, tookIn, acceptedIn, tookAt, submittedAt, taken, submitted}
-use Rattle.model.specs.World.{Event, submit, repeat, status, poll, copy, handMember, handSequencer, Answer, absent, bySequencer, byMember, Group, Happened, missing, withMember, withSequencer, noMember, atMember, takeAt, handToMember, handToSequencer, happen, World, step, run, freshMembers, fresh}
+use Rattle.model.specs.World.{Event, submit, repeat, status, poll, copy, handMember, handSequencer, absent, bySequencer, byMember, Group, Happened, missing, withMember, withSequencer, noMember, atMember, takeAt, handToMember, handToSequencer, happen, World, step, run, freshMembers, fresh}
 use Rattle.model.specs.World as world
 use Rattle.packet.specs.Packet.{written}
-use Rattle.history.proofs.Soundness.{takenIn, countIn}
+use Rattle.history.proofs.Soundness.{takenIn}
 use Rattle.history.specs.State.{noAcknowledgement}
 use Rattle.sequencer.proofs.Histories as histories
-use Rattle.sequencer.proofs.Invariant.{SequencerInv, SequencerGood}
+use Rattle.sequencer.proofs.Invariant.{SequencerGood}
 use Rattle.sequencer.proofs.Ordering as sequencerOrdering
 use Rattle.sequencer.specs.Calls as sequencer
 use Rattle.sequencer.specs.State.{freshSequencer}
@@ -91,7 +91,7 @@ module _ (group : description.Group) (w : Group) (ord : List Ordered) (tk : ℕ 
 
   abbrev Owes : ℕ → List Ordered → List (List ℕ) → List (List ℕ) → member.Outcome → Type 0
   Owes i tk′ sb′ packets o =
-      MemberGood group i (takenIn (w .sequencer .acknowledgements) i) (countIn (w .sequencer .acknowledgements) i) ord (sb i) (getD (w .members) i noMember) tk′ sb′ packets o
+      MemberGood group i (takenIn (w .sequencer .acknowledgements) i) ord (sb i) (getD (w .members) i noMember) tk′ sb′ packets o
 
   -- an event of member i
   member-kept : (i : ℕ) (e : Event) (o : member.Outcome) (packets : List (List ℕ)) (x : List Ordered) (y : List (List ℕ)) → i < group .n
@@ -123,8 +123,12 @@ module _ (group : description.Group) (w : Group) (ord : List Ordered) (tk : ℕ 
       if-elim (Kept (submit i p)) (i <? length (w .members))
       (λ b. let m = getD (w .members) i noMember in let o = member.submitOf m p longestPacket in
       member-kept i (submit i p) o (written (o .bytes)) [] (acceptedBy (o .answer) p) (inside i b) refl (if-same i _ _) (λ j q. refl) (λ j q. if-other i j _ _ q)
-      (rw (append-nil (tk i)) (memberOrdering.submit-good group i _ _ ord (tk i) (sb i) m (v .terminal i (inside i b)) p)))
+      (rw (append-nil (tk i)) (memberOrdering.submit-good group i _ ord (tk i) (sb i) m (v .terminal i (inside i b)) p)))
       (λ b. absent-kept (submit i p))
+
+  -- a message's count is at most the number of its originator's messages
+  count-own : (s : ℕ) (x : Ordered) → at ord s ≡ some x → x .count ≤ length (ownOf (x .originator) ord)
+  count-own s x e = let z = v .sequencer .count-most s x e in let y = v .sequencer .counts-are (x .originator) (v .sequencer .originator-ok s x e) in omega arith
 
   take-kept : (i : ℕ) → Kept (world.take i) (takeAt w i)
   unfolding tookAt submittedAt tookIn
@@ -132,8 +136,8 @@ module _ (group : description.Group) (w : Group) (ord : List Ordered) (tk : ℕ 
       if-elim (Kept (world.take i)) (i <? length (w .members))
       (λ b. let m = getD (w .members) i noMember in let o = member.takeOf m longestPacket in
       member-kept i (world.take i) o [] (tookBy (o .answer) (o .bytes)) [] (inside i b) (if-same i _ _) refl (λ j q. if-other i j _ _ q) (λ j q. refl)
-      (rw (append-nil (sb i)) (take-good group i _ _ ord (tk i) (sb i) m (v .terminal i (inside i b))
-      (λ s x e z. subst (λ (k : ℕ). x .count ≤ countIn (w .sequencer .acknowledgements) k) z (v .sequencer .count-most s x e)) (v .sequencer .number-is))))
+      (rw (append-nil (sb i)) (take-good group i _ ord (tk i) (sb i) m (v .terminal i (inside i b))
+      (λ s x e z. subst (λ (k : ℕ). x .count ≤ length (ownOf k ord)) z (count-own s x e)) (v .sequencer .number-is))))
       (λ b. absent-kept (world.take i))
 
   repeat-kept : (i : ℕ) → Kept (repeat i) (atMember w i (λ m. member.repeatOf m longestPacket))
@@ -141,7 +145,7 @@ module _ (group : description.Group) (w : Group) (ord : List Ordered) (tk : ℕ 
   repeat-kept i =
       if-elim (Kept (repeat i)) (i <? length (w .members))
       (λ b. still-kept i (repeat i) _ _ (inside i b) (λ j. refl) (λ j. refl)
-      (memberOrdering.repeat-good group i _ _ ord (tk i) (sb i) (getD (w .members) i noMember) (v .terminal i (inside i b))))
+      (memberOrdering.repeat-good group i _ ord (tk i) (sb i) (getD (w .members) i noMember) (v .terminal i (inside i b))))
       (λ b. absent-kept (repeat i))
 
   status-kept : (i : ℕ) → Kept (status i) (atMember w i (λ m. member.statusOf m longestPacket))
@@ -149,7 +153,7 @@ module _ (group : description.Group) (w : Group) (ord : List Ordered) (tk : ℕ 
   status-kept i =
       if-elim (Kept (status i)) (i <? length (w .members))
       (λ b. still-kept i (status i) _ _ (inside i b) (λ j. refl) (λ j. refl)
-      (memberOrdering.status-good group i _ _ ord (tk i) (sb i) (getD (w .members) i noMember) (v .terminal i (inside i b))))
+      (memberOrdering.status-good group i _ ord (tk i) (sb i) (getD (w .members) i noMember) (v .terminal i (inside i b))))
       (λ b. absent-kept (status i))
 
   hand-kept : (k i : ℕ) → Kept (handMember k i) (handToMember w i (getElem? (w .packets) k))
@@ -160,7 +164,7 @@ module _ (group : description.Group) (w : Group) (ord : List Ordered) (tk : ℕ 
       at-i p e =
           if-elim (Kept (handMember k i)) (i <? length (w .members))
           (λ b. still-kept i (handMember k i) _ _ (inside i b) (λ j. refl) (λ j. refl)
-          (memberOrdering.receive-good group i _ _ ord (tk i) (sb i) (getD (w .members) i noMember) (v .terminal i (inside i b)) (acknowledgedIn (w .members)) sb p (all-get _ (w .packets) k (v .packets) e)))
+          (memberOrdering.receive-good group i _ ord (tk i) (sb i) (getD (w .members) i noMember) (v .terminal i (inside i b)) (acknowledgedIn (w .members)) sb p (all-get _ (w .packets) k (v .packets) e)))
           (λ b. absent-kept (handMember k i))
 
       go : (x : Option (List ℕ)) → getElem? (w .packets) k ≡ x → Kept (handMember k i) (handToMember w i x)
@@ -170,7 +174,7 @@ module _ (group : description.Group) (w : Group) (ord : List Ordered) (tk : ℕ 
   -- an event of the sequencer
   sequencer-kept : (e : Event) (o : sequencer.Outcome)
       → ((j : ℕ) → tookAt j e (bySequencer (o .answer) (o .bytes)) ≡ []) → ((j : ℕ) → submittedAt j e (bySequencer (o .answer) (o .bytes)) ≡ [])
-      → SequencerGood group (w .sequencer .acknowledgements) ord (acknowledgedIn (w .members)) sb (written (o .bytes)) o → Kept e (withSequencer w o)
+      → SequencerGood group ord (acknowledgedIn (w .members)) sb (written (o .bytes)) o → Kept e (withSequencer w o)
   unfolding numberedIn
   sequencer-kept e o ot os h =
       inv-ext group _ _ _ tk _ sb _ refl (λ j. rw (ot j) (append-nil (tk j))) (λ j. rw (os j) (append-nil (sb j))) (keep-sequencer group w ord tk sb o v h)
@@ -181,13 +185,10 @@ module _ (group : description.Group) (w : Group) (ord : List Ordered) (tk : ℕ 
   t-le : (i : ℕ) → i < group .n → acknowledgedIn (w .members) i ≤ length ord
   t-le i b = acknowledged-most (v .terminal i b)
 
-  counts : (i : ℕ) → i < group .n → countIn (w .sequencer .acknowledgements) i ≤ length (sb i)
-  counts i b = let z = v .terminal i b .count-le in let y = v .terminal i b .submitted-is in omega arith
-
   sizes : (i : ℕ) → i < group .n → length (sb i) ≤ largestNumber
   sizes i b = let z = v .terminal i b .typed .submitted in let y = v .terminal i b .submitted-is in omega arith
 
-  owns : (i : ℕ) → i < group .n → ownOf i ord ≡ countedFrom 1 (take (countIn (w .sequencer .acknowledgements) i) (sb i))
+  owns : (i : ℕ) → i < group .n → Owns i ord (sb i)
   owns i b = v .terminal i b .own-is
 
   hand-sequencer-kept : (k : ℕ) → Kept (handSequencer k) (handToSequencer w (getElem? (w .packets) k))
@@ -198,7 +199,7 @@ module _ (group : description.Group) (w : Group) (ord : List Ordered) (tk : ℕ 
       go none e = absent-kept (handSequencer k)
       go (some p) e =
           sequencer-kept (handSequencer k) _ (λ j. refl) (λ j. refl)
-          (sequencerOrdering.receive-good group ord (w .sequencer) (v .sequencer) (acknowledgedIn (w .members)) sb acked t-le counts sizes owns p (all-get _ (w .packets) k (v .packets) e))
+          (sequencerOrdering.receive-good group ord (w .sequencer) (v .sequencer) (acknowledgedIn (w .members)) sb acked t-le sizes owns p (all-get _ (w .packets) k (v .packets) e))
 
   pub step-keeps : (e : Event) → Kept e (happen w e)
   unfolding happen tookAt submittedAt
@@ -207,10 +208,10 @@ module _ (group : description.Group) (w : Group) (ord : List Ordered) (tk : ℕ 
   step-keeps (world.take i) = take-kept i
   step-keeps (status i) = status-kept i
   step-keeps poll =
-      sequencer-kept poll _ (λ j. refl) (λ j. refl) (sequencerOrdering.poll-good group ord (w .sequencer) (v .sequencer) (acknowledgedIn (w .members)) sb acked t-le counts sizes owns)
+      sequencer-kept poll _ (λ j. refl) (λ j. refl) (sequencerOrdering.poll-good group ord (w .sequencer) (v .sequencer) (acknowledgedIn (w .members)) sb acked t-le sizes owns)
   step-keeps (copy number) =
       sequencer-kept (copy number) _ (λ j. refl) (λ j. refl)
-      (sequencerOrdering.copy-good group ord (w .sequencer) (v .sequencer) (acknowledgedIn (w .members)) sb acked t-le counts sizes owns (record { 0 = number }))
+      (sequencerOrdering.copy-good group ord (w .sequencer) (v .sequencer) (acknowledgedIn (w .members)) sb acked t-le sizes owns (record { 0 = number }))
   step-keeps (handMember k i) = hand-kept k i
   step-keeps (handSequencer k) = hand-sequencer-kept k
 

@@ -1,7 +1,6 @@
 -- What every list of events leaves: taken and owed make the order, the sum, and each terminal's own messages. Assumes nothing.
 use mathlib.Core.Path.{_≡_, refl, sym, ap, ap₂, _∙_, subst}
 use mathlib.Core.Logic.{_⊎_, inl, inr}
-use mathlib.Core.Bool.{Bool, true, false}
 use mathlib.Core.Option.{some}
 use mathlib.Core.List.{List, [], _∷_, _++_}
 use Prim.Native.Nat.{ℕ, zero, suc, _+_, _-_, _*_, _≤_, _<_}
@@ -15,6 +14,7 @@ use Rattle.group.specs.Choice.{if_then_else_, _<?_}
 use Rattle.group.specs.declared.Group as description
 use Rattle.member.proofs.Acknowledged.{acknowledged-is}
 use Rattle.message.proofs.Kept.{kept-payload}
+use Rattle.message.proofs.Owning.{counted-length}
 use Rattle.message.specs.Message.{messageOf, payloadOf}
 use Rattle.message.specs.Order.{Ordered, Submission, ownOf, countedFrom}
 use Rattle.message.specs.declared.Message.{Message}
@@ -22,8 +22,6 @@ use Rattle.model.proofs.Invariant.{WorldInv, takenOf, acknowledgedIn}
 use Rattle.model.specs.Claim.{sum, withoutLast}
 use Rattle.model.specs.Log.{order, taken, submitted, accepted, orderedAt, messagesAbove, historyOf, lastNumber, above, owed}
 use Rattle.model.specs.World.{World, noMember}
-use Rattle.packet.proofs.Facts.{ordered}
-use Rattle.history.proofs.Soundness.{countIn}
 use Rattle.history.specs.State.{messageAt}
 use Rattle.sequencer.proofs.Ordering.{floor-below}
 use Rattle.sequencer.proofs.Invariant.{SequencerInv}
@@ -142,11 +140,6 @@ total group w v =
     sum-is (group .n) (length (order (w .log))) _ (λ i b. sym (length-append (taken i (w .log)) (owed w i)) ∙ ap length (whole group w i v b))
 
 -- a terminal's own messages
-counted-length : (a : ℕ) (l : List (List ℕ)) → length (countedFrom a l) ≡ length l
-unfolding countedFrom
-counted-length a [] = refl
-counted-length a (x ∷ l) = ap suc (counted-length (a + 1) l)
-
 counted-take : (a k : ℕ) (l : List (List ℕ)) → countedFrom a (take k l) ≡ take k (countedFrom a l)
 unfolding countedFrom
 counted-take a zero l = refl
@@ -158,7 +151,7 @@ pub owns : (group : description.Group) (w : World) (i : ℕ) → WorldInv group 
 owns group w i v b =
     let h = v .terminal i b in
     let sb : List (List ℕ) = submitted i (w .log) in
-    let p : ℕ = countIn (w .group .sequencer .acknowledgements) i in
+    let p : ℕ = length (ownOf i (order (w .log))) in
     let len = counted-length 1 sb in
     let this : ownOf i (order (w .log)) ≡ take p (accepted i (w .log)) = h .own-is ∙ counted-take 1 p sb in
     let le = h .count-le in

@@ -1,4 +1,4 @@
--- What the group knows of a packet that was written, where `order` is the order, `t i` the last number that terminal i took,
+-- What the group knows of a packet that was written, where `order` is the order, `t i` the number that terminal i acknowledges,
 -- and `submitted i` the payloads that it submitted: the part of demand 3's invariant that speaks of packets. Assumes nothing.
 use mathlib.Core.Path.{_≡_, refl, sym, _∙_}
 use mathlib.Core.Option.{some}
@@ -48,7 +48,7 @@ pub record KnownBy (g i t : ℕ) (submitted : List (List ℕ)) (bytes : List ℕ
   pub allowed : Allowed (fieldsOf g content) payload
   pub says : SaysBy i t submitted content payload
 
--- what was so stays so while the order, the numbers taken and the submissions grow
+-- what was so stays so while the order, the numbers acknowledged and the submissions grow
 module _ (order order′ : List Ordered) (t t′ : ℕ → ℕ) (submitted submitted′ : ℕ → List (List ℕ))
     (more : (s : ℕ) (m : Ordered) → at order s ≡ some m → at order′ s ≡ some m)
     (up : (i : ℕ) → t i ≤ t′ i)

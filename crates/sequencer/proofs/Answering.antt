@@ -8,14 +8,15 @@ use Prim.Native.Nat.{ℕ, suc, _+_, _-_, _≤_, _<_}
 use native.Mathlib.Nat.{le-trans}
 use native.Mathlib.Omega.{arith}
 use borrow.Author.Tests.{ltb-false, eqb-false}
-use lib.ListN.{length, take, length-append}
-use Rattle.group.proofs.Lists.{if-elim, at, at-le, at-last, All}
+use lib.ListN.{length, length-append}
+use Rattle.group.proofs.Lists.{if-elim, eq-or, at, at-le, at-last, All}
 use Rattle.group.specs.Choice.{_<?_, _≤?_, _=?_}
 use Rattle.group.specs.Limits.{placesMost, payloadMost, largestNumber}
 use Rattle.group.specs.declared.Group.{Group}
 use Rattle.group.specs.declared.MemberNumber.{MemberNumber}
 use Rattle.group.specs.declared.SequenceNumber.{SequenceNumber}
-use Rattle.message.specs.Order.{Ordered, ownOf, countedFrom}
+use Rattle.message.proofs.Owning.{Owns, own-next, own-still}
+use Rattle.message.specs.Order.{Ordered}
 use Rattle.packet.proofs.Facts.{Known, ordered}
 use Rattle.packet.proofs.RoundTrip.{header-back, payload-back}
 use Rattle.packet.specs.Packet.{fieldsOf, written}
@@ -24,7 +25,6 @@ use Rattle.history.proofs.Finding.{found-in}
 use Rattle.history.proofs.Soundness.{takenIn, countIn}
 use Rattle.history.specs.Note.{largerOf}
 use Rattle.history.specs.Repeat.{findOf}
-use Rattle.history.specs.declared.Acknowledgement.{Acknowledgement}
 use Rattle.sequencer.specs.Calls.{Outcome, answered, broadcastOf, pollPacket, repeatedOf, oldOf, againOf, fullOf, withMessage, numberedOf, requestOf, gapOf}
 use Rattle.sequencer.specs.Note.{withTable, noteOf}
 use Rattle.sequencer.specs.Order.{numberedBy}
@@ -34,24 +34,21 @@ use Rattle.sequencer.specs.declared.Answer.the-variants.{Old, Again, Ful
 use Rattle.sequencer.specs.declared.Sequencer.{Sequencer}
 use Rattle.sequencer.proofs.Histories.{note-inv, repeated-inv, numbered-inv, broadcast-is, broadcast-may, broadcast-known}
 use Rattle.sequencer.proofs.Invariant.{SequencerInv, SequencerGood}
-use Rattle.sequencer.proofs.Noting.{noted-count, noted-most}
+use Rattle.sequencer.proofs.Noting.{noted-most}
 use Rattle.sequencer.proofs.Numbering.{counted-each}
-use Rattle.sequencer.proofs.Owning.{own-other, own-next}
 use Rattle.sequencer.proofs.Packets.{poll-allowed}
 use Rattle.sequencer.proofs.Soundness.{Sound, sound-of}
 
--- the order of the group, what its terminals took and submitted, and the table of acknowledgements before the call
-module _ (group : Group) (order : List Ordered) (t : ℕ → ℕ) (submitted : ℕ → List (List ℕ)) (base : List Acknowledgement) where
+-- the order of the group, and what its terminals acknowledge and submitted
+module _ (group : Group) (order : List Ordered) (t : ℕ → ℕ) (submitted : ℕ → List (List ℕ)) where
   abbrev pub Good : Outcome → Type 0
-  Good o = SequencerGood group base order t submitted (written (o .bytes)) o
+  Good o = SequencerGood group order t submitted (written (o .bytes)) o
 
   -- a state with its invariant, and its part of the group's
   pub record Ready (s : Sequencer) : Type 0 where
     pub inv : SequencerInv group s order
     pub acked : (i : ℕ) → i < group .n → takenIn (s .acknowledgements) i ≤ t i
-    pub ups : (i : ℕ) → i < group .n → countIn base i ≤ countIn (s .acknowledgements) i
-    pub counts : (i : ℕ) → i < group .n → countIn (s .acknowledgements) i ≤ length (submitted i)
-    pub owns : (i : ℕ) → i < group .n → ownOf i order ≡ countedFrom 1 (take (countIn (s .acknowledgements) i) (submitted i))
+    pub owns : (i : ℕ) → i < group .n → Owns i order (submitted i)
 
   -- what is known of the bytes that a call wrote is known of its packets
   packets-known : (order : List Ordered) (bytes : List ℕ) → Known (group .number) order t submitted bytes → All (Known (group .number) order t submitted) (written bytes)
@@ -68,8 +65,6 @@ module _ (group : Group) (order : List Ordered) (t : ℕ → ℕ) (submitted : �
         record {
           inv = rw z (r .inv);
           acknowledged = r .acked;
-          counts-up = r .ups;
-          counts-most = r .counts;
           own = λ i h. rw z (r .owns i h);
           known = rw z known;
         }
@@ -89,7 +84,7 @@ module _ (group : Group) (order : List Ordered) (t : ℕ → ℕ) (submitted : �
     repeated-ready : Ready (repeatedOf s)
     unfolding repeatedOf
     repeated-ready =
-        record { inv = repeated-inv group order s (r .inv); acked = r .acked; ups = r .ups; counts = r .counts; owns = r .owns }
+        record { inv = repeated-inv group order s (r .inv); acked = r .acked; owns = r .owns }
 
     pub note-ready : (m : MemberNumber) (taken : SequenceNumber) → m .0 < group .n → taken .0 ≤ t (m .0) → t (m .0) ≤ length order
         → Ready (noteOf s m taken)
@@ -97,13 +92,10 @@ module _ (group : Group) (order : List Ordered) (t : ℕ → ℕ) (submitted : �
     note-ready m taken member known below =
         let v = r .inv in
         let member′ : m .0 < s .group .n = rw (v .group-is) member in
-        let c = noted-count s m taken (v .typed) sound member′ in
         record {
           inv = note-inv group order s v m taken member (le-trans known below);
           acked = rw (v .group-is) at (noted-most s m taken (v .typed) sound member′ t (rw (v .group-is) (r .acked)) known);
-          ups = λ i h. rw (c i) (r .ups i h);
-          counts = λ i h. rw (c i) (r .counts i h);
-          owns = λ i h. rw (c i) (r .owns i h);
+          owns = r .owns;
         }
 
     pub poll-known : Known (group .number) order t submitted (pollPacket s)
@@ -149,27 +141,22 @@ module _ (group : Group) (order : List Ordered) (t : ℕ → ℕ) (submitted : �
           let a = broadcast-may group order′ s′ inv′ (s .top .0 + 1) message e above in
           rw (b, header-back _ payload (a .0), payload-back _ payload)
 
-      own-numbered : ownOf (m .0) order′ ≡ countedFrom 1 (take count (submitted (m .0)))
+      own-numbered : Owns (m .0) order′ (submitted (m .0))
       own-numbered =
-          own-next (countIn (s .acknowledgements) (m .0)) order (submitted (m .0)) message (r .counts (m .0) member) next submission (r .owns (m .0) member)
+          own-next order (submitted (m .0)) message (next ∙ ap (λ (k : ℕ). k + 1) (r .inv .counts-are (m .0) member)) submission (r .owns (m .0) member)
 
       numbered-good : Good (numberedOf s m count payload)
       unfolding numberedOf withMessage
       numbered-good =
           let v = r .inv in
           let z = ap (λ (l : List Ordered). order ++ l) numbered-by in
-          let last = at-le (submitted (m .0)) count submission in
           let l : s .top .0 + 1 ≤ length order′ = (let e = v .top-is in simp length-append (omega arith)) in
           let each = counted-each s m count payload (v .typed) sound (rw (v .group-is) member) in
           record {
             inv = rw z inv′;
             acknowledged = λ i h. each (λ j a. a .taken .0 ≤ t j) i (λ q. rw q (r .acked (m .0) member)) (λ q. r .acked i h);
-            counts-up = λ i h. each (λ j a. countIn base j ≤ a .count) i (λ q. let y = r .ups (m .0) member in rw q (omega arith)) (λ q. r .ups i h);
-            counts-most = λ i h. each (λ j a. a .count ≤ length (submitted j)) i (λ q. rw q last) (λ q. r .counts i h);
             own = λ i h.
-                rw z
-                (each (λ j a. ownOf j order′ ≡ countedFrom 1 (take (a .count) (submitted j))) i (λ q. rw q own-numbered)
-                (λ q. own-other i order message (λ w. q (sym w)) ∙ r .owns i h));
+                rw z (eq-or i (m .0) (λ q. rw q own-numbered) (λ q. own-still i order (submitted i) message (λ w. q (sym w)) (r .owns i h)));
             known =
                 rw z
                 (packets-known order′ (broadcastOf s′ (s .top .0 + 1)) (broadcast-known group order′ s′ inv′ t submitted (s .top .0 + 1) above l));

@@ -1,6 +1,6 @@
 -- The invariant of demand 3 holds of a fresh sequencer, and noting, repeating and numbering keep it; and a number of the
 -- history has the broadcast of the order's message. Assumes nothing.
-use mathlib.Core.Path.{_≡_, refl, ap, _∙_}
+use mathlib.Core.Path.{_≡_, refl, sym, ap, _∙_}
 use mathlib.Core.Logic.{_⊎_, inl, inr}
 use mathlib.Core.Option.{Option, some}
 use mathlib.Core.List.{List, [], _∷_, _++_}
@@ -15,7 +15,8 @@ use Rattle.group.specs.declared.MemberNumber.{MemberNumber}
 use Rattle.group.specs.declared.SequenceNumber.{SequenceNumber}
 use Rattle.message.proofs.Kept.{kept-payload, empty-zero}
 use Rattle.message.specs.Message.{messageOf, emptyMessage, blank, isEmpty}
-use Rattle.message.specs.Order.{Ordered}
+use Rattle.message.proofs.Owning.{own-more, own-other}
+use Rattle.message.specs.Order.{Ordered, ownOf}
 use Rattle.packet.proofs.Facts.{Known, ordered}
 use Rattle.packet.specs.Laws.{Allowed}
 use Rattle.packet.specs.Packet.{fieldsOf, packetOf}
@@ -32,7 +33,7 @@ use Rattle.sequencer.specs.declared.Sequencer.{Sequencer}
 use Rattle.sequencer.proofs.Invariant.{SequencerInv}
 use Rattle.sequencer.proofs.Keeping.{repeated-typed, repeated-sound}
 use Rattle.sequencer.proofs.Noting.{noted-count, floor-up, note-typed, note-sound}
-use Rattle.sequencer.proofs.Numbering.{counted-same, counted-up, kept-here, kept-other, numbered-typed, numbered-sound}
+use Rattle.sequencer.proofs.Numbering.{counted-each, counted-same, counted-up, kept-here, kept-other, numbered-typed, numbered-sound}
 use Rattle.sequencer.proofs.Packets.{broadcast-allowed}
 use Rattle.sequencer.proofs.Soundness.{Sound, sound-of, of-sound}
 
@@ -64,6 +65,7 @@ module _ (group : Group) (order : List Ordered) (s : Sequencer) (v : SequencerIn
           count-least = v .count-least;
           count-most = λ k x e. rw (noted-count s m taken (v .typed) f member′ (x .originator)) (v .count-most k x e);
           payload-ok = v .payload-ok;
+          counts-are = λ i h. noted-count s m taken (v .typed) f member′ i ∙ v .counts-are i h;
         }
 
   pub repeated-inv : SequencerInv group (repeatedOf s) order
@@ -80,6 +82,7 @@ module _ (group : Group) (order : List Ordered) (s : Sequencer) (v : SequencerIn
         count-least = v .count-least;
         count-most = v .count-most;
         payload-ok = v .payload-ok;
+        counts-are = v .counts-are;
       }
 
   -- a message of a member with the count after its last, where a place and a number are left
@@ -110,8 +113,15 @@ module _ (group : Group) (order : List Ordered) (s : Sequencer) (v : SequencerIn
           count-least = λ k x e. least k x (at-snoc order message k e);
           count-most = λ k x e. counted k x (at-snoc order message k e);
           payload-ok = λ k x e. size k x (at-snoc order message k e);
+          counts-are = λ i h.
+              counted-each s m count payload typed f member′ (λ j a. a .count ≡ length (ownOf j (order ++ (message ∷ [])))) i
+              (λ q. rw q own)
+              (λ q. v .counts-are i h ∙ ap length (sym (own-other i order message (λ w. q (sym w)))));
         }
       where
+        own : count ≡ length (ownOf (m .0) (order ++ (message ∷ [])))
+        own = let z = own-more order message in let y = v .counts-are (m .0) member in omega arith
+
         history : (k : ℕ) (x : Ordered) → s .floor .0 < k → Had k x
             → messageAt (withMessage s m count payload .history) k ≡ messageOf (record { 0 = x .originator }) (x .count) (x .payload)
         history k x h (inl e) =
@@ -205,7 +215,7 @@ module _ (group : Group) (low : 1 ≤ group .n) (high : group .n ≤ membersMost
       }
 
   pub fresh-inv : SequencerInv group opened []
-  unfolding freshSequencer
+  unfolding freshSequencer ownOf
   fresh-inv =
       record {
         group-is = refl;
@@ -226,4 +236,5 @@ module _ (group : Group) (low : 1 ≤ group .n) (high : group .n ≤ membersMost
         count-least = λ k m e. absurd (at-nil k e);
         count-most = λ k m e. absurd (at-nil k e);
         payload-ok = λ k m e. absurd (at-nil k e);
+        counts-are = λ i h. ap (λ (a : Acknowledgement). a .count) (fresh-entry i);
       }

@@ -4,15 +4,15 @@ use mathlib.Core.Bool.{true}
 use mathlib.Core.Option.{some}
 use mathlib.Core.List.{List, _++_}
 use Prim.Native.Nat.{ℕ, _≤_, _<_}
-use lib.ListN.{length, take}
+use lib.ListN.{length}
 use Rattle.group.proofs.Lists.{at, All}
 use Rattle.group.specs.Limits.{payloadMost}
 use Rattle.group.specs.declared.Group.{Group}
+use Rattle.message.proofs.Owning.{Owns}
 use Rattle.message.specs.Message.{messageOf}
-use Rattle.message.specs.Order.{Ordered, ownOf, countedFrom}
+use Rattle.message.specs.Order.{Ordered, ownOf}
 use Rattle.packet.proofs.Facts.{Known}
 use Rattle.history.specs.State.{messageAt}
-use Rattle.history.specs.declared.Acknowledgement.{Acknowledgement}
 use Rattle.history.proofs.Soundness.{takenIn, countIn}
 use Rattle.sequencer.specs.Calls.{Outcome}
 use Rattle.sequencer.specs.Laws.{Typed}
@@ -34,14 +34,13 @@ pub record SequencerInv (group : Group) (s : Sequencer) (order : List Ordered) :
   pub count-least : (k : ℕ) (m : Ordered) → at order k ≡ some m → 1 ≤ m .count
   pub count-most : (k : ℕ) (m : Ordered) → at order k ≡ some m → m .count ≤ countIn (s .acknowledgements) (m .originator)
   pub payload-ok : (k : ℕ) (m : Ordered) → at order k ≡ some m → length (m .payload) ≤ payloadMost
+  -- a member's last count is the number of its messages in the order
+  pub counts-are : (i : ℕ) → i < group .n → countIn (s .acknowledgements) i ≡ length (ownOf i order)
 
--- what a call of the sequencer owes, where `table` is the table before it, `t` and `submitted` what the terminals took and
--- submitted, and `packets` what was written
-pub record SequencerGood (group : Group) (table : List Acknowledgement) (order : List Ordered) (t : ℕ → ℕ) (submitted : ℕ → List (List ℕ)) (packets : List (List ℕ)) (o : Outcome) : Type 0 where
+-- what a call of the sequencer owes, where `t` and `submitted` are what the terminals acknowledge and submitted, and `packets` what
+-- was written
+pub record SequencerGood (group : Group) (order : List Ordered) (t : ℕ → ℕ) (submitted : ℕ → List (List ℕ)) (packets : List (List ℕ)) (o : Outcome) : Type 0 where
   pub inv : SequencerInv group (o .sequencer) (order ++ numberedBy (o .answer) (o .bytes))
   pub acknowledged : (i : ℕ) → i < group .n → takenIn (o .sequencer .acknowledgements) i ≤ t i
-  pub counts-up : (i : ℕ) → i < group .n → countIn table i ≤ countIn (o .sequencer .acknowledgements) i
-  pub counts-most : (i : ℕ) → i < group .n → countIn (o .sequencer .acknowledgements) i ≤ length (submitted i)
-  pub own : (i : ℕ) → i < group .n
-      → ownOf i (order ++ numberedBy (o .answer) (o .bytes)) ≡ countedFrom 1 (take (countIn (o .sequencer .acknowledgements) i) (submitted i))
+  pub own : (i : ℕ) → i < group .n → Owns i (order ++ numberedBy (o .answer) (o .bytes)) (submitted i)
   pub known : All (Known (group .number) (order ++ numberedBy (o .answer) (o .bytes)) t submitted) packets

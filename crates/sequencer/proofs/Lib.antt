@@ -5,7 +5,6 @@ pub mod Numbering
 pub mod Packets
 pub mod Keeping
 pub mod Histories
-pub mod Owning
 pub mod Answering
 pub mod Ordering
 pub mod Asking

@@ -71,7 +71,7 @@ module _ (s : Sequencer) (m : MemberNumber) (taken : SequenceNumber) (typed : Ty
     pub floor-down : floorOf (s .group .n) table′ ≤ s .top .0
     floor-down =
         let l = noted-length in
-        le-trans (floor-most (s .group .n) table′ 0 (sound .n-least) (omega arith)) (noted-most (λ i. s .top .0) (sound .taken-le) known 0 (sound .n-least))
+        le-trans (floor-most (s .group .n) table′ (m .0) member (omega arith)) (noted-most (λ i. s .top .0) (sound .taken-le) known (m .0) member)
 
     pub note-typed : Typed (noteOf s m taken)
     unfolding noteOf withTable

@@ -5,10 +5,9 @@ use mathlib.Core.Logic.{_≢_}
 use mathlib.Core.Option.{some}
 use mathlib.Core.List.{List, []}
 use Prim.Native.Nat.{ℕ, _≤_, _<_}
-use native.Mathlib.Nat.{le-refl}
 use native.Mathlib.Omega.{arith}
 use borrow.Author.Tests.{ltb-true, leb-true, eq-eqb, lt-ltb, le-leb}
-use lib.ListN.{length, take}
+use lib.ListN.{length}
 use Rattle.group.proofs.Choice.{both-first, both-then}
 use Rattle.group.proofs.Lists.{if-elim, judged-elim, at, at-le}
 use Rattle.group.specs.Choice.{if_then_else_, _and_, _<?_, _≤?_}
@@ -20,7 +19,8 @@ use Rattle.group.specs.declared.Refusal.{Refusal}
 use Rattle.group.specs.declared.Refusal.the-variants.{OtherEnd, NotInHistory}
 use Rattle.group.specs.declared.SequenceNumber.{SequenceNumber}
 use Rattle.group.specs.declared.Verdict.{Verdict}
-use Rattle.message.specs.Order.{Ordered, ownOf, countedFrom}
+use Rattle.message.proofs.Owning.{Owns}
+use Rattle.message.specs.Order.{Ordered}
 use Rattle.packet.proofs.Facts.{Known, Says}
 use Rattle.packet.proofs.Laws.{read-written, content-fields, fields-group}
 use Rattle.packet.proofs.Verdicts.{writable}
@@ -29,7 +29,7 @@ use Rattle.packet.specs.Packet.{packetOf, fieldsOf, written}
 use Rattle.packet.specs.declared.Packet.{Packet}
 use Rattle.packet.specs.declared.Packet.the-variants.{Request, Broadcast, Gap, Status, Poll}
 use Rattle.history.proofs.Asking.{sender-was, count-was}
-use Rattle.history.proofs.Soundness.{takenIn, countIn, floor-most, floor-least}
+use Rattle.history.proofs.Soundness.{takenIn, floor-most, floor-least}
 use Rattle.history.specs.Ask.{senderVerdict, countVerdict, wantedVerdict}
 use Rattle.sequencer.specs.Calls.{Outcome, answered, refused, broadcastOf, pollPacket, requestOf, contentStep, readStep, callVerdict, receiveOf, pollOf, copyOf}
 use Rattle.sequencer.specs.Note.{withTable, noteOf}
@@ -102,21 +102,20 @@ module _ (group : Group) (order : List Ordered) (s : Sequencer) (v : SequencerIn
       let low = floor-least (s .group .n) (s .acknowledgements) (length order) (omega arith) (λ i h k. all i (rw (v .group-is) at h)) in
       omega arith
 
-  -- the group's other facts: what its terminals took and submitted
+  -- the group's other facts: what its terminals acknowledge and submitted
   module _ (t : ℕ → ℕ) (submitted : ℕ → List (List ℕ))
       (acked : (i : ℕ) → i < group .n → takenIn (s .acknowledgements) i ≤ t i) (t-le : (i : ℕ) → i < group .n → t i ≤ length order)
-      (counts : (i : ℕ) → i < group .n → countIn (s .acknowledgements) i ≤ length (submitted i))
       (sizes : (i : ℕ) → i < group .n → length (submitted i) ≤ largestNumber)
-      (owns : (i : ℕ) → i < group .n → ownOf i order ≡ countedFrom 1 (take (countIn (s .acknowledgements) i) (submitted i))) where
+      (owns : (i : ℕ) → i < group .n → Owns i order (submitted i)) where
     abbrev Owes : Outcome → Type 0
-    Owes = Good group order t submitted (s .acknowledgements)
+    Owes = Good group order t submitted
 
-    ready : Ready group order t submitted (s .acknowledgements) s
-    ready = record { inv = v; acked = acked; ups = λ i h. le-refl (countIn (s .acknowledgements) i); counts = counts; owns = owns }
+    ready : Ready group order t submitted s
+    ready = record { inv = v; acked = acked; owns = owns }
 
     refused-good : (refusal : Refusal) → Owes (refused s refusal)
     unfolding numberedBy
-    refused-good refusal = silent group order t submitted (s .acknowledgements) s ready (Answer.Refused refusal) refl
+    refused-good refusal = silent group order t submitted s ready (Answer.Refused refusal) refl
 
     -- the steps, once a sender was accepted and its number is noted
     module _ (sender : MemberNumber) (taken : SequenceNumber) (known : taken .0 ≤ t (sender .0))
@@ -124,8 +123,8 @@ module _ (group : Group) (order : List Ordered) (s : Sequencer) (v : SequencerIn
       member : sender .0 < group .n
       member = rw (v .group-is) at (sender-was (s .group .n) (s .top .0) sender taken e .0)
 
-      noted : Ready group order t submitted (s .acknowledgements) (noteOf s sender taken)
-      noted = note-ready group order t submitted (s .acknowledgements) s ready sender taken member known (t-le (sender .0) member)
+      noted : Ready group order t submitted (noteOf s sender taken)
+      noted = note-ready group order t submitted s ready sender taken member known (t-le (sender .0) member)
 
       noted-request : (count : ℕ) (payload : List ℕ) → at (submitted (sender .0)) count ≡ some payload → length payload ≤ payloadMost
           → countVerdict (lastCount s sender) (s .top .0) count ≡ Verdict.Accepted → Owes (requestOf (noteOf s sender taken) sender count payload)
@@ -133,7 +132,7 @@ module _ (group : Group) (order : List Ordered) (s : Sequencer) (v : SequencerIn
       noted-request count payload submission short f =
           let b = count-was (lastCount s sender) (s .top .0) count f in
           let c = noted-count s sender taken (v .typed) (sound-of s (v .sound)) (rw (v .group-is) member) (sender .0) in
-          request-good group order t submitted (s .acknowledgements) (noteOf s sender taken) noted
+          request-good group order t submitted (noteOf s sender taken) noted
           sender count payload member submission (sizes (sender .0) member) short (omega arith) (λ h. b .1 (omega arith))
 
     content-good : (content : Packet) (payload : List ℕ) → length payload ≤ payloadMost → Says order t submitted content payload
@@ -147,27 +146,27 @@ module _ (group : Group) (order : List Ordered) (s : Sequencer) (v : SequencerIn
     content-good (Gap sender taken first last) payload short says =
         judged-elim Owes (senderVerdict (s .group .n) (s .top .0) sender taken) (λ r e. refused-good r)
         (λ e. judged-elim Owes (wantedVerdict (s .top .0) last) (λ r f. refused-good r)
-        (λ f. gap-good group order t submitted (s .acknowledgements) (noteOf s sender taken) (noted sender taken says e) first last))
+        (λ f. gap-good group order t submitted (noteOf s sender taken) (noted sender taken says e) first last))
     content-good (Status sender taken) payload short says =
         judged-elim Owes (senderVerdict (s .group .n) (s .top .0) sender taken) (λ r e. refused-good r)
-        (λ e. silent group order t submitted (s .acknowledgements) (noteOf s sender taken) (noted sender taken says e) Noted refl)
+        (λ e. silent group order t submitted (noteOf s sender taken) (noted sender taken says e) Noted refl)
     content-good (Poll top floor) payload short says = refused-good OtherEnd
 
     pub receive-good : (bytes : List ℕ) → Known (group .number) order t submitted bytes
-        → SequencerGood group (s .acknowledgements) order t submitted (written (receiveOf s bytes longestPacket .bytes)) (receiveOf s bytes longestPacket)
+        → SequencerGood group order t submitted (written (receiveOf s bytes longestPacket .bytes)) (receiveOf s bytes longestPacket)
     receive-good bytes k =
         let w = writable (fieldsOf (group .number) (k .content)) (length (k .payload)) longestPacket (k .allowed .1) in
         let e : receiveOf s bytes longestPacket ≡ contentStep s (k .content) (k .payload) = rw (k .bytes-are) (received (k .content) (k .payload) (k .allowed)) in
         subst Owes (sym e) (content-good (k .content) (k .payload) (w .short) (k .says))
 
-    pub poll-good : SequencerGood group (s .acknowledgements) order t submitted (written (pollOf s longestPacket .bytes)) (pollOf s longestPacket)
+    pub poll-good : SequencerGood group order t submitted (written (pollOf s longestPacket .bytes)) (pollOf s longestPacket)
     unfolding pollOf numberedBy
     poll-good =
         judged-elim Owes (callVerdict s longestPacket) (λ r e. refused-good r)
-        (λ e. writing group order t submitted (s .acknowledgements) s ready Sent (pollPacket s) refl (poll-known group order t submitted (s .acknowledgements) s ready))
+        (λ e. writing group order t submitted s ready Sent (pollPacket s) refl (poll-known group order t submitted s ready))
 
     pub copy-good : (number : SequenceNumber)
-        → SequencerGood group (s .acknowledgements) order t submitted (written (copyOf s number longestPacket .bytes)) (copyOf s number longestPacket)
+        → SequencerGood group order t submitted (written (copyOf s number longestPacket .bytes)) (copyOf s number longestPacket)
     unfolding copyOf numberedBy
     copy-good number =
         let inside = s .floor .0 <? number .0 and number .0 ≤? s .top .0 in
@@ -176,6 +175,6 @@ module _ (group : Group) (order : List Ordered) (s : Sequencer) (v : SequencerIn
         (λ h.
         let a = ltb-true (s .floor .0) (number .0) (both-first (s .floor .0 <? number .0) (number .0 ≤? s .top .0) h) in
         let b = leb-true (number .0) (s .top .0) (both-then (s .floor .0 <? number .0) (number .0 ≤? s .top .0) h) in
-        writing group order t submitted (s .acknowledgements) s ready Sent (broadcastOf s (number .0)) refl
-        (copy-known group order t submitted (s .acknowledgements) s ready (number .0) a b))
+        writing group order t submitted s ready Sent (broadcastOf s (number .0)) refl
+        (copy-known group order t submitted s ready (number .0) a b))
         (λ h. refused-good NotInHistory))

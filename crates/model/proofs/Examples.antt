@@ -13,7 +13,7 @@ use Rattle.model.specs.Closing.{closeMember, closeFrom}
 use Rattle.model.specs.Examples.{Examples, request, broadcast, statusOf, requested, holding}
 use Rattle.model.specs.Log.{gather, numberedIn, tookIn, tookAt, messagesAbove, lastNumber, above}
 use Rattle.model.specs.World.{happen, run, freshMembers, fresh}
-use Rattle.packet.specs.Number.{numberAt, bytesOf}
+use Rattle.big_endian.specs.Number.{numberAt, bytesOf}
 use Rattle.packet.specs.Packet.{headerOf, knownKind, payloadFits, obeys, fieldsVerdict, readOf, headerBytes, packetOf, writeVerdict, writeOf, contentOf, fieldsOf, written}
 use Rattle.history.specs.Ask.{senderVerdict, countVerdict, wantedVerdict}
 use Rattle.history.specs.Note.{largerOf, tableNoted, clearedOf}

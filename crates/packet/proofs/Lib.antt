@@ -1,4 +1,3 @@
-pub mod Number
 pub mod Parts
 pub mod Verdicts
 pub mod RoundTrip

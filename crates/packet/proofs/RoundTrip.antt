@@ -1,17 +1,22 @@
 -- The fields and the payload of a packet that was made of them, and the packet made of the fields and payload that stand in
 -- one: each number by the law of its bytes. Assumes nothing.
-use mathlib.Core.Path.{_≡_, sym, ap, _∙_}
+use mathlib.Core.Path.{_≡_, refl, sym, ap, _∙_}
 use mathlib.Core.List.{List, _∷_, _++_, append-assoc}
 use Prim.Native.Nat.{ℕ, _+_, _≤_, _<_}
 use native.Mathlib.Omega.{arith}
 use lib.ListN.{length, getD, drop, length-append}
 use lib.Seq.{drop-at, drop-cons}
 use Rattle.group.specs.Limits.{headerSize}
-use Rattle.packet.specs.Laws.{Bytes, Fits}
-use Rattle.packet.specs.Number.{numberAt, bytesOf}
+use Rattle.big_endian.specs.Laws.{Bytes}
+use Rattle.packet.specs.Laws.{Fits}
+use Rattle.big_endian.specs.Number.{numberAt, bytesOf}
 use Rattle.packet.specs.Packet.{headerOf, lengthAt, payloadAt, headerBytes, packetOf}
 use Rattle.packet.specs.declared.Header.{Header}
-use Rattle.packet.proofs.Number.{bytes-cons, bytes-append, bytesOf-bytes, headerBytes-length, number-of-bytes, number-behind, number-fits, bytes-of-number-then}
+use Rattle.big_endian.proofs.Number.{bytes-cons, bytes-append, bytesOf-bytes, number-of-bytes, number-behind, number-fits, bytes-of-number-then}
+
+pub headerBytes-length : (h : Header) (l : ℕ) → length (headerBytes h l) ≡ headerSize
+unfolding headerBytes bytesOf
+headerBytes-length h l = refl
 
 module _ (h : Header) (payload : List ℕ) where
   pub packet-length : length (packetOf h payload) ≡ headerSize + length payload

@@ -2,20 +2,17 @@
 use mathlib.Core.Path.{_≡_}
 use mathlib.Core.List.{List, [], _∷_}
 use Prim.Native.Nat.{ℕ, _-_, _≤_, _<_}
-use lib.ListN.{length, getD}
+use lib.ListN.{length}
 use Rattle.group.specs.Choice.{_and_, _≤?_}
 use Rattle.group.specs.Limits.{headerSize, payloadMost, longestPacket, largestNumber}
 use Rattle.group.specs.Question.{Question, firstNo, judged}
 use Rattle.group.specs.declared.Refusal.the-variants.{ShortOutput, PacketSize, UnknownKind, PayloadLength, ForbiddenFields, LongPayload}
 use Rattle.group.specs.declared.Verdict.{Verdict}
+use Rattle.big_endian.specs.Laws.{Bytes}
 use Rattle.packet.specs.Packet.{headerOf, lengthAt, payloadAt, knownKind, payloadFits, obeys, fieldsVerdict, readOf, packetOf, writeVerdict, contentOf, fieldsOf}
 use Rattle.packet.specs.declared.Header.{Header}
 use Rattle.packet.specs.declared.Packet.{Packet}
 use Rattle.packet.specs.declared.Reading.{Reading}
-
--- the bytes of a packet are bytes
-unfoldable pub Bytes : List ℕ → Type 0
-Bytes p = (i : ℕ) → i < length p → getD p i 0 < 256
 
 -- fields that their types can hold
 pub record Fits (h : Header) : Type 0 where

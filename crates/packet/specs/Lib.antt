@@ -1,4 +1,3 @@
-pub mod Number
 pub mod Packet
 pub mod Wording
 pub mod Laws

@@ -9,7 +9,7 @@ use Rattle.group.specs.Limits.{headerSize, payloadMost, longestPacket}
 use Rattle.group.specs.Question.{judged}
 use Rattle.group.specs.declared.Refusal.the-variants.{ShortOutput, PacketSize, UnknownKind, PayloadLength, ForbiddenFields, LongPayload}
 use Rattle.group.specs.declared.Verdict.{Verdict}
-use Rattle.packet.specs.Number.{numberAt, bytesOf}
+use Rattle.big_endian.specs.Number.{numberAt, bytesOf}
 use Rattle.packet.specs.declared.Header.{Header}
 use Rattle.packet.specs.declared.Packet.{Packet}
 use Rattle.packet.specs.declared.Packet.the-variants.{Request, Broadcast, Gap, Status, Poll}

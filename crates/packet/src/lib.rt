@@ -5,12 +5,11 @@ use group::Refusal;
 use group::SequenceNumber;
 use group::Verdict;
 ghost use mathlib.Core.Path.{_≡_};
-ghost use Prim.Native.Nat.{_+_, _*_, _/_, _%_, _≤_};
+ghost use Prim.Native.Nat.{_+_, _≤_};
 ghost use lib.ListN.{length};
-ghost use Rattle.group.specs.Limits.{headerSize};
+ghost use Rattle.group.specs.Limits.{headerSize, payloadMost};
 ghost use Rattle.group.specs.Lent.{front};
-ghost use Rattle.packet.specs.Number.{numberAt, bytesOf};
-ghost use Rattle.packet.specs.Packet.{headerOf, knownKind, payloadFits, obeys, fieldsVerdict, readOf, headerBytes, packetOf, writeVerdict, writeOf, contentOf, fieldsOf};
+ghost use Rattle.packet.specs.Packet.{headerOf, lengthAt, knownKind, payloadFits, obeys, fieldsVerdict, readOf, headerBytes, packetOf, writeVerdict, writeOf, contentOf, fieldsOf};
 ghost use Rattle.packet.specs.Wording.{readingWording, writingWording};
 
 // The fields of a header as they stand in its bytes. L is not among them: it is the payload's length.
@@ -64,47 +63,14 @@ pub enum Packet {
     },
 }
 
-fn wide(x: u8) -> u32
-    ensures { λ r. ⌜ r ≡ x ⌝ }
-{
-    x as u32
-}
-
-// The number in two bytes, the highest first, and in four.
-fn join_two(a: u8, b: u8) -> u32
-    ensures { λ r. ⌜ r ≡ a * 256 + b ⌝ }
-{
-    wide(a) * 256 + wide(b)
-}
-
-fn join(a: u8, b: u8, c: u8, d: u8) -> u32
-    ensures { λ r. ⌜ r ≡ ((a * 256 + b) * 256 + c) * 256 + d ⌝ }
-{
-    ((wide(a) * 256 + wide(b)) * 256 + wide(c)) * 256 + wide(d)
-}
-
-fn number_at(packet: &[u8], at: usize) -> u32
-    requires { ⌜ at + 4 ≤ length (now packet) ⌝ }
-    ensures { λ r. ⌜ r ≡ numberAt 4 (now (packet .entry)) at ⌝ }
-{
-    join(packet[at], packet[at + 1], packet[at + 2], packet[at + 3])
-}
-
-fn half_at(packet: &[u8], at: usize) -> u32
-    requires { ⌜ at + 2 ≤ length (now packet) ⌝ }
-    ensures { λ r. ⌜ r ≡ numberAt 2 (now (packet .entry)) at ⌝ }
-{
-    join_two(packet[at], packet[at + 1])
-}
-
 fn header_at(packet: &[u8]) -> Header
     requires { ⌜ headerSize ≤ length (now packet) ⌝ }
     ensures { λ r. ⌜ r ≡ headerOf (now (packet .entry)) ⌝ }
 {
-    let group = number_at(packet, 4);
-    let a = number_at(packet, 8);
-    let b = number_at(packet, 12);
-    let c = number_at(packet, 16);
+    let group = big_endian::u32_at(packet, 4);
+    let a = big_endian::u32_at(packet, 8);
+    let b = big_endian::u32_at(packet, 12);
+    let c = big_endian::u32_at(packet, 16);
     Header {
         kind: packet[0],
         member: MemberNumber(packet[1]),
@@ -113,6 +79,15 @@ fn header_at(packet: &[u8]) -> Header
         b,
         c,
     }
+}
+
+// L, as it stands in bytes 2-3.
+pub fn payload_length(packet: &[u8]) -> usize
+    requires { ⌜ headerSize ≤ length (now packet) ⌝ }
+    ensures { λ r. ⌜ r ≡ lengthAt (now (packet .entry)) ⌝ }
+{
+    let l = big_endian::u16_at(packet, 2);
+    l as usize
 }
 
 impl Header {
@@ -219,53 +194,29 @@ pub fn read(packet: &[u8]) -> Reading
         return Reading::Refused(Refusal::PacketSize);
     }
     let h = header_at(packet);
-    let l = half_at(packet, 2);
-    let v = ask_fields(h, l as usize, packet.len() - Group::HEADER);
+    let l = payload_length(packet);
+    let v = ask_fields(h, l, packet.len() - Group::HEADER);
     match v {
         Verdict::Accepted => Reading::Fields(h),
         Verdict::Refused(q) => Reading::Refused(q),
     }
 }
 
-fn low_byte(v: u32) -> u8
-    ensures { λ r. ⌜ r ≡ v % 256 ⌝ }
-{
-    (v % 256) as u8
-}
-
-fn low(v: usize) -> u8
-    ensures { λ r. ⌜ r ≡ v % 256 ⌝ }
-{
-    (v % 256) as u8
-}
-
-// The four bytes of a number.
-fn four(v: u32) -> [u8; 4]
-    ensures { λ r. ⌜ r ≡ bytesOf 4 v ⌝ }
-{
-    [
-        low_byte(v / 256 / 256 / 256),
-        low_byte(v / 256 / 256),
-        low_byte(v / 256),
-        low_byte(v),
-    ]
-}
-
 // The 20 bytes of fields and L.
 fn header_bytes(h: Header, l: usize) -> [u8; Group::HEADER]
+    requires { ⌜ l ≤ payloadMost ⌝ }
     ensures { λ r. ⌜ r ≡ headerBytes h l ⌝ }
 {
-    let hi = low(l / 256);
-    let lo = low(l);
-    let g = four(h.group);
-    let a = four(h.a);
-    let b = four(h.b);
-    let c = four(h.c);
+    let l = big_endian::u16_bytes(l as u16);
+    let g = big_endian::u32_bytes(h.group);
+    let a = big_endian::u32_bytes(h.a);
+    let b = big_endian::u32_bytes(h.b);
+    let c = big_endian::u32_bytes(h.c);
     [
         h.kind,
         h.member.0,
-        hi,
-        lo,
+        l[0],
+        l[1],
         g[0],
         g[1],
         g[2],
@@ -287,7 +238,7 @@ fn header_bytes(h: Header, l: usize) -> [u8; Group::HEADER]
 
 // Lays the packet of fields and a payload at the front of the output: the header, and the payload in the part behind it.
 fn lay(h: Header, payload: &[u8], out: &mut [u8])
-    requires { ⌜ headerSize + length (now payload) ≤ length (now out) ⌝ }
+    requires { ⌜ (length (now payload) ≤ payloadMost) × (headerSize + length (now payload) ≤ length (now out)) ⌝ }
     ensures { λ _. ⌜ now (out .exit) ≡ front (packetOf h (now (payload .entry))) (now (out .entry)) ⌝ }
 {
     let header = header_bytes(h, payload.len());
@@ -435,7 +386,7 @@ impl Packet {
 
     // Lays the packet at the front of an output that has room for it, and gives its length: what an end writes.
     pub fn put(self, group: u32, payload: &[u8], out: &mut [u8]) -> usize
-        requires { ⌜ headerSize + length (now payload) ≤ length (now out) ⌝ }
+        requires { ⌜ (length (now payload) ≤ payloadMost) × (headerSize + length (now payload) ≤ length (now out)) ⌝ }
         ensures size { λ r. ⌜ r ≡ headerSize + length (now (payload .entry)) ⌝ }
         ensures lent { λ _. ⌜ now (out .exit) ≡ front (packetOf (fieldsOf group self) (now (payload .entry))) (now (out .entry)) ⌝ }
     {

@@ -9,7 +9,7 @@ use Rattle.member.specs.Sound as memberSound
 use Rattle.member.specs.State.{acknowledgedOf, freshMember}
 use Rattle.message.specs.Message.{allZero, messageOf, emptyMessage, payloadOf, zeroBehind, isEmpty}
 use Rattle.model.specs.World.{happen, freshMembers, fresh}
-use Rattle.packet.specs.Number.{numberAt, bytesOf}
+use Rattle.big_endian.specs.Number.{numberAt, bytesOf}
 use Rattle.packet.specs.Packet.{headerOf, knownKind, payloadFits, obeys, fieldsVerdict, readOf, headerBytes, packetOf, writeVerdict, writeOf, contentOf, written}
 use Rattle.history.specs.Ask.{senderVerdict, countVerdict, wantedVerdict}
 use Rattle.history.specs.Note.{largerOf, tableNoted, clearedOf}

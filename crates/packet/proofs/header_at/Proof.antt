@@ -5,17 +5,17 @@ use borrow.Author.Needs.{needs}
 use Rattle.packet.proofs.header_at.Statement.{statement}
 use Rattle.packet.proofs.header_at.Tie as tie
 
-number-at-requires : tie.Need-number-at-requires
-number-at-requires c κs = search needs
+u32-at-requires : tie.Need-u32-at-requires
+u32-at-requires c κs = search needs
 
-number-at-requires-2 : tie.Need-number-at-requires-2
-number-at-requires-2 c κs = search needs
+u32-at-requires-2 : tie.Need-u32-at-requires-2
+u32-at-requires-2 c κs = search needs
 
-number-at-requires-3 : tie.Need-number-at-requires-3
-number-at-requires-3 c κs = search needs
+u32-at-requires-3 : tie.Need-u32-at-requires-3
+u32-at-requires-3 c κs = search needs
 
-number-at-requires-4 : tie.Need-number-at-requires-4
-number-at-requires-4 c κs = search needs
+u32-at-requires-4 : tie.Need-u32-at-requires-4
+u32-at-requires-4 c κs = search needs
 
 shared-slice-read-t7 : tie.Need-shared-slice-read-t7
 shared-slice-read-t7 c = search needs
@@ -26,16 +26,16 @@ shared-slice-read-t9 c = search needs
 returns : tie.Need-returns
 unfolding headerOf
 returns c =
-    rw (c .before .before .before .before .before .number-at .ensures, c .before .before .before .before .number-at2 .ensures, c .before .before .before .number-at3 .ensures, c .before .before .number-at4 .ensures)
+    rw (c .before .before .before .before .before .u32-at .ensures, c .before .before .before .before .u32-at2 .ensures, c .before .before .before .u32-at3 .ensures, c .before .before .u32-at4 .ensures)
 
 pub header-at-spec : {M : Type 1} → statement M
 header-at-spec =
     tie.close
     (tie.spec
-    number-at-requires
-    number-at-requires-2
-    number-at-requires-3
-    number-at-requires-4
+    u32-at-requires
+    u32-at-requires-2
+    u32-at-requires-3
+    u32-at-requires-4
     shared-slice-read-t7
     shared-slice-read-t9
     returns)

@@ -1,28 +1,28 @@
 -- The bytes of each field, one after the other, by computation.
 -- Assumes nothing.
-use Rattle.packet.specs.Number.{bytesOf}
+use Rattle.big_endian.specs.Number.{bytesOf}
 use Rattle.packet.specs.Packet.{headerBytes}
 use borrow.Author.Needs.{needs}
 use Rattle.packet.proofs.header_bytes.Statement.{statement}
 use Rattle.packet.proofs.header_bytes.Tie as tie
 
-low-requires : tie.Need-low-requires
-low-requires c κs = search needs
+cast-u16-bytes : tie.Need-cast-u16-bytes
+cast-u16-bytes c = search needs
 
-low-requires-2 : tie.Need-low-requires-2
-low-requires-2 c κs = search needs
+u16-bytes-requires : tie.Need-u16-bytes-requires
+u16-bytes-requires c κs = search needs
 
-four-requires : tie.Need-four-requires
-four-requires c κs = search needs
+u32-bytes-requires : tie.Need-u32-bytes-requires
+u32-bytes-requires c κs = search needs
 
-four-requires-2 : tie.Need-four-requires-2
-four-requires-2 c κs = search needs
+u32-bytes-requires-2 : tie.Need-u32-bytes-requires-2
+u32-bytes-requires-2 c κs = search needs
 
-four-requires-3 : tie.Need-four-requires-3
-four-requires-3 c κs = search needs
+u32-bytes-requires-3 : tie.Need-u32-bytes-requires-3
+u32-bytes-requires-3 c κs = search needs
 
-four-requires-4 : tie.Need-four-requires-4
-four-requires-4 c κs = search needs
+u32-bytes-requires-4 : tie.Need-u32-bytes-requires-4
+u32-bytes-requires-4 c κs = search needs
 
 array-read-t13 : tie.Need-array-read-t13
 array-read-t13 c = search needs
@@ -72,22 +72,27 @@ array-read-t55 c = search needs
 array-read-t58 : tie.Need-array-read-t58
 array-read-t58 c = search needs
 
+array-read-t61 : tie.Need-array-read-t61
+array-read-t61 c = search needs
+
+array-read-t64 : tie.Need-array-read-t64
+array-read-t64 c = search needs
+
 returns : tie.Need-returns
 unfolding headerBytes bytesOf
 returns c =
-    let l = c .before .before .before .before in
-    rw (c .four4 .ensures, c .before .four3 .ensures, c .before .before .four2 .ensures, c .before .before .before .four .ensures, l .low2 .ensures, l .before .low .ensures)
+    rw (c .u32-bytes4 .ensures, c .before .u32-bytes3 .ensures, c .before .before .u32-bytes2 .ensures, c .before .before .before .u32-bytes .ensures, c .before .before .before .before .u16-bytes .ensures)
 
 pub header-bytes-spec : {M : Type 1} → statement M
 header-bytes-spec =
     tie.close
     (tie.spec
-    low-requires
-    low-requires-2
-    four-requires
-    four-requires-2
-    four-requires-3
-    four-requires-4
+    cast-u16-bytes
+    u16-bytes-requires
+    u32-bytes-requires
+    u32-bytes-requires-2
+    u32-bytes-requires-3
+    u32-bytes-requires-4
     array-read-t13
     array-read-t16
     array-read-t19
@@ -104,4 +109,6 @@ header-bytes-spec =
     array-read-t52
     array-read-t55
     array-read-t58
+    array-read-t61
+    array-read-t64
     returns)

@@ -8,7 +8,7 @@ use lib.ListN.{length}
 use Rattle.group.specs.Limits.{headerSize}
 use Rattle.group.specs.Lent.{front}
 use Rattle.packet.specs.Packet.{headerBytes, packetOf}
-use Rattle.packet.proofs.Number.{headerBytes-length}
+use Rattle.packet.proofs.RoundTrip.{headerBytes-length}
 use Rattle.packet.proofs.Parts.{behind}
 use borrow.Author.Needs.{needs}
 use Rattle.packet.proofs.lay.Statement.{statement}

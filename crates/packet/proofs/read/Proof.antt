@@ -25,11 +25,8 @@ returns-2 c = worded readingWording (search (choices, tests, needs) depth 9)
 header-at-requires : tie.Need-header-at-requires
 header-at-requires c κs = search needs
 
-half-at-requires : tie.Need-half-at-requires
-half-at-requires c κs = search needs
-
-cast-ask-fields : tie.Need-cast-ask-fields
-cast-ask-fields c = search needs
+payload-length-requires : tie.Need-payload-length-requires
+payload-length-requires c κs = search needs
 
 sub-ask-fields : tie.Need-sub-ask-fields
 sub-ask-fields c = search needs
@@ -49,7 +46,7 @@ returns-3 c =
     let h = c .before .before .before .before .header-at in
     worded readingWording
     (ap (λ (v : Verdict). judged v Reading.Refused (Reading.Fields (h .result))) (sym (c .enum-told .given .1))
-    ∙ read-by (now (c .before .before .before .before .before .before .before .before .args .packet)) (h .result) (c .before .before .before .half-at .result) (c .before .before .ask-fields .result) (search needs) (search needs) (h .ensures) (c .before .before .before .half-at .ensures) (c .before .before .ask-fields .ensures))
+    ∙ read-by (now (c .before .before .before .before .before .before .before .before .args .packet)) (h .result) (c .before .before .before .payload-length .result) (c .before .before .ask-fields .result) (search needs) (search needs) (h .ensures) (c .before .before .before .payload-length .ensures) (c .before .before .ask-fields .ensures))
 
 returns-4 : tie.Need-returns-4
 unfolding judged
@@ -57,7 +54,7 @@ returns-4 c =
     let h = c .before .before .before .before .before .header-at in
     worded readingWording
     (ap (λ (v : Verdict). judged v Reading.Refused (Reading.Fields (h .result))) (sym (c .before .v .given .1))
-    ∙ read-by (now (c .before .before .before .before .before .before .before .before .before .args .packet)) (h .result) (c .before .before .before .before .half-at .result) (c .before .before .before .ask-fields .result) (search needs) (search needs) (h .ensures) (c .before .before .before .before .half-at .ensures) (c .before .before .before .ask-fields .ensures))
+    ∙ read-by (now (c .before .before .before .before .before .before .before .before .before .args .packet)) (h .result) (c .before .before .before .before .payload-length .result) (c .before .before .before .ask-fields .result) (search needs) (search needs) (h .ensures) (c .before .before .before .before .payload-length .ensures) (c .before .before .before .ask-fields .ensures))
 
 pub read-spec : {M : Type 1} → statement M
 read-spec =
@@ -66,8 +63,7 @@ read-spec =
     returns
     returns-2
     header-at-requires
-    half-at-requires
-    cast-ask-fields
+    payload-length-requires
     sub-ask-fields
     ask-fields-requires
     enum-told

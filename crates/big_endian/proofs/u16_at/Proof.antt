@@ -2,10 +2,10 @@
 -- Assumes nothing.
 use mathlib.Core.Path.{_∙_}
 use denote.Ref.{now}
-use Rattle.packet.proofs.Number.{number-two}
+use Rattle.big_endian.proofs.Number.{number-two}
 use borrow.Author.Needs.{needs}
-use Rattle.packet.proofs.half_at.Statement.{statement}
-use Rattle.packet.proofs.half_at.Tie as tie
+use Rattle.big_endian.proofs.u16_at.Statement.{statement}
+use Rattle.big_endian.proofs.u16_at.Tie as tie
 
 shared-slice-read-join-two : tie.Need-shared-slice-read-join-two
 shared-slice-read-join-two c = search needs
@@ -20,10 +20,10 @@ join-two-requires : tie.Need-join-two-requires
 join-two-requires c κs = search needs
 
 returns : tie.Need-returns
-returns c = c .join-two .ensures ∙ number-two (now (c .before .before .before .before .args .packet)) (c .before .before .before .before .args .at)
+returns c = c .join-two .ensures ∙ number-two (now (c .before .before .before .before .args .bytes)) (c .before .before .before .before .args .at)
 
-pub half-at-spec : {M : Type 1} → statement M
-half-at-spec =
+pub u16-at-spec : {M : Type 1} → statement M
+u16-at-spec =
     tie.close
     (tie.spec
     shared-slice-read-join-two

@@ -1,5 +1,5 @@
--- A number's bytes, k of them, have the number, and a number that stands in k bytes has those bytes: one law each way over
--- the width, by induction on it. Assumes nothing.
+-- A number's bytes, k of them, have the number, and a number that stands in k bytes has those bytes: by induction on the width.
+-- Assumes nothing.
 use mathlib.Core.Path.{_≡_, refl, sym, _∙_}
 use mathlib.Core.List.{List, [], _∷_, _++_, append-assoc}
 use Prim.Native.Nat.{ℕ, zero, suc, _+_, _*_, _/_, _%_, _^_, _≤_, _<_}
@@ -7,19 +7,15 @@ use native.Mathlib.Nat.{div-add-mod', pow-suc}
 use native.Mathlib.Omega.{arith}
 use lib.ListN.{length, getD, take, drop, length-append, length-drop, take-append-drop}
 use lib.Seq.{take-suc, getD-at, getD-drop, drop-drop}
-use Rattle.group.specs.Limits.{headerSize}
-use Rattle.packet.specs.Laws.{Bytes}
-use Rattle.packet.specs.Number.{numberAt, bytesOf}
-use Rattle.packet.specs.Packet.{headerBytes}
-use Rattle.packet.specs.declared.Header.{Header}
+use Rattle.big_endian.specs.Laws.{Bytes, NumberOfBytes, BytesOfNumber}
+use Rattle.big_endian.specs.Number.{numberAt, bytesOf}
 
 pub bytesOf-length : (k v : ℕ) → length (bytesOf k v) ≡ k
 unfolding bytesOf
 bytesOf-length zero v = refl
 bytesOf-length (suc k) v = length-append (bytesOf k (v / 256)) (v % 256 ∷ []) ∙ (let z = bytesOf-length k (v / 256) in omega arith)
 
--- the number in the bytes of a number is that number
-pub number-of-bytes : (k v : ℕ) (rest : List ℕ) → v < 256 ^ k → numberAt k (bytesOf k v ++ rest) 0 ≡ v
+pub number-of-bytes : NumberOfBytes
 unfolding numberAt bytesOf
 number-of-bytes zero v rest h = omega arith
 number-of-bytes (suc k) v rest h =
@@ -35,17 +31,16 @@ number-behind (suc k) p i =
     let e : 0 + k ≡ k = omega arith in
     rw (number-behind k p i, e, getD-drop i p k 0)
 
-module _ (p : List ℕ) (bytes : Bytes p) where
-  -- the bytes of the number in k bytes are those bytes
-  pub bytes-of-number : (k i : ℕ) → i + k ≤ length p → bytesOf k (numberAt k p i) ≡ take k (drop i p)
-  unfolding Bytes numberAt bytesOf
-  bytes-of-number zero i h = refl
-  bytes-of-number (suc k) i h =
-      let b = bytes (i + k) (omega arith) in
-      let q : (numberAt k p i * 256 + getD p (i + k) 0) / 256 ≡ numberAt k p i = omega arith in
-      let r : (numberAt k p i * 256 + getD p (i + k) 0) % 256 ≡ getD p (i + k) 0 = omega arith in
-      rw (q, r, bytes-of-number k i (omega arith), ← (getD-drop i p k 0)) (sym (take-suc (drop i p) k 0 (simp length-drop (omega arith))))
+pub bytes-of-number : BytesOfNumber
+unfolding Bytes numberAt bytesOf
+bytes-of-number p bytes zero i h = refl
+bytes-of-number p bytes (suc k) i h =
+    let b = bytes (i + k) (omega arith) in
+    let q : (numberAt k p i * 256 + getD p (i + k) 0) / 256 ≡ numberAt k p i = omega arith in
+    let r : (numberAt k p i * 256 + getD p (i + k) 0) % 256 ≡ getD p (i + k) 0 = omega arith in
+    rw (q, r, bytes-of-number p bytes k i (omega arith), ← (getD-drop i p k 0)) (sym (take-suc (drop i p) k 0 (simp length-drop (omega arith))))
 
+module _ (p : List ℕ) (bytes : Bytes p) where
   -- a number in k bytes fits them
   pub number-fits : (k i : ℕ) → i + k ≤ length p → numberAt k p i < 256 ^ k
   unfolding Bytes numberAt
@@ -57,7 +52,7 @@ module _ (p : List ℕ) (bytes : Bytes p) where
 
   -- the bytes of the number in k bytes, and what stands behind them
   pub bytes-of-number-then : (k i : ℕ) → i + k ≤ length p → bytesOf k (numberAt k p i) ++ drop (i + k) p ≡ drop i p
-  bytes-of-number-then k i h = rw (bytes-of-number k i h, ← (drop-drop k i p)) (take-append-drop k (drop i p))
+  bytes-of-number-then k i h = rw (bytes-of-number p bytes k i h, ← (drop-drop k i p)) (take-append-drop k (drop i p))
 
 -- bytes in front of bytes are bytes
 pub bytes-cons : (b : ℕ) (l : List ℕ) → b < 256 → Bytes l → Bytes (b ∷ l)
@@ -74,10 +69,6 @@ pub bytesOf-bytes : (k v : ℕ) → Bytes (bytesOf k v)
 unfolding Bytes bytesOf
 bytesOf-bytes zero v = λ i h. absurd (omega arith)
 bytesOf-bytes (suc k) v = bytes-append (bytesOf k (v / 256)) (v % 256 ∷ []) (bytesOf-bytes k (v / 256)) (bytes-cons (v % 256) [] (omega arith) (λ i h. absurd (omega arith)))
-
-pub headerBytes-length : (h : Header) (l : ℕ) → length (headerBytes h l) ≡ headerSize
-unfolding headerBytes bytesOf
-headerBytes-length h l = refl
 
 -- the sums that the code works out, at the two widths
 pub number-two : (p : List ℕ) (i : ℕ) → getD p i 0 * 256 + getD p (i + 1) 0 ≡ numberAt 2 p i

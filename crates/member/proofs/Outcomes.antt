@@ -10,7 +10,7 @@ use lib.ListN.{length, getD, set, take, drop, length-drop}
 use lib.Seq.{take-all}
 use Rattle.group.specs.Choice.{if_then_else_, _and_, _≤?_, _<?_, _=?_}
 use Rattle.group.specs.Fold.{allAbove}
-use Rattle.group.specs.Lent.{front}
+use Rattle.group.specs.Lent.{front, Laid}
 use Rattle.group.specs.Limits.{heldMost, headerSize, payloadMost, longestPacket, largestNumber}
 use Rattle.group.specs.Question.{judged}
 use Rattle.group.specs.declared.MemberNumber.{MemberNumber}
@@ -35,7 +35,6 @@ use Rattle.member.specs.State.{firstCount}
 use Rattle.window.specs.Places.{placeOf, messageAt, lowestMissing}
 use Rattle.member.proofs.Acknowledged.{acknowledged-gapped}
 use Rattle.window.proofs.Missing.{lowest-other}
-use Rattle.window.specs.Steps.{Laid}
 use Rattle.member.specs.Steps.{Spoken, Replied, withPlace, Hears}
 use Rattle.member.specs.declared.Answer.{Answer}
 use Rattle.member.specs.declared.Member.{Member}

@@ -2,7 +2,6 @@
 use mathlib.Core.Path.{_≡_}
 use mathlib.Core.List.{List, []}
 use Prim.Native.Nat.{ℕ, _≤_, _<_}
-use lib.ListN.{length}
 use Rattle.group.specs.Lent.{front}
 use Rattle.group.specs.Limits.{membersMost, payloadMost, longestPacket, largestNumber}
 use Rattle.group.specs.declared.Verdict.{Verdict}
@@ -14,11 +13,6 @@ use Rattle.history.specs.Ask.{contentVerdict}
 use Rattle.sequencer.specs.Calls.{Outcome, stepOf}
 use Rattle.sequencer.specs.declared.Sequencer.{Sequencer}
 use Rattle.sequencer.specs.declared.Step.{Step}
-
--- bytes laid at the front of a lent output, and how many
-pub record Laid (bytes : List ℕ) (size : ℕ) (before after : List ℕ) : Type 0 where
-  pub all : size ≡ length bytes
-  pub lent : after ≡ front bytes before
 
 -- what a call gives back, and leaves in the lent output, is what its outcome says
 pub record Done (o : Outcome) (step : Step) (before after : List ℕ) : Type 0 where

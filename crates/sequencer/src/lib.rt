@@ -15,7 +15,7 @@ ghost use mathlib.Core.List.{[]};
 ghost use Prim.Native.Nat.{_<_, _≤_};
 ghost use lib.ListN.{length};
 ghost use Rattle.group.specs.Choice.{if_then_else_, _≤?_};
-ghost use Rattle.group.specs.Lent.{front};
+ghost use Rattle.group.specs.Lent.{front, Laid};
 ghost use Rattle.group.specs.Limits.{membersMost, payloadMost, longestPacket, largestNumber};
 ghost use Rattle.message.specs.Message.{messageOf, payloadOf};
 ghost use Rattle.packet.specs.Packet.{fieldsOf, packetOf};
@@ -24,7 +24,7 @@ ghost use Rattle.sequencer.specs.Sound.{soundOf};
 ghost use Rattle.sequencer.specs.Calls.{stepOf, answered, readStep, callVerdict, receiveOf, pollOf, copyOf, freshOf};
 ghost use Rattle.group.specs.Wording.{verdictWording};
 ghost use Rattle.sequencer.specs.Wording.{wordingOf};
-ghost use Rattle.sequencer.specs.Done.{Laid, Done, Quiet, Sized, Left, Due};
+ghost use Rattle.sequencer.specs.Done.{Done, Quiet, Sized, Left, Due};
 ghost use Rattle.sequencer.specs.Steps.{acceptedStep, quiet, requestChange, gapAnswer, changeOf, sentOf};
 
 pub struct Sequencer {

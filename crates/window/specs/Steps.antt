@@ -1,20 +1,13 @@
 -- What the steps inside the code promise, in terms of the meaning. No call's promise speaks of these.
-use mathlib.Core.Path.{_≡_}
 use mathlib.Core.Bool.{Bool}
 use mathlib.Core.List.{List, [], _∷_}
 use Prim.Native.Nat.{ℕ, zero, suc, _+_, _-_, _%_}
-use lib.ListN.{length, getD}
+use lib.ListN.{getD}
 use Rattle.group.specs.Choice.{if_then_else_, _and_, _<?_, _≤?_}
-use Rattle.group.specs.Lent.{front}
 use Rattle.group.specs.Limits.{heldMost, payloadMost, largestNumber}
 use Rattle.message.specs.Message.{zeroBehind, isEmpty, blank}
 use Rattle.message.specs.declared.Message.{Message}
 use Rattle.window.specs.Places.{placeOf}
-
--- bytes were laid at the front of the lent output, and they are as many as was said
-pub record Laid (bytes : List ℕ) (written : ℕ) (before after : List ℕ) : Type 0 where
-  pub size : written ≡ length bytes
-  pub lent : after ≡ front bytes before
 
 -- the number that place `at` is for, of the eight above t
 abbrev pub numberIn : ℕ → ℕ → ℕ

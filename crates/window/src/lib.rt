@@ -9,11 +9,12 @@ ghost use Prim.Native.Nat.{_+_, _-_, _≤_, _<_};
 ghost use lib.ListN.{length};
 ghost use Rattle.group.specs.Choice.{_and_, _=?_};
 ghost use Rattle.group.specs.Fold.{allAbove};
+ghost use Rattle.group.specs.Lent.{Laid};
 ghost use Rattle.group.specs.Limits.{heldMost, payloadMost, longestPacket};
 ghost use Rattle.message.specs.Message.{payloadOf};
 ghost use Rattle.window.specs.Places.{placeOf, smallerOf};
 ghost use Rattle.window.specs.Sound.{placeSound, waitingSound, frameSound};
-ghost use Rattle.window.specs.Steps.{Laid, numberIn, messageSound, countsOf, lowestUncounted};
+ghost use Rattle.window.specs.Steps.{numberIn, messageSound, countsOf, lowestUncounted};
 
 // Number s lies in place s modulo 8: the place of the number that lies `ahead` above a number, which may pass the largest.
 pub fn place(number: SequenceNumber, ahead: usize) -> usize

@@ -24,7 +24,7 @@ same-length c = search needs
 
 returns : tie.Need-returns
 unfolding payloadOf
-returns c = record { all = c .before .before .put .ensures .0 ∙ sym (packet-length _ _); lent = c .before .before .put .ensures .1 }
+returns c = record { size = c .before .before .put .ensures .0 ∙ sym (packet-length _ _); lent = c .before .before .put .ensures .1 }
 
 pub send-spec : {M : Type 1} → statement M
 send-spec =

@@ -41,11 +41,11 @@ enum-told-6 c = search needs
 
 returns : tie.Need-returns
 unfolding sentOf
-returns c = rw (c .enum-told .given .1) (record { all = refl; lent = refl })
+returns c = rw (c .enum-told .given .1) (record { size = refl; lent = refl })
 
 returns-2 : tie.Need-returns-2
 unfolding sentOf
-returns-2 c = rw (c .enum-told2 .given .1) (record { all = refl; lent = refl })
+returns-2 c = rw (c .enum-told2 .given .1) (record { size = refl; lent = refl })
 
 same-length : tie.Need-same-length
 same-length c = search needs
@@ -70,15 +70,15 @@ returns-5 c = rw (c .before .before .before .before .before .answer2 .given .1) 
 
 returns-6 : tie.Need-returns-6
 unfolding sentOf
-returns-6 c = rw (c .enum-told4 .given .1) (record { all = refl; lent = refl })
+returns-6 c = rw (c .enum-told4 .given .1) (record { size = refl; lent = refl })
 
 returns-7 : tie.Need-returns-7
 unfolding sentOf
-returns-7 c = rw (c .enum-told5 .given .1) (record { all = refl; lent = refl })
+returns-7 c = rw (c .enum-told5 .given .1) (record { size = refl; lent = refl })
 
 returns-8 : tie.Need-returns-8
 unfolding sentOf
-returns-8 c = rw (c .enum-told6 .given .1) (record { all = refl; lent = refl })
+returns-8 c = rw (c .enum-told6 .given .1) (record { size = refl; lent = refl })
 
 pub send-answer-spec : {M : Type 1} → statement M
 send-answer-spec =

@@ -16,7 +16,7 @@ same-length : tie.Need-same-length
 same-length c = search needs
 
 returns : tie.Need-returns
-returns c = record { all = c .before .before .put .ensures .0 ∙ sym (packet-length _ _); lent = c .before .before .put .ensures .1 }
+returns c = record { size = c .before .before .put .ensures .0 ∙ sym (packet-length _ _); lent = c .before .before .put .ensures .1 }
 
 pub send-poll-spec : {M : Type 1} → statement M
 send-poll-spec = tie.close (tie.spec slice-aggregate-put put-requires same-length returns)

@@ -135,7 +135,7 @@ returns c =
     λ n. settledOf n m (now (a .payload)) (changeOf (n .history) (a .packet) (lastCount n m) (n .floor .0) (n .top) (n .repeats)) in
     done-as {o = outcome n} (ap outcome noted ∙ sym (accepted-is s (a .packet) (now (a .payload)) (c .before .before .before .before .before .before .before .before .before .before .before .before .before .before .before .before .before .before .before .before .before .before .before .before .before .before .before .pre .accepted) size))
     (record {
-      answer = rw (w .all, c .before .before .before .before .before .before .laid .ensures, c .before .before .before .before .before .before .before .before .place2 .ensures, c .before .before .before .before .before .before .before .before .before .before .packet-change .ensures, e);
+      answer = rw (w .size, c .before .before .before .before .before .before .laid .ensures, c .before .before .before .before .before .before .before .before .place2 .ensures, c .before .before .before .before .before .before .before .before .before .before .packet-change .ensures, e);
       lent = rw (c .before .before .before .before .before .before .laid .ensures, c .before .before .before .before .before .before .before .before .place2 .ensures, c .before .before .before .before .before .before .before .before .before .before .packet-change .ensures, e) at (w .lent);
     })
 

@@ -55,7 +55,7 @@ returns-3 c =
     let w = rw (c .before .before .before .before .before .before .place .ensures) at (c .before .before .send .ensures) in
     done-as {o = record { sequencer = a .t1; answer = Sent; bytes = broadcastOf (a .t1) (a .number .0) }}
     (search (choices, tests, needs) depth 9 ∙ judged-yes _ _ _ (c .before .before .before .before .before .before .before .before .before .before .before .before .before .pre))
-    (record { answer = rw (w .all); lent = w .lent })
+    (record { answer = rw (w .size); lent = w .lent })
 
 pub copied-spec : {M : Type 1} → statement M
 copied-spec =

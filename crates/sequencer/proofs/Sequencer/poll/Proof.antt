@@ -34,7 +34,7 @@ unfolding pollOf pollPacket
 returns c =
     let s = c .before .before .before .before .before .before .before .before .before .before .args .self in
     let l = c .before .before .send-poll .ensures in
-    promised (done-as {o = record { sequencer = s; answer = Sent; bytes = pollPacket s }} (judged-yes _ _ _ (sym (c .before .before .before .before .before .before .before .before .ask .ensures) ∙ c .before .before .before .before .before .before .enum-told .given .1)) (record { answer = rw (l .all); lent = l .lent }))
+    promised (done-as {o = record { sequencer = s; answer = Sent; bytes = pollPacket s }} (judged-yes _ _ _ (sym (c .before .before .before .before .before .before .before .before .ask .ensures) ∙ c .before .before .before .before .before .before .enum-told .given .1)) (record { answer = rw (l .size); lent = l .lent }))
 
 returns-2 : tie.Need-returns-2
 unfolding pollOf

@@ -6,8 +6,7 @@ use mathlib.Core.List.{List, [], _∷_}
 use Prim.Native.Nat.{ℕ, _+_, _-_, _≤_, _<_}
 use native.Mathlib.Omega.{arith}
 use borrow.Author.Tests.{leb-true, ltb-true, lt-ltb, eqb-false}
-use lib.ListN.{length, getD, set, take, drop, length-drop}
-use lib.Seq.{take-all}
+use lib.ListN.{length, getD, set}
 use Rattle.group.specs.Choice.{if_then_else_, _and_, _≤?_, _<?_, _=?_}
 use Rattle.group.specs.Fold.{allAbove}
 use Rattle.group.specs.Lent.{front, Laid}
@@ -283,7 +282,3 @@ module _ (m : Member) (reading : Reading) (h : Header) (payload : List ℕ) (e :
   pub others : (h .group ≡ m .group .number → ⊥) → refused m Refusal.OtherGroup ≡ readStep m reading payload
   unfolding readStep
   others g = rw e (if-ne (h .group) (m .group .number) _ _ _ g refl)
-
--- the part of a packet behind its header
-pub behind : (p : List ℕ) → take (length p - headerSize) (drop headerSize p) ≡ drop headerSize p
-behind p = take-all (length p - headerSize) (drop headerSize p) (simp length-drop (omega arith))

@@ -427,7 +427,8 @@ impl Member {
                 match r {
                     Reading::Fields(h) => {
                         if h.group == self.group.number {
-                            return self.content(Packet::of(h), &packet[Group::HEADER..], out);
+                            let end = Group::HEADER + packet::payload_length(packet);
+                            return self.content(Packet::of(h), &packet[Group::HEADER..end], out);
                         }
                         self.same(refused(Refusal::OtherGroup))
                     }

@@ -6,7 +6,8 @@ use Prim.Native.Nat.{ℕ, _+_, _-_, _≤_}
 use native.Mathlib.Omega.{arith}
 use borrow.Author.Needs.{needs}
 use borrow.Author.Tests.{leb-true, eqb-true}
-use lib.ListN.{length, length-drop}
+use lib.ListN.{length, take, length-drop}
+use lib.Seq.{take-all}
 use Rattle.group.specs.Choice.{if_then_else_, _and_, _≤?_, _=?_}
 use Rattle.group.specs.Limits.{headerSize, payloadMost, longestPacket}
 use Rattle.group.specs.Question.{judged}
@@ -74,6 +75,13 @@ readable p h e =
       fields = rw (← e) (ap (λ (n : ℕ). fieldsVerdict (headerOf p) n (length p - headerSize)) s ∙ j .0);
       payload = simp length-drop (omega arith);
     }
+
+-- the part of a packet that was read, from byte 20 to 20 + L, is its payload
+pub payload-part : (p : List ℕ) (h : Header) → readOf p ≡ Reading.Fields h
+    → (headerSize + lengthAt p ≡ length p) × (take (headerSize + lengthAt p - headerSize) (payloadAt p) ≡ payloadAt p)
+payload-part p h e =
+    let r = readable p h e in
+    (omega arith, take-all (headerSize + lengthAt p - headerSize) (payloadAt p) (simp length-drop (omega arith)))
 
 -- what a writing that is accepted was asked
 pub record Writable (h : Header) (size room : ℕ) : Type 0 where

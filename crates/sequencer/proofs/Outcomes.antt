@@ -2,13 +2,8 @@
 -- nothing.
 use mathlib.Core.Path.{_≡_, ap, subst}
 use mathlib.Core.List.{List}
-use Prim.Native.Nat.{ℕ, _-_}
-use native.Mathlib.Omega.{arith}
-use lib.ListN.{length, take, length-drop}
-use lib.Seq.{take-all}
+use Prim.Native.Nat.{ℕ}
 use Rattle.group.specs.Lent.{front}
-use Rattle.group.specs.Limits.{headerSize}
-use Rattle.packet.specs.Packet.{payloadAt}
 use Rattle.sequencer.specs.Calls.{Outcome, stepOf}
 use Rattle.sequencer.specs.Done.{Done, Quiet}
 use Rattle.sequencer.specs.Wording.{wordingOf}
@@ -25,7 +20,3 @@ promised d = (d .answer, (d .lent, ap (λ (s : Step). wordingOf (s .answer)) (d 
 -- where nothing is written, what was lent stays as it was
 pub lent-as-was : {o : Outcome} {r : Step} (x : List ℕ) → Quiet o r → Done o r x x
 lent-as-was x q = record { answer = q .answer; lent = rw (q .bytes) }
-
--- the part of a packet behind its header, as the code takes it
-pub part : (p : List ℕ) → take (length p - headerSize) (payloadAt p) ≡ payloadAt p
-part p = take-all (length p - headerSize) (payloadAt p) (simp length-drop (omega arith))

@@ -372,7 +372,10 @@ impl Sequencer {
             Verdict::Accepted => {
                 let reading = packet::read(packet);
                 match reading {
-                    Reading::Fields(h) => self.take(h, &packet[Group::HEADER..], out),
+                    Reading::Fields(h) => {
+                        let end = Group::HEADER + packet::payload_length(packet);
+                        self.take(h, &packet[Group::HEADER..end], out)
+                    }
                     Reading::Refused(q) => self.refused(q),
                 }
             }

@@ -3,9 +3,9 @@
 use mathlib.Core.Path.{sym, _∙_}
 use denote.Ref.{now}
 use lib.ListN.{length}
-use Rattle.packet.proofs.Verdicts.{readable}
+use Rattle.packet.proofs.Verdicts.{readable, payload-part}
 use Rattle.member.specs.Calls.{receiveOf, readStep}
-use Rattle.member.proofs.Outcomes.{hears-as, hears-same, quiet, judged-yes, judged-no, asked, ours, others, behind}
+use Rattle.member.proofs.Outcomes.{hears-as, hears-same, quiet, judged-yes, judged-no, asked, ours, others}
 use borrow.Author.Needs.{needs}
 use Rattle.member.proofs.Member.heard.Statement.{statement}
 use Rattle.member.proofs.Member.heard.Tie as tie
@@ -22,23 +22,29 @@ read-requires c κs = search needs
 enum-known-r : tie.Need-enum-known-r
 enum-known-r c = search needs
 
+payload-length-requires : tie.Need-payload-length-requires
+payload-length-requires c κs = readable _ _ (sym (c .before .before .before .before .before .before .read .ensures .0) ∙ c .before .before .before .before .r .given .1) .long
+
+add-end : tie.Need-add-end
+add-end c = let e = payload-part _ _ (sym (c .before .before .before .before .before .before .before .read .ensures .0) ∙ c .before .before .before .before .before .r .given .1) in rw (c .payload-length .ensures, e .0) (search needs)
+
 of-requires : tie.Need-of-requires
 of-requires c κs = search needs
 
 sub-content : tie.Need-sub-content
-sub-content c = readable _ _ (sym (c .before .before .before .before .before .before .before .read .ensures .0) ∙ c .before .before .before .before .before .r .given .1) .long
+sub-content c = search needs
 
 part-content-start : tie.Need-part-content-start
-part-content-start c = readable _ _ (sym (c .before .before .before .before .before .before .before .read .ensures .0) ∙ c .before .before .before .before .before .r .given .1) .long
+part-content-start c = search needs
 
 part-content-end : tie.Need-part-content-end
-part-content-end c = search needs
+part-content-end c = let e = payload-part _ _ (sym (c .before .before .before .before .before .before .before .before .read .ensures .0) ∙ c .before .before .before .before .before .before .r .given .1) in rw (c .before .payload-length .ensures, e .0) (search needs)
 
 content-requires : tie.Need-content-requires
 content-requires c κs =
-    let w = readable _ _ (sym (c .before .before .before .before .before .before .before .before .before .read .ensures .0) ∙ c .before .before .before .before .before .before .before .r .given .1) in
-    let s = asked _ _ (sym (c .before .before .before .before .before .before .before .before .before .before .before .before .ask .ensures) ∙ c .before .before .before .before .before .before .before .before .before .before .enum-told .given .1) in
-    (rw behind (w .payload), s .1)
+    let e = sym (c .before .before .before .before .before .before .before .before .before .before .read .ensures .0) ∙ c .before .before .before .before .before .before .before .before .r .given .1 in
+    let s = asked _ _ (sym (c .before .before .before .before .before .before .before .before .before .before .before .before .before .ask .ensures) ∙ c .before .before .before .before .before .before .before .before .before .before .before .enum-told .given .1) in
+    (rw (c .before .before .before .payload-length .ensures, payload-part _ _ e .1) (readable _ _ e .payload), s .1)
 
 same-length : tie.Need-same-length
 same-length c = search needs
@@ -46,10 +52,11 @@ same-length c = search needs
 returns : tie.Need-returns
 unfolding receiveOf
 returns c =
-    let a = c .before .before .before .before .before .before .before .before .before .before .before .before .before .before .before .before .before .before .args in
-    let s = judged-yes _ _ _ (sym (c .before .before .before .before .before .before .before .before .before .before .before .before .before .before .before .ask .ensures) ∙ c .before .before .before .before .before .before .before .before .before .before .before .before .before .enum-told .given .1) in
-    let o = ours (a .self) _ _ _ (sym (c .before .before .before .before .before .before .before .before .before .before .before .before .read .ensures .0) ∙ c .before .before .before .before .before .before .before .before .before .before .r .given .1) (c .before .before .before .before .before .before .if1 .taken) in
-    hears-as {p = receiveOf (a .self) (now (a .packet)) (length (now (a .out)))} (rw (behind, c .before .before .before .before .before .of .ensures) (o ∙ s)) (c .before .before .content .ensures)
+    let a = c .before .before .before .before .before .before .before .before .before .before .before .before .before .before .before .before .before .before .before .args in
+    let e = sym (c .before .before .before .before .before .before .before .before .before .before .before .before .before .read .ensures .0) ∙ c .before .before .before .before .before .before .before .before .before .before .before .r .given .1 in
+    let s = judged-yes _ _ _ (sym (c .before .before .before .before .before .before .before .before .before .before .before .before .before .before .before .before .ask .ensures) ∙ c .before .before .before .before .before .before .before .before .before .before .before .before .before .before .enum-told .given .1) in
+    let o = ours (a .self) _ _ _ e (c .before .before .before .before .before .before .before .if1 .taken) in
+    hears-as {p = receiveOf (a .self) (now (a .packet)) (length (now (a .out)))} (rw (c .before .before .before .before .before .before .payload-length .ensures, payload-part _ _ e .1, c .before .before .before .before .before .of .ensures) (o ∙ s)) (c .before .before .content .ensures)
 
 refused-requires : tie.Need-refused-requires
 refused-requires c κs = search needs
@@ -105,6 +112,8 @@ heard-spec =
     enum-told
     read-requires
     enum-known-r
+    payload-length-requires
+    add-end
     of-requires
     sub-content
     part-content-start

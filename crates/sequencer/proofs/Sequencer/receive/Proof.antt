@@ -2,12 +2,11 @@
 -- Assumes nothing.
 use mathlib.Core.Path.{sym, _∙_}
 use denote.Ref.{now}
-use lib.ListN.{length, length-take, length-drop}
-use native.Mathlib.Omega.{arith}
-use Rattle.packet.proofs.Verdicts.{readable}
+use lib.ListN.{length}
+use Rattle.packet.proofs.Verdicts.{readable, payload-part}
 use Rattle.sequencer.specs.Calls.{readStep, receiveOf}
 use Rattle.history.proofs.Asking.{judged-yes, judged-no}
-use Rattle.sequencer.proofs.Outcomes.{done-as, promised, lent-as-was, part}
+use Rattle.sequencer.proofs.Outcomes.{done-as, promised, lent-as-was}
 use Rattle.sequencer.proofs.Owed.{sound-members, sound-short, call-asked}
 use borrow.Author.Needs.{needs}
 use Rattle.sequencer.proofs.Sequencer.receive.Statement.{statement}
@@ -25,22 +24,28 @@ read-requires c κs = search needs
 enum-known-reading : tie.Need-enum-known-reading
 enum-known-reading c = search needs
 
+payload-length-requires : tie.Need-payload-length-requires
+payload-length-requires c κs = readable _ _ (sym (c .before .before .before .read .ensures .0) ∙ c .before .reading .given .1) .long
+
+add-end : tie.Need-add-end
+add-end c = let e = payload-part _ _ (sym (c .before .before .before .before .read .ensures .0) ∙ c .before .before .reading .given .1) in rw (c .payload-length .ensures, e .0) (search needs)
+
 sub-take : tie.Need-sub-take
-sub-take c = readable _ _ (sym (c .before .before .before .read .ensures .0) ∙ c .before .reading .given .1) .long
+sub-take c = search needs
 
 part-take-start : tie.Need-part-take-start
-part-take-start c = readable _ _ (sym (c .before .before .before .read .ensures .0) ∙ c .before .reading .given .1) .long
+part-take-start c = search needs
 
 part-take-end : tie.Need-part-take-end
-part-take-end c = search needs
+part-take-end c = let e = payload-part _ _ (sym (c .before .before .before .before .read .ensures .0) ∙ c .before .before .reading .given .1) in rw (c .payload-length .ensures, e .0) (search needs)
 
 take-requires : tie.Need-take-requires
 take-requires c κs =
-    let r = readable _ _ (sym (c .before .before .before .before .before .read .ensures .0) ∙ c .before .before .before .reading .given .1) in
-    let w = call-asked _ _ (sym (c .before .before .before .before .before .before .before .before .ask .ensures) ∙ c .before .before .before .before .before .before .enum-told .given .1) in
+    let e = sym (c .before .before .before .before .before .before .read .ensures .0) ∙ c .before .before .before .before .reading .given .1 in
+    let w = call-asked _ _ (sym (c .before .before .before .before .before .before .before .before .before .ask .ensures) ∙ c .before .before .before .before .before .before .before .enum-told .given .1) in
     record {
       members = sound-members _ (w .0);
-      payload = simp (length-take, length-drop) (omega arith);
+      payload = rw (c .before .before .payload-length .ensures, payload-part _ _ e .1) (readable _ _ e .payload);
       output = w .1;
       history = sound-short _ (w .0);
     }
@@ -63,10 +68,10 @@ same-length c = search needs
 returns : tie.Need-returns
 unfolding receiveOf
 returns c =
-    let e = sym (c .before .before .before .before .before .before .before .before .read .ensures .0) ∙ c .before .before .before .before .before .before .reading .given .1 in
-    let v = sym (c .before .before .before .before .before .before .before .before .before .before .before .ask .ensures) ∙ c .before .before .before .before .before .before .before .before .before .enum-told .given .1 in
-    let a = c .before .before .before .before .before .before .before .before .before .before .before .before .before .before .args in
-    promised {o = receiveOf (a .self) (now (a .packet)) (length (now (a .out)))} (done-as (rw (part, e) (judged-yes _ _ _ v)) (c .before .before .take .ensures))
+    let e = sym (c .before .before .before .before .before .before .before .before .before .read .ensures .0) ∙ c .before .before .before .before .before .before .before .reading .given .1 in
+    let v = sym (c .before .before .before .before .before .before .before .before .before .before .before .before .ask .ensures) ∙ c .before .before .before .before .before .before .before .before .before .before .enum-told .given .1 in
+    let a = c .before .before .before .before .before .before .before .before .before .before .before .before .before .before .before .args in
+    promised {o = receiveOf (a .self) (now (a .packet)) (length (now (a .out)))} (done-as (rw (c .before .before .before .before .before .payload-length .ensures, payload-part _ _ e .1, e) (judged-yes _ _ _ v)) (c .before .before .take .ensures))
 
 returns-2 : tie.Need-returns-2
 unfolding receiveOf readStep
@@ -88,6 +93,8 @@ receive-spec =
     enum-told
     read-requires
     enum-known-reading
+    payload-length-requires
+    add-end
     sub-take
     part-take-start
     part-take-end

@@ -7,12 +7,12 @@ use Rattle.group.specs.declared.Opened.{Opened}
 use Rattle.group.specs.declared.Opened.the-variants.{Open, Refused}
 use Rattle.group.specs.declared.Refusal.the-variants.{Opening}
 
--- the group of n members with a group number
-abbrev pub groupOf : ℕ → ℕ → Group
-groupOf n number = record { n = n; number = number }
+-- what describes a group of n members with a group number
+abbrev pub descriptionOf : ℕ → ℕ → Group
+descriptionOf n number = record { n = n; number = number }
 
 -- question 18: is n 1 to 16?
 unfoldable pub openOf : ℕ → ℕ → Opened
 openOf n number =
     ask 1 ≤? n and n ≤? membersMost or Refused Opening then
-    Open (groupOf n number)
+    Open (descriptionOf n number)

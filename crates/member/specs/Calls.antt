@@ -5,7 +5,7 @@ use Prim.Native.Nat.{ℕ, _+_, _-_}
 use lib.ListN.{length, set}
 use Rattle.group.specs.Choice.{if_then_else_, ask_or_then_, _and_, _<?_, _≤?_, _=?_}
 use Rattle.group.specs.Limits.{heldMost, payloadMost, longestPacket, largestNumber}
-use Rattle.group.specs.Opening.{groupOf, openOf}
+use Rattle.group.specs.Opening.{descriptionOf, openOf}
 use Rattle.group.specs.Question.{judged}
 use Rattle.group.specs.declared.MemberNumber.{MemberNumber}
 use Rattle.group.specs.declared.SequenceNumber.{SequenceNumber}
@@ -206,9 +206,9 @@ unfoldable pub openedOf : Opened → MemberNumber → Opening
 openedOf (Open group) number =
     if number .0 <? group .n
     then record { member = freshMember group number; verdict = Verdict.Accepted }
-    else record { member = freshMember (groupOf 0 0) (record { 0 = 0 }); verdict = Verdict.Refused Refusal.Opening }
+    else record { member = freshMember (descriptionOf 0 0) (record { 0 = 0 }); verdict = Verdict.Refused Refusal.Opening }
 openedOf (Opened.Refused refusal) number =
-    record { member = freshMember (groupOf 0 0) (record { 0 = 0 }); verdict = Verdict.Refused refusal }
+    record { member = freshMember (descriptionOf 0 0) (record { 0 = 0 }); verdict = Verdict.Refused refusal }
 
 unfoldable pub freshOf : ℕ → MemberNumber → ℕ → Opening
 freshOf n number group = openedOf (openOf n group) number

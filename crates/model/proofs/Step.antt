@@ -14,7 +14,7 @@ use Rattle.group.proofs.Choice.{choices, tests, if-true, if-false}
 use Rattle.group.proofs.Lists.{if-elim, at, all-get}
 use Rattle.group.specs.Choice.{if_then_else_, _<?_, _=?_}
 use Rattle.group.specs.Limits.{membersMost, largestNumber, longestPacket}
-use Rattle.group.specs.Opening.{groupOf, openOf}
+use Rattle.group.specs.Opening.{descriptionOf, openOf}
 use Rattle.group.specs.declared.Opened.{Opened}
 use Rattle.group.specs.declared.Group as description
 use Rattle.member.proofs.Acknowledged.{acknowledged-most}
@@ -233,18 +233,18 @@ module _ (group : description.Group) (hn : group .n ≤ membersMost) (hg : group
   run-keeps w (e ∷ es) v = run-keeps (step w e) es (next-keeps w e v)
 
 -- a fresh group
-open-group : (n g : ℕ) → 1 ≤ n → n ≤ membersMost → openOf n g ≡ Opened.Open (groupOf n g)
+open-group : (n g : ℕ) → 1 ≤ n → n ≤ membersMost → openOf n g ≡ Opened.Open (descriptionOf n g)
 unfolding openOf
 open-group n g lo hi = sym (search (choices, tests, needs) depth 9)
 
-open-sequencer : (n g : ℕ) → 1 ≤ n → n ≤ membersMost → sequencer.freshOf n g .sequencer ≡ freshSequencer (groupOf n g)
+open-sequencer : (n g : ℕ) → 1 ≤ n → n ≤ membersMost → sequencer.freshOf n g .sequencer ≡ freshSequencer (descriptionOf n g)
 unfolding sequencer.freshOf sequencer.openedOf
 open-sequencer n g lo hi = rw (open-group n g lo hi)
 
 open-member : (n g i : ℕ) → 1 ≤ n → n ≤ membersMost → i < n
-    → member.freshOf n (record { 0 = i }) g .member ≡ freshMember (groupOf n g) (record { 0 = i })
+    → member.freshOf n (record { 0 = i }) g .member ≡ freshMember (descriptionOf n g) (record { 0 = i })
 unfolding member.freshOf member.openedOf
-open-member n g i lo hi b = rw (open-group n g lo hi) (if-elim (λ (o : Opening). o .member ≡ freshMember (groupOf n g) (record { 0 = i })) (i <? n) (λ t. refl) (λ f. absurd (let z = ltb-false i n f in omega arith)))
+open-member n g i lo hi b = rw (open-group n g lo hi) (if-elim (λ (o : Opening). o .member ≡ freshMember (descriptionOf n g) (record { 0 = i })) (i <? n) (λ t. refl) (λ f. absurd (let z = ltb-false i n f in omega arith)))
 
 members-length : (n g i k : ℕ) → length (freshMembers n g i k) ≡ k
 unfolding freshMembers
@@ -259,16 +259,16 @@ members-at n g i (suc k) (suc j) h =
     let e : i + 1 + j ≡ i + suc j = omega arith in
     members-at n g (i + 1) k j (le-of-suc-le-suc h) ∙ ap (λ (x : ℕ). member.freshOf n (record { 0 = x }) g .member) e
 
-pub fresh-inv : (n g : ℕ) → 1 ≤ n → n ≤ membersMost → g ≤ largestNumber → WorldInv (groupOf n g) (fresh n g)
+pub fresh-inv : (n g : ℕ) → 1 ≤ n → n ≤ membersMost → g ≤ largestNumber → WorldInv (descriptionOf n g) (fresh n g)
 unfolding fresh freshSequencer gather
 fresh-inv n g lo hi hg =
     record {
-      sequencer = rw (open-sequencer n g lo hi) (histories.fresh-inv (groupOf n g) lo hi hg);
+      sequencer = rw (open-sequencer n g lo hi) (histories.fresh-inv (descriptionOf n g) lo hi hg);
       members = members-length n g 0 n;
       terminal = λ i b.
           let z : getD (replicate membersMost noAcknowledgement) i noAcknowledgement ≡ noAcknowledgement = getD-replicate membersMost i noAcknowledgement noAcknowledgement (omega arith) in
-          let y : getD (freshMembers n g 0 n) i noMember ≡ freshMember (groupOf n g) (record { 0 = i }) =
+          let y : getD (freshMembers n g 0 n) i noMember ≡ freshMember (descriptionOf n g) (record { 0 = i }) =
           members-at n g 0 n i b ∙ ap (λ (x : ℕ). member.freshOf n (record { 0 = x }) g .member) (zero-add i) ∙ open-member n g i lo hi b in
-          rw (open-sequencer n g lo hi, z, y) (fresh-terminal (groupOf n g) i lo hi b hg);
+          rw (open-sequencer n g lo hi, z, y) (fresh-terminal (descriptionOf n g) i lo hi b hg);
       packets = tt;
     }

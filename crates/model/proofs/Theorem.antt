@@ -8,7 +8,7 @@ use lib.ListN.{length, getD, length-append}
 use lib.Seq.{take-all}
 use Rattle.group.proofs.Lists.{eq-or}
 use Rattle.group.specs.Limits.{membersMost, placesMost, largestNumber}
-use Rattle.group.specs.Opening.{groupOf}
+use Rattle.group.specs.Opening.{descriptionOf}
 use Rattle.group.specs.declared.Group as description
 use Rattle.history.proofs.Soundness.{takenIn}
 use Rattle.history.specs.State.{messageAt}
@@ -118,4 +118,4 @@ claim group lo hn hg w v =
 
 pub demand3 : Demand3
 demand3 n number lo hn hg events =
-    claim (groupOf n number) lo hn hg (run (fresh n number) events) (run-keeps (groupOf n number) hn hg (fresh n number) events (fresh-inv n number lo hn hg))
+    claim (descriptionOf n number) lo hn hg (run (fresh n number) events) (run-keeps (descriptionOf n number) hn hg (fresh n number) events (fresh-inv n number lo hn hg))

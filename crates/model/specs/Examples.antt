@@ -5,7 +5,7 @@ use mathlib.Core.List.{List, [], _∷_, _++_, map}
 use Prim.Native.Nat.{ℕ, zero, suc, _+_}
 use lib.ListN.{length, replicate}
 use Rattle.group.specs.Limits.{headerSize, payloadMost, longestPacket, placesMost, heldMost}
-use Rattle.group.specs.Opening.{groupOf}
+use Rattle.group.specs.Opening.{descriptionOf}
 use Rattle.group.specs.declared.Refusal.{Refusal}
 use Rattle.member.specs.Calls as member
 use Rattle.member.specs.State.{freshMember}
@@ -43,12 +43,12 @@ statusOf i taken = packetOf (fieldsOf 7 (Packet.Status (record { 0 = i }) (recor
 
 -- the sequencer of n members of group 7 after member 1's requests with counts 1 to k, nothing taken
 unfoldable pub requested : ℕ → ℕ → Sequencer
-requested n zero = freshSequencer (groupOf n 7)
+requested n zero = freshSequencer (descriptionOf n 7)
 requested n (suc k) = sequencer.receiveOf (requested n k) (request 0 (suc k) []) longestPacket .sequencer
 
 -- member 0 of two in group 7 that holds numbers 1 to k
 unfoldable pub holding : ℕ → Member
-holding zero = freshMember (groupOf 2 7) (record { 0 = 0 })
+holding zero = freshMember (descriptionOf 2 7) (record { 0 = 0 })
 holding (suc k) = member.receiveOf (holding k) (broadcast (suc k)) longestPacket .member
 
 -- what is answered in a list of events

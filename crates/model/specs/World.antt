@@ -6,7 +6,7 @@ use Prim.Native.Nat.{ℕ, zero, suc, _+_}
 use lib.ListN.{length, getD, set, getElem?}
 use Rattle.group.specs.Choice.{if_then_else_, _<?_}
 use Rattle.group.specs.Limits.{longestPacket}
-use Rattle.group.specs.Opening.{groupOf}
+use Rattle.group.specs.Opening.{descriptionOf}
 use Rattle.member.specs.Calls as member
 use Rattle.member.specs.State.{freshMember}
 use Rattle.member.specs.declared.Answer as memberAnswer
@@ -73,7 +73,7 @@ withSequencer g o =
 
 -- what a list of members is read as past its end
 abbrev pub noMember : Member
-noMember = freshMember (groupOf 0 0) (record { 0 = 0 })
+noMember = freshMember (descriptionOf 0 0) (record { 0 = 0 })
 
 -- a call of member i that writes packets, if there is such a member
 abbrev pub atMember : Group → ℕ → (Member → member.Outcome) → Happened

@@ -4,7 +4,7 @@ use Prim.Native.Nat.{ℕ, _+_, _-_}
 use lib.ListN.{length, set}
 use Rattle.group.specs.Choice.{if_then_else_, ask_or_then_, _and_, _<?_, _≤?_, _=?_}
 use Rattle.group.specs.Limits.{placesMost, longestPacket}
-use Rattle.group.specs.Opening.{groupOf, openOf}
+use Rattle.group.specs.Opening.{descriptionOf, openOf}
 use Rattle.group.specs.Question.{judged}
 use Rattle.group.specs.declared.MemberNumber.{MemberNumber}
 use Rattle.group.specs.declared.SequenceNumber.{SequenceNumber}
@@ -171,7 +171,7 @@ copyOf s number room =
 unfoldable pub openedOf : Opened → Opening
 openedOf (Open group) = record { sequencer = freshSequencer group; verdict = Verdict.Accepted }
 openedOf (Opened.Refused refusal) =
-    record { sequencer = freshSequencer (groupOf 0 0); verdict = Verdict.Refused refusal }
+    record { sequencer = freshSequencer (descriptionOf 0 0); verdict = Verdict.Refused refusal }
 
 unfoldable pub freshOf : ℕ → ℕ → Opening
 freshOf n number = openedOf (openOf n number)

@@ -16,7 +16,7 @@ use Rattle.group.proofs.Choice.{if-was, says}
 use Rattle.group.proofs.Question.{accepted≢}
 use Rattle.group.proofs.Lists.{if-elim, judged-elim, All}
 use Rattle.message.specs.Message.{messageOf, payloadOf}
-use Rattle.message.proofs.Kept.{kept-zero}
+use Rattle.message.proofs.Kept.{kept-zero, payload-short}
 use Rattle.packet.specs.Laws.{Allowed}
 use Rattle.packet.specs.Packet.{headerOf, obeys, contentOf, fieldsOf, packetOf, payloadAt, readOf, written}
 use Rattle.packet.specs.declared.Header.{Header}
@@ -36,7 +36,7 @@ use Rattle.member.specs.declared.Member.{Member}
 use Rattle.member.proofs.Keeping.{waiting-typed, waiting-sound, held-typed, held-sound, taken-typed, taken-sound}
 use Rattle.member.proofs.Receiving.{Keepable, read-heard}
 use Rattle.member.proofs.Soundness.{Sound, sound-of, of-sound}
-use Rattle.member.proofs.Writes.{Own, payload-short, request-allowed, status-allowed}
+use Rattle.member.proofs.Writes.{Own, request-allowed, status-allowed}
 
 -- what a call that goes past questions 1 and 2 was asked
 pub call-sound : (m : Member) (room : ℕ) → callVerdict m room ≡ Verdict.Accepted → soundOf m ≡ true

@@ -28,12 +28,12 @@ use Rattle.packet.specs.declared.Reading.{Reading}
 use Rattle.packet.specs.declared.Reading.the-variants.{Fields}
 use Rattle.member.specs.Wording.{wordingOf}
 use Rattle.member.specs.Calls.{Outcome, stepOf, answered, gapPacket, callVerdict, refused, submitVerdict, withHeld, gapUpTo, keptOf, isOwn, withTaken, tookOf, contentStep, readStep}
-use Rattle.window.specs.Sound.{placeSound, waitingSound}
+use Rattle.window.specs.Sound.{placeSound}
 use Rattle.member.specs.Sound.{soundOf}
 use Rattle.member.specs.State.{firstCount}
 use Rattle.window.specs.Places.{placeOf, messageAt, lowestMissing}
 use Rattle.member.proofs.Acknowledged.{acknowledged-gapped}
-use Rattle.window.proofs.Missing.{lowest-other}
+use Rattle.window.proofs.Missing.{lowest-is, lowest-other}
 use Rattle.member.specs.Steps.{Spoken, Replied, withPlace, Hears}
 use Rattle.member.specs.declared.Answer.{Answer}
 use Rattle.member.specs.declared.Member.{Member}
@@ -108,6 +108,15 @@ module _ (m : Member) (last first : ℕ) (e : first ≡ lowestMissing (m .held) 
   pub some-missing : (first ≡ 0 → ⊥) → record { member = m; answer = gapped; bytes = gapPacket m first last } ≡ gapUpTo m last gapped whole
   unfolding gapUpTo
   some-missing n = rw (← e) (if-ne first 0 _ _ _ n refl)
+
+-- the lowest missing number lies above t, and up to the last that was looked at
+pub missing-in : (m : Member) (last first : ℕ) → first ≡ lowestMissing (m .held) (m .taken .0) (last - m .taken .0) → (first ≡ 0 → ⊥)
+    → (m .taken .0 < first) × (first ≤ last)
+missing-in m last first e n =
+    let l = lowest-is (m .held) (m .taken .0) (last - m .taken .0) (λ z. n (e ∙ z)) in
+    let lo = l .above in
+    let hi = l .up-to in
+    (omega arith, omega arith)
 
 -- a gap packet is not empty
 gap-long : (m : Member) (first last : ℕ) → length (gapPacket m first last) ≡ headerSize
@@ -229,14 +238,6 @@ asked-submission m size e =
     (leb-true size payloadMost (s .0), ltb-true (m .submitted) largestNumber (u .0))
 
 module _ (m : Member) (e : soundOf m ≡ true) where
-  -- a waiting message of a sound state is short
-  pub waiting-short : m .waiting ≡ true → m .message .length ≤ payloadMost
-  unfolding soundOf waitingSound
-  waiting-short w =
-      let s = both-first _ _ (both-then _ _ e) in
-      let t = if-true (m .waiting) _ _ _ w refl ∙ s in
-      search says depth 9
-
   -- the following number, held in a sound state, has a short message and is not over the largest
   pub next-short : 0 < messageAt (m .held) (m .taken .0 + 1) .count
       → (messageAt (m .held) (m .taken .0 + 1) .length ≤ payloadMost) × (m .taken .0 + 1 ≤ largestNumber)

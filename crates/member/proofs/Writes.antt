@@ -7,17 +7,16 @@ use mathlib.Core.List.{List, []}
 use Prim.Native.Nat.{ℕ, _≤_, _<_}
 use native.Mathlib.Nat.{le-refl}
 use native.Mathlib.Omega.{arith}
-use borrow.Author.Tests.{lt-ltb, le-leb, eq-eqb}
-use lib.ListN.{length, length-take}
-use Rattle.group.specs.Choice.{if_then_else_}
+use lib.ListN.{length}
 use Rattle.group.specs.Limits.{payloadMost, longestPacket, largestNumber}
 use Rattle.group.proofs.Lists.{at, All}
+use Rattle.message.proofs.Kept.{payload-short}
 use Rattle.message.specs.Message.{payloadOf}
-use Rattle.message.specs.declared.Message.{Message}
 use Rattle.packet.specs.Laws.{Allowed}
-use Rattle.packet.specs.Packet.{knownKind, payloadFits, obeys, fieldsVerdict, fieldsOf, headerBytes, packetOf, written}
+use Rattle.packet.specs.Packet.{fieldsOf, headerBytes, packetOf, written}
 use Rattle.packet.specs.declared.Packet.the-variants.{Request, Gap, Status}
 use Rattle.packet.proofs.Facts.{KnownBy}
+use Rattle.packet.proofs.Permitted.{request-fields, gap-fields, status-fields}
 use Rattle.packet.proofs.Verdicts.{accepted}
 use Rattle.member.specs.Calls.{Outcome, requestPacket, gapPacket, statusPacket}
 use Rattle.member.specs.Laws.{Typed}
@@ -27,36 +26,31 @@ use Rattle.member.specs.declared.Member.{Member}
 use Rattle.member.proofs.Acknowledged.{acknowledged-fits}
 use Rattle.member.proofs.Soundness.{Sound}
 
--- a message's payload is as long as it says, or shorter
-pub payload-short : (x : Message) → x .length ≤ payloadMost → length (payloadOf x) ≤ payloadMost
-unfolding payloadOf
-payload-short x h = simp length-take (omega arith)
-
 module _ (m : Member) (typed : Typed m) (s : Sound m) where
   pub request-allowed : m .waiting ≡ true → Allowed (fieldsOf (m .group .number) (Request (m .number) (acknowledgedOf m) (firstCount m))) (payloadOf (m .message))
-  unfolding fieldsOf fieldsVerdict knownKind payloadFits obeys if_then_else_
+  unfolding fieldsOf
   request-allowed waits =
       let w = s .waiting .waits waits in
       let size = length (payloadOf (m .message)) in (
         record { kind = omega arith; member = omega arith; group = typed .group; a = acknowledged-fits m typed s; b = typed .submitted; c = omega arith },
         accepted _ size longestPacket
-            (record { enough = omega arith; fields = rw (eq-eqb size size refl, le-leb 1 (firstCount m) (w .submitted-pos)); short = payload-short (m .message) (w .short) }),
+            (record { enough = omega arith; fields = request-fields (m .group .number) (m .number) (acknowledgedOf m) (firstCount m) size (w .submitted-pos); short = payload-short (m .message) (w .short) }),
       )
 
   pub gap-allowed : (first last : ℕ) → acknowledgedOf m .0 < first → first ≤ last → last ≤ largestNumber
       → Allowed (fieldsOf (m .group .number) (Gap (m .number) (acknowledgedOf m) (record { 0 = first }) (record { 0 = last }))) []
-  unfolding fieldsOf fieldsVerdict knownKind payloadFits obeys if_then_else_
+  unfolding fieldsOf
   gap-allowed first last lo hi most = (
     record { kind = omega arith; member = omega arith; group = typed .group; a = acknowledged-fits m typed s; b = omega arith; c = most },
     accepted _ 0 longestPacket
-        (record { enough = omega arith; fields = rw (lt-ltb (acknowledgedOf m .0) first lo, le-leb first last hi); short = omega arith }),
+        (record { enough = omega arith; fields = gap-fields (m .group .number) (m .number) (acknowledgedOf m) (record { 0 = first }) (record { 0 = last }) lo hi; short = omega arith }),
   )
 
   pub status-allowed : Allowed (fieldsOf (m .group .number) (Status (m .number) (acknowledgedOf m))) []
-  unfolding fieldsOf fieldsVerdict knownKind payloadFits obeys if_then_else_
+  unfolding fieldsOf
   status-allowed = (
     record { kind = omega arith; member = omega arith; group = typed .group; a = acknowledged-fits m typed s; b = omega arith; c = omega arith },
-    accepted _ 0 longestPacket (record { enough = omega arith; fields = refl; short = omega arith }),
+    accepted _ 0 longestPacket (record { enough = omega arith; fields = status-fields (m .group .number) (m .number) (acknowledgedOf m); short = omega arith }),
   )
 
 -- the packets that a call wrote are its member's, and acknowledge no more than it does

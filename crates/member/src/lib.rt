@@ -16,7 +16,7 @@ ghost use lib.ListN.{length, getD};
 ghost use Rattle.group.specs.Lent.{front, Laid};
 ghost use Rattle.group.specs.Limits.{heldMost, payloadMost, longestPacket, largestNumber};
 ghost use Rattle.message.specs.Message.{payloadOf, blank};
-ghost use Rattle.packet.specs.Packet.{fieldsOf, packetOf};
+ghost use Rattle.packet.specs.Packet.{fieldsVerdict, fieldsOf, packetOf};
 ghost use Rattle.member.specs.State.{acknowledgedOf, freshMember};
 ghost use Rattle.member.specs.Sound.{soundOf};
 ghost use Rattle.member.specs.Calls.{stepOf, answered, requestPacket, statusPacket, callVerdict, submitVerdict, submitOf, repeatOf, statusOf, gapUpTo, keptOf, broadcastOf, pollOf, contentStep, receiveOf, takeOf, freshOf};
@@ -83,7 +83,7 @@ pub struct Opening {
 
 // Lays a packet without payload at the front of the output, and gives its length.
 fn put_bare(packet: Packet, group: u32, out: &mut [u8]) -> usize
-    requires { ⌜ longestPacket ≤ length (now out) ⌝ }
+    requires { ⌜ (fieldsVerdict (fieldsOf group packet) 0 0 ≡ Verdict.Accepted) × (longestPacket ≤ length (now out)) ⌝ }
     ensures { λ r. ⌜ Laid (packetOf (fieldsOf group packet) []) r (now (out .entry)) (now (out .exit)) ⌝ }
 {
     let none = [0u8; 0];
@@ -251,7 +251,7 @@ impl Member {
 
     // Lays the request of the waiting message at the front of the output, and gives its length.
     fn put_request(self, out: &mut [u8]) -> usize
-        requires { ⌜ (self .message .length ≤ payloadMost) × (longestPacket ≤ length (now out)) ⌝ }
+        requires { ⌜ (1 ≤ self .submitted) × (self .message .length ≤ payloadMost) × (longestPacket ≤ length (now out)) ⌝ }
         ensures { λ r. ⌜ Laid (requestPacket self) r (now (out .entry)) (now (out .exit)) ⌝ }
     {
         let message = self.message;

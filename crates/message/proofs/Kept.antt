@@ -3,12 +3,14 @@ use mathlib.Core.Path.{_≡_, refl, sym, ap, _∙_}
 use mathlib.Core.Bool.{Bool, true}
 use mathlib.Core.List.{List, [], _∷_, _++_}
 use Prim.Native.Nat.{ℕ, zero, suc, _-_, _≤_}
-use lib.ListN.{length, take, drop, replicate}
+use native.Mathlib.Omega.{arith}
+use lib.ListN.{length, take, drop, replicate, length-take}
 use lib.Seq.{drop-at, take-at}
 use Rattle.group.specs.Choice.{if_then_else_}
 use Rattle.group.specs.Limits.{payloadMost}
 use Rattle.group.specs.declared.MemberNumber.{MemberNumber}
 use Rattle.message.specs.Message.{allZero, messageOf, emptyMessage, payloadOf, zeroBehind, isEmpty}
+use Rattle.message.specs.declared.Message.{Message}
 
 zeros : (k : ℕ) → allZero (replicate k 0) ≡ true
 unfolding allZero if_then_else_
@@ -18,6 +20,11 @@ zeros (suc k) = zeros k
 pub kept-payload : (m : MemberNumber) (count : ℕ) (payload : List ℕ) → payloadOf (messageOf m count payload) ≡ payload
 unfolding payloadOf messageOf
 kept-payload m count payload = take-at payload (replicate (payloadMost - length payload) 0) (length payload) refl
+
+-- a message's payload is as long as it says, or shorter
+pub payload-short : (m : Message) → m .length ≤ payloadMost → length (payloadOf m) ≤ payloadMost
+unfolding payloadOf
+payload-short m h = simp length-take (omega arith)
 
 pub kept-zero : (m : MemberNumber) (count : ℕ) (payload : List ℕ) → zeroBehind (messageOf m count payload) ≡ true
 unfolding zeroBehind messageOf

@@ -101,12 +101,6 @@ fields-content h l size e =
     let w = askable h l size e in
     fields-content-by (h .kind) (h .member .0) (h .group) (h .a) (h .b) (h .c) (w .known) (w .obey)
 
--- what an end puts into an output is read as the fields that it put
-pub read-put : (group : ℕ) (packet : Packet) (payload : List ℕ) → Fits (fieldsOf group packet)
-    → writeVerdict (fieldsOf group packet) (length payload) longestPacket ≡ Verdict.Accepted
-    → readOf (packetOf (fieldsOf group packet) payload) ≡ Reading.Fields (fieldsOf group packet)
-read-put group packet payload fits allowed = read-written (fieldsOf group packet) payload (fits, allowed) .0
-
 -- the fields that mean a packet are of the group that it was written in
 pub fields-group : (group : ℕ) (packet : Packet) → fieldsOf group packet .group ≡ group
 unfolding fieldsOf

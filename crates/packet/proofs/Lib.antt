@@ -1,5 +1,6 @@
 pub mod Parts
 pub mod Verdicts
 pub mod RoundTrip
+pub mod Permitted
 pub mod Laws
 pub mod Facts

@@ -8,7 +8,7 @@ ghost use mathlib.Core.Path.{_≡_};
 ghost use Prim.Native.Nat.{_+_, _≤_};
 ghost use lib.ListN.{length};
 ghost use Rattle.group.specs.Limits.{headerSize, payloadMost};
-ghost use Rattle.group.specs.Lent.{front};
+ghost use Rattle.group.specs.Lent.{front, Laid};
 ghost use Rattle.packet.specs.Packet.{headerOf, lengthAt, knownKind, payloadFits, obeys, fieldsVerdict, readOf, headerBytes, packetOf, writeVerdict, writeOf, contentOf, fieldsOf};
 ghost use Rattle.packet.specs.Wording.{readingWording, writingWording};
 
@@ -384,14 +384,16 @@ impl Packet {
         }
     }
 
-    // Lays the packet at the front of an output that has room for it, and gives its length: what an end writes.
+    // Writes the packet to the front of the output, and gives its length. Where a question of writing says no, it writes nothing
+    // and gives 0.
     pub fn put(self, group: u32, payload: &[u8], out: &mut [u8]) -> usize
-        requires { ⌜ (length (now payload) ≤ payloadMost) × (headerSize + length (now payload) ≤ length (now out)) ⌝ }
-        ensures size { λ r. ⌜ r ≡ headerSize + length (now (payload .entry)) ⌝ }
-        ensures lent { λ _. ⌜ now (out .exit) ≡ front (packetOf (fieldsOf group self) (now (payload .entry))) (now (out .entry)) ⌝ }
+        ensures { λ r. ⌜ Laid (writeOf (fieldsOf group self) (now (payload .entry)) (length (now (out .entry))) .bytes) r (now (out .entry)) (now (out .exit)) ⌝ }
     {
         let h = self.fields(group);
-        lay(h, payload, out);
-        Group::HEADER + payload.len()
+        let w = write(h, payload, out);
+        match w {
+            Writing::Bytes(size) => size,
+            Writing::Refused(_) => 0,
+        }
     }
 }

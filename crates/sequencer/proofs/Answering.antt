@@ -94,7 +94,7 @@ module _ (group : Group) (order : List Ordered) (t : ℕ → ℕ) (submitted : �
         let member′ : m .0 < s .group .n = rw (v .group-is) member in
         record {
           inv = note-inv group order s v m taken member (le-trans known below);
-          acked = rw (v .group-is) at (noted-most s m taken (v .typed) sound member′ t (rw (v .group-is) (r .acked)) known);
+          acked = rw (v .group-is) at (noted-most s m taken (v .typed .table) sound member′ t (rw (v .group-is) (r .acked)) known);
           owns = r .owns;
         }
 

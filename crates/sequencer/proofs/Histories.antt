@@ -49,11 +49,11 @@ module _ (group : Group) (order : List Ordered) (s : Sequencer) (v : SequencerIn
         let f = sound in
         let member′ : m .0 < s .group .n = rw (v .group-is) member in
         let known′ : taken .0 ≤ s .top .0 = rw (v .top-is) known in
-        let up = floor-up s m taken (v .typed) f member′ in
+        let up = floor-up s m taken (v .typed .table) f member′ in
         record {
           group-is = v .group-is;
-          typed = note-typed s m taken (v .typed) f member′ known′;
-          sound = of-sound (noteOf s m taken) (note-sound s m taken (v .typed) f member′ known′);
+          typed = note-typed s m taken (v .typed .table) f member′ known′ (v .typed);
+          sound = of-sound (noteOf s m taken) (note-sound s m taken (v .typed .table) f member′ known′ (v .typed .history));
           top-is = v .top-is;
           history-is = λ k x e h.
               let l = at-le order k e in
@@ -63,9 +63,9 @@ module _ (group : Group) (order : List Ordered) (s : Sequencer) (v : SequencerIn
           number-is = v .number-is;
           originator-ok = v .originator-ok;
           count-least = v .count-least;
-          count-most = λ k x e. rw (noted-count s m taken (v .typed) f member′ (x .originator)) (v .count-most k x e);
+          count-most = λ k x e. rw (noted-count s m taken (v .typed .table) f member′ (x .originator)) (v .count-most k x e);
           payload-ok = v .payload-ok;
-          counts-are = λ i h. noted-count s m taken (v .typed) f member′ i ∙ v .counts-are i h;
+          counts-are = λ i h. noted-count s m taken (v .typed .table) f member′ i ∙ v .counts-are i h;
         }
 
   pub repeated-inv : SequencerInv group (repeatedOf s) order

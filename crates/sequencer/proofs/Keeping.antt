@@ -134,10 +134,10 @@ module _ (s : Sequencer) (typed : Typed s) (sound : Sound s) (g : ℕ) (payload 
   -- once a sender was accepted, its number is noted
   module _ (sender : MemberNumber) (taken : SequenceNumber) (e : senderVerdict (s .group .n) (s .top .0) sender taken ≡ Verdict.Accepted) where
     typed′ : Typed (noteOf s sender taken)
-    typed′ = let a = sender-was (s .group .n) (s .top .0) sender taken e in note-typed s sender taken typed sound (a .0) (a .1)
+    typed′ = let a = sender-was (s .group .n) (s .top .0) sender taken e in note-typed s sender taken (typed .table) sound (a .0) (a .1) typed
 
     sound′ : Sound (noteOf s sender taken)
-    sound′ = let a = sender-was (s .group .n) (s .top .0) sender taken e in note-sound s sender taken typed sound (a .0) (a .1)
+    sound′ = let a = sender-was (s .group .n) (s .top .0) sender taken e in note-sound s sender taken (typed .table) sound (a .0) (a .1) (typed .history)
 
     noted-stays : (answer : Answer) → Stays (answered (noteOf s sender taken) answer)
     noted-stays answer = answered-stays (noteOf s sender taken) typed′ sound′ answer
@@ -148,7 +148,7 @@ module _ (s : Sequencer) (typed : Typed s) (sound : Sound s) (g : ℕ) (payload 
     requested-stays count least most f =
         let a = sender-was (s .group .n) (s .top .0) sender taken e in
         let b = count-was (lastCount s sender) (s .top .0) count f in
-        let c = noted-count s sender taken typed sound (a .0) (sender .0) in
+        let c = noted-count s sender taken (typed .table) sound (a .0) (sender .0) in
         request-stays (noteOf s sender taken) typed′ sound′ sender count payload (a .0) least most short (omega arith) (λ h. b .1 (omega arith))
 
     gap-stays : (first last : SequenceNumber) → Stays (gapOf (noteOf s sender taken) first last)

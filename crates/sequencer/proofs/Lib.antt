@@ -10,6 +10,7 @@ pub mod Ordering
 pub mod Asking
 pub mod Laws
 pub mod Settling
+pub mod Sending
 pub mod Walk
 pub mod Outcomes
 pub mod Owed

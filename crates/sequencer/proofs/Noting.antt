@@ -14,7 +14,7 @@ use Rattle.group.specs.declared.SequenceNumber.{SequenceNumber}
 use Rattle.message.proofs.Kept.{empty-zero}
 use Rattle.message.specs.Message.{isEmpty}
 use Rattle.message.specs.declared.Message.{Message}
-use Rattle.history.proofs.Soundness.{takenIn, countIn, KeptFacts, floor-most, floor-least}
+use Rattle.history.proofs.Soundness.{takenIn, countIn, KeptFacts, floor-most, floor-least, floor-first}
 use Rattle.history.specs.Note.{withTaken, tableNoted}
 use Rattle.history.specs.State.{noAcknowledgement, acknowledgementOf, messageAt, floorOf}
 use Rattle.history.specs.declared.Acknowledgement.{Acknowledgement}
@@ -24,7 +24,7 @@ use Rattle.sequencer.specs.Note.{withTable, noteOf}
 use Rattle.sequencer.specs.declared.Sequencer.{Sequencer}
 use Rattle.sequencer.proofs.Soundness.{Sound}
 
-module _ (s : Sequencer) (m : MemberNumber) (taken : SequenceNumber) (typed : Typed s) (sound : Sound s) (member : m .0 < s .group .n) where
+module _ (s : Sequencer) (m : MemberNumber) (taken : SequenceNumber) (long : length (s .acknowledgements) ≡ membersMost) (sound : Sound s) (member : m .0 < s .group .n) where
   abbrev table : List Acknowledgement
   table = s .acknowledgements
 
@@ -33,7 +33,7 @@ module _ (s : Sequencer) (m : MemberNumber) (taken : SequenceNumber) (typed : Ty
 
   pub noted-length : length table′ ≡ membersMost
   unfolding tableNoted
-  noted-length = length-set table (m .0) (withTaken (acknowledgementOf table m) taken) ∙ typed .table
+  noted-length = length-set table (m .0) (withTaken (acknowledgementOf table m) taken) ∙ long
 
   -- an entry is the member's, with the larger number, or as it was
   pub noted-each : (P : ℕ → Acknowledgement → Type 0) (i : ℕ) → (i ≡ m .0 → P i (withTaken (acknowledgementOf table m) taken))
@@ -60,6 +60,8 @@ module _ (s : Sequencer) (m : MemberNumber) (taken : SequenceNumber) (typed : Ty
 
   pub floor-up : s .floor .0 ≤ floorOf (s .group .n) table′
   floor-up =
+      let first = floor-first (s .group .n) table in
+      let is = sound .floor-is in
       floor-least (s .group .n) table′ (s .floor .0) (omega arith)
       (λ i h k.
       let l = noted-length in
@@ -73,9 +75,9 @@ module _ (s : Sequencer) (m : MemberNumber) (taken : SequenceNumber) (typed : Ty
         let l = noted-length in
         le-trans (floor-most (s .group .n) table′ (m .0) member (omega arith)) (noted-most (λ i. s .top .0) (sound .taken-le) known (m .0) member)
 
-    pub note-typed : Typed (noteOf s m taken)
+    pub note-typed : Typed s → Typed (noteOf s m taken)
     unfolding noteOf withTable
-    note-typed =
+    note-typed typed =
         record {
           group = typed .group;
           top = typed .top;
@@ -85,9 +87,9 @@ module _ (s : Sequencer) (m : MemberNumber) (taken : SequenceNumber) (typed : Ty
           counts = λ i. rw (noted-count i) (typed .counts i);
         }
 
-    pub note-sound : Sound (noteOf s m taken)
+    pub note-sound : length (s .history) ≡ placesMost → Sound (noteOf s m taken)
     unfolding noteOf withTable
-    note-sound =
+    note-sound places =
         let up = floor-up in
         let down = floor-down in
         let floor′ = floorOf (s .group .n) table′ in
@@ -107,7 +109,7 @@ module _ (s : Sequencer) (m : MemberNumber) (taken : SequenceNumber) (typed : Ty
               le-or k (s .floor .0 + placesMost)
               (λ h. ap isEmpty (cleared-other (s .history) (s .floor .0) k′ k (omega arith) h) ∙ sound .empty k a h)
               (λ h.
-              let e = cleared-empty (s .history) (s .floor .0) (typed .history) k′ k (k - placesMost) (omega arith) (omega arith) (omega arith) in
+              let e = cleared-empty (s .history) (s .floor .0) places k′ k (k - placesMost) (omega arith) (omega arith) (omega arith) in
               ap isEmpty e ∙ empty-zero);
         }
       where

@@ -80,12 +80,12 @@ module _ (group : Group) (order : List Ordered) (s : Sequencer) (v : SequencerIn
   -- of which that member's entry shows as much, and the others' entries what they did
   pub status-own : (sender : MemberNumber) (taken : SequenceNumber) → sender .0 < group .n → taken .0 ≤ takenIn (noteOf s sender taken .acknowledgements) (sender .0)
   unfolding noteOf withTable
-  status-own sender taken member = noted-own s sender taken (v .typed) (sound-of s (v .sound)) (rw (v .group-is) member)
+  status-own sender taken member = noted-own s sender taken (v .typed .table) (sound-of s (v .sound)) (rw (v .group-is) member)
 
   pub status-other : (sender : MemberNumber) (taken : SequenceNumber) → sender .0 < group .n → (i : ℕ) → i ≢ sender .0
       → takenIn (noteOf s sender taken .acknowledgements) i ≡ takenIn (s .acknowledgements) i
   unfolding noteOf withTable
-  status-other sender taken member = noted-other s sender taken (v .typed) (sound-of s (v .sound)) (rw (v .group-is) member)
+  status-other sender taken member = noted-other s sender taken (v .typed .table) (sound-of s (v .sound)) (rw (v .group-is) member)
 
   -- floor is at most each member's entry, and the length of the order where all of them are
   pub floor-below : (i : ℕ) → i < group .n → s .floor .0 ≤ takenIn (s .acknowledgements) i
@@ -131,7 +131,7 @@ module _ (group : Group) (order : List Ordered) (s : Sequencer) (v : SequencerIn
       unfolding noteOf withTable
       noted-request count payload submission short f =
           let b = count-was (lastCount s sender) (s .top .0) count f in
-          let c = noted-count s sender taken (v .typed) (sound-of s (v .sound)) (rw (v .group-is) member) (sender .0) in
+          let c = noted-count s sender taken (v .typed .table) (sound-of s (v .sound)) (rw (v .group-is) member) (sender .0) in
           request-good group order t submitted (noteOf s sender taken) noted
           sender count payload member submission (sizes (sender .0) member) short (omega arith) (λ h. b .1 (omega arith))
 

@@ -1,17 +1,18 @@
 -- The law by which a loop goes one number on, for clearing what a floor passes.
 -- Assumes nothing.
-use mathlib.Core.Path.{_≡_}
+use mathlib.Core.Path.{_≡_, _∙_}
 use mathlib.Core.List.{List}
 use Prim.Native.Nat.{ℕ, suc, _+_, _-_, _≤_}
 use native.Mathlib.Omega.{arith}
 use lib.ListN.{set}
+use Rattle.group.specs.declared.MemberNumber.{MemberNumber}
 use Rattle.group.specs.declared.SequenceNumber.{SequenceNumber}
 use Rattle.message.specs.Message.{emptyMessage}
 use Rattle.message.specs.declared.Message.{Message}
-use Rattle.history.specs.Note.{clearedOf}
-use Rattle.history.specs.State.{placeOf}
+use Rattle.history.specs.Note.{tableNoted, clearedOf}
+use Rattle.history.specs.State.{placeOf, floorOf}
 use Rattle.history.specs.declared.Acknowledgement.{Acknowledgement}
-use Rattle.sequencer.specs.Note.{withTable}
+use Rattle.sequencer.specs.Note.{withTable, noteOf}
 use Rattle.sequencer.specs.declared.Sequencer.{Sequencer}
 
 -- a state whose history is cleared from its floor up to a number, and nothing else changed
@@ -25,6 +26,11 @@ clearedTo s passed =
       history = clearedOf (s .history) (s .floor .0) (passed - s .floor .0);
       repeats = s .repeats;
     }
+
+-- a state with another table and another floor
+abbrev pub withNoted : Sequencer → List Acknowledgement → SequenceNumber → Sequencer
+withNoted s table floor =
+    record { group = s .group; acknowledgements = table; top = s .top; floor = floor; history = s .history; repeats = s .repeats }
 
 pub clear-start : (s : Sequencer) → s ≡ clearedTo s (s .floor .0)
 unfolding clearedOf
@@ -41,9 +47,12 @@ module _ (s t : Sequencer) (passed : ℕ) (low : s .floor .0 ≤ passed) (inv : 
       let f : s .floor .0 + suc (passed - s .floor .0) ≡ passed + 1 = omega arith in
       rw (ea, en, inv, e, f)
 
-  -- its end, where the new floor is reached
-  pub clear-done : (table : List Acknowledgement) (floor : SequenceNumber) → passed - s .floor .0 ≤ floor .0 - s .floor .0 → floor .0 ≤ passed
-      → record { group = t .group; acknowledgements = table; top = t .top; floor = floor; history = t .history; repeats = t .repeats }
-      ≡ withTable s table (floor .0)
-  unfolding withTable
-  clear-done table floor h k = let e : passed - s .floor .0 ≡ floor .0 - s .floor .0 = omega arith in rw (inv, e)
+  -- its end, where the new floor is reached: with the noted table and its floor, it is the noted state
+  pub clear-done : (m : MemberNumber) (taken : SequenceNumber) (table : List Acknowledgement) (floor : SequenceNumber)
+      → passed - s .floor .0 ≤ floor .0 - s .floor .0 → floor .0 ≤ passed → table ≡ tableNoted (s .acknowledgements) m taken
+      → floor .0 ≡ floorOf (s .group .n) table → withNoted t table floor ≡ noteOf s m taken
+  unfolding withTable noteOf
+  clear-done m taken table floor h k noted smallest =
+      let e : passed - s .floor .0 ≡ floor .0 - s .floor .0 = omega arith in
+      let cleared : withNoted t table floor ≡ withTable s table (floor .0) = rw (inv, e) in
+      cleared ∙ rw (smallest, noted)

@@ -1,16 +1,20 @@
 -- What the functions below the calls promise of the lent output, and what they are owed by the questions before them.
 use mathlib.Core.Path.{_≡_}
+use mathlib.Core.Bool.{true}
 use mathlib.Core.List.{List, []}
 use Prim.Native.Nat.{ℕ, _≤_, _<_}
 use Rattle.group.specs.Lent.{front}
-use Rattle.group.specs.Limits.{membersMost, payloadMost, longestPacket, largestNumber}
+use Rattle.group.specs.Limits.{payloadMost, longestPacket, largestNumber}
+use Rattle.group.specs.declared.SequenceNumber.{SequenceNumber}
 use Rattle.group.specs.declared.Verdict.{Verdict}
 use Rattle.message.specs.declared.Message.{Message}
-use Rattle.history.specs.State.{messageAt}
 use Rattle.packet.specs.declared.Packet.{Packet}
 use Rattle.packet.specs.declared.Packet.the-variants.{Request, Broadcast, Gap, Status, Poll}
 use Rattle.history.specs.Ask.{contentVerdict}
 use Rattle.sequencer.specs.Calls.{Outcome, stepOf}
+use Rattle.sequencer.specs.Sound.{soundOf}
+use Rattle.sequencer.specs.declared.Answer.{Answer}
+use Rattle.sequencer.specs.declared.Answer.the-variants.{Old, Again, Full, Numbered, Noted, Wanted, Sent}
 use Rattle.sequencer.specs.declared.Sequencer.{Sequencer}
 use Rattle.sequencer.specs.declared.Step.{Step}
 
@@ -24,17 +28,26 @@ pub record Quiet (o : Outcome) (step : Step) : Type 0 where
   pub answer : step ≡ stepOf o
   pub bytes : o .bytes ≡ []
 
--- no place of a history holds more than a payload's bytes
-abbrev pub Short : List Message → Type 0
-Short history = (number : ℕ) → messageAt history number .length ≤ payloadMost
+-- a message that may be broadcast with a number and a floor
+abbrev pub MayBroadcast : SequenceNumber → SequenceNumber → Message → Type 0
+MayBroadcast number floor m = (m .length ≤ payloadMost) × (1 ≤ m .count) × (floor .0 < number .0)
 
--- of a packet that is to be asked: the group has at most the limit's members, and payload, lent output and history have the
--- sizes that a packet wants
+-- what an answer comes with may be written
+abbrev pub MaySend : Answer → SequenceNumber → SequenceNumber → Message → Type 0
+MaySend (Answer.Refused refusal) top floor m = Unit {0}
+MaySend Old top floor m = Unit {0}
+MaySend (Again number) top floor m = MayBroadcast number floor m
+MaySend Full top floor m = floor .0 ≤ top .0
+MaySend (Numbered number) top floor m = MayBroadcast number floor m
+MaySend Noted top floor m = Unit {0}
+MaySend (Wanted first last) top floor m = Unit {0}
+MaySend Sent top floor m = Unit {0}
+
+-- of a packet that is to be asked: the state is sound, and payload and lent output have the sizes that a packet wants
 pub record Sized (s : Sequencer) (size room : ℕ) : Type 0 where
-  pub members : s .group .n ≤ membersMost
+  pub sound : soundOf s ≡ true
   pub payload : size ≤ payloadMost
   pub output : longestPacket ≤ room
-  pub history : Short (s .history)
 
 -- of a packet that is to be answered: the same, and it was accepted
 pub record Due (s : Sequencer) (packet : Packet) (size room : ℕ) : Type 0 where

@@ -14,17 +14,16 @@ ghost use mathlib.Core.Path.{_≡_};
 ghost use mathlib.Core.List.{[]};
 ghost use Prim.Native.Nat.{_<_, _≤_};
 ghost use lib.ListN.{length};
-ghost use Rattle.group.specs.Choice.{if_then_else_, _≤?_};
 ghost use Rattle.group.specs.Lent.{front, Laid};
-ghost use Rattle.group.specs.Limits.{membersMost, payloadMost, longestPacket, largestNumber};
-ghost use Rattle.message.specs.Message.{messageOf, payloadOf};
+ghost use Rattle.group.specs.Limits.{longestPacket, largestNumber};
+ghost use Rattle.message.specs.Message.{payloadOf};
 ghost use Rattle.packet.specs.Packet.{fieldsOf, packetOf};
 ghost use Rattle.sequencer.specs.State.{freshSequencer};
 ghost use Rattle.sequencer.specs.Sound.{soundOf};
 ghost use Rattle.sequencer.specs.Calls.{stepOf, answered, readStep, callVerdict, receiveOf, pollOf, copyOf, freshOf};
 ghost use Rattle.group.specs.Wording.{verdictWording};
 ghost use Rattle.sequencer.specs.Wording.{wordingOf};
-ghost use Rattle.sequencer.specs.Done.{Done, Quiet, Sized, Left, Due};
+ghost use Rattle.sequencer.specs.Done.{Done, Quiet, MayBroadcast, MaySend, Sized, Left, Due};
 ghost use Rattle.sequencer.specs.Steps.{acceptedStep, quiet, requestChange, gapAnswer, changeOf, sentOf};
 
 pub struct Sequencer {
@@ -78,7 +77,7 @@ fn send(
     m: Message,
     out: &mut [u8],
 ) -> usize
-    requires { ⌜ (m .length ≤ payloadMost) × (longestPacket ≤ length (now out)) ⌝ }
+    requires { ⌜ MayBroadcast number floor m × (longestPacket ≤ length (now out)) ⌝ }
     ensures { λ r. ⌜ Laid (packetOf (fieldsOf group (Packet.Broadcast (m .originator) number (m .count) floor)) (payloadOf m)) r (now (out .entry)) (now (out .exit)) ⌝ }
 {
     let originator = m.originator;
@@ -95,7 +94,7 @@ fn send(
 
 // Writes the poll packet.
 fn send_poll(group: u32, top: SequenceNumber, floor: SequenceNumber, out: &mut [u8]) -> usize
-    requires { ⌜ longestPacket ≤ length (now out) ⌝ }
+    requires { ⌜ (floor .0 ≤ top .0) × (longestPacket ≤ length (now out)) ⌝ }
     ensures { λ r. ⌜ Laid (packetOf (fieldsOf group (Packet.Poll top floor)) []) r (now (out .entry)) (now (out .exit)) ⌝ }
 {
     let none = [0u8; 0];
@@ -112,7 +111,7 @@ fn send_answer(
     m: Message,
     out: &mut [u8],
 ) -> usize
-    requires { ⌜ (m .length ≤ payloadMost) × (longestPacket ≤ length (now out)) ⌝ }
+    requires { ⌜ MaySend answer top floor m × (longestPacket ≤ length (now out)) ⌝ }
     ensures { λ r. ⌜ Laid (sentOf answer group top floor m) r (now (out .entry)) (now (out .exit)) ⌝ }
 {
     match answer {

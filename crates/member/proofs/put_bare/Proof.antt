@@ -1,8 +1,8 @@
 -- What is laid is a packet without payload.
 -- Assumes nothing.
-use mathlib.Core.Path.{sym, _∙_}
 use mathlib.Core.List.{[]}
-use Rattle.packet.proofs.RoundTrip.{packet-length}
+use native.Mathlib.Omega.{arith}
+use Rattle.packet.proofs.Permitted.{laid-whole}
 use borrow.Author.Needs.{needs}
 use Rattle.member.proofs.put_bare.Statement.{statement}
 use Rattle.member.proofs.put_bare.Tie as tie
@@ -17,9 +17,7 @@ same-length : tie.Need-same-length
 same-length c = search needs
 
 returns : tie.Need-returns
-returns c =
-    let p = c .before .before .put .ensures in
-    record { size = p .0 ∙ sym (packet-length _ []); lent = p .1 }
+returns c = let p = c .before .before .before .before .before .before .pre in laid-whole _ [] _ (p .0) (omega arith) (p .1) (c .before .before .put .ensures)
 
 pub put-bare-spec : {M : Type 1} → statement M
 put-bare-spec = tie.close (tie.spec slice-aggregate-put put-requires same-length returns)

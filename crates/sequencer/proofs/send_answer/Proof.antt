@@ -16,19 +16,19 @@ enum-known-answer : tie.Need-enum-known-answer
 enum-known-answer c = search needs
 
 send-requires : tie.Need-send-requires
-send-requires c κs = search needs
+send-requires c κs = let p = c .before .before .before .before .before .pre in (rw (c .before .before .answer .given .1) at (p .0), p .1)
 
 enum-told-3 : tie.Need-enum-told-3
 enum-told-3 c = search needs
 
 send-poll-requires : tie.Need-send-poll-requires
-send-poll-requires c κs = search needs
+send-poll-requires c κs = let p = c .before .before .before .before .pre in (rw (c .before .enum-told3 .given .1) at (p .0), p .1)
 
 enum-known-answer-2 : tie.Need-enum-known-answer-2
 enum-known-answer-2 c = search needs
 
 send-requires-2 : tie.Need-send-requires-2
-send-requires-2 c κs = search needs
+send-requires-2 c κs = let p = c .before .before .before .before .before .pre in (rw (c .before .before .answer2 .given .1) at (p .0), p .1)
 
 enum-told-4 : tie.Need-enum-told-4
 enum-told-4 c = search needs

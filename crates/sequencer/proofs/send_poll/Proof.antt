@@ -1,7 +1,8 @@
 -- The poll packet's fields, laid with no payload.
 -- Assumes nothing.
-use mathlib.Core.Path.{sym, _∙_}
-use Rattle.packet.proofs.RoundTrip.{packet-length}
+use mathlib.Core.List.{[]}
+use native.Mathlib.Omega.{arith}
+use Rattle.packet.proofs.Permitted.{poll-fields, laid-whole}
 use borrow.Author.Needs.{needs}
 use Rattle.sequencer.proofs.send_poll.Statement.{statement}
 use Rattle.sequencer.proofs.send_poll.Tie as tie
@@ -16,7 +17,10 @@ same-length : tie.Need-same-length
 same-length c = search needs
 
 returns : tie.Need-returns
-returns c = record { size = c .before .before .put .ensures .0 ∙ sym (packet-length _ _); lent = c .before .before .put .ensures .1 }
+returns c =
+    let a = c .before .before .before .before .before .before .args in
+    let p = c .before .before .before .before .before .before .pre in
+    laid-whole _ [] _ (poll-fields (a .group) (a .top) (a .floor) (p .0)) (omega arith) (p .1) (c .before .before .put .ensures)
 
 pub send-poll-spec : {M : Type 1} → statement M
 send-poll-spec = tie.close (tie.spec slice-aggregate-put put-requires same-length returns)

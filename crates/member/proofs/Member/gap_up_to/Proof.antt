@@ -2,8 +2,10 @@
 -- Assumes nothing.
 use mathlib.Core.Path.{_≡_, refl, _∙_}
 use denote.Ref.{now}
+use Rattle.packet.proofs.Permitted.{gap-fields}
 use Rattle.member.specs.Calls.{gapPacket}
-use Rattle.member.proofs.Outcomes.{replied-as, quiet, sent, none-missing, some-missing}
+use Rattle.member.specs.State.{acknowledgedOf}
+use Rattle.member.proofs.Outcomes.{replied-as, quiet, sent, none-missing, some-missing, missing-in}
 use Rattle.window.proofs.Scan.{uncounted}
 use borrow.Author.Needs.{needs}
 use Rattle.member.proofs.Member.gap_up_to.Statement.{statement}
@@ -25,7 +27,11 @@ acknowledged-requires : tie.Need-acknowledged-requires
 acknowledged-requires c κs = search needs
 
 put-bare-requires : tie.Need-put-bare-requires
-put-bare-requires c κs = search needs
+put-bare-requires c κs =
+    let a = c .before .before .before .before .before .before .before .before .before .args in
+    let e = (rw (c .before .before .before .before .before .before .counts .ensures) at (c .before .before .before .before .before .lowest-missing .ensures)) ∙ uncounted (a .self .held) _ _ in
+    let z = missing-in (a .self) (a .last .0) _ e (c .before .before .before .if1 .left) in
+    (rw (c .before .acknowledged .ensures) (gap-fields (a .self .group .number) (a .self .number) (acknowledgedOf (a .self)) (c .before .before .before .before .before .lowest-missing .result) (a .last) (z .0) (z .1)), c .before .before .before .before .before .before .before .before .before .pre)
 
 same-length : tie.Need-same-length
 same-length c = search needs

@@ -1,12 +1,14 @@
 -- What is laid is the request, with the waiting message's payload.
 -- Assumes nothing.
-use mathlib.Core.Path.{_≡_, sym, _∙_}
+use mathlib.Core.Path.{_≡_}
 use native.Mathlib.Omega.{arith}
 use lib.ListN.{length, length-take}
 use Rattle.group.specs.Limits.{payloadMost}
+use Rattle.message.proofs.Kept.{payload-short}
 use Rattle.message.specs.Message.{payloadOf}
-use Rattle.packet.proofs.RoundTrip.{packet-length}
+use Rattle.packet.proofs.Permitted.{request-fields, laid-whole}
 use Rattle.member.specs.Calls.{requestPacket}
+use Rattle.member.specs.State.{acknowledgedOf}
 use borrow.Author.Needs.{needs}
 use Rattle.member.proofs.Member.put_request.Statement.{statement}
 use Rattle.member.proofs.Member.put_request.Tie as tie
@@ -25,9 +27,7 @@ slice-aggregate-put c =
     simp length-take (omega arith)
 
 put-requires : tie.Need-put-requires
-put-requires c κs =
-    let n : length (c .before .before .before .before .before .before .before .args .self .message .payload) ≡ payloadMost = search needs in
-    simp length-take (omega arith)
+put-requires c κs = search needs
 
 same-length : tie.Need-same-length
 same-length c = search needs
@@ -35,8 +35,10 @@ same-length c = search needs
 returns : tie.Need-returns
 unfolding requestPacket payloadOf
 returns c =
-    let p = c .before .before .put .ensures in
-    record { size = p .0 ∙ sym (packet-length _ _); lent = rw (c .before .before .before .before .before .acknowledged .ensures) at (p .1) }
+    let a = c .before .before .before .before .before .before .before .before .before .before .args in
+    let p = c .before .before .before .before .before .before .before .before .before .before .pre in
+    let m = a .self .message in
+    laid-whole _ (payloadOf m) _ (request-fields (a .self .group .number) (a .self .number) (acknowledgedOf (a .self)) (a .self .submitted) (length (payloadOf m)) (p .0)) (payload-short m (p .1)) (p .2) (rw (c .before .before .before .before .before .acknowledged .ensures) at (c .before .before .put .ensures))
 
 pub put-request-spec : {M : Type 1} → statement M
 put-request-spec =

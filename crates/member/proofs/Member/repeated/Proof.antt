@@ -4,7 +4,8 @@ use mathlib.Core.Path.{refl, sym, _∙_}
 use denote.Ref.{now}
 use Rattle.group.proofs.Choice.{if-true, if-false}
 use Rattle.member.specs.Calls.{repeatOf}
-use Rattle.member.proofs.Outcomes.{replied-as, quiet, sent, judged-yes, judged-no, asked, waiting-short}
+use Rattle.member.proofs.Outcomes.{replied-as, quiet, sent, judged-yes, judged-no, asked}
+use Rattle.member.proofs.Soundness.{sound-of}
 use borrow.Author.Needs.{needs}
 use Rattle.member.proofs.Member.repeated.Statement.{statement}
 use Rattle.member.proofs.Member.repeated.Tie as tie
@@ -19,7 +20,8 @@ put-request-requires : tie.Need-put-request-requires
 put-request-requires c κs =
     let a = c .before .before .before .before .before .before .args in
     let s = asked (a .self) _ (sym (c .before .before .before .before .ask .ensures) ∙ c .before .before .enum-told .given .1) in
-    (waiting-short (a .self) (s .0) (c .before .if1 .taken), s .1)
+    let w = sound-of (a .self) (s .0) .waiting .waits (c .before .if1 .taken) in
+    (w .submitted-pos, w .short, s .1)
 
 same-length : tie.Need-same-length
 same-length c = search needs

@@ -1,5 +1,6 @@
 -- The status packet that was laid.
 -- Assumes nothing.
+use Rattle.packet.proofs.Permitted.{status-fields}
 use Rattle.member.specs.Calls.{statusPacket}
 use Rattle.member.proofs.Outcomes.{sent}
 use borrow.Author.Needs.{needs}
@@ -10,7 +11,7 @@ acknowledged-requires : tie.Need-acknowledged-requires
 acknowledged-requires c κs = search needs
 
 put-bare-requires : tie.Need-put-bare-requires
-put-bare-requires c κs = search needs
+put-bare-requires c κs = (status-fields _ _ _, search needs)
 
 same-length : tie.Need-same-length
 same-length c = search needs

@@ -1,6 +1,7 @@
 -- Questions 1, 2, 13, 14 and 16, then the request of the message that waits.
 -- Assumes nothing.
 use mathlib.Core.Path.{refl, sym, _∙_}
+use native.Mathlib.Omega.{arith}
 use denote.Ref.{now}
 use lib.ListN.{length}
 use Rattle.message.specs.Message.{messageOf}
@@ -34,7 +35,7 @@ unfolding messageOf
 put-request-requires c κs =
     let s = asked _ _ (sym (c .before .before .before .before .before .before .before .before .before .ask .ensures) ∙ c .before .before .before .before .before .before .before .enum-told .given .1) in
     let w = asked-submission _ _ (sym (c .before .before .before .before .before .before .ask-submission .ensures) ∙ c .before .before .before .before .enum-told2 .given .1) in
-    rw (c .before .keep .ensures) (w .0, s .1)
+    rw (c .before .keep .ensures) (omega arith, w .0, s .1)
 
 replied-requires : tie.Need-replied-requires
 replied-requires c κs = search needs

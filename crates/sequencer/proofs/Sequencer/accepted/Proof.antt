@@ -1,24 +1,24 @@
 -- A is noted, and what the floor passes is cleared by a loop whose invariant says that all else is as it was; then the change is laid
 -- into the state, and the law of `Settling` says that this is the step.
 -- Assumes nothing.
-use mathlib.Core.Path.{_≡_, sym, ap, _∙_}
+use mathlib.Core.Path.{_≡_, sym, ap, _∙_, subst}
 use Prim.Native.Nat.{_-_, _≤_}
 use denote.Ref.{now}
 use native.Mathlib.Nat.{lt-of-lt-of-le}
 use native.Mathlib.Omega.{arith}
 use lib.ListN.{length, length-map, length-set}
 use Rattle.group.specs.Limits.{placesMost}
-use Rattle.history.proofs.Sizes.{cleared-short}
 use Rattle.history.specs.Ask.{senderOf}
 use Rattle.sequencer.specs.Calls.{Outcome}
-use Rattle.sequencer.specs.Note.{noteOf}
 use Rattle.sequencer.specs.State.{lastCount}
 use Rattle.sequencer.specs.Steps.{changeOf, laidOf, changed}
 use Rattle.sequencer.specs.declared.Sequencer.{Sequencer}
 use Rattle.sequencer.proofs.Outcomes.{done-as}
-use Rattle.sequencer.proofs.Owed.{accepted-member, accepted-left, laid-short}
+use Rattle.sequencer.proofs.Owed.{accepted-sender, accepted-left}
+use Rattle.sequencer.proofs.Sending.{change-sends, noted-sound}
 use Rattle.sequencer.proofs.Settling.{settledOf, accepted-is}
-use Rattle.sequencer.proofs.Walk.{clearedTo, clear-start, clear-on, clear-done}
+use Rattle.sequencer.proofs.Soundness.{Sound, sound-of}
+use Rattle.sequencer.proofs.Walk.{clearedTo, withNoted, clear-start, clear-on, clear-done}
 use borrow.Author.Needs.{needs}
 use Rattle.sequencer.proofs.Sequencer.accepted.Statement.{statement}
 use Rattle.sequencer.proofs.Sequencer.accepted.Tie as tie
@@ -33,10 +33,10 @@ sender-of-requires : tie.Need-sender-of-requires Inv-loop μ-loop
 sender-of-requires c κs = search needs
 
 table-noted-requires : tie.Need-table-noted-requires Inv-loop μ-loop
-table-noted-requires c κs = rw (c .before .before .before .sender-of .ensures) (lt-of-lt-of-le (accepted-member _ _ _ _ (c .before .before .before .before .before .before .pre .accepted)) (c .before .before .before .before .before .before .pre .sizes .members))
+table-noted-requires c κs = rw (c .before .before .before .sender-of .ensures) (lt-of-lt-of-le (accepted-sender _ _ _ _ (c .before .before .before .before .before .before .pre .accepted) .0) (sound-of _ (c .before .before .before .before .before .before .pre .sizes .sound) .n-most))
 
 smallest-requires : tie.Need-smallest-requires Inv-loop μ-loop
-smallest-requires c κs = c .before .before .before .before .before .before .before .pre .sizes .members
+smallest-requires c κs = sound-of _ (c .before .before .before .before .before .before .before .pre .sizes .sound) .n-most
 
 loop-holds : tie.Need-loop-holds Inv-loop μ-loop
 loop-holds c = (sym (length-map (c .before .before .before .before .before .before .before .before .before .args .t1 .history) _) ∙ c .before .before .before .before .before .before .before .before .before .good .0 .1 .1 .1 .1 .1 .1 .0 .1 .0 .1, search needs, search needs, clear-start (c .before .before .before .before .before .before .before .before .before .args .t1))
@@ -74,7 +74,7 @@ mul-entry : tie.Need-mul-entry Inv-loop μ-loop
 mul-entry c = search needs
 
 array-copy-out-entry : tie.Need-array-copy-out-entry Inv-loop μ-loop
-array-copy-out-entry c = rw (c .before .before .before .before .before .before .before .before .before .before .sender-of .ensures) (lt-of-lt-of-le (accepted-member _ _ _ _ (c .before .before .before .before .before .before .before .before .before .before .before .before .before .pre .accepted)) (c .before .before .before .before .before .before .before .before .before .before .before .before .before .pre .sizes .members))
+array-copy-out-entry c = rw (c .before .before .before .before .before .before .before .before .before .before .sender-of .ensures) (lt-of-lt-of-le (accepted-sender _ _ _ _ (c .before .before .before .before .before .before .before .before .before .before .before .before .before .pre .accepted) .0) (sound-of _ (c .before .before .before .before .before .before .before .before .before .before .before .before .before .pre .sizes .sound) .n-most))
 
 packet-change-requires : tie.Need-packet-change-requires Inv-loop μ-loop
 packet-change-requires c κs =
@@ -106,37 +106,52 @@ mul-next : tie.Need-mul-next Inv-loop μ-loop
 mul-next c = search needs
 
 element-set-from-next : tie.Need-element-set-from-next Inv-loop μ-loop
-element-set-from-next c = rw (c .before .before .before .before .before .before .before .before .before .before .before .before .before .before .before .before .before .before .before .sender-of .ensures) (lt-of-lt-of-le (accepted-member _ _ _ _ (c .before .before .before .before .before .before .before .before .before .before .before .before .before .before .before .before .before .before .before .before .before .before .pre .accepted)) (c .before .before .before .before .before .before .before .before .before .before .before .before .before .before .before .before .before .before .before .before .before .before .pre .sizes .members))
+element-set-from-next c = rw (c .before .before .before .before .before .before .before .before .before .before .before .before .before .before .before .before .before .before .before .sender-of .ensures) (lt-of-lt-of-le (accepted-sender _ _ _ _ (c .before .before .before .before .before .before .before .before .before .before .before .before .before .before .before .before .before .before .before .before .before .before .pre .accepted) .0) (sound-of _ (c .before .before .before .before .before .before .before .before .before .before .before .before .before .before .before .before .before .before .before .before .before .before .pre .sizes .sound) .n-most))
 
 send-answer-requires : tie.Need-send-answer-requires Inv-loop μ-loop
+unfolding laidOf
 send-answer-requires c κs =
-    let z = c .before .before .before .before .before .before .before .before .before .before .before .before .before .before .before .before .before .before .before .before .before .before .before .before .pre .sizes in
-    (rw (c .before .before .before .laid .ensures, c .before .before .before .before .before .place2 .ensures, c .before .before .before .before .before .before .before .before .before .before .before .before .before .before .loop .inv .3) (laid-short _ _ _ _ _ (cleared-short _ _ _ _ (z .history _)) (z .payload)), z .output)
+    let d = c .before .before .before .before .before .before .before .before .before .before .before in
+    let a = c .before .before .before .before .before .before .before .before .before .before .before .before .before .before .before .before .before .before .before .before .before .before .before .before .args in
+    let z = c .before .before .before .before .before .before .before .before .before .before .before .before .before .before .before .before .before .before .before .before .before .before .before .before .pre in
+    let good = c .before .before .before .before .before .before .before .before .before .before .before .before .before .before .before .before .before .before .before .before .before .before .before .before .good .0 .1 .1 .1 in
+    let s = a .t1 in
+    let l = d .before .before .before .loop in
+    let m = senderOf (a .packet) .member in
+    let from = c .before .before .before .before .before .before .before .before .before .before .before .before .before .before .before .before .before .before .before .before .before .sender-of .ensures in
+    let table = d .before .before .before .before .before .before .table-noted in
+    let floor = d .before .before .before .before .before .smallest in
+    let n = withNoted (l .self) (table .result) (floor .result) in
+    let noted = clear-done s (l .self) (l .passed) (l .inv .1) (l .inv .3) m (senderOf (a .packet) .taken) (table .result) (floor .result) (l .inv .2) (d .before .if1 .left) (rw from at (table .ensures)) (floor .ensures) in
+    let members = sym (length-map (s .acknowledgements) _) ∙ good .0 .1 .0 .1 in
+    let places = sym (length-map (s .history) _) ∙ good .1 .1 .1 .0 .1 .0 .1 in
+    let sound = subst Sound (sym noted) (noted-sound s (a .packet) (z .sizes .sound) members places (z .accepted)) in
+    (rw (c .before .before .before .laid .ensures, c .before .before .before .before .before .place2 .ensures, c .before .before .before .before .before .before .before .packet-change .ensures, from) (change-sends n sound m (now (a .payload)) (z .sizes .payload) (a .packet) (lastCount n m) (n .repeats)), z .sizes .output)
 
 same-length : tie.Need-same-length Inv-loop μ-loop
 same-length c = search needs
 
 returns : tie.Need-returns Inv-loop μ-loop
-unfolding changed laidOf noteOf
+unfolding changed laidOf
 returns c =
+    let d = c .before .before .before .before .before .before .before .before .before .before .before .before .before .before in
     let a = c .before .before .before .before .before .before .before .before .before .before .before .before .before .before .before .before .before .before .before .before .before .before .before .before .before .before .before .args in
     let s = a .t1 in
-    let l = c .before .before .before .before .before .before .before .before .before .before .before .before .before .before .before .before .before .loop in
-    let t = l .self in
+    let l = d .before .before .before .loop in
     let m = senderOf (a .packet) .member in
-    let e = c .before .before .before .before .before .before .before .before .before .before .before .before .before .before .before .before .before .before .before .before .before .before .before .before .sender-of .ensures in
+    let from = c .before .before .before .before .before .before .before .before .before .before .before .before .before .before .before .before .before .before .before .before .before .before .before .before .sender-of .ensures in
+    let table = d .before .before .before .before .before .before .table-noted in
+    let floor = d .before .before .before .before .before .smallest in
+    let n = withNoted (l .self) (table .result) (floor .result) in
+    let noted = clear-done s (l .self) (l .passed) (l .inv .1) (l .inv .3) m (senderOf (a .packet) .taken) (table .result) (floor .result) (l .inv .2) (d .before .if1 .left) (rw from at (table .ensures)) (floor .ensures) in
     let w = c .before .before .send-answer .ensures in
-    let n : Sequencer = record { group = t .group; acknowledgements = c .before .before .before .before .before .before .before .before .before .before .before .before .before .before .before .before .before .before .before .before .table-noted .result; top = t .top; floor = c .before .before .before .before .before .before .before .before .before .before .before .before .before .before .before .before .before .before .before .smallest .result; history = t .history; repeats = t .repeats } in
-    let noted : n ≡ noteOf s m (senderOf (a .packet) .taken) =
-    clear-done s t (l .passed) (l .inv .1) (l .inv .3) (c .before .before .before .before .before .before .before .before .before .before .before .before .before .before .before .before .before .before .before .before .table-noted .result) (c .before .before .before .before .before .before .before .before .before .before .before .before .before .before .before .before .before .before .before .smallest .result) (l .inv .2) (c .before .before .before .before .before .before .before .before .before .before .before .before .before .before .before .if1 .left)
-    ∙ rw (c .before .before .before .before .before .before .before .before .before .before .before .before .before .before .before .before .before .before .before .smallest .ensures, c .before .before .before .before .before .before .before .before .before .before .before .before .before .before .before .before .before .before .before .before .table-noted .ensures, e) in
     let size = ap (λ (x : Sequencer). length (x .history)) (sym noted) ∙ l .inv .0 in
     let outcome : Sequencer → Outcome =
     λ n. settledOf n m (now (a .payload)) (changeOf (n .history) (a .packet) (lastCount n m) (n .floor .0) (n .top) (n .repeats)) in
     done-as {o = outcome n} (ap outcome noted ∙ sym (accepted-is s (a .packet) (now (a .payload)) (c .before .before .before .before .before .before .before .before .before .before .before .before .before .before .before .before .before .before .before .before .before .before .before .before .before .before .before .pre .accepted) size))
     (record {
-      answer = rw (w .size, c .before .before .before .before .before .before .laid .ensures, c .before .before .before .before .before .before .before .before .place2 .ensures, c .before .before .before .before .before .before .before .before .before .before .packet-change .ensures, e);
-      lent = rw (c .before .before .before .before .before .before .laid .ensures, c .before .before .before .before .before .before .before .before .place2 .ensures, c .before .before .before .before .before .before .before .before .before .before .packet-change .ensures, e) at (w .lent);
+      answer = rw (w .size, c .before .before .before .before .before .before .laid .ensures, c .before .before .before .before .before .before .before .before .place2 .ensures, c .before .before .before .before .before .before .before .before .before .before .packet-change .ensures, from);
+      lent = rw (c .before .before .before .before .before .before .laid .ensures, c .before .before .before .before .before .before .before .before .place2 .ensures, c .before .before .before .before .before .before .before .before .before .before .packet-change .ensures, from) at (w .lent);
     })
 
 pub accepted-spec : {M : Type 1} → statement M

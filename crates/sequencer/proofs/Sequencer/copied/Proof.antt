@@ -1,6 +1,8 @@
 -- Question 17; then the broadcast.
 -- Assumes nothing.
 use mathlib.Core.Path.{_∙_}
+use Prim.Native.Nat.{_≤_, _<_}
+use native.Mathlib.Omega.{arith}
 use denote.Ref.{now}
 use lib.ListN.{length}
 use Rattle.group.proofs.Choice.{choices, tests}
@@ -8,7 +10,8 @@ use Rattle.history.proofs.Asking.{judged-yes}
 use Rattle.sequencer.specs.Calls.{broadcastOf, copyOf}
 use Rattle.sequencer.specs.declared.Answer.the-variants.{Sent}
 use Rattle.sequencer.proofs.Outcomes.{done-as, lent-as-was}
-use Rattle.sequencer.proofs.Owed.{call-asked, sound-short}
+use Rattle.sequencer.proofs.Owed.{call-asked}
+use Rattle.sequencer.proofs.Soundness.{sound-of}
 use borrow.Author.Needs.{needs}
 use Rattle.sequencer.proofs.Sequencer.copied.Statement.{statement}
 use Rattle.sequencer.proofs.Sequencer.copied.Tie as tie
@@ -43,7 +46,10 @@ send-requires : tie.Need-send-requires
 send-requires c κs =
     let a = c .before .before .before .before .before .before .before .before .before .before .args in
     let w = call-asked (a .t1) (length (now (a .out))) (c .before .before .before .before .before .before .before .before .before .before .pre) in
-    (rw (c .before .before .before .place .ensures) (sound-short (a .t1) (w .0) _), w .1)
+    let lo : a .t1 .floor .0 < a .number .0 = search needs in
+    let hi : a .number .0 ≤ a .t1 .top .0 = search needs in
+    let k = sound-of (a .t1) (w .0) .kept (a .number .0) lo hi in
+    (rw (c .before .before .before .place .ensures) (k .short, k .count-least, omega arith), w .1)
 
 same-length : tie.Need-same-length
 same-length c = search needs

@@ -7,6 +7,7 @@ use Rattle.sequencer.specs.declared.Answer.the-variants.{Sent}
 use Rattle.history.proofs.Asking.{judged-yes, judged-no}
 use Rattle.sequencer.proofs.Outcomes.{done-as, promised, lent-as-was}
 use Rattle.sequencer.proofs.Owed.{call-asked}
+use Rattle.sequencer.proofs.Soundness.{sound-of}
 use borrow.Author.Needs.{needs}
 use Rattle.sequencer.proofs.Sequencer.poll.Statement.{statement}
 use Rattle.sequencer.proofs.Sequencer.poll.Tie as tie
@@ -18,7 +19,9 @@ enum-told : tie.Need-enum-told
 enum-told c = search needs
 
 send-poll-requires : tie.Need-send-poll-requires
-send-poll-requires c κs = call-asked _ _ (sym (c .before .before .before .before .before .ask .ensures) ∙ c .before .before .before .enum-told .given .1) .1
+send-poll-requires c κs =
+    let w = call-asked _ _ (sym (c .before .before .before .before .before .ask .ensures) ∙ c .before .before .before .enum-told .given .1) in
+    (sound-of _ (w .0) .floor-le, w .1)
 
 enum-known-v : tie.Need-enum-known-v
 enum-known-v c = search needs

@@ -7,7 +7,7 @@ use Rattle.packet.proofs.Verdicts.{readable, payload-part}
 use Rattle.sequencer.specs.Calls.{readStep, receiveOf}
 use Rattle.history.proofs.Asking.{judged-yes, judged-no}
 use Rattle.sequencer.proofs.Outcomes.{done-as, promised, lent-as-was}
-use Rattle.sequencer.proofs.Owed.{sound-members, sound-short, call-asked}
+use Rattle.sequencer.proofs.Owed.{call-asked}
 use borrow.Author.Needs.{needs}
 use Rattle.sequencer.proofs.Sequencer.receive.Statement.{statement}
 use Rattle.sequencer.proofs.Sequencer.receive.Tie as tie
@@ -44,10 +44,9 @@ take-requires c κs =
     let e = sym (c .before .before .before .before .before .before .read .ensures .0) ∙ c .before .before .before .before .reading .given .1 in
     let w = call-asked _ _ (sym (c .before .before .before .before .before .before .before .before .before .ask .ensures) ∙ c .before .before .before .before .before .before .before .enum-told .given .1) in
     record {
-      members = sound-members _ (w .0);
+      sound = w .0;
       payload = rw (c .before .before .payload-length .ensures, payload-part _ _ e .1) (readable _ _ e .payload);
       output = w .1;
-      history = sound-short _ (w .0);
     }
 
 enum-known-reading-2 : tie.Need-enum-known-reading-2

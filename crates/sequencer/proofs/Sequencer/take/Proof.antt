@@ -7,6 +7,7 @@ use Rattle.sequencer.specs.Calls.{refused}
 use Rattle.sequencer.specs.Steps.{acceptedStep}
 use Rattle.sequencer.proofs.Outcomes.{done-as, lent-as-was}
 use Rattle.sequencer.proofs.Settling.{read-is, content-was}
+use Rattle.sequencer.proofs.Soundness.{sound-of}
 use borrow.Author.Needs.{needs}
 use Rattle.sequencer.proofs.Sequencer.take.Statement.{statement}
 use Rattle.sequencer.proofs.Sequencer.take.Tie as tie
@@ -15,7 +16,7 @@ of-requires : tie.Need-of-requires
 of-requires c κs = search needs
 
 ask-packet-requires : tie.Need-ask-packet-requires
-ask-packet-requires c κs = c .before .before .before .before .before .before .pre .members
+ask-packet-requires c κs = sound-of _ (c .before .before .before .before .before .before .pre .sound) .n-most
 
 enum-told : tie.Need-enum-told
 enum-told c = search needs

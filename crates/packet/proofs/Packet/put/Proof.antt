@@ -28,7 +28,7 @@ returns c =
     let a = c .before .before .before .before .before .before .before .before .before .before .args in
     let w = c .before .before .before .before .before .write .ensures in
     rw (← c .before .before .before .before .before .before .before .fields .ensures)
-    (record { size = written-size (c .before .before .before .before .before .before .before .fields .result) (now (a .payload)) (length (now (a .out))) _ (sym (w .0) ∙ c .before .w .given .1); lent = w .1 })
+    (record { size = written-size (c .before .before .before .before .before .before .before .fields .result) (now (a .payload)) (length (now (a .out))) _ (sym (w .0) ∙ c .before .w .given .1); lent = w .1 .0 })
 
 same-length-2 : tie.Need-same-length-2
 same-length-2 c = search needs
@@ -38,7 +38,7 @@ returns-2 c =
     let a = c .before .before .before .before .before .before .before .before .before .args in
     let w = c .before .before .before .before .write .ensures in
     rw (← c .before .before .before .before .before .before .fields .ensures)
-    (record { size = written-none (c .before .before .before .before .before .before .fields .result) (now (a .payload)) (length (now (a .out))) _ (sym (w .0) ∙ c .enum-told .given .1); lent = w .1 })
+    (record { size = written-none (c .before .before .before .before .before .before .fields .result) (now (a .payload)) (length (now (a .out))) _ (sym (w .0) ∙ c .enum-told .given .1); lent = w .1 .0 })
 
 pub put-spec : {M : Type 1} → statement M
 put-spec =

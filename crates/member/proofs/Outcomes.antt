@@ -30,9 +30,9 @@ use Rattle.member.specs.Wording.{wordingOf}
 use Rattle.member.specs.Calls.{Outcome, stepOf, answered, gapPacket, callVerdict, refused, submitVerdict, withHeld, gapUpTo, keptOf, isOwn, withTaken, tookOf, contentStep, readStep}
 use Rattle.window.specs.Sound.{placeSound}
 use Rattle.member.specs.Sound.{soundOf}
-use Rattle.member.specs.State.{firstCount}
+use Rattle.member.specs.State.{acknowledgedOf, firstCount}
 use Rattle.window.specs.Places.{placeOf, messageAt, lowestMissing}
-use Rattle.member.proofs.Acknowledged.{acknowledged-gapped}
+use Rattle.member.proofs.Acknowledged.{acknowledged-missing, acknowledged-gapped}
 use Rattle.window.proofs.Missing.{lowest-is, lowest-other}
 use Rattle.member.specs.Steps.{Spoken, Replied, withPlace, Hears}
 use Rattle.member.specs.declared.Answer.{Answer}
@@ -109,11 +109,12 @@ module _ (m : Member) (last first : ℕ) (e : first ≡ lowestMissing (m .held) 
   unfolding gapUpTo
   some-missing n = rw (← e) (if-ne first 0 _ _ _ n refl)
 
--- the lowest missing number lies above t, and up to the last that was looked at
+-- the lowest missing number lies above what is acknowledged, and up to the last that was looked at
 pub missing-in : (m : Member) (last first : ℕ) → first ≡ lowestMissing (m .held) (m .taken .0) (last - m .taken .0) → (first ≡ 0 → ⊥)
-    → (m .taken .0 < first) × (first ≤ last)
+    → (acknowledgedOf m .0 < first) × (first ≤ last)
 missing-in m last first e n =
     let l = lowest-is (m .held) (m .taken .0) (last - m .taken .0) (λ z. n (e ∙ z)) in
+    let above = acknowledged-missing m l in
     let lo = l .above in
     let hi = l .up-to in
     (omega arith, omega arith)

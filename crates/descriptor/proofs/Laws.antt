@@ -1,6 +1,6 @@
 -- Bytes that were read, or handed on, one part after the other are those of the parts joined: a tally goes on from where it stands.
 -- Assumes nothing.
-use mathlib.Core.Path.{_≡_, refl, sym, ap, _∙_}
+use mathlib.Core.Path.{_≡_, refl, sym, ap, _∙_, subst}
 use mathlib.Core.Bool.{Bool, true, false}
 use mathlib.Core.List.{List, [], _∷_, _++_, append-nil, append-assoc}
 use Prim.Native.Nat.{ℕ, _+_, _≤_, _<_}
@@ -87,6 +87,10 @@ takes-both {r} {s} {t} {a} {b} g h = go (s .failed) refl
           whole = λ x. (w .0, h .whole x .1);
           stopped = stopped;
         }
+
+-- the bytes under another name
+pub takes-as : {s t : Sink} {a b : List ℕ} → a ≡ b → Takes s a t → Takes s b t
+takes-as {s} {t} e h = subst (λ (l : List ℕ). Takes s l t) e h
 
 -- a sink that failed, and one that did not
 pub takes-nothing : (s : Sink) (bytes : List ℕ) → s .failed ≡ true → Takes s bytes s

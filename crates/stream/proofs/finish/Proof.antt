@@ -1,7 +1,7 @@
 -- The line that is left, and then the last.
 -- Assumes nothing.
 use mathlib.Core.Path.{ap, _∙_}
-use Rattle.descriptor.proofs.Laws.{takes-both}
+use Rattle.descriptor.proofs.Laws.{takes-both, takes-as}
 use Rattle.player.proofs.Laws.{laid-front}
 use Rattle.player.specs.Feed.{State, endOf}
 use Rattle.player.specs.Play.{lastOf}
@@ -31,7 +31,7 @@ returns c =
     let u =
     laid-front (lastOf (stateOf (c .before .before .before .before .before .end .result .player) .stage)) _ _ _ (last .1) (last .0)
     ∙ ap (λ (x : State). lastOf (x .stage)) (d .state) in
-    takes-both (rw t at (c .before .before .before .before .put .ensures)) (rw u at (c .put2 .ensures))
+    takes-both (takes-as t (c .before .before .before .before .put .ensures)) (takes-as u (c .put2 .ensures))
 
 pub finish-spec : {M : Type 1} → statement M
 finish-spec =

@@ -2,7 +2,7 @@
 -- Assumes nothing.
 use mathlib.Core.Path.{refl}
 use mathlib.Core.List.{[]}
-use Rattle.descriptor.proofs.Laws.{takes-both}
+use Rattle.descriptor.proofs.Laws.{takes-both, takes-as}
 use Rattle.player.proofs.Laws.{continues-end}
 use borrow.Author.Needs.{needs}
 use Rattle.stream.proofs.play.Statement.{statement}
@@ -22,7 +22,7 @@ returns c =
     let t = c .before .before .before .before .play-all .ensures in
     let p = rw (c .before .before .before .before .before .fresh .ensures) at (t .puts) in
     let e = continues-end _ (t .input) (p .printed) [] refl (p .continues) in
-    record { input = t .input; gives = t .gives; takes = rw e at (takes-both (p .takes) (c .finish .ensures)) }
+    record { input = t .input; gives = t .gives; takes = takes-as e (takes-both (p .takes) (c .finish .ensures)) }
 
 pub play-spec : {M : Type 1} → statement M
 play-spec = tie.close (tie.spec fresh-requires play-all-requires finish-requires returns)

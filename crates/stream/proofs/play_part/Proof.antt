@@ -5,7 +5,7 @@ use Prim.Native.Nat.{_+_, _-_, _≤_, _<_}
 use native.Mathlib.Omega.{arith}
 use denote.Ref.{now}
 use lib.ListN.{length, take, drop, drop-of-length-le}
-use Rattle.descriptor.proofs.Laws.{takes-both}
+use Rattle.descriptor.proofs.Laws.{takes-both, takes-as}
 use Rattle.player.proofs.Laws.{reads-within, laid-front, continues-fed}
 use Rattle.player.specs.Feed.{fedOf}
 use Rattle.player.specs.Player.{stateOf}
@@ -73,7 +73,7 @@ loop-again c =
       w .1,
       record {
         printed = _;
-        takes = takes-both (k .takes) (rw t at (c .before .before .put .ensures));
+        takes = takes-both (k .takes) (takes-as t (c .before .before .put .ensures));
         continues = continues-fed _ (stateOf (l .player)) _ part (k .printed) _ (l .from) _ refl (d .used) (d .state) (k .continues);
       },
     )

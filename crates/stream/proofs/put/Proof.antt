@@ -4,6 +4,7 @@ use mathlib.Core.Path.{_≡_, sym}
 use native.Mathlib.Omega.{arith}
 use lib.ListN.{length}
 use lib.Seq.{length-take-le, take-all}
+use Rattle.descriptor.proofs.Laws.{takes-as}
 use Rattle.player.specs.Player.{outputRoom}
 use borrow.Author.Needs.{needs}
 use Rattle.stream.proofs.put.Statement.{statement}
@@ -36,7 +37,7 @@ returns-2 c =
     let a = c .before .before .before .args in
     let n : length (a .t2) ≡ outputRoom = search needs in
     let k = c .before .before .if1 .left in
-    rw (take-all (a .size) (a .t2) (omega arith)) (c .write2 .ensures)
+    takes-as (sym (take-all (a .size) (a .t2) (omega arith))) (c .write2 .ensures)
 
 pub put-spec : {M : Type 1} → statement M
 put-spec =

@@ -6,7 +6,7 @@ use Rattle.descriptor.proofs.Sink.write.Statement.{statement}
 use Rattle.descriptor.proofs.Sink.write.Tie as tie
 
 returns : tie.Need-returns
-returns c = takes-nothing (c .before .before .args .self) _ (c .if1 .taken)
+returns c = takes-nothing _ _ (search needs)
 
 over-requires : tie.Need-over-requires
 over-requires c κs = search needs

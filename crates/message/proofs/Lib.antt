@@ -1,3 +1,4 @@
 pub mod Zero
 pub mod Kept
 pub mod Owning
+pub mod Laying

@@ -1,13 +1,12 @@
--- The largest byte from an index on is zero exactly if all are, one byte at a time; and zeros behind a payload. Assumes nothing.
+-- The largest byte from an index on is zero exactly if all are, one byte at a time. Assumes nothing.
 use mathlib.Core.Path.{_≡_, refl, sym, ap, _∙_}
 use mathlib.Core.Bool.{Bool, true, false}
 use mathlib.Core.List.{List}
-use Prim.Native.Nat.{ℕ, zero, suc, _+_, _-_, _≤_, _<_}
+use Prim.Native.Nat.{ℕ, _+_, _-_, _≤_, _<_}
 use native.Mathlib.Numerals.{add-one}
-use native.Mathlib.Nat.{sub-zero, zero-sub, suc-sub-suc}
 use native.Mathlib.Omega.{arith}
 use borrow.Author.Tests.{eq-eqb, ne-eqb, eqb-true}
-use lib.ListN.{length, getD, drop, replicate, drop-of-length-le}
+use lib.ListN.{length, getD, drop, drop-of-length-le}
 use lib.Seq.{drop-cons}
 use Rattle.group.specs.Choice.{if_then_else_, _and_, _=?_}
 use Rattle.group.proofs.Choice.{if-true, if-false, both-hold, first-fails, then-fails}
@@ -99,8 +98,3 @@ module _ (bytes : List ℕ) (from largest i : ℕ) (inv : largest =? 0 and allZe
       sym (and-true (largest =? 0))
       ∙ ap (λ (b : Bool). largest =? 0 and b) (sym (ap allZero (drop-of-length-le bytes {i = i + (from - i)} (omega arith))))
       ∙ inv
-
-pub drop-replicate : (n k a : ℕ) → drop n (replicate k a) ≡ replicate (k - n) a
-drop-replicate zero k a = rw sub-zero
-drop-replicate (suc n) zero a = rw zero-sub
-drop-replicate (suc n) (suc k) a = rw suc-sub-suc (drop-replicate n k a)

@@ -13,6 +13,10 @@ unfoldable pub allZero : List ℕ → Bool
 allZero [] = true
 allZero (b ∷ rest) = b =? 0 and allZero rest
 
+-- the first `from` bytes as they are, zeros behind them
+abbrev pub zeroedFrom : ℕ → List ℕ → List ℕ
+zeroedFrom from bytes = take from bytes ++ replicate (length bytes - from) 0
+
 -- a payload with zeros behind it, up to the limit
 abbrev pub padded : List ℕ → List ℕ
 padded payload = payload ++ replicate (payloadMost - length payload) 0

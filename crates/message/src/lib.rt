@@ -8,7 +8,7 @@ ghost use lib.ListN.{length, drop};
 ghost use Rattle.group.specs.Choice.{if_then_else_, _=?_, _and_};
 ghost use Rattle.group.specs.Limits.{payloadMost};
 ghost use Rattle.group.specs.Lent.{front};
-ghost use Rattle.message.specs.Message.{allZero, padded, messageOf, emptyMessage, zeroBehind, isEmpty};
+ghost use Rattle.message.specs.Message.{allZero, zeroedFrom, padded, messageOf, emptyMessage, zeroBehind, isEmpty};
 
 // A place that holds a message, or none: it is empty exactly if its count is 0.
 pub struct Message {
@@ -18,12 +18,28 @@ pub struct Message {
     pub payload: [u8; Group::PAYLOAD],
 }
 
-// Copies bytes to the front of the part that is lent.
+// Copies bytes to the front of the part that is lent; what lies behind them keeps its value.
 pub fn copy(bytes: &[u8], part: &mut [u8])
     requires { ⌜ length (now bytes) ≤ length (now part) ⌝ }
     ensures { λ _. ⌜ now (part .exit) ≡ front (now (bytes .entry)) (now (part .entry)) ⌝ }
 {
-    bytes::copy(bytes, part);
+    let mut i = 0;
+    while i < bytes.len() {
+        part[i] = bytes[i];
+        i += 1;
+    }
+}
+
+// Fills with zeros from an index on; what lies before it keeps its value.
+fn fill(part: &mut [u8], from: usize)
+    requires { ⌜ from ≤ length (now part) ⌝ }
+    ensures { λ _. ⌜ now (part .exit) ≡ zeroedFrom from (now (part .entry)) ⌝ }
+{
+    let mut i = from;
+    while i < part.len() {
+        part[i] = 0;
+        i += 1;
+    }
 }
 
 fn larger(a: u8, b: u8) -> u8
@@ -64,14 +80,22 @@ fn zero_from(payload: [u8; Group::PAYLOAD], from: usize) -> bool
     largest == 0
 }
 
+// The payload with zeros behind it, whatever stood there.
+fn laid(mut bytes: [u8; Group::PAYLOAD], payload: &[u8]) -> [u8; Group::PAYLOAD]
+    requires { ⌜ length (now payload) ≤ payloadMost ⌝ }
+    ensures { λ r. ⌜ r ≡ padded (now (payload .entry)) ⌝ }
+{
+    copy(payload, &mut bytes);
+    fill(&mut bytes, payload.len());
+    bytes
+}
+
 // The payload with zeros behind it.
 fn with_zeros(payload: &[u8]) -> [u8; Group::PAYLOAD]
     requires { ⌜ length (now payload) ≤ payloadMost ⌝ }
     ensures { λ r. ⌜ r ≡ padded (now (payload .entry)) ⌝ }
 {
-    let mut bytes = [0u8; Group::PAYLOAD];
-    copy(payload, &mut bytes);
-    bytes
+    laid([0u8; Group::PAYLOAD], payload)
 }
 
 impl Message {

@@ -1,11 +1,12 @@
--- The largest byte from an index on is zero exactly if all are, one byte at a time. Assumes nothing.
+-- The bytes from an index on, joined by `|`, are zero exactly if all are, one byte at a time. Assumes nothing.
 use mathlib.Core.Path.{_≡_, refl, sym, ap, _∙_}
 use mathlib.Core.Bool.{Bool, true, false}
 use mathlib.Core.List.{List}
 use Prim.Native.Nat.{ℕ, _+_, _-_, _≤_, _<_}
 use native.Mathlib.Numerals.{add-one}
 use native.Mathlib.Omega.{arith}
-use borrow.Author.Tests.{eq-eqb, ne-eqb, eqb-true}
+use borrow.Author.Tests.{eq-eqb, ne-eqb, eqb-true, eqb-false}
+use lib.Bits.{bitAnd, bitOr, or-add-and, and-le-l, and-le-r}
 use lib.ListN.{length, getD, drop, drop-of-length-le}
 use lib.Seq.{drop-cons}
 use Rattle.group.specs.Choice.{if_then_else_, _and_, _=?_}
@@ -23,18 +24,22 @@ unfolding if_then_else_
 and-true true = refl
 and-true false = refl
 
--- of two bytes the larger is zero exactly if both are
-pub larger-then : (a b : ℕ) → a < b → (b =? 0) ≡ a =? 0 and b =? 0
-larger-then a b h =
-    let e : (b =? 0) ≡ false = ne-eqb b 0 (λ z. omega arith) in
-    e ∙ sym (then-fails (a =? 0) (b =? 0) e)
-
-pub larger-first : (a b : ℕ) → b ≤ a → (a =? 0) ≡ a =? 0 and b =? 0
-larger-first a b h = go (a =? 0) refl
+-- two bytes joined by `|` are zero exactly if both are
+or-zero : (a b : ℕ) → (bitOr a b =? 0) ≡ a =? 0 and b =? 0
+or-zero a b = go (a =? 0) refl (b =? 0) refl
   where
-    go : (t : Bool) → (a =? 0) ≡ t → (a =? 0) ≡ a =? 0 and b =? 0
-    go true e = e ∙ sym (both-hold (a =? 0) (b =? 0) e (eq-eqb b 0 (let z = eqb-true a 0 e in omega arith)))
-    go false e = e ∙ sym (first-fails (a =? 0) (b =? 0) e)
+    -- neither byte is above the two joined
+    sum : bitOr a b + bitAnd a b ≡ a + b
+    sum = or-add-and a b
+
+    go : (t : Bool) → (a =? 0) ≡ t → (u : Bool) → (b =? 0) ≡ u → (bitOr a b =? 0) ≡ a =? 0 and b =? 0
+    go true p true q =
+        eq-eqb (bitOr a b) 0 (let x = eqb-true a 0 p in let y = eqb-true b 0 q in omega (arith, sum)) ∙ sym (both-hold (a =? 0) (b =? 0) p q)
+    go true p false q =
+        ne-eqb (bitOr a b) 0 (λ z. eqb-false b 0 q (let l = and-le-l a b in let x = eqb-true a 0 p in omega (arith, sum)))
+        ∙ sym (then-fails (a =? 0) (b =? 0) q)
+    go false p u q =
+        ne-eqb (bitOr a b) 0 (λ z. eqb-false a 0 p (let l = and-le-r a b in omega (arith, sum))) ∙ sym (first-fails (a =? 0) (b =? 0) p)
 
 -- of two bytes the smaller is zero exactly if one is
 pub smaller-first : (a b : ℕ) → a < b → (a =? 0) ≡ if a =? 0 then true else (b =? 0)
@@ -61,40 +66,40 @@ unfolding if_then_else_
 either-first true u e = refl
 either-first false u e = e
 
--- The bytes from an index `from` on, after the loop has passed the first i: `largest` is the largest of those that count, and
--- what is left are the bytes from the larger of i and `from` on.
-module _ (bytes : List ℕ) (from largest i : ℕ) (inv : largest =? 0 and allZero (drop (i + (from - i)) bytes) ≡ allZero (drop from bytes)) where
+-- The bytes from an index `from` on, after the loop has passed the first i: `seen` is those that count, joined by `|`, and what is
+-- left are the bytes from the larger of i and `from` on.
+module _ (bytes : List ℕ) (from seen i : ℕ) (inv : seen =? 0 and allZero (drop (i + (from - i)) bytes) ≡ allZero (drop from bytes)) where
   -- a byte before the index counts as zero
-  skipped : (m s : ℕ) → i < from → (s =? 0) ≡ (if getD bytes i 0 =? 0 then true else (i + 1 - from =? 0)) → (m =? 0) ≡ largest =? 0 and s =? 0
-      → m =? 0 and allZero (drop (i + 1 + (from - (i + 1))) bytes) ≡ allZero (drop from bytes)
-  skipped m s h c e =
+  skipped : (s : ℕ) → i < from → (s =? 0) ≡ (if getD bytes i 0 =? 0 then true else (i + 1 - from =? 0))
+      → bitOr seen s =? 0 and allZero (drop (i + 1 + (from - (i + 1))) bytes) ≡ allZero (drop from bytes)
+  skipped s h c =
       let o : (i + 1 - from =? 0) ≡ true = eq-eqb (i + 1 - from) 0 (omega arith) in
       let z : (s =? 0) ≡ true = c ∙ either-true (getD bytes i 0 =? 0) (i + 1 - from =? 0) o in
       let k : i + 1 + (from - (i + 1)) ≡ i + (from - i) = omega arith in
-      rw (k, e, z, and-true (largest =? 0)) inv
+      rw (k, or-zero seen s, z, and-true (seen =? 0)) inv
 
   -- one behind it counts
-  counted : (m s : ℕ) → from ≤ i → i < length bytes → (s =? 0) ≡ (if getD bytes i 0 =? 0 then true else (i + 1 - from =? 0)) → (m =? 0) ≡ largest =? 0 and s =? 0
-      → m =? 0 and allZero (drop (i + 1 + (from - (i + 1))) bytes) ≡ allZero (drop from bytes)
+  counted : (s : ℕ) → from ≤ i → i < length bytes → (s =? 0) ≡ (if getD bytes i 0 =? 0 then true else (i + 1 - from =? 0))
+      → bitOr seen s =? 0 and allZero (drop (i + 1 + (from - (i + 1))) bytes) ≡ allZero (drop from bytes)
   unfolding allZero
-  counted m s h b c e =
+  counted s h b c =
       let o : (i + 1 - from =? 0) ≡ false = ne-eqb (i + 1 - from) 0 (λ z. omega arith) in
       let z : (s =? 0) ≡ (getD bytes i 0 =? 0) = c ∙ either-first (getD bytes i 0 =? 0) (i + 1 - from =? 0) o in
       let k : i + 1 + (from - (i + 1)) ≡ i + 1 = omega arith in
       let l : i + (from - i) ≡ i = omega arith in
-      let now : largest =? 0 and allZero (drop i bytes) ≡ allZero (drop from bytes) = rw l at inv in
-      rw (k, e, z)
-      (and-assoc (largest =? 0) (getD bytes i 0 =? 0) (allZero (drop (i + 1) bytes))
-      ∙ ap (λ (b : Bool). largest =? 0 and b) (sym (ap allZero (drop-cons bytes i 0 b) ∙ rw add-one))
+      let now : seen =? 0 and allZero (drop i bytes) ≡ allZero (drop from bytes) = rw l at inv in
+      rw (k, or-zero seen s, z)
+      (and-assoc (seen =? 0) (getD bytes i 0 =? 0) (allZero (drop (i + 1) bytes))
+      ∙ ap (λ (b : Bool). seen =? 0 and b) (sym (ap allZero (drop-cons bytes i 0 b) ∙ rw add-one))
       ∙ now)
 
-  pub zero-on : (m s : ℕ) → i < length bytes → (s =? 0) ≡ (if getD bytes i 0 =? 0 then true else (i + 1 - from =? 0)) → (m =? 0) ≡ largest =? 0 and s =? 0
-      → m =? 0 and allZero (drop (i + 1 + (from - (i + 1))) bytes) ≡ allZero (drop from bytes)
-  zero-on m s b c e = le-or from i (λ h. counted m s h b c e) (λ h. skipped m s h c e)
+  pub zero-on : (s : ℕ) → i < length bytes → (s =? 0) ≡ (if getD bytes i 0 =? 0 then true else (i + 1 - from =? 0))
+      → bitOr seen s =? 0 and allZero (drop (i + 1 + (from - (i + 1))) bytes) ≡ allZero (drop from bytes)
+  zero-on s b c = le-or from i (λ h. counted s h b c) (λ h. skipped s h c)
 
-  pub zero-done : length bytes ≤ i → (largest =? 0) ≡ allZero (drop from bytes)
+  pub zero-done : length bytes ≤ i → (seen =? 0) ≡ allZero (drop from bytes)
   unfolding allZero
   zero-done h =
-      sym (and-true (largest =? 0))
-      ∙ ap (λ (b : Bool). largest =? 0 and b) (sym (ap allZero (drop-of-length-le bytes {i = i + (from - i)} (omega arith))))
+      sym (and-true (seen =? 0))
+      ∙ ap (λ (b : Bool). seen =? 0 and b) (sym (ap allZero (drop-of-length-le bytes {i = i + (from - i)} (omega arith))))
       ∙ inv

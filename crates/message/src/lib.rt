@@ -42,12 +42,6 @@ fn fill(part: &mut [u8], from: usize)
     }
 }
 
-fn larger(a: u8, b: u8) -> u8
-    ensures { λ r. ⌜ (r =? 0) ≡ a =? 0 and b =? 0 ⌝ }
-{
-    if a < b { b } else { a }
-}
-
 fn smaller(a: u8, b: u8) -> u8
     ensures { λ r. ⌜ (r =? 0) ≡ if a =? 0 then true else (b =? 0) ⌝ }
 {
@@ -61,8 +55,9 @@ fn above(number: u8, other: u8) -> u8
     if number < other { 0 } else { number - other }
 }
 
-// Whether every byte from an index on is zero: the largest is, where a byte before the index counts as zero. The loop looks at
-// all bytes and has no test but those of numbers of a byte's width, so that it becomes a few vector instructions.
+// Whether every byte from an index on is zero: all of them joined by `|` are, where a byte before the index counts as zero. The
+// loop looks at all bytes, and its numbers stay a byte wide, so that it becomes a few vector instructions; a comparison of the
+// index with the start would be made on wide numbers.
 fn zero_from(payload: [u8; Group::PAYLOAD], from: usize) -> bool
     ensures { λ r. ⌜ r ≡ allZero (drop from payload) ⌝ }
 {
@@ -70,14 +65,14 @@ fn zero_from(payload: [u8; Group::PAYLOAD], from: usize) -> bool
         return true;
     }
     let start = from as u8;
-    let mut largest: u8 = 0;
+    let mut seen: u8 = 0;
     let mut i: usize = 0;
     while i < Group::PAYLOAD {
         let behind = above(i as u8 + 1, start);
-        largest = larger(largest, smaller(payload[i], behind));
+        seen = seen | smaller(payload[i], behind);
         i += 1;
     }
-    largest == 0
+    seen == 0
 }
 
 // The payload with zeros behind it, whatever stood there.

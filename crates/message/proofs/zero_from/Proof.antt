@@ -1,7 +1,7 @@
--- The loop's invariant: the largest byte that counts is zero and the rest is, exactly if all from the index on are.
+-- The loop's invariant: what was seen of the bytes that count is zero and the rest is, exactly if all from the index on are.
 -- Assumes nothing.
-use mathlib.Core.Path.{_≡_, refl}
-use Prim.Native.Nat.{_+_, _-_, _≤_}
+use mathlib.Core.Path.{_≡_, ap}
+use Prim.Native.Nat.{ℕ, _+_, _-_, _≤_}
 use native.Mathlib.Omega.{arith}
 use lib.ListN.{length, drop, drop-of-length-le}
 use Rattle.group.specs.Choice.{if_then_else_, _and_, _=?_}
@@ -13,10 +13,10 @@ use Rattle.message.proofs.zero_from.Statement.{statement}
 use Rattle.message.proofs.zero_from.Tie as tie
 
 abbrev Inv-loop : tie.InvT-loop
-Inv-loop from payload start largest₀ i₀ largest i = (length payload ≡ payloadMost) × (largest =? 0 and allZero (drop (i + (from - i)) payload) ≡ allZero (drop from payload))
+Inv-loop from payload start seen₀ i₀ seen i = (length payload ≡ payloadMost) × (seen =? 0 and allZero (drop (i + (from - i)) payload) ≡ allZero (drop from payload))
 
 abbrev μ-loop : tie.MeasureT-loop
-μ-loop from payload start largest₀ i₀ largest i = payloadMost - i
+μ-loop from payload start seen₀ i₀ seen i = payloadMost - i
 
 returns : tie.Need-returns Inv-loop μ-loop
 unfolding allZero
@@ -30,7 +30,7 @@ unfolding if_then_else_
 loop-holds c =
     let a = c .before .args in
     let e : 0 + (a .from - 0) ≡ a .from = omega arith in
-    (search needs, rw e)
+    (search needs, ap (λ (k : ℕ). allZero (drop k (a .t1))) e)
 
 cast-above : tie.Need-cast-above Inv-loop μ-loop
 cast-above c = search needs
@@ -47,9 +47,6 @@ array-read-smaller c = omega arith
 smaller-requires : tie.Need-smaller-requires Inv-loop μ-loop
 smaller-requires c κs = search needs
 
-larger-requires : tie.Need-larger-requires Inv-loop μ-loop
-larger-requires c κs = search needs
-
 add-i : tie.Need-add-i Inv-loop μ-loop
 add-i c = search needs
 
@@ -58,15 +55,15 @@ loop-less c = omega arith
 
 loop-again : tie.Need-loop-again Inv-loop μ-loop
 loop-again c =
-    let l = c .before .before .before .before .loop in
-    let a = c .before .before .before .before .before .before .args in
-    (l .inv .0, zero-on (a .t1) (a .from) (l .largest) (l .i) (l .inv .1) (c .larger .result) (c .before .smaller .result) (omega arith) (rw (c .before .before .above .ensures) at (c .before .smaller .ensures)) (c .larger .ensures))
+    let l = c .before .before .before .loop in
+    let a = c .before .before .before .before .before .args in
+    (l .inv .0, zero-on (a .t1) (a .from) (l .seen) (l .i) (l .inv .1) (c .smaller .result) (omega arith) (rw (c .before .above .ensures) at (c .smaller .ensures)))
 
 returns-2 : tie.Need-returns-2 Inv-loop μ-loop
 returns-2 c =
     let l = c .before .loop in
     let a = c .before .before .before .args in
-    zero-done (a .t1) (a .from) (l .largest) (l .i) (l .inv .1) (omega arith)
+    zero-done (a .t1) (a .from) (l .seen) (l .i) (l .inv .1) (omega arith)
 
 pub zero-from-spec : {M : Type 1} → statement M
 zero-from-spec =
@@ -82,7 +79,6 @@ zero-from-spec =
     above-requires
     array-read-smaller
     smaller-requires
-    larger-requires
     add-i
     loop-less
     loop-again

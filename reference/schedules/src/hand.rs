@@ -3,6 +3,7 @@
 
 use crate::Schedule;
 use crate::script::Script;
+use model::limits::PAYLOAD;
 use model::play::PACKETS;
 
 /// The schedules about what the ends and the group do.
@@ -13,6 +14,7 @@ pub fn schedules() -> Vec<Schedule> {
         alone_for_long(),
         sixteen(),
         payloads(),
+        payloads_over_payloads(),
         every_form(),
         full_and_freed(),
         freed_by_its_own_request(),
@@ -149,6 +151,32 @@ fn payloads() -> Schedule {
     s.end(
         "payloads of 0, 1, 2, 8, 96, 97 and 200 bytes",
         "top 5 floor 2 taken 2 5",
+    )
+}
+
+/// Each number's payload lies where that of 32 numbers before lay at the
+/// sequencer, and 8 before at a member: an empty one where the longest was, a
+/// short one where an empty one was, the longest where a short one was.
+fn payloads_over_payloads() -> Schedule {
+    let mut s = Script::open(2, 7);
+    let payloads = ["c3".repeat(PAYLOAD), "5a".into(), "-".into()];
+    for number in 1..=40 {
+        let hex = &payloads[number as usize % payloads.len()];
+        let took = format!("took {number} 0 {number} {hex} last");
+        let broadcast = s.number(0, hex, number);
+        s.give(broadcast, 0, "kept");
+        s.take(0, &took);
+        // Member 1 gets what the sequencer keeps, and not the broadcast.
+        let copy = s.copy(number);
+        s.give(copy, 1, "kept");
+        s.take(1, &took);
+        if number % 16 == 0 {
+            s.acknowledge(1);
+        }
+    }
+    s.end(
+        "payloads of 0, 1 and the most bytes, each where another lay",
+        "top 40 floor 32 taken 40 40",
     )
 }
 

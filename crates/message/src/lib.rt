@@ -2,10 +2,9 @@
 use group::Group;
 use group::MemberNumber;
 ghost use mathlib.Core.Path.{_≡_};
-ghost use mathlib.Core.Bool.{true};
 ghost use Prim.Native.Nat.{_-_, _≤_};
 ghost use lib.ListN.{length, drop};
-ghost use Rattle.group.specs.Choice.{if_then_else_, _=?_, _and_};
+ghost use Rattle.group.specs.Choice.{if_then_else_, _<?_};
 ghost use Rattle.group.specs.Limits.{payloadMost};
 ghost use Rattle.group.specs.Lent.{front};
 ghost use Rattle.message.specs.Message.{allZero, zeroedFrom, padded, messageOf, emptyMessage, zeroBehind, isEmpty};
@@ -43,7 +42,7 @@ fn fill(part: &mut [u8], from: usize)
 }
 
 fn smaller(a: u8, b: u8) -> u8
-    ensures { λ r. ⌜ (r =? 0) ≡ if a =? 0 then true else (b =? 0) ⌝ }
+    ensures { λ r. ⌜ r ≡ (if a <? b then a else b) ⌝ }
 {
     if a < b { a } else { b }
 }

@@ -1,14 +1,15 @@
--- The smaller of two bytes is zero exactly if one is.
+-- Each way of the test is one of the definition's.
 -- Assumes nothing.
-use Rattle.message.proofs.Zero.{smaller-first, smaller-then}
+use borrow.Author.Needs.{needs}
+use Rattle.group.proofs.Choice.{choices}
 use Rattle.message.proofs.smaller.Statement.{statement}
 use Rattle.message.proofs.smaller.Tie as tie
 
 returns : tie.Need-returns
-returns c = smaller-first _ _ (c .if1 .taken)
+returns c = search (choices, needs) depth 9
 
 returns-2 : tie.Need-returns-2
-returns-2 c = smaller-then _ _ (c .if1 .left)
+returns-2 c = search (choices, needs) depth 9
 
 pub smaller-spec : {M : Type 1} → statement M
 smaller-spec = tie.close (tie.spec returns returns-2)

@@ -3,11 +3,11 @@
 use mathlib.Core.Path.{_≡_, ap}
 use Prim.Native.Nat.{ℕ, _+_, _-_, _≤_}
 use native.Mathlib.Omega.{arith}
-use lib.ListN.{length, drop, drop-of-length-le}
+use lib.ListN.{length, getD, drop, drop-of-length-le}
 use Rattle.group.specs.Choice.{if_then_else_, _and_, _=?_}
 use Rattle.group.specs.Limits.{payloadMost}
 use Rattle.message.specs.Message.{allZero}
-use Rattle.message.proofs.Zero.{zero-on, zero-done}
+use Rattle.message.proofs.Zero.{smaller-zero, zero-on, zero-done}
 use borrow.Author.Needs.{needs}
 use Rattle.message.proofs.zero_from.Statement.{statement}
 use Rattle.message.proofs.zero_from.Tie as tie
@@ -57,7 +57,7 @@ loop-again : tie.Need-loop-again Inv-loop μ-loop
 loop-again c =
     let l = c .before .before .before .loop in
     let a = c .before .before .before .before .before .args in
-    (l .inv .0, zero-on (a .t1) (a .from) (l .seen) (l .i) (l .inv .1) (c .smaller .result) (omega arith) (rw (c .before .above .ensures) at (c .smaller .ensures)))
+    (l .inv .0, zero-on (a .t1) (a .from) (l .seen) (l .i) (l .inv .1) (c .smaller .result) (omega arith) (smaller-zero (getD (a .t1) (l .i) 0) (l .i + 1 - a .from) (c .smaller .result) (rw (c .before .above .ensures) at (c .smaller .ensures))))
 
 returns-2 : tie.Need-returns-2 Inv-loop μ-loop
 returns-2 c =

@@ -15,6 +15,7 @@ ghost use Prim.Native.Nat.{_+_, _≤_, _<_};
 ghost use lib.ListN.{length, getD};
 ghost use Rattle.group.specs.Lent.{front, Laid};
 ghost use Rattle.group.specs.Limits.{heldMost, payloadMost, longestPacket, largestNumber};
+ghost use Rattle.group.specs.Opening.{descriptionOf};
 ghost use Rattle.message.specs.Message.{payloadOf, blank};
 ghost use Rattle.packet.specs.Packet.{fieldsVerdict, fieldsOf, packetOf};
 ghost use Rattle.member.specs.State.{acknowledgedOf, freshMember};
@@ -158,7 +159,7 @@ impl Member {
 
     // An opening that is refused.
     fn closed(refusal: Refusal) -> Opening
-        ensures { λ r. ⌜ r ≡ record { member = freshMember (record { n = 0; number = 0 }) (record { 0 = 0 }); verdict = Verdict.Refused refusal } ⌝ }
+        ensures { λ r. ⌜ r ≡ record { member = freshMember (descriptionOf 0 0) (record { 0 = 0 }); verdict = Verdict.Refused refusal } ⌝ }
     {
         let none = Group { n: 0, number: 0 };
         let member = Member::idle(none, MemberNumber(0));

@@ -21,8 +21,7 @@ enum-told c = search needs
 
 lay-requires : tie.Need-lay-requires
 lay-requires c κs =
-    let a = c .before .before .before .before .before .before .args in
-    let w = writable (a .h) (length (now (a .payload))) (length (now (a .out))) (sym (c .before .before .before .ask-writing .ensures) ∙ c .before .enum-told .given .1) in
+    let w = writable _ _ _ (sym (c .before .before .before .ask-writing .ensures) ∙ c .before .enum-told .given .1) in
     omega arith
 
 add-t13 : tie.Need-add-t13

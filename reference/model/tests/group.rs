@@ -6,6 +6,7 @@ mod common;
 use common::{GROUP, Random};
 use model::answer::{Answer, Refusal};
 use model::group::{Event, Outcome, Run};
+use model::limits::PAYLOAD;
 use model::member::Member;
 use model::place::Place;
 use model::sequencer::Sequencer;
@@ -98,7 +99,7 @@ impl Scheduler {
         match self.random.below(100) {
             0..30 => {
                 let length = match self.random.below(8) {
-                    0 => 95 + self.random.below(3),
+                    0 => PAYLOAD - 1 + self.random.below(3),
                     _ => self.random.below(12),
                 };
                 let payload = (0..length).map(|_| self.random.next() as u8).collect();

@@ -5,6 +5,7 @@ mod common;
 
 use common::*;
 use model::Answer::{self, *};
+use model::limits::{PACKET, PAYLOAD};
 use model::member::Member;
 use model::place::{Payload, Place};
 
@@ -43,7 +44,7 @@ fn busy() -> Member {
     state.waiting = true;
     state.message = payload(b"wait");
     state.places[4] = place(0, 3, b"");
-    state.places[7] = place(2, 1, &[6; 96]);
+    state.places[7] = place(2, 1, &[6; PAYLOAD]);
     assert!(state.is_sound());
     state
 }
@@ -70,15 +71,19 @@ fn unsound_states_are_refused_by_every_call() {
         ("number n", |s| s.number = 3),
         ("number 255", |s| s.number = 255),
         ("waiting and nothing submitted", |s| s.submitted = 0),
-        ("waiting length 97", |s| s.message.length = 97),
+        ("waiting length too long", |s| {
+            s.message.length = PAYLOAD as u8 + 1
+        }),
         ("waiting length 255", |s| s.message.length = 255),
         ("byte behind the waiting", |s| s.message.bytes[4] = 1),
-        ("last byte behind the waiting", |s| s.message.bytes[95] = 1),
+        ("last byte behind the waiting", |s| {
+            s.message.bytes[PAYLOAD - 1] = 1
+        }),
         ("not waiting, message left", |s| s.waiting = false),
         ("not waiting, byte left", |s| {
             s.waiting = false;
             s.message = Payload::EMPTY;
-            s.message.bytes[95] = 1;
+            s.message.bytes[PAYLOAD - 1] = 1;
         }),
         ("not waiting, length left", |s| {
             s.waiting = false;
@@ -88,17 +93,25 @@ fn unsound_states_are_refused_by_every_call() {
         ("held originator n", |s| s.places[4].originator = 3),
         ("held originator 255", |s| s.places[5].originator = 255),
         ("held count zero", |s| s.places[7].count = 0),
-        ("held length 97", |s| s.places[7].payload.length = 97),
+        ("held length too long", |s| {
+            s.places[7].payload.length = PAYLOAD as u8 + 1
+        }),
         ("held length 255", |s| s.places[7].payload.length = 255),
-        ("held length too short", |s| s.places[7].payload.length = 95),
+        ("held length too short", |s| {
+            s.places[7].payload.length = PAYLOAD as u8 - 1
+        }),
         ("byte behind the held", |s| s.places[4].payload.bytes[0] = 1),
-        ("last byte behind", |s| s.places[5].payload.bytes[95] = 128),
+        ("last byte behind", |s| {
+            s.places[5].payload.bytes[PAYLOAD - 1] = 128
+        }),
         ("empty place held", |s| s.held |= 1),
         ("full place not held", |s| s.held &= !(1 << 4)),
         ("unused originator", |s| s.places[0].originator = 1),
         ("unused count", |s| s.places[1].count = 1),
         ("unused length", |s| s.places[2].payload.length = 1),
-        ("unused byte", |s| s.places[6].payload.bytes[95] = 1),
+        ("unused byte", |s| {
+            s.places[6].payload.bytes[PAYLOAD - 1] = 1
+        }),
         // Place 4 would be t+8, or t+5.
         ("held above the largest", |s| s.taken = MAX - 3),
         ("no number left", |s| s.taken = MAX),
@@ -127,12 +140,12 @@ fn unsound_states_are_refused_by_every_call() {
 
 /// Question 1 comes before all others.
 fn every_call_refuses(state: &Member) {
-    for lent in [0, 115, 116] {
-        for packet in [vec![], vec![9; 117], poll(0, 0), status(0, 0)] {
+    for lent in [0, PACKET - 1, PACKET] {
+        for packet in [vec![], vec![9; PACKET + 1], poll(0, 0), status(0, 0)] {
             let call = |s: &mut Member, out: &mut [u8]| s.receive(&packet, out);
             assert_eq!(refused_lent(state, lent, call), 1);
         }
-        for length in [0, 97] {
+        for length in [0, PAYLOAD + 1] {
             let call = |s: &mut Member, out: &mut [u8]| s.submit(&vec![1; length], out);
             assert_eq!(refused_lent(state, lent, call), 1);
         }
@@ -150,7 +163,7 @@ fn nothing_else_is_unsound() {
         // 15 becomes the largest.
         |s| s.taken = MAX - 4,
         |s| s.message = Payload::EMPTY,
-        |s| s.message = payload(&[0; 96]),
+        |s| s.message = payload(&[0; PAYLOAD]),
         |s| s.n = 16,
         // Counts need not rise, may be equal and above u.
         |s| s.places[5] = place(1, MAX, b""),
@@ -204,17 +217,17 @@ fn opening() {
 #[test]
 fn short_outputs() {
     for state in [busy(), at(3, &[])] {
-        for lent in [0, 1, 19, 20, 22, 115] {
+        for lent in [0, 1, 19, 20, 22, PACKET - 1] {
             for packet in [
                 vec![],
-                vec![0; 117],
+                vec![0; PACKET + 1],
                 poll(9, 0),
                 broadcast(0, 14, 1, 0, b""),
             ] {
                 let call = |s: &mut Member, out: &mut [u8]| s.receive(&packet, out);
                 assert_eq!(refused_lent(&state, lent, call), 2);
             }
-            for length in [0, 97] {
+            for length in [0, PAYLOAD + 1] {
                 let call = |s: &mut Member, out: &mut [u8]| s.submit(&vec![1; length], out);
                 assert_eq!(refused_lent(&state, lent, call), 2);
             }
@@ -229,7 +242,7 @@ fn short_outputs() {
 fn packets_go_down_the_questions() {
     // Everything is wrong; each step repairs what was refused.
     let state = busy();
-    let mut bytes = packet(0, 200, [14, 0, 14], &[0; 97]);
+    let mut bytes = packet(0, 200, [14, 0, 14], &[0; PAYLOAD + 1]);
     bytes[7] = 8;
     assert_eq!(give_refused(&state, &bytes), 3);
     bytes.truncate(22);
@@ -252,7 +265,7 @@ fn packets_go_down_the_questions() {
 #[test]
 fn single_refusals() {
     let state = busy();
-    for length in [0, 19, 117, 1000] {
+    for length in [0, 19, PACKET + 1, 1000] {
         assert_eq!(give_refused(&state, &vec![5; length]), 3);
     }
     for kind in [0, 6, 255] {
@@ -299,7 +312,10 @@ fn single_refusals() {
 fn submit_repeat_and_status() {
     let mut state = at(4, &[1]);
     assert_eq!(refused(&state, |s, out| s.repeat(out)), 15);
-    assert_eq!(refused(&state, |s, out| s.submit(&[1; 97], out)), 13);
+    assert_eq!(
+        refused(&state, |s, out| s.submit(&[1; PAYLOAD + 1], out)),
+        13
+    );
     let mut expected = state.clone();
     let answer = submit(&mut state, b"one");
     assert_eq!(answer, (Sent, request(1, 4, 1, b"one")));
@@ -309,8 +325,11 @@ fn submit_repeat_and_status() {
     assert_eq!(state, expected);
 
     // Question 13 comes before 14.
-    assert_eq!(refused(&state, |s, out| s.submit(&[1; 97], out)), 13);
-    assert_eq!(refused(&state, |s, out| s.submit(&[1; 96], out)), 14);
+    assert_eq!(
+        refused(&state, |s, out| s.submit(&[1; PAYLOAD + 1], out)),
+        13
+    );
+    assert_eq!(refused(&state, |s, out| s.submit(&[1; PAYLOAD], out)), 14);
     assert_eq!(refused(&state, |s, out| s.submit(b"", out)), 14);
 
     // A repeat carries today's t.
@@ -344,7 +363,7 @@ fn taking() {
     assert_eq!(state, expected);
     give(&mut state, &broadcast(0, 14, 4, 0, b""));
     assert_eq!(take(&mut state), (took(14, 0, 4, true), vec![]));
-    assert_eq!(take(&mut state), (took(15, 2, 1, false), vec![6; 96]));
+    assert_eq!(take(&mut state), (took(15, 2, 1, false), vec![6; PAYLOAD]));
     assert_eq!((state.held, state.places), (0, [Place::EMPTY; 8]));
     assert!(state.waiting);
     assert_eq!(take(&mut state), (None, vec![]));
@@ -528,7 +547,10 @@ fn the_last_numbers() {
     assert_eq!(answer, (Sent, request(1, MAX, MAX, b"u")));
     state.waiting = false;
     state.message = Payload::EMPTY;
-    assert_eq!(refused(&state, |s, out| s.submit(&[0; 97], out)), 13);
+    assert_eq!(
+        refused(&state, |s, out| s.submit(&[0; PAYLOAD + 1], out)),
+        13
+    );
     assert_eq!(refused(&state, |s, out| s.submit(b"", out)), 16);
     assert_eq!(refused(&state, |s, out| s.repeat(out)), 15);
 }

@@ -3,6 +3,7 @@
 mod common;
 
 use common::{BLANK, GROUP, MAX, packet};
+use model::limits::{PACKET, PAYLOAD};
 use model::packet::{Header, payload, read, write};
 
 fn header(kind: u8, member: u8, [a, b, c]: [u32; 3]) -> Header {
@@ -37,7 +38,7 @@ fn layout() {
         b: 0xb1b2_b3b4,
         c: 0x8182_8384,
     };
-    let mut out = [BLANK; 118];
+    let mut out = [BLANK; PACKET + 2];
     assert_eq!(write(&header, b"xyz", &mut out), Ok(23));
     assert_eq!(
         out[..23],
@@ -66,7 +67,8 @@ fn obeys(kind: u8, member: u8, [a, b, c]: [u32; 3]) -> bool {
 #[test]
 fn every_kind_with_edge_fields() {
     let words = [0, 1, 2, 255, 256, MAX - 1, MAX];
-    let payloads = [0, 1, 2, 95, 96, 97, 300].map(|length| vec![0x5a; length]);
+    let payloads =
+        [0, 1, 2, PAYLOAD - 1, PAYLOAD, PAYLOAD + 1, 300].map(|length| vec![0x5a; length]);
     let mut allowed = 0;
     for kind in [0, 1, 2, 3, 4, 5, 6, 255] {
         for member in [0, 1, 15, 16, 255] {
@@ -83,21 +85,21 @@ fn every_kind_with_edge_fields() {
                         5
                     } else if !obeys(kind, member, fields) {
                         6
-                    } else if payload.len() > 96 {
+                    } else if payload.len() > PAYLOAD {
                         13
                     } else {
                         0
                     };
                     if verdict == 0 {
                         allowed += 1;
-                        let mut out = [BLANK; 116];
+                        let mut out = [BLANK; PACKET];
                         assert_eq!(write(&header, payload, &mut out), Ok(bytes.len()));
                         assert_eq!(out[..bytes.len()], bytes[..]);
                         assert!(out[bytes.len()..].iter().all(|&byte| byte == BLANK));
                         assert_eq!(read(&bytes), Ok(header));
                     } else {
-                        assert_eq!(write_refused(&header, payload, 116), verdict);
-                        let verdict = if payload.len() > 96 { 3 } else { verdict };
+                        assert_eq!(write_refused(&header, payload, PACKET), verdict);
+                        let verdict = if payload.len() > PAYLOAD { 3 } else { verdict };
                         assert_eq!(read_refused(&bytes), verdict);
                     }
                 }
@@ -109,14 +111,14 @@ fn every_kind_with_edge_fields() {
 
 #[test]
 fn sizes_and_lengths() {
-    for length in [0, 1, 19, 117, 118, 100_000] {
+    for length in [0, 1, 19, PACKET + 1, PACKET + 2, 100_000] {
         assert_eq!(read_refused(&vec![1; length]), 3);
     }
-    let good = packet(1, 0, [0, 1, 0], &[9; 96]);
-    assert_eq!(good.len(), 116);
+    let good = packet(1, 0, [0, 1, 0], &[9; PAYLOAD]);
+    assert_eq!(good.len(), PACKET);
     assert!(read(&good).is_ok());
     // Cut, drawn out, and L too small, too large or far too large.
-    assert_eq!(read_refused(&good[..115]), 5);
+    assert_eq!(read_refused(&good[..PACKET - 1]), 5);
     assert_eq!(read_refused(&good[..20]), 5);
     let mut faulty = packet(1, 0, [0, 1, 0], b"ab");
     for length in [0u16, 1, 3, 256, 258, 65_535] {
@@ -135,7 +137,7 @@ fn sizes_and_lengths() {
 #[test]
 fn the_first_question_counts() {
     // Everything is wrong; each step repairs what was refused.
-    let mut bytes = packet(0, 1, [0, 0, 1], &[0; 97]);
+    let mut bytes = packet(0, 1, [0, 0, 1], &[0; PAYLOAD + 1]);
     assert_eq!(read_refused(&bytes), 3);
     bytes.truncate(30);
     assert_eq!(read_refused(&bytes), 4);
@@ -147,20 +149,20 @@ fn the_first_question_counts() {
     bytes[19] = 0;
     assert_eq!(read(&bytes), Ok(header(1, 1, [0, 1, 0])));
 
-    let long = [0; 97];
+    let long = [0; PAYLOAD + 1];
     let faulty = header(6, 1, [0, 0, 1]);
-    for lent in [0, 1, 20, 115] {
+    for lent in [0, 1, 20, PACKET - 1] {
         assert_eq!(write_refused(&faulty, &long, lent), 2);
     }
-    assert_eq!(write_refused(&faulty, &long, 116), 4);
+    assert_eq!(write_refused(&faulty, &long, PACKET), 4);
     let faulty = header(4, 1, [0, 0, 1]);
-    assert_eq!(write_refused(&faulty, &long, 116), 5);
-    assert_eq!(write_refused(&faulty, &long[..1], 116), 5);
+    assert_eq!(write_refused(&faulty, &long, PACKET), 5);
+    assert_eq!(write_refused(&faulty, &long[..1], PACKET), 5);
     let faulty = header(1, 1, [0, 0, 1]);
-    assert_eq!(write_refused(&faulty, &long, 116), 6);
+    assert_eq!(write_refused(&faulty, &long, PACKET), 6);
     let good = header(1, 1, [0, 1, 0]);
-    assert_eq!(write_refused(&good, &long, 116), 13);
+    assert_eq!(write_refused(&good, &long, PACKET), 13);
     // The output must be long enough for any packet, not just for this one.
-    assert_eq!(write_refused(&good, b"", 115), 2);
-    assert_eq!(write(&good, &long[..96], &mut [0; 116]), Ok(116));
+    assert_eq!(write_refused(&good, b"", PACKET - 1), 2);
+    assert_eq!(write(&good, &long[..PAYLOAD], &mut [0; PACKET]), Ok(PACKET));
 }

@@ -1,5 +1,6 @@
 //! `play`: its lines, to the byte.
 
+use model::limits::PAYLOAD;
 use model::play::play;
 use std::io::{self, Read, Write};
 use std::process::{Command, Stdio};
@@ -394,7 +395,12 @@ fn lines_of_a_thousand_characters() {
 #[test]
 fn payloads_up_to_the_end_of_a_line() {
     let closing = "top 0 floor 0 taken 0\n";
-    for (bytes, answer) in [(96, "sent 0"), (97, "refused 13"), (498, "refused 13")] {
+    for (bytes, answer) in [
+        (PAYLOAD - 1, "sent 0"),
+        (PAYLOAD, "sent 0"),
+        (PAYLOAD + 1, "refused 13"),
+        (498, "refused 13"),
+    ] {
         let input = format!("N 1 7\nS 0 {}", "5a".repeat(bytes));
         assert_eq!(played(input), format!("1 {answer}\n{closing}"));
     }

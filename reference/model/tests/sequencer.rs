@@ -5,6 +5,7 @@ mod common;
 
 use common::*;
 use model::Answer::*;
+use model::limits::{PACKET, PAYLOAD};
 use model::place::{Payload, Place};
 use model::sequencer::Sequencer;
 
@@ -32,7 +33,7 @@ fn busy() -> Sequencer {
     state.counts[..3].copy_from_slice(&[2, 1, 9]);
     state.history[3] = kept(0, 2, b"");
     state.history[4] = kept(1, 1, b"ab");
-    state.history[5] = kept(2, 7, &[6; 96]);
+    state.history[5] = kept(2, 7, &[6; PAYLOAD]);
     state.repeats = 11;
     assert!(state.is_sound());
     state
@@ -82,18 +83,26 @@ fn unsound_states_are_refused_by_every_call() {
         ("kept count largest", |s| s.history[5].count = MAX),
         ("last count below the kept", |s| s.counts[2] = 6),
         ("last count zero", |s| s.counts[1] = 0),
-        ("length 97", |s| s.history[5].payload.length = 97),
+        ("length too long", |s| {
+            s.history[5].payload.length = PAYLOAD as u8 + 1
+        }),
         ("length 255", |s| s.history[5].payload.length = 255),
         ("unused first byte", |s| s.history[3].payload.bytes[0] = 1),
         ("unused byte", |s| s.history[4].payload.bytes[2] = 128),
-        ("unused last byte", |s| s.history[4].payload.bytes[95] = 1),
-        ("length too short", |s| s.history[5].payload.length = 95),
+        ("unused last byte", |s| {
+            s.history[4].payload.bytes[PAYLOAD - 1] = 1
+        }),
+        ("length too short", |s| {
+            s.history[5].payload.length = PAYLOAD as u8 - 1
+        }),
         ("unused place below", |s| s.history[2] = kept(0, 1, b"x")),
         ("unused place above", |s| s.history[6] = kept(0, 1, b"x")),
         ("unused originator", |s| s.history[6].originator = 1),
         ("unused count", |s| s.history[2].count = 1),
         ("unused length", |s| s.history[0].payload.length = 1),
-        ("unused place byte", |s| s.history[31].payload.bytes[95] = 1),
+        ("unused place byte", |s| {
+            s.history[31].payload.bytes[PAYLOAD - 1] = 1
+        }),
         ("unused acknowledgement", |s| s.acknowledged[3] = 1),
         ("last acknowledgement", |s| s.acknowledged[15] = MAX),
         ("unused last count", |s| s.counts[3] = 1),
@@ -114,8 +123,8 @@ fn unsound_states_are_refused_by_every_call() {
 
 /// Question 1 comes before all others.
 fn every_call_refuses(state: &Sequencer) {
-    for lent in [0, 115, 116] {
-        for packet in [vec![], vec![9; 117], status(0, 0), poll(5, 2)] {
+    for lent in [0, PACKET - 1, PACKET] {
+        for packet in [vec![], vec![9; PACKET + 1], status(0, 0), poll(5, 2)] {
             let call = |s: &mut Sequencer, out: &mut [u8]| s.receive(&packet, out);
             assert_eq!(refused_lent(state, lent, call), 1);
         }
@@ -135,7 +144,7 @@ fn nothing_else_is_unsound() {
         |s| s.history[5] = kept(0, 1, b"x"),
         |s| s.history[5] = s.history[3],
         |s| s.counts[..3].copy_from_slice(&[MAX; 3]),
-        |s| s.history[3].payload = payload(&[0; 96]),
+        |s| s.history[3].payload = payload(&[0; PAYLOAD]),
         |s| {
             s.acknowledged[..3].copy_from_slice(&[5; 3]);
             s.floor = 5;
@@ -172,8 +181,13 @@ fn opening() {
 #[test]
 fn short_outputs() {
     let state = busy();
-    for lent in [0, 1, 19, 20, 22, 115] {
-        for packet in [vec![], vec![0; 117], status(0, 0), request(0, 0, 3, b"x")] {
+    for lent in [0, 1, 19, 20, 22, PACKET - 1] {
+        for packet in [
+            vec![],
+            vec![0; PACKET + 1],
+            status(0, 0),
+            request(0, 0, 3, b"x"),
+        ] {
             let call = |s: &mut Sequencer, out: &mut [u8]| s.receive(&packet, out);
             assert_eq!(refused_lent(&state, lent, call), 2);
         }
@@ -188,7 +202,7 @@ fn short_outputs() {
 fn packets_go_down_the_questions() {
     // Everything is wrong; each step repairs what was refused.
     let state = busy();
-    let mut bytes = packet(6, 200, [MAX, 0, 1], &[0; 97]);
+    let mut bytes = packet(6, 200, [MAX, 0, 1], &[0; PAYLOAD + 1]);
     bytes[4] = 1;
     assert_eq!(hand_refused(&state, &bytes), 3);
     bytes.truncate(22);
@@ -215,7 +229,7 @@ fn packets_go_down_the_questions() {
 #[test]
 fn single_refusals() {
     let state = busy();
-    for length in [0, 19, 117, 1000] {
+    for length in [0, 19, PACKET + 1, 1000] {
         assert_eq!(hand_refused(&state, &vec![4; length]), 3);
     }
     for kind in [0, 6, 255] {
@@ -278,7 +292,7 @@ fn polls_and_copies() {
     for (number, expected) in [
         (3, broadcast(0, 3, 2, 2, b"")),
         (4, broadcast(1, 4, 1, 2, b"ab")),
-        (5, broadcast(2, 5, 7, 2, &[6; 96])),
+        (5, broadcast(2, 5, 7, 2, &[6; PAYLOAD])),
     ] {
         let copy = accepted(&mut state, |s, out| s.copy(number, out));
         assert_eq!(copy, (Sent, expected));

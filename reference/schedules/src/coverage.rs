@@ -3,6 +3,7 @@
 
 use model::Answer;
 use model::group::{Event, Group, Outcome};
+use model::limits::PAYLOAD;
 use model::packet;
 use model::play::{self, PACKETS};
 use std::collections::BTreeMap;
@@ -25,12 +26,12 @@ pub const REACHABLE: [&str; 63] = [
     "end: 200 packets",
     "submit: sent",
     "submit: sent, payload of 0",
-    "submit: sent, payload of 96",
+    "submit: sent, payload of the most bytes",
     "submit: refused 13",
     "submit: refused 13, one waiting",
     "submit: refused 14",
     "submit: absent",
-    "submit: absent, payload over 96",
+    "submit: absent, payload over the most",
     "repeat: sent",
     "repeat: refused 15",
     "repeat: absent",
@@ -150,8 +151,8 @@ fn each(
         } => match (answer, question) {
             (None, _) => {
                 reached("submit: absent");
-                if payload.len() > 96 {
-                    reached("submit: absent, payload over 96");
+                if payload.len() > PAYLOAD {
+                    reached("submit: absent, payload over the most");
                 }
             }
             (_, 13) => reached(if before.members[member].waiting {
@@ -164,7 +165,7 @@ fn each(
                 reached("submit: sent");
                 match payload.len() {
                     0 => reached("submit: sent, payload of 0"),
-                    96 => reached("submit: sent, payload of 96"),
+                    PAYLOAD => reached("submit: sent, payload of the most bytes"),
                     _ => (),
                 }
             }

@@ -736,7 +736,7 @@ fn own_and_others() -> Schedule {
 
 fn refused_submits() -> Schedule {
     let mut s = Script::open(2, 7);
-    let long = "ab".repeat(97);
+    let long = "ab".repeat(PAYLOAD + 1);
     s.line("R 0", "refused 15");
     s.line(&format!("S 0 {long}"), "refused 13");
     s.line("R 0", "refused 15");
@@ -771,7 +771,7 @@ fn absent() -> Schedule {
         s.line(&format!("T {member}"), "absent");
         s.line(&format!("A {member}"), "absent");
     }
-    s.line(&format!("S 99 {}", "61".repeat(97)), "absent");
+    s.line(&format!("S 99 {}", "61".repeat(PAYLOAD + 1)), "absent");
     s.line("S 3 -", "absent");
     s.line("Q 0", "absent");
     s.line("M 0 0", "absent");

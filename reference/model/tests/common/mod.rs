@@ -2,6 +2,7 @@
 #![allow(dead_code)]
 
 use model::Answer;
+use model::limits::PACKET;
 use model::member::Member;
 use model::sequencer::Sequencer;
 use std::fmt::Debug;
@@ -49,13 +50,13 @@ pub fn accepted<S: Clone + PartialEq + Debug>(
     call: impl Fn(&mut S, &mut [u8]) -> (Answer, usize),
 ) -> (Answer, Vec<u8>) {
     let before = state.clone();
-    let mut out = [BLANK; 116];
+    let mut out = [BLANK; PACKET];
     let (answer, length) = call(state, &mut out);
     assert!(!matches!(answer, Answer::Refused(_)), "{answer:?}");
     assert!(out[length..].iter().all(|&byte| byte == BLANK));
 
     let mut other = before;
-    let mut longer = [!BLANK; 200];
+    let mut longer = [!BLANK; 2 * PACKET];
     assert_eq!(call(&mut other, &mut longer), (answer, length));
     assert_eq!(&other, state);
     assert_eq!(longer[..length], out[..length]);
@@ -87,7 +88,7 @@ pub fn refused<S: Clone + PartialEq + Debug>(
     state: &S,
     call: impl Fn(&mut S, &mut [u8]) -> (Answer, usize),
 ) -> u8 {
-    refused_lent(state, 116, call)
+    refused_lent(state, PACKET, call)
 }
 
 pub fn hand(sequencer: &mut Sequencer, packet: &[u8]) -> (Answer, Vec<u8>) {

@@ -11,7 +11,7 @@ placesMost = 32
 
 -- the most bytes of a payload
 abbrev pub payloadMost : ℕ
-payloadMost = 96
+payloadMost = 240
 
 -- the places of a member for what it has not taken yet
 abbrev pub heldMost : ℕ

@@ -87,7 +87,7 @@ impl Group {
     pub const PLACES: usize = 32;
 
     // The most bytes of a payload.
-    pub const PAYLOAD: usize = 96;
+    pub const PAYLOAD: usize = 240;
 
     // The places of a member for what it has not taken yet.
     pub const HELD: usize = 8;

@@ -15,7 +15,7 @@ entrySound n top i a =
     if i <? n then a .taken .0 ≤? top else
     (a .taken .0 =? 0 and a .count =? 0)
 
--- the history's originators are below n, each kept count lies from 1 to its originator's last, lengths are at most 96, and
+-- the history's originators are below n, each kept count lies from 1 to its originator's last, lengths are at most 240, and
 -- every unused byte is zero
 unfoldable pub keptSound : ℕ → List Acknowledgement → Message → Bool
 keptSound n table m =

@@ -33,14 +33,15 @@ unfolding if_then_else_ all allAbove least openOf judged member.answered acknowl
 examples =
     record {
       floor = refl;
-      submit-96 = refl;
-      submit-97 = refl;
-      write-96 = refl;
-      write-97 = refl;
+      submit-240 = refl;
+      submit-241 = refl;
+      write-240 = refl;
+      write-241 = refl;
       packet-19 = refl;
-      packet-117 = refl;
+      packet-261 = refl;
       packet-20 = refl;
       packet-20-status = refl;
+      packet-length-256 = refl;
       eighth = refl;
       ninth = refl;
       eighth-gap = refl;

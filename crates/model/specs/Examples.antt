@@ -76,16 +76,18 @@ ab = 0x01 ∷ 0x01 ∷ 0x00 ∷ 0x02 ∷ 0x00 ∷ 0x00 ∷ 0x00 ∷ 0x07 ∷ 0x0
 pub record Examples : Type 0 where
   -- acknowledgements 8, 7, 9, 8, 6, 8 give floor 6
   pub floor : floorOf 6 (acknowledgedUpTo 8 ∷ acknowledgedUpTo 7 ∷ acknowledgedUpTo 9 ∷ acknowledgedUpTo 8 ∷ acknowledgedUpTo 6 ∷ acknowledgedUpTo 8 ∷ []) ≡ 6
-  -- payload 96 goes, 97 is 13: submitted, and written
-  pub submit-96 : member.submitOf (holding 0) (replicate 96 1) longestPacket .answer ≡ memberAnswer.Answer.Sent
-  pub submit-97 : member.submitOf (holding 0) (replicate 97 1) longestPacket .answer ≡ memberAnswer.Answer.Refused Refusal.LongPayload
-  pub write-96 : writeOf (fieldsOf 7 (Packet.Request (record { 0 = 1 }) (record { 0 = 0 }) 1)) (replicate 96 1) longestPacket .answer ≡ Writing.Bytes 116
-  pub write-97 : writeOf (fieldsOf 7 (Packet.Request (record { 0 = 1 }) (record { 0 = 0 }) 1)) (replicate 97 1) longestPacket .answer ≡ Writing.Refused Refusal.LongPayload
-  -- packet of 19 or 117 bytes: 3; 20: goes on
+  -- payload 240 goes, 241 is 13: submitted, and written
+  pub submit-240 : member.submitOf (holding 0) (replicate 240 1) longestPacket .answer ≡ memberAnswer.Answer.Sent
+  pub submit-241 : member.submitOf (holding 0) (replicate 241 1) longestPacket .answer ≡ memberAnswer.Answer.Refused Refusal.LongPayload
+  pub write-240 : writeOf (fieldsOf 7 (Packet.Request (record { 0 = 1 }) (record { 0 = 0 }) 1)) (replicate 240 1) longestPacket .answer ≡ Writing.Bytes 260
+  pub write-241 : writeOf (fieldsOf 7 (Packet.Request (record { 0 = 1 }) (record { 0 = 0 }) 1)) (replicate 241 1) longestPacket .answer ≡ Writing.Refused Refusal.LongPayload
+  -- packet of 19 or 261 bytes: 3; 20: goes on
   pub packet-19 : readOf (replicate 19 0) ≡ Reading.Refused Refusal.PacketSize
-  pub packet-117 : readOf (replicate 117 0) ≡ Reading.Refused Refusal.PacketSize
+  pub packet-261 : readOf (replicate 261 0) ≡ Reading.Refused Refusal.PacketSize
   pub packet-20 : readOf (replicate 20 0) ≡ Reading.Refused Refusal.UnknownKind
   pub packet-20-status : readOf (statusOf 1 0) ≡ Reading.Fields (fieldsOf 7 (Packet.Status (record { 0 = 1 }) (record { 0 = 0 })))
+  -- both bytes of L are read: a status of 20 bytes with L = 256 is 5
+  pub packet-length-256 : readOf (0x04 ∷ 0x01 ∷ 0x01 ∷ 0x00 ∷ 0x00 ∷ 0x00 ∷ 0x00 ∷ 0x07 ∷ replicate 12 0) ≡ Reading.Refused Refusal.PayloadLength
   -- with t + 1 to t + 7 held, t + 8 is Kept and then t + 9 Beyond
   pub eighth : member.receiveOf (holding 7) (broadcast 8) longestPacket .answer ≡ memberAnswer.Answer.Kept
   pub ninth : member.receiveOf (holding 8) (broadcast 9) longestPacket .answer ≡ memberAnswer.Answer.Beyond

@@ -9,7 +9,7 @@ use Rattle.message.specs.Message.{zeroBehind, isEmpty}
 use Rattle.message.specs.declared.Message.{Message}
 use Rattle.window.specs.Places.{messageAt, isHeld}
 
--- held originators are below n with counts of at least 1, lengths at most 96, no held number is over the largest, and every
+-- held originators are below n with counts of at least 1, lengths at most 240, no held number is over the largest, and every
 -- unused place and byte is zero
 unfoldable pub placeSound : ℕ → List Message → ℕ → Bool
 placeSound n held number =
@@ -20,7 +20,7 @@ placeSound n held number =
     and number ≤? largestNumber
     else isEmpty (messageAt held number)
 
--- a message waits only if u is at least 1; it is the member's own, its count is u, its length at most 96, and every unused
+-- a message waits only if u is at least 1; it is the member's own, its count is u, its length at most 240, and every unused
 -- byte is zero
 unfoldable pub waitingSound : MemberNumber → ℕ → Bool → Message → Bool
 waitingSound number submitted waiting message =

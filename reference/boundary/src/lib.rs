@@ -5,9 +5,15 @@
 //! [`reference`] has a function of the same shape for each. Both sum up the
 //! answers in the same way, so equal sums mean equal answers.
 
+use model::limits::PAYLOAD;
+
 pub mod proved;
 pub mod reference;
 pub mod shrink;
+
+/// Characters of a line that `play` prints, at most: a taken payload in
+/// hexadecimal, and the words and numbers around it.
+pub const LINE: usize = 2 * PAYLOAD + 66;
 
 /// A sequencer that has heard a list of packets since it was fresh.
 #[derive(Clone, Copy, Debug)]

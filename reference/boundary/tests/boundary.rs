@@ -1,6 +1,7 @@
 //! What crosses the boundary is what the other side sees.
 
 use boundary::{Member, Sequencer, list, proved, reference};
+use model::limits::{PACKET, PAYLOAD};
 use model::packet::Header;
 
 const HEADER: Header = Header {
@@ -14,13 +15,13 @@ const HEADER: Header = Header {
 
 #[test]
 fn the_documents_packet() {
-    let mut out = [0xaa; 120];
+    let mut out = [0xaa; PACKET + 4];
     assert_eq!(proved::write(&HEADER, b"ab", &mut out), Ok(22));
     let packet = [
         1, 1, 0, 2, 0, 0, 0, 7, 0, 0, 0, 0, 0, 0, 0, 1, 0, 0, 0, 0, 0x61, 0x62,
     ];
     assert_eq!(out[..22], packet);
-    assert_eq!(out[22..], [0xaa; 98]);
+    assert_eq!(out[22..], [0xaa; PACKET - 18]);
     assert_eq!(proved::read(&packet), Ok(HEADER));
 }
 
@@ -34,7 +35,7 @@ fn every_field_has_its_place() {
         b: 0x2233_4455,
         c: 0x6677_8899,
     };
-    let (mut here, mut there) = ([0; 116], [0; 116]);
+    let (mut here, mut there) = ([0; PACKET], [0; PACKET]);
     assert_eq!(proved::write(&header, &[], &mut here), Ok(20));
     assert_eq!(reference::write(&header, &[], &mut there), Ok(20));
     assert_eq!(here, there);
@@ -45,14 +46,14 @@ fn every_field_has_its_place() {
 fn refusals_are_numbers_and_change_nothing() {
     assert_eq!(proved::read(&[]), Err(3));
     assert_eq!(proved::read(&[0; 20]), Err(4));
-    let mut out = [0xaa; 116];
-    assert_eq!(proved::write(&HEADER, &[], &mut out[..115]), Err(2));
-    assert_eq!(proved::write(&HEADER, &[0; 97], &mut out), Err(13));
+    let mut out = [0xaa; PACKET];
+    assert_eq!(proved::write(&HEADER, &[], &mut out[..PACKET - 1]), Err(2));
+    assert_eq!(proved::write(&HEADER, &[0; PAYLOAD + 1], &mut out), Err(13));
     assert_eq!(
         proved::write(&Header { b: 0, ..HEADER }, &[], &mut out),
         Err(6)
     );
-    assert_eq!(out, [0xaa; 116]);
+    assert_eq!(out, [0xaa; PACKET]);
 }
 
 /// Empty slices, and lists that are cut off in a length or in a packet.
@@ -95,10 +96,32 @@ fn long_packets() {
     assert_eq!(reference::read_rounds(&packets, 1), 3 * 3 + 4);
 }
 
+/// The longest packets, whose lengths have two bytes, cross whole.
+#[test]
+fn packets_over_255_bytes() {
+    let (n, group, heard) = (2, 7, &[][..]);
+    let end = Sequencer { n, group, heard };
+    for size in 256..=PACKET {
+        let mut out = [0; PACKET];
+        let payload = vec![0x5a; size - 20];
+        assert_eq!(proved::write(&HEADER, &payload, &mut out), Ok(size));
+        assert_eq!(proved::read(&out[..size]), Ok(HEADER));
+        let packets = list([&out[..size], &[0; 20]]);
+        assert_eq!(
+            proved::read_rounds(&packets, 1),
+            reference::read_rounds(&packets, 1)
+        );
+        // Numbered 1 with a broadcast of as many bytes, and the second refused by 4.
+        let sum = 3 * (3 * 37 + 1) + size as u64;
+        let sum = 3 * (3 * sum + 4);
+        assert_eq!(proved::sequencer_receive(end, &packets, 1, &mut out), sum);
+    }
+}
+
 /// The same answers and the same lent bytes of both sides.
 macro_rules! same {
     ($call:ident($($word:expr),*)) => {
-        let (mut here, mut there) = ([0xaa; 120], [0xaa; 120]);
+        let (mut here, mut there) = ([0xaa; PACKET + 4], [0xaa; PACKET + 4]);
         assert_eq!(
             proved::$call($($word,)* &mut here),
             reference::$call($($word,)* &mut there)
@@ -109,7 +132,7 @@ macro_rules! same {
 
 #[test]
 fn rounds_of_every_call() {
-    let mut out = [0; 116];
+    let mut out = [0; PACKET];
     let length = proved::write(&HEADER, b"ab", &mut out).unwrap();
     let requests = list([&out[..length]]);
     let broadcast = Header {

@@ -8,9 +8,9 @@ use std::fmt;
 pub enum Refusal {
     /// The state is not sound.
     Unsound = 1,
-    /// The lent output is shorter than 116 bytes.
+    /// The lent output is shorter than 260 bytes.
     ShortOutput = 2,
-    /// The packet is not 20 to 116 bytes long.
+    /// The packet is not 20 to 260 bytes long.
     PacketSize = 3,
     /// The kind is not 1 to 5.
     Kind = 4,
@@ -30,7 +30,7 @@ pub enum Refusal {
     CountAhead = 11,
     /// A gap that ends above top.
     GapAboveTop = 12,
-    /// A payload of more than 96 bytes.
+    /// A payload of more than 240 bytes.
     PayloadTooLong = 13,
     /// A submit while a message waits.
     AlreadyWaiting = 14,

@@ -9,7 +9,7 @@ pub const WINDOW: usize = 8;
 /// Bytes of a packet's header.
 pub const HEADER: usize = 20;
 /// Bytes of a payload, at most.
-pub const PAYLOAD: usize = 96;
+pub const PAYLOAD: usize = 240;
 /// Bytes of a packet, at most; also the least lent output.
 pub const PACKET: usize = HEADER + PAYLOAD;
 /// The largest sequence number, count and repeat count.

@@ -23,7 +23,7 @@ impl Payload {
         &self.bytes[..usize::from(self.length)]
     }
 
-    /// Takes over at most 96 bytes.
+    /// Takes over at most [`PAYLOAD`] bytes.
     pub(crate) fn set(&mut self, payload: &[u8]) {
         let (used, unused) = self.bytes.split_at_mut(payload.len());
         used.copy_from_slice(payload);
@@ -31,9 +31,9 @@ impl Payload {
         self.length = payload.len() as u8;
     }
 
-    /// The length is at most 96 and every byte behind it is zero.
+    /// The length is at most [`PAYLOAD`] and every byte behind it is zero.
     ///
-    /// All 96 bytes are looked at whatever the length is: a fixed loop
+    /// All bytes are looked at whatever the length is: a fixed loop
     /// without an early exit becomes a few vector instructions.
     pub fn is_sound(&self) -> bool {
         let Some(start) = PAYLOAD.checked_sub(usize::from(self.length)) else {
@@ -45,8 +45,8 @@ impl Payload {
     }
 }
 
-/// As many zeros as bytes may be used, then as many ones: the 96 bytes from
-/// 96 - length on tell the used from the unused.
+/// As many zeros as bytes may be used, then as many ones: as many from
+/// PAYLOAD - length on tell the used from the unused.
 static UNUSED: [u8; 2 * PAYLOAD] = {
     let mut mask = [0; 2 * PAYLOAD];
     let mut at = PAYLOAD;

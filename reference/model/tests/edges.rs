@@ -62,14 +62,15 @@ fn floor_is_the_smallest_acknowledgement() {
 }
 
 #[test]
-fn payload_of_96_goes_and_97_is_refused() {
-    let mut member = Member::fresh(2, 1, GROUP).unwrap();
-    let call = |state: &mut Member, out: &mut [u8]| state.submit(&[5; 97], out);
+fn payload_of_240_goes_and_241_is_refused() {
+    let member = Member::fresh(2, 1, GROUP).unwrap();
+    let call = |state: &mut Member, out: &mut [u8]| state.submit(&[5; 241], out);
     assert_eq!(refused(&member, call), 13);
-    assert_eq!(
-        submit(&mut member, &[5; 96]),
-        (Sent, request(1, 0, 1, &[5; 96]))
-    );
+    for length in [239, 240] {
+        let payload = vec![5; length];
+        let answer = submit(&mut member.clone(), &payload);
+        assert_eq!(answer, (Sent, request(1, 0, 1, &payload)));
+    }
     let header = Header {
         kind: 1,
         member: 1,
@@ -78,22 +79,37 @@ fn payload_of_96_goes_and_97_is_refused() {
         b: 1,
         c: 0,
     };
-    let mut out = [0; 120];
-    assert_eq!(packet::write(&header, &[5; 96], &mut out), Ok(116));
-    let refusal = packet::write(&header, &[5; 97], &mut out).unwrap_err();
+    let mut out = [0; 264];
+    assert_eq!(packet::write(&header, &[5; 239], &mut out), Ok(259));
+    assert_eq!(packet::write(&header, &[5; 240], &mut out), Ok(260));
+    let refusal = packet::write(&header, &[5; 241], &mut out).unwrap_err();
     assert_eq!(refusal.number(), 13);
 }
 
 #[test]
-fn packets_of_19_and_117_bytes_are_refused_and_20_goes_on() {
+fn an_output_of_260_bytes_is_enough_and_259_are_not() {
+    let member = Member::fresh(2, 1, GROUP).unwrap();
+    for payload in [&[][..], &[5; 240]] {
+        let call = |state: &mut Member, out: &mut [u8]| state.submit(payload, out);
+        assert_eq!(refused_lent(&member, 259, call), 2);
+        let (answer, length) = call(&mut member.clone(), &mut [0; 260]);
+        assert_eq!((answer, length), (Sent, 20 + payload.len()));
+    }
+}
+
+#[test]
+fn packets_of_19_and_261_bytes_are_refused_and_20_goes_on() {
     let sequencer = numbered(2, 1);
     let member = holding(0, []);
-    for length in [19, 117] {
+    for length in [19, 261] {
         let packet = vec![4; length];
         assert_eq!(packet::read(&packet).unwrap_err().number(), 3);
         assert_eq!(hand_refused(&sequencer, &packet), 3);
         assert_eq!(give_refused(&member, &packet), 3);
     }
+    let longest = request(1, 0, 1, &[5; 240]);
+    assert_eq!(longest.len(), 260);
+    assert_eq!(hand(&mut sequencer.clone(), &longest).0, Numbered(2));
     assert_eq!(status(0, 0).len(), 20);
     assert_eq!(hand(&mut sequencer.clone(), &status(0, 0)).0, Noted);
     assert_eq!(poll(0, 0).len(), 20);
@@ -101,6 +117,22 @@ fn packets_of_19_and_117_bytes_are_refused_and_20_goes_on() {
     // 20 bytes of another kind pass question 3 and fail a later one.
     assert_eq!(hand_refused(&sequencer, &[0; 20]), 4);
     assert_eq!(give_refused(&member, &[0; 20]), 4);
+}
+
+#[test]
+fn both_bytes_of_the_length_are_read() {
+    for size in [20, 260, 261] {
+        let mut bytes = packet(1, 1, [0, 1, 0], &vec![5; size - 20]);
+        for length in [240u16, 255, 256, 257, 65_535] {
+            bytes[2..4].copy_from_slice(&length.to_be_bytes());
+            let answer = packet::read(&bytes).map_err(|refusal| refusal.number());
+            match (size, length) {
+                (261, _) => assert_eq!(answer, Err(3)),
+                (260, 240) => assert_eq!(answer.map(|header| header.kind), Ok(1)),
+                _ => assert_eq!(answer, Err(5)),
+            }
+        }
+    }
 }
 
 #[test]

@@ -128,7 +128,7 @@ fn sixteen() -> Schedule {
 
 fn payloads() -> Schedule {
     let mut s = Script::open(2, 7);
-    let longest = "c3".repeat(96);
+    let longest = "c3".repeat(240);
     let first = s.number(0, "-", 1);
     let second = s.number(1, &longest, 2);
     for member in 0..2 {
@@ -137,8 +137,9 @@ fn payloads() -> Schedule {
         s.take(member, "took 1 0 1 - more");
         s.take(member, &format!("took 2 1 1 {longest} last"));
     }
-    s.line(&format!("S 0 {longest}c3"), "refused 13");
-    s.line(&format!("S 0 {}", "c3".repeat(200)), "refused 13");
+    for length in [241, 498] {
+        s.line(&format!("S 0 {}", "c3".repeat(length)), "refused 13");
+    }
     let third = s.number(0, "00", 3);
     let fourth = s.number(1, "ff00", 4);
     s.give(third, 1, "kept");
@@ -148,9 +149,15 @@ fn payloads() -> Schedule {
     let fifth = s.number(1, "0123456789abcdef", 5);
     s.give(fifth, 1, "kept");
     s.take(1, "took 5 1 3 0123456789abcdef last");
+    for (number, length) in (6..).zip([96, 97, 239]) {
+        let hex = "5a".repeat(length);
+        let broadcast = s.number(1, &hex, number);
+        s.give(broadcast, 1, "kept");
+        s.take(1, &format!("took {number} 1 {} {hex} last", number - 2));
+    }
     s.end(
-        "payloads of 0, 1, 2, 8, 96, 97 and 200 bytes",
-        "top 5 floor 2 taken 2 5",
+        "payloads of 0, 1, 2, 8, 96, 97, 239, 240, 241 and 498 bytes",
+        "top 8 floor 2 taken 2 8",
     )
 }
 

@@ -1,8 +1,8 @@
 //! Times every call of the proved library beside the same call of the
 //! reference, in turns, and prints the medians.
 
-use boundary::{Member, Sequencer, list, proved, reference};
-use model::limits::{HISTORY, PACKET, WINDOW};
+use boundary::{LINE, Member, Sequencer, list, proved, reference};
+use model::limits::{HISTORY, PACKET, PAYLOAD, WINDOW};
 use model::packet::{self, BROADCAST, GAP, Header, POLL, REQUEST, STATUS};
 use std::collections::BTreeMap;
 use std::hint::black_box;
@@ -10,6 +10,8 @@ use std::process::ExitCode;
 use std::time::{Duration, Instant};
 
 const GROUP: u32 = 7;
+/// Lengths of payloads.
+const LENGTHS: [usize; 4] = [0, 30, 96, PAYLOAD];
 /// Packets of a list that leave the state as it is.
 const SAME: usize = 32;
 /// How long the rounds of a sample take, at least.
@@ -74,7 +76,7 @@ fn main() -> ExitCode {
     };
     let mut cases = packets();
     for n in [4, 16] {
-        for payload in [0, 30, 96] {
+        for payload in LENGTHS {
             for kept in [0, HISTORY / 2, HISTORY] {
                 cases.extend(sequencer(n, payload, kept));
             }
@@ -227,7 +229,7 @@ fn packets() -> Vec<Case> {
             rounds: Box::new(move |side, rounds, _| on!(side, read_rounds(&packets, rounds))),
         });
     };
-    for length in [0, 30, 96] {
+    for length in LENGTHS {
         let packet = laid(REQUEST, 0, GROUP, [5, 1, 0], &payload(length));
         reading("read", &format!("request, payload {length}"), packet);
         let packet = laid(BROADCAST, 0, GROUP, [5, 1, 0], &payload(length));
@@ -266,7 +268,7 @@ fn packets() -> Vec<Case> {
             }),
         });
     };
-    for length in [0, 30, 96] {
+    for length in LENGTHS {
         let with = format!("request, payload {length}");
         writing("write", &with, REQUEST, [1, 0], length);
         let with = format!("broadcast, payload {length}");
@@ -276,7 +278,7 @@ fn packets() -> Vec<Case> {
     writing("write", "status", STATUS, [0, 0], 0);
     writing("write", "poll", POLL, [0, 0], 0);
     writing("write refused", "4", 0, [0, 0], 0);
-    writing("write refused", "13", REQUEST, [1, 0], 97);
+    writing("write refused", "13", REQUEST, [1, 0], PAYLOAD + 1);
     cases
 }
 
@@ -489,7 +491,7 @@ fn schedules() -> Vec<Case> {
             with: with.into(),
             calls: events,
             rounds: Box::new(move |side, rounds, _| {
-                let mut out = vec![0; 250 * (events + 2)];
+                let mut out = vec![0; LINE * (events + 2)];
                 (0..rounds).fold(0, |sum, _| {
                     let length = on!(side, play(black_box(&text), &mut out));
                     sum + length as u64 + u64::from(out[length / 2])

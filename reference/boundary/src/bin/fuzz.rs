@@ -2,7 +2,7 @@
 //! through the reference. A difference is printed with its seed, shrunk.
 
 use boundary::shrink::{plain, shrink};
-use boundary::{Member, Sequencer, list, proved, reference};
+use boundary::{LINE, Member, Sequencer, list, proved, reference};
 use model::limits::{HEADER, LARGEST, PACKET, PAYLOAD};
 use model::packet::{self, Header};
 use model::sequencer;
@@ -17,6 +17,10 @@ type Case = fn(u64) -> (u8, Option<String>);
 
 /// Differences that are printed.
 const PRINTED: u64 = 20;
+
+/// Packets, payloads and outputs of any length are shorter: some lie over
+/// every limit.
+const LENGTHS: usize = PACKET + 41;
 
 struct Options {
     packets: u64,
@@ -136,14 +140,14 @@ fn header(random: &mut Random) -> Header {
 /// then left alone, damaged, cut or made longer; or any bytes.
 fn bytes(random: &mut Random) -> Vec<u8> {
     if random.percent(10) {
-        let length = random.below(201);
+        let length = random.below(LENGTHS);
         return random.bytes(length);
     }
     let header = header(random);
     let length = match random.below(6) {
         0..3 => 0,
         3 => random.one(&[1, PAYLOAD - 1, PAYLOAD, PAYLOAD + 1]),
-        _ => random.below(181),
+        _ => random.below(LENGTHS - HEADER),
     };
     let mut packet = vec![header.kind, header.member];
     packet.extend((length as u16).to_be_bytes());
@@ -189,11 +193,11 @@ fn writing(seed: u64) -> (u8, Option<String>) {
     let length = match random.below(4) {
         0 => 0,
         1 => random.one(&[1, PAYLOAD - 1, PAYLOAD, PAYLOAD + 1]),
-        _ => random.below(201),
+        _ => random.below(LENGTHS),
     };
     let payload = random.bytes(length);
     let room = match random.below(4) {
-        0 => random.below(201),
+        0 => random.below(LENGTHS),
         1 => random.one(&[0, PACKET - 1, PACKET, PACKET + 1]),
         _ => PACKET + random.below(40),
     };
@@ -386,10 +390,10 @@ fn membership(seed: u64) -> Option<String> {
     ))
 }
 
-/// Room for what a schedule prints: an event's line has at most 250 characters.
+/// Room for what a schedule prints.
 fn room(schedule: &[u8]) -> usize {
     let lines = schedule.iter().filter(|&&byte| byte == b'\n').count() + 2;
-    250 * lines
+    LINE * lines
 }
 
 /// What both sides print.

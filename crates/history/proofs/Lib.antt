@@ -1,5 +1,6 @@
 pub mod Soundness
 pub mod Noting
+pub mod Counting
 pub mod Finding
 pub mod Asking
 pub mod Sizes

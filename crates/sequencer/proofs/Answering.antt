@@ -21,6 +21,7 @@ use Rattle.packet.proofs.Facts.{Known, ordered}
 use Rattle.packet.proofs.RoundTrip.{header-back, payload-back}
 use Rattle.packet.specs.Packet.{fieldsOf, written}
 use Rattle.packet.specs.declared.Packet.the-variants.{Poll}
+use Rattle.history.proofs.Counting.{counted-each}
 use Rattle.history.proofs.Finding.{found-in}
 use Rattle.history.proofs.Soundness.{takenIn, countIn}
 use Rattle.history.specs.Note.{largerOf}
@@ -32,10 +33,9 @@ use Rattle.sequencer.specs.State.{lastCount}
 use Rattle.sequencer.specs.declared.Answer.{Answer}
 use Rattle.sequencer.specs.declared.Answer.the-variants.{Old, Again, Full, Numbered, Noted, Wanted}
 use Rattle.sequencer.specs.declared.Sequencer.{Sequencer}
-use Rattle.sequencer.proofs.Histories.{note-inv, repeated-inv, numbered-inv, broadcast-is, broadcast-may, broadcast-known}
+use Rattle.sequencer.proofs.Histories.{member-inside, note-inv, repeated-inv, numbered-inv, broadcast-is, broadcast-may, broadcast-known}
 use Rattle.sequencer.proofs.Invariant.{SequencerInv, SequencerGood}
 use Rattle.sequencer.proofs.Noting.{noted-most}
-use Rattle.sequencer.proofs.Numbering.{counted-each}
 use Rattle.sequencer.proofs.Packets.{poll-allowed}
 use Rattle.sequencer.proofs.Soundness.{Sound, sound-of}
 
@@ -151,7 +151,7 @@ module _ (group : Group) (order : List Ordered) (t : ℕ → ℕ) (submitted : �
           let v = r .inv in
           let z = ap (λ (l : List Ordered). order ++ l) numbered-by in
           let l : s .top .0 + 1 ≤ length order′ = (let e = v .top-is in simp length-append (omega arith)) in
-          let each = counted-each s m count payload (v .typed) sound (rw (v .group-is) member) in
+          let each = counted-each (s .acknowledgements) m count (member-inside group order s v member) in
           record {
             inv = rw z inv′;
             acknowledged = λ i h. each (λ j a. a .taken .0 ≤ t j) i (λ q. rw q (r .acked (m .0) member)) (λ q. r .acked i h);

@@ -22,6 +22,7 @@ use Rattle.packet.specs.Laws.{Allowed}
 use Rattle.packet.specs.Packet.{fieldsOf, packetOf}
 use Rattle.packet.specs.declared.Packet.{Packet}
 use Rattle.packet.specs.declared.Packet.the-variants.{Broadcast}
+use Rattle.history.proofs.Counting.{counted-each, counted-same, counted-up}
 use Rattle.history.proofs.Noting.{cleared-other}
 use Rattle.history.proofs.Soundness.{countIn, floor-most}
 use Rattle.history.specs.State.{noAcknowledgement, messageAt, placeOf}
@@ -33,13 +34,17 @@ use Rattle.sequencer.specs.declared.Sequencer.{Sequencer}
 use Rattle.sequencer.proofs.Invariant.{SequencerInv}
 use Rattle.sequencer.proofs.Keeping.{repeated-typed, repeated-sound}
 use Rattle.sequencer.proofs.Noting.{noted-count, floor-up, note-typed, note-sound}
-use Rattle.sequencer.proofs.Numbering.{counted-each, counted-same, counted-up, kept-here, kept-other, numbered-typed, numbered-sound}
+use Rattle.sequencer.proofs.Numbering.{kept-here, kept-other, numbered-typed, numbered-sound}
 use Rattle.sequencer.proofs.Packets.{broadcast-allowed}
 use Rattle.sequencer.proofs.Soundness.{Sound, sound-of, of-sound}
 
 module _ (group : Group) (order : List Ordered) (s : Sequencer) (v : SequencerInv group s order) where
   sound : Sound s
   sound = sound-of s (v .sound)
+
+  -- a member of the group has an entry
+  pub member-inside : {m : ℕ} → m < group .n → m < length (s .acknowledgements)
+  member-inside h = let n : s .group .n ≡ group .n = ap (λ (g : Group). g .n) (v .group-is) in let f = sound .n-most in let l = v .typed .table in omega arith
 
   -- a member of the group and a number that it can have taken
   module _ (m : MemberNumber) (taken : SequenceNumber) (member : m .0 < group .n) (known : taken .0 ≤ length order) where
@@ -114,11 +119,14 @@ module _ (group : Group) (order : List Ordered) (s : Sequencer) (v : SequencerIn
           count-most = λ k x e. counted k x (at-snoc order message k e);
           payload-ok = λ k x e. size k x (at-snoc order message k e);
           counts-are = λ i h.
-              counted-each s m count payload typed f member′ (λ j a. a .count ≡ length (ownOf j (order ++ (message ∷ [])))) i
+              counted-each (s .acknowledgements) m count inside (λ j a. a .count ≡ length (ownOf j (order ++ (message ∷ [])))) i
               (λ q. rw q own)
               (λ q. v .counts-are i h ∙ ap length (sym (own-other i order message (λ w. q (sym w)))));
         }
       where
+        inside : m .0 < length (s .acknowledgements)
+        inside = member-inside member
+
         own : count ≡ length (ownOf (m .0) (order ++ (message ∷ [])))
         own = let z = own-more order message in let y = v .counts-are (m .0) member in omega arith
 
@@ -145,8 +153,8 @@ module _ (group : Group) (order : List Ordered) (s : Sequencer) (v : SequencerIn
         least k x (inr e) = rw (← (e .1)) (omega arith)
 
         counted : (k : ℕ) (x : Ordered) → Had k x → x .count ≤ countIn (withMessage s m count payload .acknowledgements) (x .originator)
-        counted k x (inl e) = le-trans (v .count-most k x e) (counted-up s m count payload (v .typed) sound (rw (v .group-is) member) (omega arith) (x .originator))
-        counted k x (inr e) = rw (← (e .1)) (let z = counted-same s m count payload (v .typed) sound (rw (v .group-is) member) in omega arith)
+        counted k x (inl e) = le-trans (v .count-most k x e) (counted-up (s .acknowledgements) m count inside (omega arith) (x .originator))
+        counted k x (inr e) = rw (← (e .1)) (let z = counted-same (s .acknowledgements) m count inside in omega arith)
 
         size : (k : ℕ) (x : Ordered) → Had k x → length (x .payload) ≤ payloadMost
         size k x (inl e) = v .payload-ok k x e

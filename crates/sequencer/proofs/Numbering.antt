@@ -4,17 +4,18 @@ use mathlib.Core.Path.{_≡_, refl, ap, _∙_}
 use mathlib.Core.Logic.{_≢_}
 use mathlib.Core.List.{List}
 use Prim.Native.Nat.{ℕ, _+_, _≤_, _<_}
-use native.Mathlib.Nat.{le-refl, le-trans}
+use native.Mathlib.Nat.{le-trans}
 use native.Mathlib.Omega.{arith}
-use lib.ListN.{length, getD, set, length-set}
+use lib.ListN.{length, set, length-set}
 use lib.Seq.{getD-set-same, getD-set-other}
-use Rattle.group.proofs.Lists.{eq-or, set-each}
+use Rattle.group.proofs.Lists.{eq-or}
 use Rattle.group.specs.Limits.{placesMost, payloadMost, largestNumber}
 use Rattle.group.specs.declared.MemberNumber.{MemberNumber}
 use Rattle.message.proofs.Kept.{kept-zero}
 use Rattle.message.specs.Message.{messageOf, blank, isEmpty}
 use Rattle.message.specs.declared.Message.{Message}
-use Rattle.history.proofs.Soundness.{takenIn, countIn, KeptFacts, floor-same}
+use Rattle.history.proofs.Counting.{counted-each, counted-taken, counted-same, counted-up}
+use Rattle.history.proofs.Soundness.{countIn, KeptFacts, floor-same}
 use Rattle.history.specs.Note.{withCount}
 use Rattle.history.specs.State.{noAcknowledgement, acknowledgementOf, placeOf, messageAt}
 use Rattle.history.specs.declared.Acknowledgement.{Acknowledgement}
@@ -37,18 +38,8 @@ module _ (s : Sequencer) (m : MemberNumber) (count : ℕ) (payload : List ℕ) (
   abbrev history′ : List Message
   history′ = set (s .history) (placeOf (s .top .0 + 1)) (messageOf m count payload)
 
-  pub counted-each : (P : ℕ → Acknowledgement → Type 0) (i : ℕ) → (i ≡ m .0 → P i entry)
-      → (i ≢ m .0 → P i (getD table i noAcknowledgement)) → P i (getD table′ i noAcknowledgement)
-  counted-each P i same other = set-each P table (m .0) entry noAcknowledgement i same other (omega arith)
-
-  pub counted-taken : (i : ℕ) → takenIn table′ i ≡ takenIn table i
-  counted-taken i = counted-each (λ j a. a .taken .0 ≡ takenIn table j) i (λ q. rw q) (λ q. refl)
-
-  pub counted-same : countIn table′ (m .0) ≡ count
-  counted-same = ap (λ (a : Acknowledgement). a .count) (getD-set-same table (m .0) entry noAcknowledgement (omega arith))
-
-  pub counted-up : countIn table (m .0) ≤ count → (i : ℕ) → countIn table i ≤ countIn table′ i
-  counted-up h i = counted-each (λ j a. countIn table j ≤ a .count) i (λ q. rw q h) (λ q. le-refl (countIn table i))
+  inside : m .0 < length table
+  inside = omega arith
 
   -- the new message lies in its place, and the others in theirs
   pub kept-here : messageAt history′ (s .top .0 + 1) ≡ messageOf m count payload
@@ -69,7 +60,7 @@ module _ (s : Sequencer) (m : MemberNumber) (count : ℕ) (payload : List ℕ) (
           repeats = typed .repeats;
           table = length-set table (m .0) entry ∙ typed .table;
           history = length-set (s .history) (placeOf (s .top .0 + 1)) (messageOf m count payload) ∙ typed .history;
-          counts = λ i. counted-each (λ j a. a .count ≤ largestNumber) i (λ q. fits) (λ q. typed .counts i);
+          counts = λ i. counted-each table m count inside (λ j a. a .count ≤ largestNumber) i (λ q. fits) (λ q. typed .counts i);
         }
 
     pub numbered-sound : 1 ≤ count → length payload ≤ payloadMost → s .top .0 < s .floor .0 + placesMost → Sound (withMessage s m count payload)
@@ -78,11 +69,11 @@ module _ (s : Sequencer) (m : MemberNumber) (count : ℕ) (payload : List ℕ) (
         record {
           n-least = sound .n-least;
           n-most = sound .n-most;
-          floor-is = floor-same (s .group .n) table′ table (length-set table (m .0) entry) counted-taken ∙ sound .floor-is;
+          floor-is = floor-same (s .group .n) table′ table (length-set table (m .0) entry) (counted-taken table m count inside) ∙ sound .floor-is;
           floor-le = omega arith;
           window = omega arith;
-          taken-le = λ i h. let z = counted-taken i in let y = sound .taken-le i h in omega arith;
-          unused = λ i h. counted-each (λ j a. a ≡ noAcknowledgement) i (λ q. absurd (omega arith)) (λ q. sound .unused i h);
+          taken-le = λ i h. let z = counted-taken table m count inside i in let y = sound .taken-le i h in omega arith;
+          unused = λ i h. counted-each table m count inside (λ j a. a ≡ noAcknowledgement) i (λ q. absurd (omega arith)) (λ q. sound .unused i h);
           kept = λ k a b.
               eq-or k (s .top .0 + 1) (λ q. rw (q, kept-here) fresh)
               (λ q. rw (kept-other room k a (omega arith) q) (old (messageAt (s .history) k) (sound .kept k a (omega arith))));
@@ -94,7 +85,7 @@ module _ (s : Sequencer) (m : MemberNumber) (count : ℕ) (payload : List ℕ) (
             record {
               originator = member;
               count-least = least;
-              count-most = let z = counted-same in omega arith;
+              count-most = let z = counted-same table m count inside in omega arith;
               short = short;
               zeros = kept-zero m count payload;
             }
@@ -104,7 +95,7 @@ module _ (s : Sequencer) (m : MemberNumber) (count : ℕ) (payload : List ℕ) (
             record {
               originator = f .originator;
               count-least = f .count-least;
-              count-most = le-trans (f .count-most) (counted-up up (message .originator .0));
+              count-most = le-trans (f .count-most) (counted-up table m count inside up (message .originator .0));
               short = f .short;
               zeros = f .zeros;
             }

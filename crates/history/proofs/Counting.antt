@@ -1,5 +1,5 @@
--- A table in which one member's entry has another count: acknowledgements stay, and so do the counts of the others: each entry
--- is the member's or as it was. Assumes nothing.
+-- A table in which one member's entry has another count and repeat count: acknowledgements stay, and so do the counts of the
+-- others: each entry is the member's or as it was. Assumes nothing.
 use mathlib.Core.Path.{_≡_, refl, ap}
 use mathlib.Core.Logic.{_≢_}
 use mathlib.Core.List.{List}
@@ -9,15 +9,15 @@ use lib.ListN.{length, getD, set}
 use lib.Seq.{getD-set-same}
 use Rattle.group.proofs.Lists.{set-each}
 use Rattle.group.specs.declared.MemberNumber.{MemberNumber}
-use Rattle.history.specs.Note.{withCount}
+use Rattle.history.specs.Note.{withCounts}
 use Rattle.history.specs.State.{noAcknowledgement, acknowledgementOf}
 use Rattle.history.specs.declared.Acknowledgement.{Acknowledgement}
 use Rattle.history.proofs.Soundness.{takenIn, countIn}
 
-module _ (table : List Acknowledgement) (m : MemberNumber) (count : ℕ) (inside : m .0 < length table) where
-  -- the member's entry, with the count
+module _ (table : List Acknowledgement) (m : MemberNumber) (count repeats : ℕ) (inside : m .0 < length table) where
+  -- the member's entry, with the counts
   abbrev entry : Acknowledgement
-  entry = withCount (acknowledgementOf table m) count
+  entry = withCounts (acknowledgementOf table m) count repeats
 
   abbrev table′ : List Acknowledgement
   table′ = set table (m .0) entry

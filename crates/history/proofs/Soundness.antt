@@ -3,7 +3,7 @@ use mathlib.Core.Path.{_≡_, refl}
 use mathlib.Core.Bool.{Bool, true}
 use mathlib.Core.List.{List}
 use Prim.Native.Nat.{ℕ, _≤_, _<_}
-use native.Mathlib.Nat.{le-antisymm}
+use native.Mathlib.Nat.{le-antisymm, le-trans}
 use native.Mathlib.Omega.{arith}
 use borrow.Author.Tests.{ltb-true, ltb-false, leb-true, lt-ltb, le-ltb, le-leb, eq-eqb}
 use lib.ListN.{length, getD, take, length-take}
@@ -19,12 +19,15 @@ use Rattle.history.specs.Sound.{entrySound, keptSound}
 use Rattle.history.specs.State.{noAcknowledgement, floorOf}
 use Rattle.history.specs.declared.Acknowledgement.{Acknowledgement}
 
--- member i's entry in a table: the last number known taken, the last count numbered
+-- member i's entry in a table: the last number known taken, the last count numbered, the repeats
 abbrev pub takenIn : List Acknowledgement → ℕ → ℕ
 takenIn table i = getD table i noAcknowledgement .taken .0
 
 abbrev pub countIn : List Acknowledgement → ℕ → ℕ
 countIn table i = getD table i noAcknowledgement .count
+
+abbrev pub repeatsIn : List Acknowledgement → ℕ → ℕ
+repeatsIn table i = getD table i noAcknowledgement .repeats
 
 -- a kept message is one of the group's: of a member, with a count that was numbered
 pub record KeptFacts (n : ℕ) (table : List Acknowledgement) (m : Message) : Type 0 where
@@ -48,6 +51,18 @@ kept-facts n table m e =
 pub facts-kept : (n : ℕ) (table : List Acknowledgement) (m : Message) → KeptFacts n table m → keptSound n table m ≡ true
 unfolding keptSound
 facts-kept n table m k = search tests depth 9
+
+-- and stays one under a table with no lower count of its originator
+pub kept-under : (n : ℕ) (table table′ : List Acknowledgement) (m : Message) → countIn table (m .originator .0) ≤ countIn table′ (m .originator .0)
+    → KeptFacts n table m → KeptFacts n table′ m
+kept-under n table table′ m up k =
+    record {
+      originator = k .originator;
+      count-least = k .count-least;
+      count-most = le-trans (k .count-most) up;
+      short = k .short;
+      zeros = k .zeros;
+    }
 
 -- floor is at most each of the n acknowledgements, and at least what all of them are
 module _ (n : ℕ) (table : List Acknowledgement) where
@@ -83,13 +98,14 @@ module _ (n top : ℕ) (i : ℕ) (a : Acknowledgement) where
   pub entry-unused : n ≤ i → entrySound n top i a ≡ true → a ≡ noAcknowledgement
   unfolding entrySound if_then_else_
   entry-unused h e =
-      let z : a .taken .0 =? 0 and a .count =? 0 ≡ true = rw (le-ltb i n h) at e in
+      let z : a .taken .0 =? 0 and a .count =? 0 and a .repeats =? 0 ≡ true = rw (le-ltb i n h) at e in
       let t : a .taken .0 ≡ 0 = search says in
       let c : a .count ≡ 0 = search says in
-      λ j. record { taken = record { 0 = t j }; count = c j }
+      let r : a .repeats ≡ 0 = search says in
+      λ j. record { taken = record { 0 = t j }; count = c j; repeats = r j }
 
   pub entry-sound : (i < n → a .taken .0 ≤ top) → (n ≤ i → a ≡ noAcknowledgement) → entrySound n top i a ≡ true
   unfolding entrySound
   entry-sound f g =
       if-elim (λ (b : Bool). b ≡ true) (i <? n) (λ t. le-leb (a .taken .0) top (f (ltb-true i n t)))
-      (λ t. rw (g (ltb-false i n t)) (both-hold _ _ (eq-eqb 0 0 refl) (eq-eqb 0 0 refl)))
+      (λ t. rw (g (ltb-false i n t)) (both-hold _ _ (eq-eqb 0 0 refl) (both-hold _ _ (eq-eqb 0 0 refl) (eq-eqb 0 0 refl))))

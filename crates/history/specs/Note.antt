@@ -17,11 +17,11 @@ largerOf a b = if a <? b then b else a
 
 -- an entry that has taken up to the larger of old and new
 abbrev pub withTaken : Acknowledgement → SequenceNumber → Acknowledgement
-withTaken a taken = record { taken = record { 0 = largerOf (a .taken .0) (taken .0) }; count = a .count }
+withTaken a taken = record { taken = record { 0 = largerOf (a .taken .0) (taken .0) }; count = a .count; repeats = a .repeats }
 
--- an entry with another count
-abbrev pub withCount : Acknowledgement → ℕ → Acknowledgement
-withCount a count = record { taken = a .taken; count = count }
+-- an entry with another count and repeat count
+abbrev pub withCounts : Acknowledgement → ℕ → ℕ → Acknowledgement
+withCounts a count repeats = record { taken = a .taken; count = count; repeats = repeats }
 
 -- the table with the member's entry so noted
 unfoldable pub tableNoted : List Acknowledgement → MemberNumber → SequenceNumber → List Acknowledgement

@@ -13,7 +13,7 @@ use Rattle.history.specs.declared.Acknowledgement.{Acknowledgement}
 unfoldable pub entrySound : ℕ → ℕ → ℕ → Acknowledgement → Bool
 entrySound n top i a =
     if i <? n then a .taken .0 ≤? top else
-    (a .taken .0 =? 0 and a .count =? 0)
+    (a .taken .0 =? 0 and a .count =? 0 and a .repeats =? 0)
 
 -- the history's originators are below n, each kept count lies from 1 to its originator's last, lengths are at most 240, and
 -- every unused byte is zero

@@ -11,7 +11,7 @@ use Rattle.history.specs.declared.Acknowledgement.{Acknowledgement}
 
 -- of a member of whom nothing is known yet
 abbrev pub noAcknowledgement : Acknowledgement
-noAcknowledgement = record { taken = record { 0 = 0 }; count = 0 }
+noAcknowledgement = record { taken = record { 0 = 0 }; count = 0; repeats = 0 }
 
 -- what is known of member m
 abbrev pub acknowledgementOf : List Acknowledgement → MemberNumber → Acknowledgement

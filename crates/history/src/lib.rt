@@ -17,13 +17,15 @@ ghost use Rattle.message.specs.Message.{messageOf, isEmpty};
 ghost use Rattle.history.specs.State.{placeOf, floorOf};
 ghost use Rattle.history.specs.Sound.{entrySound, keptSound, placeSound, frameSound};
 ghost use Rattle.history.specs.Note.{largerOf, tableNoted};
-ghost use Rattle.history.specs.Repeat.{oneMore, isOf, findOf};
+ghost use Rattle.history.specs.Repeat.{oneMore, repeatsOf, isOf, findOf};
 ghost use Rattle.history.specs.Ask.{senderVerdict, countVerdict, wantedVerdict, requestVerdict, gapVerdict, packetVerdict, senderOf};
 
-// What is known of a member: the last number that it is known to have taken, and its last own count that was numbered.
+// What is known of a member: the last number that it is known to have taken, its last own count that was numbered, and how often it
+// repeated itself.
 pub struct Acknowledgement {
     pub taken: SequenceNumber,
     pub count: u32,
+    pub repeats: u32,
 }
 
 // Who sent a packet, and the number that it acknowledges.
@@ -70,7 +72,10 @@ fn entry_sound(n: u8, top: SequenceNumber, i: usize, entry: Acknowledgement) -> 
     if entry.taken.0 != 0 {
         return false;
     }
-    entry.count == 0
+    if entry.count != 0 {
+        return false;
+    }
+    entry.repeats == 0
 }
 
 pub fn entries_sound(n: u8, table: [Acknowledgement; Group::MEMBERS], top: SequenceNumber) -> bool
@@ -193,6 +198,7 @@ pub fn table_noted(
     table[at] = Acknowledgement {
         taken: most,
         count: entry.count,
+        repeats: entry.repeats,
     };
     table
 }
@@ -244,6 +250,24 @@ pub fn one_more(repeats: u32) -> u32
         repeats + 1
     } else {
         repeats
+    }
+}
+
+// The repeats of all members, held at the largest number.
+pub fn repeats(table: [Acknowledgement; Group::MEMBERS]) -> u32
+    ensures { λ r. ⌜ r ≡ repeatsOf table ⌝ }
+{
+    let mut sum: u64 = 0;
+    let mut i: usize = 0;
+    while i < Group::MEMBERS {
+        let entry = table[i];
+        sum += entry.repeats as u64;
+        i += 1;
+    }
+    if sum < (Group::LARGEST as u64) {
+        sum as u32
+    } else {
+        Group::LARGEST
     }
 }
 

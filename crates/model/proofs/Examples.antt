@@ -17,7 +17,7 @@ use Rattle.big_endian.specs.Number.{numberAt, bytesOf}
 use Rattle.packet.specs.Packet.{headerOf, knownKind, payloadFits, obeys, fieldsVerdict, readOf, headerBytes, packetOf, writeVerdict, writeOf, contentOf, fieldsOf, written}
 use Rattle.history.specs.Ask.{senderVerdict, countVerdict, wantedVerdict}
 use Rattle.history.specs.Note.{largerOf, tableNoted, clearedOf}
-use Rattle.history.specs.Repeat.{oneMore, isOf, findOf}
+use Rattle.history.specs.Repeat.{oneMore, repeatsSum, repeatsOf, isOf, findOf}
 use Rattle.history.specs.Sound.{entrySound, keptSound, placeSound, frameSound}
 use Rattle.history.specs.State.{floorOf}
 use Rattle.sequencer.specs.Calls as sequencer
@@ -29,7 +29,7 @@ use Rattle.window.specs.Places as window
 use Rattle.window.specs.Sound as windowSound
 
 pub examples : Examples
-unfolding if_then_else_ all allAbove least openOf judged member.answered acknowledgedOf member.requestPacket member.gapPacket member.statusPacket member.callVerdict member.submitVerdict member.withWaiting member.submitOf member.repeatOf member.statusOf member.withHeld member.gapUpTo member.keptOf member.broadcastOf window.smallerOf member.pollOf member.contentStep member.readStep member.receiveOf member.isOwn member.withTaken member.tookOf member.takeOf member.openedOf member.freshOf windowSound.placeSound windowSound.waitingSound windowSound.frameSound memberSound.soundOf window.lowestMissing freshMember allZero messageOf emptyMessage payloadOf zeroBehind isEmpty closeMember closeFrom request broadcast statusOf requested holding gather numberedIn tookIn tookAt tookBy messagesAbove lastNumber above happen run freshMembers fresh numberAt bytesOf headerOf knownKind payloadFits obeys fieldsVerdict readOf headerBytes packetOf writeVerdict writeOf contentOf fieldsOf written sequencer.answered sequencer.broadcastOf sequencer.pollPacket oneMore sequencer.repeatedOf isOf findOf sequencer.oldOf sequencer.againOf sequencer.fullOf sequencer.withMessage sequencer.numberedOf sequencer.requestOf sequencer.gapOf senderVerdict countVerdict wantedVerdict sequencer.contentStep sequencer.readStep sequencer.callVerdict sequencer.receiveOf sequencer.pollOf sequencer.copyOf sequencer.openedOf sequencer.freshOf largerOf tableNoted clearedOf withTable noteOf numberedBy entrySound keptSound placeSound frameSound soundOf floorOf freshSequencer
+unfolding if_then_else_ all allAbove least openOf judged member.answered acknowledgedOf member.requestPacket member.gapPacket member.statusPacket member.callVerdict member.submitVerdict member.withWaiting member.submitOf member.repeatOf member.statusOf member.withHeld member.gapUpTo member.keptOf member.broadcastOf window.smallerOf member.pollOf member.contentStep member.readStep member.receiveOf member.isOwn member.withTaken member.tookOf member.takeOf member.openedOf member.freshOf windowSound.placeSound windowSound.waitingSound windowSound.frameSound memberSound.soundOf window.lowestMissing freshMember allZero messageOf emptyMessage payloadOf zeroBehind isEmpty closeMember closeFrom request broadcast statusOf requested holding gather numberedIn tookIn tookAt tookBy messagesAbove lastNumber above happen run freshMembers fresh numberAt bytesOf headerOf knownKind payloadFits obeys fieldsVerdict readOf headerBytes packetOf writeVerdict writeOf contentOf fieldsOf written sequencer.answered sequencer.broadcastOf sequencer.pollPacket oneMore repeatsSum repeatsOf sequencer.repeatedOf isOf findOf sequencer.oldOf sequencer.againOf sequencer.fullOf sequencer.withMessage sequencer.numberedOf sequencer.requestOf sequencer.gapOf senderVerdict countVerdict wantedVerdict sequencer.contentStep sequencer.readStep sequencer.callVerdict sequencer.receiveOf sequencer.pollOf sequencer.copyOf sequencer.openedOf sequencer.freshOf largerOf tableNoted clearedOf withTable noteOf numberedBy entrySound keptSound placeSound frameSound soundOf floorOf freshSequencer
 examples =
     record {
       floor = refl;

@@ -20,10 +20,11 @@ use Rattle.packet.specs.declared.Packet.{Packet}
 use Rattle.packet.specs.declared.Reading.{Reading}
 use Rattle.packet.specs.declared.Writing.{Writing}
 use Rattle.history.specs.Note.{withTaken}
+use Rattle.history.specs.Repeat.{repeatsOf}
 use Rattle.history.specs.State.{floorOf, noAcknowledgement}
 use Rattle.history.specs.declared.Acknowledgement.{Acknowledgement}
 use Rattle.sequencer.specs.Calls as sequencer
-use Rattle.sequencer.specs.State.{freshSequencer}
+use Rattle.sequencer.specs.State.{repeatCount, freshSequencer}
 use Rattle.sequencer.specs.declared.Answer as sequencerAnswer
 use Rattle.sequencer.specs.declared.Sequencer.{Sequencer}
 
@@ -50,6 +51,10 @@ requested n (suc k) = sequencer.receiveOf (requested n k) (request 0 (suc k) [])
 unfoldable pub holding : ℕ → Member
 holding zero = freshMember (descriptionOf 2 7) (record { 0 = 0 })
 holding (suc k) = member.receiveOf (holding k) (broadcast (suc k)) longestPacket .member
+
+-- the repeat counts of members 0 and 1, and the old count
+abbrev pub repeatsIn : Sequencer → List ℕ
+repeatsIn s = repeatCount s (record { 0 = 0 }) ∷ repeatCount s (record { 0 = 1 }) ∷ repeatsOf (s .acknowledgements) ∷ []
 
 -- what is answered in a list of events
 abbrev pub answers : World → List Answer
@@ -104,10 +109,10 @@ pub record Examples : Type 0 where
   -- a request that finds 32 kept and whose own A frees one is Numbered
   pub frees-one : sequencer.receiveOf (sequencer.receiveOf (requested 2 32) (statusOf 0 1) longestPacket .sequencer) (request 1 33 []) longestPacket .answer
       ≡ sequencerAnswer.Answer.Numbered (record { 0 = 33 })
-  -- Old and Again add 1 to the repeat count, which nothing else changes
-  pub again-counted : sequencer.receiveOf (requested 2 1) (request 0 1 []) longestPacket .sequencer .repeats ≡ 1
-  pub old-counted : sequencer.receiveOf (requested 2 2) (request 0 1 []) longestPacket .sequencer .repeats ≡ 1
-  pub others-not : requested 2 2 .repeats ≡ 0
+  -- Old and Again add 1 to the repeat count of the request's sender, which nothing else changes; the old count is the sum
+  pub again-counted : repeatsIn (sequencer.receiveOf (requested 2 1) (request 0 1 []) longestPacket .sequencer) ≡ 0 ∷ 1 ∷ 1 ∷ []
+  pub old-counted : repeatsIn (sequencer.receiveOf (requested 2 2) (request 0 1 []) longestPacket .sequencer) ≡ 0 ∷ 1 ∷ 1 ∷ []
+  pub others-not : repeatsIn (requested 2 2) ≡ 0 ∷ 0 ∷ 0 ∷ []
   -- A = top goes, top + 1 is 10
   pub at-top : sequencer.receiveOf (requested 2 1) (statusOf 0 1) longestPacket .answer ≡ sequencerAnswer.Answer.Noted
   pub over-top : sequencer.receiveOf (requested 2 1) (statusOf 0 2) longestPacket .answer ≡ sequencerAnswer.Answer.Refused Refusal.AcknowledgedAhead

@@ -1,8 +1,10 @@
 // Rounds of every call of both ends, for the benchmark and the fuzz; no user links it. The states are built inside, and what the
 // calls answer comes back as a running sum. Promised is only what is proved of every function: it is safe and ends. What it
 // calls has its own promise.
+use group::Group;
 use group::MemberNumber;
 use group::SequenceNumber;
+use history::Acknowledgement;
 use member::Member;
 use packet::Reading;
 use sequencer::Sequencer;
@@ -180,6 +182,26 @@ pub extern "C" fn rounds_sequencer_copy(
         left -= 1;
     }
     sum
+}
+
+// Takes the repeat count of each member, and that of all, into a running sum.
+fn repeats_sum(table: [Acknowledgement; Group::MEMBERS]) -> u64 {
+    let mut sum: u64 = 0;
+    let mut i: usize = 0;
+    while i < Group::MEMBERS {
+        let entry = table[i];
+        sum = mix(sum, entry.repeats as u64);
+        i += 1;
+    }
+    mix(sum, history::repeats(table) as u64)
+}
+
+// The repeat counts of a sequencer that has heard a list of packets.
+#[no_mangle]
+pub extern "C" fn rounds_sequencer_repeats(n: u8, group: u32, heard: &[u8], out: &mut [u8]) -> u64 {
+    let sequencer = sequencer_after(n, group, heard, out);
+    let table = sequencer.acknowledgements;
+    repeats_sum(table)
 }
 
 // Hands a member each packet of a list, up to one that is cut off.

@@ -29,12 +29,13 @@ use Rattle.history.specs.Repeat.{findOf}
 use Rattle.sequencer.specs.Calls.{Outcome, answered, broadcastOf, pollPacket, repeatedOf, oldOf, againOf, fullOf, withMessage, numberedOf, requestOf, gapOf}
 use Rattle.sequencer.specs.Note.{withTable, noteOf}
 use Rattle.sequencer.specs.Order.{numberedBy}
-use Rattle.sequencer.specs.State.{lastCount}
+use Rattle.sequencer.specs.State.{lastCount, repeatCount}
 use Rattle.sequencer.specs.declared.Answer.{Answer}
 use Rattle.sequencer.specs.declared.Answer.the-variants.{Old, Again, Full, Numbered, Noted, Wanted}
 use Rattle.sequencer.specs.declared.Sequencer.{Sequencer}
 use Rattle.sequencer.proofs.Histories.{member-inside, note-inv, repeated-inv, numbered-inv, broadcast-is, broadcast-may, broadcast-known}
 use Rattle.sequencer.proofs.Invariant.{SequencerInv, SequencerGood}
+use Rattle.sequencer.proofs.Keeping.{repeated-taken}
 use Rattle.sequencer.proofs.Noting.{noted-most}
 use Rattle.sequencer.proofs.Packets.{poll-allowed}
 use Rattle.sequencer.proofs.Soundness.{Sound, sound-of}
@@ -81,10 +82,11 @@ module _ (group : Group) (order : List Ordered) (t : ℕ → ℕ) (submitted : �
     sound : Sound s
     sound = sound-of s (r .inv .sound)
 
-    repeated-ready : Ready (repeatedOf s)
+    repeated-ready : (m : MemberNumber) → m .0 < group .n → Ready (repeatedOf s m)
     unfolding repeatedOf
-    repeated-ready =
-        record { inv = repeated-inv group order s (r .inv); acked = r .acked; owns = r .owns }
+    repeated-ready m member =
+        let taken = repeated-taken s (r .inv .typed) sound m (rw (r .inv .group-is) member) in
+        record { inv = repeated-inv group order s (r .inv) m member; acked = λ i h. rw (taken i) (r .acked i h); owns = r .owns }
 
     pub note-ready : (m : MemberNumber) (taken : SequenceNumber) → m .0 < group .n → taken .0 ≤ t (m .0) → t (m .0) ≤ length order
         → Ready (noteOf s m taken)
@@ -151,7 +153,7 @@ module _ (group : Group) (order : List Ordered) (t : ℕ → ℕ) (submitted : �
           let v = r .inv in
           let z = ap (λ (l : List Ordered). order ++ l) numbered-by in
           let l : s .top .0 + 1 ≤ length order′ = (let e = v .top-is in simp length-append (omega arith)) in
-          let each = counted-each (s .acknowledgements) m count (member-inside group order s v member) in
+          let each = counted-each (s .acknowledgements) m count (repeatCount s m) (member-inside group order s v member) in
           record {
             inv = rw z inv′;
             acknowledged = λ i h. each (λ j a. a .taken .0 ≤ t j) i (λ q. rw q (r .acked (m .0) member)) (λ q. r .acked i h);
@@ -163,14 +165,14 @@ module _ (group : Group) (order : List Ordered) (t : ℕ → ℕ) (submitted : �
           }
 
   module _ (s : Sequencer) (r : Ready s) where
-    again-good : (number : ℕ) → (number ≢ 0 → (s .floor .0 < number) × (number ≤ s .floor .0 + (s .top .0 - s .floor .0))) → Good (againOf s number)
+    again-good : (m : MemberNumber) → m .0 < group .n → (number : ℕ) → (number ≢ 0 → (s .floor .0 < number) × (number ≤ s .floor .0 + (s .top .0 - s .floor .0))) → Good (againOf s m number)
     unfolding againOf oldOf numberedBy
-    again-good number found =
-        if-elim Good (number =? 0) (λ c. silent (repeatedOf s) (repeated-ready s r) Old refl)
+    again-good m member number found =
+        if-elim Good (number =? 0) (λ c. silent (repeatedOf s m) (repeated-ready s r m member) Old refl)
         (λ c.
         let f = found (eqb-false number 0 c) in
         let g = sound s r .floor-le in
-        writing (repeatedOf s) (repeated-ready s r) (Again (record { 0 = number })) (broadcastOf s number) refl (copy-known s r number (f .0) (omega arith)))
+        writing (repeatedOf s m) (repeated-ready s r m member) (Again (record { 0 = number })) (broadcastOf s number) refl (copy-known s r number (f .0) (omega arith)))
 
     -- a request, once A is noted
     pub request-good : (m : MemberNumber) (count : ℕ) (payload : List ℕ) → m .0 < group .n → at (submitted (m .0)) count ≡ some payload
@@ -179,9 +181,9 @@ module _ (group : Group) (order : List Ordered) (t : ℕ → ℕ) (submitted : �
     unfolding requestOf oldOf fullOf numberedBy
     request-good m count payload member submission sizes short next left =
         let wide = s .top .0 - s .floor .0 in
-        if-elim Good (count <? lastCount s m) (λ a. silent (repeatedOf s) (repeated-ready s r) Old refl)
+        if-elim Good (count <? lastCount s m) (λ a. silent (repeatedOf s m) (repeated-ready s r m member) Old refl)
         (λ a. if-elim Good (count =? lastCount s m)
-        (λ b. again-good (findOf (s .history) m count (s .floor .0) wide) (found-in (s .history) m count (s .floor .0) wide))
+        (λ b. again-good m member (findOf (s .history) m count (s .floor .0) wide) (found-in (s .history) m count (s .floor .0) wide))
         (λ b. if-elim Good (wide =? placesMost) (λ c. writing s r Full (pollPacket s) refl (poll-known s r))
         (λ c.
         let p = ltb-false count (lastCount s m) a in

@@ -29,10 +29,10 @@ use Rattle.history.specs.State.{noAcknowledgement, messageAt, placeOf}
 use Rattle.history.specs.declared.Acknowledgement.{Acknowledgement}
 use Rattle.sequencer.specs.Calls.{broadcastOf, repeatedOf, withMessage}
 use Rattle.sequencer.specs.Note.{withTable, noteOf}
-use Rattle.sequencer.specs.State.{freshSequencer}
+use Rattle.sequencer.specs.State.{repeatCount, freshSequencer}
 use Rattle.sequencer.specs.declared.Sequencer.{Sequencer}
 use Rattle.sequencer.proofs.Invariant.{SequencerInv}
-use Rattle.sequencer.proofs.Keeping.{repeated-typed, repeated-sound}
+use Rattle.sequencer.proofs.Keeping.{repeated-count, repeated-typed, repeated-sound}
 use Rattle.sequencer.proofs.Noting.{noted-count, floor-up, note-typed, note-sound}
 use Rattle.sequencer.proofs.Numbering.{kept-here, kept-other, numbered-typed, numbered-sound}
 use Rattle.sequencer.proofs.Packets.{broadcast-allowed}
@@ -73,21 +73,23 @@ module _ (group : Group) (order : List Ordered) (s : Sequencer) (v : SequencerIn
           counts-are = λ i h. noted-count s m taken (v .typed .table) f member′ i ∙ v .counts-are i h;
         }
 
-  pub repeated-inv : SequencerInv group (repeatedOf s) order
+  pub repeated-inv : (m : MemberNumber) → m .0 < group .n → SequencerInv group (repeatedOf s m) order
   unfolding repeatedOf
-  repeated-inv =
+  repeated-inv m member =
+      let member′ : m .0 < s .group .n = rw (v .group-is) member in
+      let count = repeated-count s (v .typed) sound m member′ in
       record {
         group-is = v .group-is;
-        typed = repeated-typed s (v .typed) sound;
-        sound = of-sound (repeatedOf s) (repeated-sound s (v .typed) sound);
+        typed = repeated-typed s (v .typed) sound m member′;
+        sound = of-sound (repeatedOf s m) (repeated-sound s (v .typed) sound m member′);
         top-is = v .top-is;
         history-is = v .history-is;
         number-is = v .number-is;
         originator-ok = v .originator-ok;
         count-least = v .count-least;
-        count-most = v .count-most;
+        count-most = λ k x e. rw (count (x .originator)) (v .count-most k x e);
         payload-ok = v .payload-ok;
-        counts-are = v .counts-are;
+        counts-are = λ i h. count i ∙ v .counts-are i h;
       }
 
   -- a message of a member with the count after its last, where a place and a number are left
@@ -119,7 +121,7 @@ module _ (group : Group) (order : List Ordered) (s : Sequencer) (v : SequencerIn
           count-most = λ k x e. counted k x (at-snoc order message k e);
           payload-ok = λ k x e. size k x (at-snoc order message k e);
           counts-are = λ i h.
-              counted-each (s .acknowledgements) m count inside (λ j a. a .count ≡ length (ownOf j (order ++ (message ∷ [])))) i
+              counted-each (s .acknowledgements) m count (repeatCount s m) inside (λ j a. a .count ≡ length (ownOf j (order ++ (message ∷ [])))) i
               (λ q. rw q own)
               (λ q. v .counts-are i h ∙ ap length (sym (own-other i order message (λ w. q (sym w)))));
         }
@@ -153,8 +155,8 @@ module _ (group : Group) (order : List Ordered) (s : Sequencer) (v : SequencerIn
         least k x (inr e) = rw (← (e .1)) (omega arith)
 
         counted : (k : ℕ) (x : Ordered) → Had k x → x .count ≤ countIn (withMessage s m count payload .acknowledgements) (x .originator)
-        counted k x (inl e) = le-trans (v .count-most k x e) (counted-up (s .acknowledgements) m count inside (omega arith) (x .originator))
-        counted k x (inr e) = rw (← (e .1)) (let z = counted-same (s .acknowledgements) m count inside in omega arith)
+        counted k x (inl e) = le-trans (v .count-most k x e) (counted-up (s .acknowledgements) m count (repeatCount s m) inside (omega arith) (x .originator))
+        counted k x (inr e) = rw (← (e .1)) (let z = counted-same (s .acknowledgements) m count (repeatCount s m) inside in omega arith)
 
         size : (k : ℕ) (x : Ordered) → Had k x → length (x .payload) ≤ payloadMost
         size k x (inl e) = v .payload-ok k x e
@@ -231,10 +233,10 @@ module _ (group : Group) (low : 1 ≤ group .n) (high : group .n ≤ membersMost
             record {
               group = fits;
               top = omega arith;
-              repeats = omega arith;
               table = refl;
               history = refl;
               counts = λ i. let z = ap (λ (a : Acknowledgement). a .count) (fresh-entry i) in omega arith;
+              repeats = λ i. let z = ap (λ (a : Acknowledgement). a .repeats) (fresh-entry i) in omega arith;
             };
         sound = of-sound opened fresh-sound;
         top-is = refl;

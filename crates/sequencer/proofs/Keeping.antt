@@ -1,13 +1,13 @@
 -- Each step of a sound sequencer leaves a sound state that its types can hold, and writes nothing or a packet that reading
 -- accepts: the step's text, with a proof for each way that a choice goes. Assumes nothing.
-use mathlib.Core.Path.{_≡_, refl}
+use mathlib.Core.Path.{_≡_, refl, _∙_}
 use mathlib.Core.Logic.{_≢_, _⊎_, inl, inr}
 use mathlib.Core.Bool.{true}
 use mathlib.Core.List.{List, []}
 use Prim.Native.Nat.{ℕ, _+_, _-_, _≤_, _<_}
 use native.Mathlib.Omega.{arith}
-use borrow.Author.Tests.{ltb-true, ltb-false, eqb-false}
-use lib.ListN.{length}
+use borrow.Author.Tests.{ltb-false, eqb-false}
+use lib.ListN.{length, getD, set, length-set}
 use Rattle.group.proofs.Choice.{says}
 use Rattle.group.proofs.Lists.{if-elim, judged-elim}
 use Rattle.group.specs.Choice.{if_then_else_, _<?_, _≤?_, _=?_}
@@ -25,13 +25,18 @@ use Rattle.packet.specs.declared.Packet.the-variants.{Request, Broadcast, Gap, 
 use Rattle.packet.specs.declared.Reading.{Reading}
 use Rattle.history.proofs.Finding.{found-in}
 use Rattle.history.specs.Ask.{senderVerdict, countVerdict, wantedVerdict}
-use Rattle.history.specs.Note.{largerOf}
+use Rattle.history.specs.Note.{largerOf, withCounts}
 use Rattle.history.specs.Repeat.{oneMore, findOf}
+use Rattle.history.specs.State.{noAcknowledgement, acknowledgementOf, messageAt}
+use Rattle.history.specs.declared.Acknowledgement.{Acknowledgement}
 use Rattle.history.proofs.Asking.{sender-was, count-was}
+use Rattle.history.proofs.Counting.{counted-each, counted-taken}
+use Rattle.history.proofs.Repeating.{more-most}
+use Rattle.history.proofs.Soundness.{takenIn, countIn, kept-under, floor-same}
 use Rattle.sequencer.specs.Calls.{Outcome, answered, refused, broadcastOf, pollPacket, repeatedOf, oldOf, againOf, fullOf, numberedOf, withMessage, requestOf, gapOf, contentStep}
 use Rattle.sequencer.specs.Laws.{Typed}
 use Rattle.sequencer.specs.Note.{withTable, noteOf}
-use Rattle.sequencer.specs.State.{lastCount}
+use Rattle.sequencer.specs.State.{lastCount, repeatCount}
 use Rattle.sequencer.specs.declared.Answer.{Answer}
 use Rattle.sequencer.specs.declared.Answer.the-variants.{Noted, Wanted}
 use Rattle.sequencer.specs.declared.Sequencer.{Sequencer}
@@ -51,34 +56,55 @@ module _ (s : Sequencer) (typed : Typed s) (sound : Sound s) where
   unfolding answered
   answered-stays answer = record { typed = typed; sound = sound; bytes = inl refl }
 
-  pub repeated-typed : Typed (repeatedOf s)
-  unfolding repeatedOf oneMore
-  repeated-typed =
-      record {
-        group = typed .group;
-        top = typed .top;
-        repeats =
-            if-elim (λ (x : ℕ). x ≤ largestNumber) (s .repeats <? largestNumber) (λ t. let z = ltb-true (s .repeats) largestNumber t in omega arith)
-            (λ t. typed .repeats);
-        table = typed .table;
-        history = typed .history;
-        counts = typed .counts;
-      }
+  -- a member that repeated itself: its acknowledgement and its count stay
+  module _ (m : MemberNumber) (member : m .0 < s .group .n) where
+    abbrev table : List Acknowledgement
+    table = s .acknowledgements
 
-  pub repeated-sound : Sound (repeatedOf s)
-  unfolding repeatedOf
-  repeated-sound =
-      record {
-        n-least = sound .n-least;
-        n-most = sound .n-most;
-        floor-is = sound .floor-is;
-        floor-le = sound .floor-le;
-        window = sound .window;
-        taken-le = sound .taken-le;
-        unused = sound .unused;
-        kept = sound .kept;
-        empty = sound .empty;
-      }
+    abbrev entry : Acknowledgement
+    entry = withCounts (acknowledgementOf (s .acknowledgements) m) (lastCount s m) (oneMore (repeatCount s m))
+
+    abbrev table′ : List Acknowledgement
+    table′ = set table (m .0) entry
+
+    repeated-each : (P : ℕ → Acknowledgement → Type 0) (i : ℕ) → (i ≡ m .0 → P i entry)
+        → (i ≢ m .0 → P i (getD table i noAcknowledgement)) → P i (getD table′ i noAcknowledgement)
+    repeated-each = counted-each table m (lastCount s m) (oneMore (repeatCount s m)) (omega arith)
+
+    pub repeated-taken : (i : ℕ) → takenIn table′ i ≡ takenIn table i
+    repeated-taken = counted-taken table m (lastCount s m) (oneMore (repeatCount s m)) (omega arith)
+
+    pub repeated-count : (i : ℕ) → countIn table′ i ≡ countIn table i
+    repeated-count i = repeated-each (λ j a. a .count ≡ countIn table j) i (λ q. rw q) (λ q. refl)
+
+    pub repeated-typed : Typed (repeatedOf s m)
+    unfolding repeatedOf
+    repeated-typed =
+        record {
+          group = typed .group;
+          top = typed .top;
+          table = length-set table (m .0) entry ∙ typed .table;
+          history = typed .history;
+          counts = λ i. rw (repeated-count i) (typed .counts i);
+          repeats = λ i. repeated-each (λ j a. a .repeats ≤ largestNumber) i (λ q. more-most (repeatCount s m) (typed .repeats (m .0))) (λ q. typed .repeats i);
+        }
+
+    pub repeated-sound : Sound (repeatedOf s m)
+    unfolding repeatedOf
+    repeated-sound =
+        record {
+          n-least = sound .n-least;
+          n-most = sound .n-most;
+          floor-is = floor-same (s .group .n) table′ table (length-set table (m .0) entry) repeated-taken ∙ sound .floor-is;
+          floor-le = sound .floor-le;
+          window = sound .window;
+          taken-le = λ i h. rw (repeated-taken i) (sound .taken-le i h);
+          unused = λ i h. repeated-each (λ j a. a ≡ noAcknowledgement) i (λ q. absurd (omega arith)) (λ q. sound .unused i h);
+          kept = λ k a b.
+              let z = repeated-count (messageAt (s .history) k .originator .0) in
+              kept-under (s .group .n) table table′ (messageAt (s .history) k) (omega arith) (sound .kept k a b);
+          empty = sound .empty;
+        }
 
   pub broadcast-reads : (k : ℕ) → s .floor .0 < k → k ≤ s .top .0 → (h : Header) × (readOf (broadcastOf s k) ≡ Reading.Fields h)
   unfolding broadcastOf
@@ -88,20 +114,20 @@ module _ (s : Sequencer) (typed : Typed s) (sound : Sound s) where
   unfolding pollPacket
   poll-reads = (_, read-written _ _ (poll-allowed s typed sound) .0)
 
-module _ (s : Sequencer) (typed : Typed s) (sound : Sound s) where
-  again-stays : (number : ℕ) → (number ≢ 0 → (s .floor .0 < number) × (number ≤ s .floor .0 + (s .top .0 - s .floor .0))) → Stays (againOf s number)
+module _ (s : Sequencer) (typed : Typed s) (sound : Sound s) (m : MemberNumber) (member : m .0 < s .group .n) where
+  again-stays : (number : ℕ) → (number ≢ 0 → (s .floor .0 < number) × (number ≤ s .floor .0 + (s .top .0 - s .floor .0))) → Stays (againOf s m number)
   unfolding againOf oldOf answered
   again-stays number found =
-      if-elim Stays (number =? 0) (λ t. record { typed = repeated-typed s typed sound; sound = repeated-sound s typed sound; bytes = inl refl })
+      if-elim Stays (number =? 0) (λ t. record { typed = repeated-typed s typed sound m member; sound = repeated-sound s typed sound m member; bytes = inl refl })
       (λ t.
       let f = found (eqb-false number 0 t) in
       let g = sound .floor-le in
-      record { typed = repeated-typed s typed sound; sound = repeated-sound s typed sound; bytes = inr (broadcast-reads s typed sound number (f .0) (omega arith)) })
+      record { typed = repeated-typed s typed sound m member; sound = repeated-sound s typed sound m member; bytes = inr (broadcast-reads s typed sound number (f .0) (omega arith)) })
 
-  numbered-stays : (m : MemberNumber) (count : ℕ) (payload : List ℕ) → m .0 < s .group .n → 1 ≤ count → count ≤ largestNumber → length payload ≤ payloadMost
+  numbered-stays : (count : ℕ) (payload : List ℕ) → 1 ≤ count → count ≤ largestNumber → length payload ≤ payloadMost
       → s .top .0 < s .floor .0 + placesMost → lastCount s m ≤ count → s .top .0 < largestNumber → Stays (numberedOf s m count payload)
   unfolding numberedOf withMessage
-  numbered-stays m count payload member least most short room up left =
+  numbered-stays count payload least most short room up left =
       let typed′ = numbered-typed s m count payload typed sound member up most left in
       let sound′ = numbered-sound s m count payload typed sound member up most left least short room in
       let f = sound .floor-le in
@@ -109,12 +135,12 @@ module _ (s : Sequencer) (typed : Typed s) (sound : Sound s) where
       record { typed = typed′; sound = sound′; bytes = inr reads }
 
   -- a request, once A is noted
-  request-stays : (m : MemberNumber) (count : ℕ) (payload : List ℕ) → m .0 < s .group .n → 1 ≤ count → count ≤ largestNumber → length payload ≤ payloadMost
+  request-stays : (count : ℕ) (payload : List ℕ) → 1 ≤ count → count ≤ largestNumber → length payload ≤ payloadMost
       → count ≤ lastCount s m + 1 → (lastCount s m < count → s .top .0 < largestNumber) → Stays (requestOf s m count payload)
   unfolding requestOf oldOf answered fullOf
-  request-stays m count payload member least most short next left =
+  request-stays count payload least most short next left =
       let wide = s .top .0 - s .floor .0 in
-      if-elim Stays (count <? lastCount s m) (λ a. record { typed = repeated-typed s typed sound; sound = repeated-sound s typed sound; bytes = inl refl })
+      if-elim Stays (count <? lastCount s m) (λ a. record { typed = repeated-typed s typed sound m member; sound = repeated-sound s typed sound m member; bytes = inl refl })
       (λ a. if-elim Stays (count =? lastCount s m)
       (λ b. again-stays (findOf (s .history) m count (s .floor .0) wide) (found-in (s .history) m count (s .floor .0) wide))
       (λ b. if-elim Stays (wide =? placesMost) (λ c. record { typed = typed; sound = sound; bytes = inr (poll-reads s typed sound) })
@@ -124,7 +150,7 @@ module _ (s : Sequencer) (typed : Typed s) (sound : Sound s) where
       let r = eqb-false wide placesMost c in
       let w = sound .window in
       let room : s .top .0 < s .floor .0 + placesMost = omega arith in
-      numbered-stays m count payload member least most short room p (left (omega arith)))))
+      numbered-stays count payload least most short room p (left (omega arith)))))
 
 -- what a packet of our group says
 module _ (s : Sequencer) (typed : Typed s) (sound : Sound s) (g : ℕ) (payload : List ℕ) (short : length payload ≤ payloadMost) where
@@ -149,7 +175,7 @@ module _ (s : Sequencer) (typed : Typed s) (sound : Sound s) (g : ℕ) (payload 
         let a = sender-was (s .group .n) (s .top .0) sender taken e in
         let b = count-was (lastCount s sender) (s .top .0) count f in
         let c = noted-count s sender taken (typed .table) sound (a .0) (sender .0) in
-        request-stays (noteOf s sender taken) typed′ sound′ sender count payload (a .0) least most short (omega arith) (λ h. b .1 (omega arith))
+        request-stays (noteOf s sender taken) typed′ sound′ sender (a .0) count payload least most short (omega arith) (λ h. b .1 (omega arith))
 
     gap-stays : (first last : SequenceNumber) → Stays (gapOf (noteOf s sender taken) first last)
     unfolding gapOf

@@ -9,6 +9,7 @@ pub mod Answering
 pub mod Ordering
 pub mod Asking
 pub mod Laws
+pub mod Repeating
 pub mod Settling
 pub mod Sending
 pub mod Walk

@@ -8,13 +8,12 @@ use native.Mathlib.Nat.{le-refl, le-trans}
 use native.Mathlib.Omega.{arith}
 use lib.ListN.{length, getD, length-set}
 use Rattle.group.proofs.Lists.{le-or, set-each}
-use Rattle.group.specs.Limits.{membersMost, placesMost}
+use Rattle.group.specs.Limits.{membersMost, placesMost, largestNumber}
 use Rattle.group.specs.declared.MemberNumber.{MemberNumber}
 use Rattle.group.specs.declared.SequenceNumber.{SequenceNumber}
 use Rattle.message.proofs.Kept.{empty-zero}
 use Rattle.message.specs.Message.{isEmpty}
-use Rattle.message.specs.declared.Message.{Message}
-use Rattle.history.proofs.Soundness.{takenIn, countIn, KeptFacts, floor-most, floor-least, floor-first}
+use Rattle.history.proofs.Soundness.{takenIn, countIn, kept-under, floor-most, floor-least, floor-first}
 use Rattle.history.specs.Note.{withTaken, tableNoted}
 use Rattle.history.specs.State.{noAcknowledgement, acknowledgementOf, messageAt, floorOf}
 use Rattle.history.specs.declared.Acknowledgement.{Acknowledgement}
@@ -81,10 +80,10 @@ module _ (s : Sequencer) (m : MemberNumber) (taken : SequenceNumber) (long : len
         record {
           group = typed .group;
           top = typed .top;
-          repeats = typed .repeats;
           table = noted-length;
           history = cleared-length (s .history) (s .floor .0) (floorOf (s .group .n) table′ - s .floor .0) ∙ typed .history;
           counts = λ i. rw (noted-count i) (typed .counts i);
+          repeats = λ i. noted-each (λ j a. a .repeats ≤ largestNumber) i (λ q. typed .repeats (m .0)) (λ q. typed .repeats i);
         }
 
     pub note-sound : length (s .history) ≡ placesMost → Sound (noteOf s m taken)
@@ -104,7 +103,7 @@ module _ (s : Sequencer) (m : MemberNumber) (taken : SequenceNumber) (long : len
           unused = λ i h. noted-each (λ j a. a ≡ noAcknowledgement) i (λ q. absurd (omega arith)) (λ q. sound .unused i h);
           kept = λ k a b.
               rw (cleared-other (s .history) (s .floor .0) k′ k (omega arith) (let w = sound .window in omega arith))
-              (kept-noted (messageAt (s .history) k) (sound .kept k (omega arith) b));
+              (let z = noted-count (messageAt (s .history) k .originator .0) in kept-under (s .group .n) table table′ (messageAt (s .history) k) (omega arith) (sound .kept k (omega arith) b));
           empty = λ k a b.
               le-or k (s .floor .0 + placesMost)
               (λ h. ap isEmpty (cleared-other (s .history) (s .floor .0) k′ k (omega arith) h) ∙ sound .empty k a h)
@@ -112,13 +111,3 @@ module _ (s : Sequencer) (m : MemberNumber) (taken : SequenceNumber) (long : len
               let e = cleared-empty (s .history) (s .floor .0) places k′ k (k - placesMost) (omega arith) (omega arith) (omega arith) in
               ap isEmpty e ∙ empty-zero);
         }
-      where
-        kept-noted : (message : Message) → KeptFacts (s .group .n) table message → KeptFacts (s .group .n) table′ message
-        kept-noted message f =
-            record {
-              originator = f .originator;
-              count-least = f .count-least;
-              count-most = rw (noted-count (message .originator .0)) (f .count-most);
-              short = f .short;
-              zeros = f .zeros;
-            }

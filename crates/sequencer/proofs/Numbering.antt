@@ -1,10 +1,9 @@
 -- Numbering a message keeps a state sound: it lies in the place above top, which was free, and no other place or
 -- acknowledgement changes. Assumes nothing.
-use mathlib.Core.Path.{_≡_, refl, ap, _∙_}
+use mathlib.Core.Path.{_≡_, ap, _∙_}
 use mathlib.Core.Logic.{_≢_}
 use mathlib.Core.List.{List}
 use Prim.Native.Nat.{ℕ, _+_, _≤_, _<_}
-use native.Mathlib.Nat.{le-trans}
 use native.Mathlib.Omega.{arith}
 use lib.ListN.{length, set, length-set}
 use lib.Seq.{getD-set-same, getD-set-other}
@@ -15,12 +14,13 @@ use Rattle.message.proofs.Kept.{kept-zero}
 use Rattle.message.specs.Message.{messageOf, blank, isEmpty}
 use Rattle.message.specs.declared.Message.{Message}
 use Rattle.history.proofs.Counting.{counted-each, counted-taken, counted-same, counted-up}
-use Rattle.history.proofs.Soundness.{countIn, KeptFacts, floor-same}
-use Rattle.history.specs.Note.{withCount}
+use Rattle.history.proofs.Soundness.{countIn, KeptFacts, kept-under, floor-same}
+use Rattle.history.specs.Note.{withCounts}
 use Rattle.history.specs.State.{noAcknowledgement, acknowledgementOf, placeOf, messageAt}
 use Rattle.history.specs.declared.Acknowledgement.{Acknowledgement}
 use Rattle.sequencer.specs.Calls.{withMessage}
 use Rattle.sequencer.specs.Laws.{Typed}
+use Rattle.sequencer.specs.State.{repeatCount}
 use Rattle.sequencer.specs.declared.Sequencer.{Sequencer}
 use Rattle.sequencer.proofs.Soundness.{Sound}
 
@@ -30,7 +30,7 @@ module _ (s : Sequencer) (m : MemberNumber) (count : ℕ) (payload : List ℕ) (
 
   -- the member's entry, with the count
   abbrev entry : Acknowledgement
-  entry = withCount (acknowledgementOf (s .acknowledgements) m) count
+  entry = withCounts (acknowledgementOf (s .acknowledgements) m) count (repeatCount s m)
 
   abbrev table′ : List Acknowledgement
   table′ = set table (m .0) entry
@@ -57,10 +57,10 @@ module _ (s : Sequencer) (m : MemberNumber) (count : ℕ) (payload : List ℕ) (
         record {
           group = typed .group;
           top = omega arith;
-          repeats = typed .repeats;
           table = length-set table (m .0) entry ∙ typed .table;
           history = length-set (s .history) (placeOf (s .top .0 + 1)) (messageOf m count payload) ∙ typed .history;
-          counts = λ i. counted-each table m count inside (λ j a. a .count ≤ largestNumber) i (λ q. fits) (λ q. typed .counts i);
+          counts = λ i. counted-each table m count (repeatCount s m) inside (λ j a. a .count ≤ largestNumber) i (λ q. fits) (λ q. typed .counts i);
+          repeats = λ i. counted-each table m count (repeatCount s m) inside (λ j a. a .repeats ≤ largestNumber) i (λ q. typed .repeats (m .0)) (λ q. typed .repeats i);
         }
 
     pub numbered-sound : 1 ≤ count → length payload ≤ payloadMost → s .top .0 < s .floor .0 + placesMost → Sound (withMessage s m count payload)
@@ -69,14 +69,14 @@ module _ (s : Sequencer) (m : MemberNumber) (count : ℕ) (payload : List ℕ) (
         record {
           n-least = sound .n-least;
           n-most = sound .n-most;
-          floor-is = floor-same (s .group .n) table′ table (length-set table (m .0) entry) (counted-taken table m count inside) ∙ sound .floor-is;
+          floor-is = floor-same (s .group .n) table′ table (length-set table (m .0) entry) (counted-taken table m count (repeatCount s m) inside) ∙ sound .floor-is;
           floor-le = omega arith;
           window = omega arith;
-          taken-le = λ i h. let z = counted-taken table m count inside i in let y = sound .taken-le i h in omega arith;
-          unused = λ i h. counted-each table m count inside (λ j a. a ≡ noAcknowledgement) i (λ q. absurd (omega arith)) (λ q. sound .unused i h);
+          taken-le = λ i h. let z = counted-taken table m count (repeatCount s m) inside i in let y = sound .taken-le i h in omega arith;
+          unused = λ i h. counted-each table m count (repeatCount s m) inside (λ j a. a ≡ noAcknowledgement) i (λ q. absurd (omega arith)) (λ q. sound .unused i h);
           kept = λ k a b.
               eq-or k (s .top .0 + 1) (λ q. rw (q, kept-here) fresh)
-              (λ q. rw (kept-other room k a (omega arith) q) (old (messageAt (s .history) k) (sound .kept k a (omega arith))));
+              (λ q. rw (kept-other room k a (omega arith) q) (kept-under (s .group .n) table table′ (messageAt (s .history) k) (counted-up table m count (repeatCount s m) inside up _) (sound .kept k a (omega arith))));
           empty = λ k a b. ap isEmpty (kept-other room k (omega arith) b (omega arith)) ∙ sound .empty k (omega arith) b;
         }
       where
@@ -85,17 +85,7 @@ module _ (s : Sequencer) (m : MemberNumber) (count : ℕ) (payload : List ℕ) (
             record {
               originator = member;
               count-least = least;
-              count-most = let z = counted-same table m count inside in omega arith;
+              count-most = let z = counted-same table m count (repeatCount s m) inside in omega arith;
               short = short;
               zeros = kept-zero m count payload;
-            }
-
-        old : (message : Message) → KeptFacts (s .group .n) table message → KeptFacts (s .group .n) table′ message
-        old message f =
-            record {
-              originator = f .originator;
-              count-least = f .count-least;
-              count-most = le-trans (f .count-most) (counted-up table m count inside up (message .originator .0));
-              short = f .short;
-              zeros = f .zeros;
             }

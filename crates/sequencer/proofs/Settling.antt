@@ -29,14 +29,14 @@ use Rattle.packet.specs.declared.Packet.{Packet}
 use Rattle.packet.specs.declared.Packet.the-variants.{Request, Broadcast, Gap, Status, Poll}
 use Rattle.packet.specs.declared.Reading.{Reading}
 use Rattle.history.specs.Ask.{senderVerdict, requestVerdict, gapVerdict, senderOf, contentVerdict, packetVerdict}
-use Rattle.history.specs.Note.{largerOf}
+use Rattle.history.specs.Note.{largerOf, withCounts}
 use Rattle.history.specs.Repeat.{oneMore, findOf}
-use Rattle.history.specs.State.{noAcknowledgement, placeOf, messageAt}
+use Rattle.history.specs.State.{noAcknowledgement, acknowledgementOf, placeOf, messageAt}
 use Rattle.history.specs.declared.Acknowledgement.{Acknowledgement}
 use Rattle.history.proofs.Finding.{found-in}
 use Rattle.sequencer.specs.Calls.{Outcome, answered, refused, broadcastOf, pollPacket, repeatedOf, oldOf, againOf, fullOf, withMessage, numberedOf, requestOf, gapOf, contentStep, readStep}
 use Rattle.sequencer.specs.Note.{noteOf}
-use Rattle.sequencer.specs.State.{lastCount}
+use Rattle.sequencer.specs.State.{lastCount, repeatCount}
 use Rattle.sequencer.specs.Steps.{acceptedStep, quiet, againChange, requestChange, gapAnswer, changeOf, sentOf, laidOf, changed}
 use Rattle.sequencer.specs.declared.Answer.{Answer}
 use Rattle.sequencer.specs.declared.Answer.the-variants.{Old, Again, Full, Numbered, Noted, Wanted}
@@ -66,7 +66,18 @@ settledOf s m payload c =
     }
 
 module _ (s : Sequencer) (m : MemberNumber) (payload : List ℕ) where
-  -- a number up to top has its own message laid in its place, and that changes nothing
+  -- the state with another repeat count of m
+  abbrev withRepeats : ℕ → Sequencer
+  withRepeats repeats =
+      record {
+        group = s .group;
+        acknowledgements = set (s .acknowledgements) (m .0) (withCounts (acknowledgementOf (s .acknowledgements) m) (lastCount s m) repeats);
+        top = s .top;
+        floor = s .floor;
+        history = s .history;
+      }
+
+  -- a number up to top has its own message laid in its place, and that changes nothing but the repeat count
   abbrev kept : SequenceNumber → ℕ → Answer → Change
   kept number repeats answer = record { number = number; top = s .top; count = lastCount s m; repeats = repeats; answer = answer }
 
@@ -77,46 +88,51 @@ module _ (s : Sequencer) (m : MemberNumber) (payload : List ℕ) where
 
   stays : (number : SequenceNumber) (repeats : ℕ) (answer : Answer) → number .0 ≤ s .top .0
       → changed s m (kept number repeats answer) (laidOf s m (kept number repeats answer) payload)
-      ≡ record { group = s .group; acknowledgements = s .acknowledgements; top = s .top; floor = s .floor; history = s .history; repeats = repeats }
+      ≡ withRepeats repeats
   unfolding changed
   stays number repeats answer h =
-      let table = set-own (s .acknowledgements) (m .0) noAcknowledgement in
       let place = ap (λ (x : Message). set (s .history) (placeOf (number .0)) x) (laid-own number repeats answer h)
       ∙ set-own (s .history) (placeOf (number .0)) blank in
-      λ i. record { group = s .group; acknowledgements = table i; top = s .top; floor = s .floor; history = place i; repeats = repeats }
+      λ i. record { group = s .group; acknowledgements = withRepeats repeats .acknowledgements; top = s .top; floor = s .floor; history = place i }
 
-  pub noted-is : (answer : Answer) → sentOf answer (s .group .number) (s .top) (s .floor) (laidOf s m (kept (s .top) (s .repeats) answer) payload) ≡ []
-      → answered s answer ≡ settledOf s m payload (quiet (lastCount s m) (s .top) (s .repeats) answer)
+  -- and its own repeat count changes nothing at all
+  own-repeats : withRepeats (repeatCount s m) ≡ s
+  own-repeats =
+      let table = set-own (s .acknowledgements) (m .0) noAcknowledgement in
+      λ i. record { group = s .group; acknowledgements = table i; top = s .top; floor = s .floor; history = s .history }
+
+  pub noted-is : (answer : Answer) → sentOf answer (s .group .number) (s .top) (s .floor) (laidOf s m (kept (s .top) (repeatCount s m) answer) payload) ≡ []
+      → answered s answer ≡ settledOf s m payload (quiet (lastCount s m) (s .top) (repeatCount s m) answer)
   unfolding answered
   noted-is answer e =
-      let p = stays (s .top) (s .repeats) answer (le-refl (s .top .0)) in
+      let p = stays (s .top) (repeatCount s m) answer (le-refl (s .top .0)) ∙ own-repeats in
       λ i. record { sequencer = sym p i; answer = answer; bytes = sym e i }
 
-  old-is : oldOf s ≡ settledOf s m payload (quiet (lastCount s m) (s .top) (oneMore (s .repeats)) Old)
+  old-is : oldOf s m ≡ settledOf s m payload (quiet (lastCount s m) (s .top) (oneMore (repeatCount s m)) Old)
   unfolding oldOf answered repeatedOf sentOf
   old-is =
-      let p = stays (s .top) (oneMore (s .repeats)) Old (le-refl (s .top .0)) in
+      let p = stays (s .top) (oneMore (repeatCount s m)) Old (le-refl (s .top .0)) in
       λ i. record { sequencer = sym p i; answer = Old; bytes = [] }
 
   again-here : (number : ℕ) → number ≤ s .top .0
-      → record { sequencer = repeatedOf s; answer = Again (record { 0 = number }); bytes = broadcastOf s number }
-      ≡ settledOf s m payload (kept (record { 0 = number }) (oneMore (s .repeats)) (Again (record { 0 = number })))
+      → record { sequencer = repeatedOf s m; answer = Again (record { 0 = number }); bytes = broadcastOf s number }
+      ≡ settledOf s m payload (kept (record { 0 = number }) (oneMore (repeatCount s m)) (Again (record { 0 = number })))
   unfolding repeatedOf broadcastOf sentOf
   again-here number h =
       let answer = Again (record { 0 = number }) in
-      let p = stays (record { 0 = number }) (oneMore (s .repeats)) answer h in
-      let e = ap (sentOf answer (s .group .number) (s .top) (s .floor)) (laid-own (record { 0 = number }) (oneMore (s .repeats)) answer h) in
+      let p = stays (record { 0 = number }) (oneMore (repeatCount s m)) answer h in
+      let e = ap (sentOf answer (s .group .number) (s .top) (s .floor)) (laid-own (record { 0 = number }) (oneMore (repeatCount s m)) answer h) in
       λ i. record { sequencer = sym p i; answer = answer; bytes = sym e i }
 
-  again-is : (number : ℕ) → (number ≢ 0 → number ≤ s .top .0) → againOf s number ≡ settledOf s m payload (againChange number (lastCount s m) (s .top) (s .repeats))
+  again-is : (number : ℕ) → (number ≢ 0 → number ≤ s .top .0) → againOf s m number ≡ settledOf s m payload (againChange number (lastCount s m) (s .top) (repeatCount s m))
   unfolding againOf againChange
   again-is number found =
       choose (settledOf s m payload) (number =? 0) _ _ _ _ (λ e. old-is) (λ e. again-here number (found (eqb-false number 0 e)))
 
-  full-is : fullOf s ≡ settledOf s m payload (quiet (lastCount s m) (s .top) (s .repeats) Full)
+  full-is : fullOf s ≡ settledOf s m payload (quiet (lastCount s m) (s .top) (repeatCount s m) Full)
   unfolding fullOf pollPacket sentOf
   full-is =
-      let p = stays (s .top) (s .repeats) Full (le-refl (s .top .0)) in
+      let p = stays (s .top) (repeatCount s m) Full (le-refl (s .top .0)) ∙ own-repeats in
       λ i. record { sequencer = sym p i; answer = Full; bytes = pollPacket s }
 
   module _ (count : ℕ) (size : length (s .history) ≡ placesMost) where
@@ -126,7 +142,7 @@ module _ (s : Sequencer) (m : MemberNumber) (payload : List ℕ) where
           number = record { 0 = s .top .0 + 1 };
           top = record { 0 = s .top .0 + 1 };
           count = count;
-          repeats = s .repeats;
+          repeats = repeatCount s m;
           answer = Numbered (record { 0 = s .top .0 + 1 });
         }
 
@@ -142,7 +158,7 @@ module _ (s : Sequencer) (m : MemberNumber) (payload : List ℕ) where
 
     -- a request, once A is noted
     request-is : requestOf s m count payload
-        ≡ settledOf s m payload (requestChange (s .history) m count (lastCount s m) (s .floor .0) (s .top) (s .repeats))
+        ≡ settledOf s m payload (requestChange (s .history) m count (lastCount s m) (s .floor .0) (s .top) (repeatCount s m))
     unfolding requestOf requestChange
     request-is =
         let wide = s .top .0 - s .floor .0 in
@@ -154,10 +170,10 @@ module _ (s : Sequencer) (m : MemberNumber) (payload : List ℕ) where
         (λ f. choose (settledOf s m payload) (wide =? placesMost) _ _ _ _ (λ g. full-is) (λ g. numbered-is)))
 
   -- a gap
-  gap-is : (first last : SequenceNumber) → gapOf s first last ≡ settledOf s m payload (quiet (lastCount s m) (s .top) (s .repeats) (gapAnswer (s .floor .0) first last))
+  gap-is : (first last : SequenceNumber) → gapOf s first last ≡ settledOf s m payload (quiet (lastCount s m) (s .top) (repeatCount s m) (gapAnswer (s .floor .0) first last))
   unfolding gapOf gapAnswer sentOf
   gap-is first last =
-      choose (λ (answer : Answer). settledOf s m payload (quiet (lastCount s m) (s .top) (s .repeats) answer)) (last .0 ≤? s .floor .0) _ _ _ _
+      choose (λ (answer : Answer). settledOf s m payload (quiet (lastCount s m) (s .top) (repeatCount s m) answer)) (last .0 ≤? s .floor .0) _ _ _ _
       (λ e. noted-is Noted refl) (λ e. noted-is (Wanted (record { 0 = largerOf (first .0) (s .floor .0 + 1) }) last) refl)
 
 -- a packet that is accepted
@@ -167,7 +183,7 @@ pub accepted-is : (s : Sequencer) (packet : Packet) (payload : List ℕ)
     let noted = noteOf s m (senderOf packet .taken) in
     length (noted .history) ≡ placesMost
     → acceptedStep s packet payload
-    ≡ settledOf noted m payload (changeOf (noted .history) packet (lastCount noted m) (noted .floor .0) (noted .top) (noted .repeats))
+    ≡ settledOf noted m payload (changeOf (noted .history) packet (lastCount noted m) (noted .floor .0) (noted .top) (repeatCount noted m))
 unfolding acceptedStep changeOf senderOf contentVerdict sentOf
 accepted-is s (Request sender taken count) payload e size = request-is (noteOf s sender taken) sender payload count size
 accepted-is s (Broadcast originator number count floor) payload e size = absurd (accepted≢ OtherEnd e)

@@ -24,13 +24,12 @@ clearedTo s passed =
       top = s .top;
       floor = s .floor;
       history = clearedOf (s .history) (s .floor .0) (passed - s .floor .0);
-      repeats = s .repeats;
     }
 
 -- a state with another table and another floor
 abbrev pub withNoted : Sequencer → List Acknowledgement → SequenceNumber → Sequencer
 withNoted s table floor =
-    record { group = s .group; acknowledgements = table; top = s .top; floor = floor; history = s .history; repeats = s .repeats }
+    record { group = s .group; acknowledgements = table; top = s .top; floor = floor; history = s .history }
 
 pub clear-start : (s : Sequencer) → s ≡ clearedTo s (s .floor .0)
 unfolding clearedOf
@@ -39,7 +38,7 @@ clear-start s = let e : s .floor .0 - s .floor .0 ≡ 0 = omega arith in rw e
 module _ (s t : Sequencer) (passed : ℕ) (low : s .floor .0 ≤ passed) (inv : t ≡ clearedTo s passed) where
   -- a turn of the loop that clears: the next number's place
   pub clear-on : (at : ℕ) (none : Message) → at ≡ placeOf (passed + 1) → none ≡ emptyMessage
-      → record { group = t .group; acknowledgements = t .acknowledgements; top = t .top; floor = t .floor; history = set (t .history) at none; repeats = t .repeats }
+      → record { group = t .group; acknowledgements = t .acknowledgements; top = t .top; floor = t .floor; history = set (t .history) at none }
       ≡ clearedTo s (passed + 1)
   unfolding clearedOf
   clear-on at none ea en =

@@ -19,13 +19,13 @@ use Rattle.packet.specs.declared.Packet.{Packet}
 use Rattle.packet.specs.declared.Packet.the-variants.{Request, Broadcast, Gap, Status, Poll}
 use Rattle.packet.specs.declared.Reading.{Reading}
 use Rattle.packet.specs.declared.Reading.the-variants.{Fields}
-use Rattle.history.specs.Note.{largerOf, withCount}
+use Rattle.history.specs.Note.{largerOf, withCounts}
 use Rattle.history.specs.State.{acknowledgementOf, placeOf, messageAt}
 use Rattle.history.specs.Repeat.{oneMore, findOf}
 use Rattle.history.specs.Ask.{senderVerdict, countVerdict, wantedVerdict}
 use Rattle.sequencer.specs.Note.{noteOf}
 use Rattle.sequencer.specs.Sound.{soundOf}
-use Rattle.sequencer.specs.State.{lastCount, freshSequencer}
+use Rattle.sequencer.specs.State.{lastCount, repeatCount, freshSequencer}
 use Rattle.sequencer.specs.declared.Answer.{Answer}
 use Rattle.sequencer.specs.declared.Answer.the-variants.{Old, Again, Full, Numbered, Noted, Wanted, Sent}
 use Rattle.sequencer.specs.declared.Opening.{Opening}
@@ -62,26 +62,27 @@ broadcastOf s number =
 unfoldable pub pollPacket : Sequencer → List ℕ
 pollPacket s = packetOf (fieldsOf (s .group .number) (Poll (s .top) (s .floor))) []
 
-unfoldable pub repeatedOf : Sequencer → Sequencer
-repeatedOf s =
+-- m repeated itself: one more in its repeat count
+unfoldable pub repeatedOf : Sequencer → MemberNumber → Sequencer
+repeatedOf s m =
     record {
       group = s .group;
-      acknowledgements = s .acknowledgements;
+      acknowledgements =
+          set (s .acknowledgements) (m .0) (withCounts (acknowledgementOf (s .acknowledgements) m) (lastCount s m) (oneMore (repeatCount s m)));
       top = s .top;
       floor = s .floor;
       history = s .history;
-      repeats = oneMore (s .repeats);
     }
 
 -- Old
-unfoldable pub oldOf : Sequencer → Outcome
-oldOf s = answered (repeatedOf s) Old
+unfoldable pub oldOf : Sequencer → MemberNumber → Outcome
+oldOf s m = answered (repeatedOf s m) Old
 
 -- the last count again: Old if no history message has it, else Again with that broadcast
-unfoldable pub againOf : Sequencer → ℕ → Outcome
-againOf s number =
-    if number =? 0 then oldOf s else
-    record { sequencer = repeatedOf s; answer = Again (record { 0 = number }); bytes = broadcastOf s number }
+unfoldable pub againOf : Sequencer → MemberNumber → ℕ → Outcome
+againOf s m number =
+    if number =? 0 then oldOf s m else
+    record { sequencer = repeatedOf s m; answer = Again (record { 0 = number }); bytes = broadcastOf s number }
 
 -- Full, with a poll packet; nothing but the noting changes
 unfoldable pub fullOf : Sequencer → Outcome
@@ -92,11 +93,10 @@ unfoldable pub withMessage : Sequencer → MemberNumber → ℕ → List ℕ →
 withMessage s m count payload =
     record {
       group = s .group;
-      acknowledgements = set (s .acknowledgements) (m .0) (withCount (acknowledgementOf (s .acknowledgements) m) count);
+      acknowledgements = set (s .acknowledgements) (m .0) (withCounts (acknowledgementOf (s .acknowledgements) m) count (repeatCount s m));
       top = record { 0 = s .top .0 + 1 };
       floor = s .floor;
       history = set (s .history) (placeOf (s .top .0 + 1)) (messageOf m count payload);
-      repeats = s .repeats;
     }
 
 -- Numbered, with its broadcast
@@ -111,8 +111,8 @@ numberedOf s m count payload =
 -- request with a count from m, once A is noted
 unfoldable pub requestOf : Sequencer → MemberNumber → ℕ → List ℕ → Outcome
 requestOf s m count payload =
-    if count <? lastCount s m then oldOf s else
-    if count =? lastCount s m then againOf s (findOf (s .history) m count (s .floor .0) (s .top .0 - s .floor .0)) else
+    if count <? lastCount s m then oldOf s m else
+    if count =? lastCount s m then againOf s m (findOf (s .history) m count (s .floor .0) (s .top .0 - s .floor .0)) else
     if s .top .0 - s .floor .0 =? placesMost then fullOf s else
     numberedOf s m count payload
 

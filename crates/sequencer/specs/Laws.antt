@@ -1,6 +1,6 @@
 -- What is proved of the sequencer's meaning. `proofs/` has a proof of each statement.
 use mathlib.Core.Path.{_≡_}
-use mathlib.Core.Bool.{true}
+use mathlib.Core.Bool.{Bool, true, false}
 use mathlib.Core.List.{List, [], _∷_, _++_}
 use mathlib.Core.Logic.{_⊎_}
 use Prim.Native.Nat.{ℕ, _+_, _≤_}
@@ -15,11 +15,13 @@ use Rattle.packet.specs.Laws.{readQuestions}
 use Rattle.packet.specs.Packet.{requestKind, gapKind, statusKind, headerOf, readOf}
 use Rattle.packet.specs.declared.Header.{Header}
 use Rattle.packet.specs.declared.Reading.{Reading}
+use Rattle.history.specs.Repeat.{oneMore, repeatsOf}
 use Rattle.history.specs.State.{noAcknowledgement}
-use Rattle.sequencer.specs.Calls.{Outcome, refused, receiveOf, pollOf, copyOf}
+use Rattle.sequencer.specs.Calls.{Outcome, refused, receiveOf, pollOf, copyOf, freshOf}
 use Rattle.sequencer.specs.Sound.{soundOf}
 use Rattle.sequencer.specs.State.{lastCount}
 use Rattle.sequencer.specs.declared.Answer.{Answer}
+use Rattle.sequencer.specs.declared.Answer.the-variants.{Old, Again, Full, Numbered, Noted, Wanted, Sent}
 use Rattle.sequencer.specs.declared.Sequencer.{Sequencer}
 
 -- questions 1 and 2, of every call
@@ -69,10 +71,10 @@ CopyFirstNo = (s : Sequencer) (number : SequenceNumber) (room : ℕ) → FirstNo
 pub record Typed (s : Sequencer) : Type 0 where
   pub group : s .group .number ≤ largestNumber
   pub top : s .top .0 ≤ largestNumber
-  pub repeats : s .repeats ≤ largestNumber
   pub table : length (s .acknowledgements) ≡ membersMost
   pub history : length (s .history) ≡ placesMost
   pub counts : (i : ℕ) → getD (s .acknowledgements) i noAcknowledgement .count ≤ largestNumber
+  pub repeats : (i : ℕ) → getD (s .acknowledgements) i noAcknowledgement .repeats ≤ largestNumber
 
 -- a call leaves a state that its types can hold, sound if it was sound, and writes nothing or a packet that reading accepts
 pub record Keeps (s : Sequencer) (o : Outcome) : Type 0 where
@@ -89,3 +91,34 @@ PollKeeps = (s : Sequencer) (room : ℕ) → Typed s → Keeps s (pollOf s room)
 
 abbrev pub CopyKeeps : Type 0
 CopyKeeps = (s : Sequencer) (number : SequenceNumber) (room : ℕ) → Typed s → Keeps s (copyOf s number room)
+
+-- the answers that add 1 to a repeat count
+unfoldable pub isRepeat : Answer → Bool
+isRepeat (Answer.Refused refusal) = false
+isRepeat Old = true
+isRepeat (Again number) = true
+isRepeat Full = false
+isRepeat (Numbered number) = false
+isRepeat Noted = false
+isRepeat (Wanted first last) = false
+isRepeat Sent = false
+
+-- the old count, which is the sum of the members' counts held at the largest number, moves as a single count does: one more for Old
+-- and Again, else it stays
+abbrev pub OldCount : Sequencer → Outcome → Type 0
+OldCount s o =
+    repeatsOf (o .sequencer .acknowledgements)
+    ≡ (if isRepeat (o .answer) then oneMore (repeatsOf (s .acknowledgements)) else repeatsOf (s .acknowledgements))
+
+abbrev pub ReceiveOldCount : Type 0
+ReceiveOldCount = (s : Sequencer) (packet : List ℕ) (room : ℕ) → Typed s → OldCount s (receiveOf s packet room)
+
+abbrev pub PollOldCount : Type 0
+PollOldCount = (s : Sequencer) (room : ℕ) → OldCount s (pollOf s room)
+
+abbrev pub CopyOldCount : Type 0
+CopyOldCount = (s : Sequencer) (number : SequenceNumber) (room : ℕ) → OldCount s (copyOf s number room)
+
+-- and it is 0 when fresh
+abbrev pub FreshOldCount : Type 0
+FreshOldCount = (n number : ℕ) → repeatsOf (freshOf n number .sequencer .acknowledgements) ≡ 0

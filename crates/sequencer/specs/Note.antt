@@ -18,7 +18,6 @@ withTable s table floor =
       top = s .top;
       floor = record { 0 = floor };
       history = clearedOf (s .history) (s .floor .0) (floor - s .floor .0);
-      repeats = s .repeats;
     }
 
 unfoldable pub noteOf : Sequencer → MemberNumber → SequenceNumber → Sequencer

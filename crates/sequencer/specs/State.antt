@@ -1,5 +1,5 @@
--- What the sequencer holds: n, the group number, for each member the last number known taken and the last own count
--- numbered, top (last number given), floor, a history of 32 places, and the repeat count.
+-- What the sequencer holds: n, the group number, for each member the last number known taken, the last own count
+-- numbered and the repeat count, top (last number given), floor, and a history of 32 places.
 use Prim.Native.Nat.{ℕ}
 use lib.ListN.{replicate}
 use Rattle.group.specs.Limits.{membersMost, placesMost}
@@ -13,6 +13,10 @@ use Rattle.sequencer.specs.declared.Sequencer.{Sequencer}
 abbrev pub lastCount : Sequencer → MemberNumber → ℕ
 lastCount s m = acknowledgementOf (s .acknowledgements) m .count
 
+-- its repeat count
+abbrev pub repeatCount : Sequencer → MemberNumber → ℕ
+repeatCount s m = acknowledgementOf (s .acknowledgements) m .repeats
+
 -- fresh: all zero but n and group
 unfoldable pub freshSequencer : Group → Sequencer
 freshSequencer group =
@@ -22,5 +26,4 @@ freshSequencer group =
       top = record { 0 = 0 };
       floor = record { 0 = 0 };
       history = replicate placesMost emptyMessage;
-      repeats = 0;
     }

@@ -11,7 +11,7 @@ use Rattle.message.specs.declared.Message.{Message}
 use Rattle.packet.specs.Packet.{fieldsOf, packetOf}
 use Rattle.packet.specs.declared.Packet.{Packet}
 use Rattle.packet.specs.declared.Packet.the-variants.{Request, Broadcast, Gap, Status, Poll}
-use Rattle.history.specs.Note.{largerOf, withCount}
+use Rattle.history.specs.Note.{largerOf, withCounts}
 use Rattle.history.specs.Repeat.{oneMore, findOf}
 use Rattle.history.specs.State.{acknowledgementOf, placeOf, messageAt}
 use Rattle.sequencer.specs.Calls.{Outcome, answered, requestOf, gapOf}
@@ -29,7 +29,7 @@ acceptedStep s (Gap sender taken first last) payload = gapOf (noteOf s sender ta
 acceptedStep s (Status sender taken) payload = answered (noteOf s sender taken) Noted
 acceptedStep s (Poll top floor) payload = answered s Noted
 
--- a change of the repeat count at most
+-- a change of the sender's repeat count at most
 abbrev pub quiet : ℕ → SequenceNumber → ℕ → Answer → Change
 quiet last top repeats answer = record { number = top; top = top; count = last; repeats = repeats; answer = answer }
 
@@ -45,7 +45,7 @@ againChange number last top repeats =
       answer = Again (record { 0 = number });
     }
 
--- what a request changes, with a count from a member whose last count is `last`
+-- what a request changes, with a count from a member whose last count is `last` and whose repeat count is `repeats`
 unfoldable pub requestChange : List Message → MemberNumber → ℕ → ℕ → ℕ → SequenceNumber → ℕ → Change
 requestChange history m count last floor top repeats =
     if count <? last then quiet last top (oneMore repeats) Old else
@@ -97,9 +97,8 @@ unfoldable pub changed : Sequencer → MemberNumber → Change → Message → S
 changed s m change message =
     record {
       group = s .group;
-      acknowledgements = set (s .acknowledgements) (m .0) (withCount (acknowledgementOf (s .acknowledgements) m) (change .count));
+      acknowledgements = set (s .acknowledgements) (m .0) (withCounts (acknowledgementOf (s .acknowledgements) m) (change .count) (change .repeats));
       top = change .top;
       floor = s .floor;
       history = set (s .history) (placeOf (change .number .0)) message;
-      repeats = change .repeats;
     }

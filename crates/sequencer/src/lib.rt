@@ -32,7 +32,6 @@ pub struct Sequencer {
     pub top: SequenceNumber,
     pub floor: SequenceNumber,
     pub history: [Message; Group::PLACES],
-    pub repeats: u32,
 }
 
 // What a call answers.
@@ -54,7 +53,7 @@ pub struct Step {
     pub written: usize,
 }
 
-// What a packet changes beside the noting: the number whose place is laid, top, the sender's last count, the repeat count.
+// What a packet changes beside the noting: the number whose place is laid, top, the sender's last count and repeat count.
 struct Change {
     number: SequenceNumber,
     top: SequenceNumber,
@@ -126,7 +125,7 @@ fn send_answer(
     }
 }
 
-// A change of the repeat count at most.
+// A change of the sender's repeat count at most.
 fn quiet(last: u32, top: SequenceNumber, repeats: u32, answer: Answer) -> Change
     ensures { λ r. ⌜ r ≡ quiet last top repeats answer ⌝ }
 {
@@ -241,6 +240,7 @@ impl Sequencer {
         let none = Acknowledgement {
             taken: SequenceNumber(0),
             count: 0,
+            repeats: 0,
         };
         let table = [none; Group::MEMBERS];
         let m = Message::empty();
@@ -251,7 +251,6 @@ impl Sequencer {
             top: SequenceNumber(0),
             floor: SequenceNumber(0),
             history,
-            repeats: 0,
         }
     }
 
@@ -320,7 +319,7 @@ impl Sequencer {
         let entry = table[member];
         let history = self.history;
         let top = self.top;
-        let c = packet_change(history, packet, entry.count, floor, top, self.repeats);
+        let c = packet_change(history, packet, entry.count, floor, top, entry.repeats);
         let at = history::place(c.number.0 as u64);
         let m = history::laid(self.history[at], sender, c.number, top, c.count, payload);
         self.history[at] = m;
@@ -329,12 +328,12 @@ impl Sequencer {
         let next = Acknowledgement {
             taken: acknowledged,
             count: c.count,
+            repeats: c.repeats,
         };
         self.acknowledgements[member] = next;
         self.floor = floor;
         let last = c.top;
         self.top = last;
-        self.repeats = c.repeats;
         let answer = c.answer;
         let written = send_answer(answer, self.group.number, last, floor, m, out);
         Step {

@@ -26,15 +26,15 @@ module _ (s : Sequencer) where
   abbrev n : ℕ
   n = s .group .n
 
-  again-has : (number : ℕ) → Has n (againOf s number)
+  again-has : (m : MemberNumber) (number : ℕ) → Has n (againOf s m number)
   unfolding againOf oldOf answered repeatedOf
-  again-has number = if-elim (Has n) (number =? 0) (λ _. refl) (λ _. refl)
+  again-has m number = if-elim (Has n) (number =? 0) (λ _. refl) (λ _. refl)
 
   request-has : (m : MemberNumber) (count : ℕ) (payload : List ℕ) → Has n (requestOf s m count payload)
   unfolding requestOf oldOf answered repeatedOf fullOf numberedOf withMessage
   request-has m count payload =
       if-elim (Has n) (count <? lastCount s m) (λ _. refl)
-      (λ _. if-elim (Has n) (count =? lastCount s m) (λ _. again-has _)
+      (λ _. if-elim (Has n) (count =? lastCount s m) (λ _. again-has m _)
       (λ _. if-elim (Has n) (s .top .0 - s .floor .0 =? placesMost) (λ _. refl) (λ _. refl)))
 
   gap-has : (first last : SequenceNumber) → Has n (gapOf s first last)

@@ -54,6 +54,14 @@ mod ffi {
             out: *mut u8,
             room: usize,
         ) -> u64;
+        pub fn rounds_sequencer_repeats(
+            n: u8,
+            group: u32,
+            heard: *const u8,
+            heard_size: usize,
+            out: *mut u8,
+            room: usize,
+        ) -> u64;
         pub fn rounds_member_receive(
             n: u8,
             number: u8,
@@ -230,6 +238,21 @@ pub fn sequencer_copy(end: Sequencer<'_>, number: u32, rounds: u32, out: &mut [u
             end.heard.len(),
             number,
             rounds,
+            out.as_mut_ptr(),
+            out.len(),
+        )
+    }
+}
+
+/// The repeat count of each member, and that of all.
+pub fn sequencer_repeats(end: Sequencer<'_>, out: &mut [u8]) -> u64 {
+    // SAFETY: as above.
+    unsafe {
+        ffi::rounds_sequencer_repeats(
+            end.n,
+            end.group,
+            end.heard.as_ptr(),
+            end.heard.len(),
             out.as_mut_ptr(),
             out.len(),
         )

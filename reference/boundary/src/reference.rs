@@ -130,6 +130,14 @@ pub fn sequencer_copy(end: Sequencer<'_>, number: u32, rounds: u32, out: &mut [u
     (0..rounds).fold(0, |sum, _| summed(sum, black_box(&state).copy(number, out)))
 }
 
+/// The repeat count of each member, and that of all.
+pub fn sequencer_repeats(end: Sequencer<'_>, out: &mut [u8]) -> u64 {
+    let state = sequencer_state(end, out);
+    let all = state.all_repeats();
+    let counts = state.repeats.into_iter().chain([all]);
+    counts.fold(0, |sum, repeats| mix(sum, repeats.into()))
+}
+
 fn member_state(end: Member<'_>, out: &mut [u8]) -> member::Member {
     let (n, number) = (end.n.into(), end.number.into());
     let mut state = member::Member::fresh(n, number, end.group).unwrap();

@@ -150,6 +150,16 @@ fn rounds_of_every_call() {
     same!(sequencer_copy(end, 1, 5));
     same!(sequencer_copy(end, 2, 5));
     same!(sequencer_receive(end, heard, 5));
+    same!(sequencer_repeats(end));
+
+    // The second and the third are Again: member 1's count and the sum are 2.
+    let heard = &[heard, heard, heard].concat()[..];
+    let end = Sequencer { n, group, heard };
+    same!(sequencer_repeats(end));
+    assert_eq!(
+        proved::sequencer_repeats(end, &mut out),
+        2 * 3u64.pow(15) + 2
+    );
 
     let heard = &broadcasts[..];
     let end = Member {

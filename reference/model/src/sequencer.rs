@@ -17,14 +17,14 @@ pub struct Sequencer {
     pub acknowledged: [u32; MEMBERS],
     /// For each member the last own count numbered.
     pub counts: [u32; MEMBERS],
+    /// For each member how many of its requests were answered Old or Again.
+    pub repeats: [u32; MEMBERS],
     /// The last number given.
     pub top: u32,
     /// The smallest of the n acknowledgements.
     pub floor: u32,
     /// The messages floor+1 to top, number s in place s modulo 32.
     pub history: [Place; HISTORY],
-    /// How many requests were answered Old or Again.
-    pub repeats: u32,
 }
 
 impl Sequencer {
@@ -36,10 +36,10 @@ impl Sequencer {
             group,
             acknowledged: [0; MEMBERS],
             counts: [0; MEMBERS],
+            repeats: [0; MEMBERS],
             top: 0,
             floor: 0,
             history: [Place::EMPTY; HISTORY],
-            repeats: 0,
         })
     }
 
@@ -52,7 +52,10 @@ impl Sequencer {
         let (acks, spare_acks) = self.acknowledged.split_at(n);
         let floor = acks.iter().fold(LARGEST, |low, &ack| low.min(ack));
         let highest = acks.iter().fold(0, |high, &ack| high.max(ack));
-        let spare = spare_acks.iter().chain(&self.counts[n..]);
+        let spare = spare_acks
+            .iter()
+            .chain(&self.counts[n..])
+            .chain(&self.repeats[n..]);
         if spare.fold(0, |seen, &entry| seen | entry) != 0
             || self.floor != floor
             || highest > self.top
@@ -73,6 +76,14 @@ impl Sequencer {
             };
             fits && place.payload.is_sound()
         })
+    }
+
+    /// How many requests were answered Old or Again: the members' counts
+    /// added up, held at the largest number.
+    pub fn all_repeats(&self) -> u32 {
+        self.repeats
+            .iter()
+            .fold(0, |sum: u32, &repeats| sum.saturating_add(repeats))
     }
 
     /// Takes a packet; the answer and the length of the packet written.
@@ -130,7 +141,7 @@ impl Sequencer {
         // Noting comes first: the request's own acknowledgement may free a place.
         self.note(header);
         if !is_next {
-            self.repeats = self.repeats.saturating_add(1);
+            self.repeats[member] = self.repeats[member].saturating_add(1);
             // A count below the last is Old even if it is still kept.
             let kept = if count == last {
                 self.find(header.member, count)

@@ -262,13 +262,17 @@ fn a_repeated_request_is_not_numbered_anew() {
     for repeats in 1..=3 {
         let expected = (Again(1), broadcast(1, 1, 1, 0, b"once"));
         assert_eq!(hand(&mut sequencer, &packet), expected);
-        assert_eq!((sequencer.top, sequencer.repeats), (1, repeats));
+        assert_eq!(
+            (sequencer.top, &sequencer.repeats[..2]),
+            (1, &[0, repeats][..])
+        );
     }
     // Once everyone has it, it is Old.
     hand(&mut sequencer, &status(0, 1));
     hand(&mut sequencer, &status(1, 1));
     assert_eq!(hand(&mut sequencer, &packet), (Old, vec![]));
-    assert_eq!((sequencer.top, sequencer.repeats), (1, 4));
+    assert_eq!((sequencer.top, &sequencer.repeats[..2]), (1, &[0, 4][..]));
+    assert_eq!(sequencer.all_repeats(), 4);
 }
 
 #[test]

@@ -34,7 +34,7 @@ fn busy() -> Sequencer {
     state.history[3] = kept(0, 2, b"");
     state.history[4] = kept(1, 1, b"ab");
     state.history[5] = kept(2, 7, &[6; PAYLOAD]);
-    state.repeats = 11;
+    state.repeats[..3].copy_from_slice(&[0, 11, 4]);
     assert!(state.is_sound());
     state
 }
@@ -107,6 +107,8 @@ fn unsound_states_are_refused_by_every_call() {
         ("last acknowledgement", |s| s.acknowledged[15] = MAX),
         ("unused last count", |s| s.counts[3] = 1),
         ("last last count", |s| s.counts[15] = 1),
+        ("spare repeat count", |s| s.repeats[3] = 1),
+        ("last repeat count", |s| s.repeats[15] = 1),
     ];
     for (name, change) in changes {
         let mut state = busy();
@@ -139,7 +141,7 @@ fn every_call_refuses(state: &Sequencer) {
 fn nothing_else_is_unsound() {
     let changes: &[Change] = &[
         |s| s.group = MAX,
-        |s| s.repeats = MAX,
+        |s| s.repeats[..3].copy_from_slice(&[MAX; 3]),
         // Counts need not rise and may be equal.
         |s| s.history[5] = kept(0, 1, b"x"),
         |s| s.history[5] = s.history[3],
@@ -172,8 +174,9 @@ fn opening() {
         let state = Sequencer::fresh(n, 0x0102_0304).unwrap();
         assert!(state.is_sound());
         assert_eq!((u32::from(state.n), state.group), (n, 0x0102_0304));
-        assert_eq!((state.top, state.floor, state.repeats), (0, 0, 0));
+        assert_eq!((state.top, state.floor, state.all_repeats()), (0, 0, 0));
         assert_eq!((state.acknowledged, state.counts), ([0; 16], [0; 16]));
+        assert_eq!(state.repeats, [0; 16]);
         assert_eq!(state.history, [Place::EMPTY; 32]);
     }
 }
@@ -327,13 +330,14 @@ fn repeated_requests() {
     for count in [1, 7, 8, 9] {
         let answer = hand(&mut state, &request(2, 0, count, b"other"));
         assert_eq!(answer, (Old, vec![]));
-        expected.repeats += 1;
+        expected.repeats[2] += 1;
         assert_eq!(state, expected);
     }
     let answer = hand(&mut state, &request(1, 1, 1, b"other"));
     assert_eq!(answer, (Again(4), broadcast(1, 4, 1, 2, b"ab")));
-    expected.repeats += 1;
+    expected.repeats[1] += 1;
     assert_eq!(state, expected);
+    assert_eq!(state.all_repeats(), 11 + 4 + 5);
 
     // Looked up after noting, and written with the floor after noting.
     let mut noting = state.clone();
@@ -350,15 +354,74 @@ fn repeated_requests() {
     twice.history[5] = kept(1, 1, b"later");
     let answer = hand(&mut twice, &request(1, 0, 1, b""));
     assert_eq!(answer, (Again(5), broadcast(1, 5, 1, 2, b"later")));
+}
 
-    // The repeat count stays at the largest.
-    twice.repeats = MAX - 1;
-    for _ in 0..3 {
-        hand(&mut twice, &request(1, 0, 1, b""));
-        assert_eq!(twice.repeats, MAX);
+/// Two senders that repeat in turn: each has its own count.
+#[test]
+fn repeats_of_two_senders() {
+    let mut state = busy();
+    for turn in 1..=3 {
+        assert_eq!(hand(&mut state, &request(1, 0, 1, b"")).0, Again(4));
+        assert_eq!(state.repeats[..3], [0, 11 + turn, 3 + turn]);
+        assert_eq!(hand(&mut state, &request(2, 0, 1, b"")).0, Old);
+        assert_eq!(state.repeats[..3], [0, 11 + turn, 4 + turn]);
+        assert_eq!(state.all_repeats(), 15 + 2 * turn);
     }
-    assert_eq!(hand(&mut twice, &request(2, 0, 1, b"")).0, Old);
-    assert_eq!(twice.repeats, MAX);
+}
+
+/// Nothing but Old and Again changes a repeat count.
+#[test]
+fn what_is_no_repeat() {
+    let packets = [
+        (request(0, 0, 3, b"new"), Numbered(6)),
+        (status(1, 5), Noted),
+        (gap(2, 4, 5, 5), Wanted(5, 5)),
+    ];
+    for (packet, answer) in packets {
+        let mut state = busy();
+        assert_eq!(hand(&mut state, &packet).0, answer);
+        assert_eq!(state.repeats, busy().repeats);
+    }
+    let mut state = full(40);
+    state.repeats[0] = 5;
+    assert_eq!(hand(&mut state, &request(0, 0, 41, b"")).0, Full);
+    assert_eq!((state.repeats[0], state.all_repeats()), (5, 5));
+    // A refused request: a count too far ahead, and an acknowledgement above top.
+    let state = busy();
+    for (packet, number) in [(request(1, 0, 3, b""), 11), (request(1, 6, 1, b""), 10)] {
+        let call = |s: &mut Sequencer, out: &mut [u8]| s.receive(&packet, out);
+        assert_eq!(refused(&state, call), number);
+    }
+}
+
+/// A repeat count stays at the largest, and so does the sum, whoever repeats.
+#[test]
+fn the_largest_repeat_counts() {
+    let mut state = busy();
+    state.repeats[..3].copy_from_slice(&[0, MAX - 1, 0]);
+    for _ in 0..3 {
+        hand(&mut state, &request(1, 0, 1, b""));
+        assert_eq!((state.repeats[1], state.all_repeats()), (MAX, MAX));
+    }
+    // One at the largest: another one's grows, the sum does not.
+    assert_eq!(hand(&mut state, &request(2, 0, 1, b"")).0, Old);
+    assert_eq!(state.repeats[..3], [0, MAX, 1]);
+    assert_eq!(state.all_repeats(), MAX);
+    // Two at the largest.
+    state.repeats[2] = MAX;
+    for member in [1, 2] {
+        hand(&mut state, &request(member, 0, 1, b""));
+        assert_eq!(state.repeats[..3], [0, MAX, MAX]);
+        assert_eq!(state.all_repeats(), MAX);
+    }
+    // None at the largest, and a sum that comes there.
+    state.repeats[..3].copy_from_slice(&[1, MAX - 3, 1]);
+    assert_eq!(state.all_repeats(), MAX - 1);
+    for _ in 0..2 {
+        hand(&mut state, &request(2, 0, 1, b""));
+        assert_eq!(state.all_repeats(), MAX);
+    }
+    assert_eq!(state.repeats[..3], [1, MAX - 3, 3]);
 }
 
 #[test]

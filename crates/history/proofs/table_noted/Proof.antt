@@ -1,4 +1,4 @@
--- The entry is put together from its old count and the larger number.
+-- The entry is put together from its old counts and the larger number.
 -- Assumes nothing.
 use Rattle.history.specs.Note.{tableNoted}
 use borrow.Author.Needs.{needs}

@@ -310,7 +310,14 @@ fn sequencing(seed: u64) -> Option<String> {
         let end = Sequencer { n, group, heard };
         let sum = proved::sequencer_receive(end, &list, 1, &mut here);
         let other = reference::sequencer_receive(end, &list, 1, &mut there);
-        sum != other || here != there
+        // Every member's repeat count and that of all, in the state after the list.
+        let after = Sequencer {
+            heard: &list,
+            ..end
+        };
+        let repeats = proved::sequencer_repeats(after, &mut here);
+        let others = reference::sequencer_repeats(after, &mut there);
+        sum != other || repeats != others || here != there
     };
     // Every list that ends earlier too, for a few ends.
     let cut = random.below(packets.len() + 1);

@@ -9,8 +9,9 @@ use native.Mathlib.Omega.{arith}
 use lib.ListN.{length, length-map, length-set}
 use Rattle.group.specs.Limits.{placesMost}
 use Rattle.history.specs.Ask.{senderOf}
+use Rattle.history.specs.declared.Sender.{Sender}
 use Rattle.sequencer.specs.Calls.{Outcome}
-use Rattle.sequencer.specs.State.{lastCount}
+use Rattle.sequencer.specs.State.{lastCount, repeatCount}
 use Rattle.sequencer.specs.Steps.{changeOf, laidOf, changed}
 use Rattle.sequencer.specs.declared.Sequencer.{Sequencer}
 use Rattle.sequencer.proofs.Outcomes.{done-as}
@@ -106,7 +107,12 @@ mul-next : tie.Need-mul-next Inv-loop μ-loop
 mul-next c = search needs
 
 element-set-from-next : tie.Need-element-set-from-next Inv-loop μ-loop
-element-set-from-next c = rw (c .before .before .before .before .before .before .before .before .before .before .before .before .before .before .before .before .before .before .before .sender-of .ensures) (lt-of-lt-of-le (accepted-sender _ _ _ _ (c .before .before .before .before .before .before .before .before .before .before .before .before .before .before .before .before .before .before .before .before .before .before .pre .accepted) .0) (sound-of _ (c .before .before .before .before .before .before .before .before .before .before .before .before .before .before .before .before .before .before .before .before .before .before .pre .sizes .sound) .n-most))
+element-set-from-next c =
+    let from = ap (λ (x : Sender). x .member .0) (c .before .before .before .before .before .before .before .before .before .before .before .before .before .before .before .before .before .before .before .sender-of .ensures) in
+    let z = c .before .before .before .before .before .before .before .before .before .before .before .before .before .before .before .before .before .before .before .before .before .before .pre in
+    let low = accepted-sender _ _ _ _ (z .accepted) .0 in
+    let most = sound-of _ (z .sizes .sound) .n-most in
+    omega arith
 
 send-answer-requires : tie.Need-send-answer-requires Inv-loop μ-loop
 unfolding laidOf
@@ -126,7 +132,7 @@ send-answer-requires c κs =
     let members = sym (length-map (s .acknowledgements) _) ∙ good .0 .1 .0 .1 in
     let places = sym (length-map (s .history) _) ∙ good .1 .1 .1 .0 .1 .0 .1 in
     let sound = subst Sound (sym noted) (noted-sound s (a .packet) (z .sizes .sound) members places (z .accepted)) in
-    (rw (c .before .before .before .laid .ensures, c .before .before .before .before .before .place2 .ensures, c .before .before .before .before .before .before .before .packet-change .ensures, from) (change-sends n sound m (now (a .payload)) (z .sizes .payload) (a .packet) (lastCount n m) (n .repeats)), z .sizes .output)
+    (rw (c .before .before .before .laid .ensures, c .before .before .before .before .before .place2 .ensures, c .before .before .before .before .before .before .before .packet-change .ensures, from) (change-sends n sound m (now (a .payload)) (z .sizes .payload) (a .packet) (lastCount n m) (repeatCount n m)), z .sizes .output)
 
 same-length : tie.Need-same-length Inv-loop μ-loop
 same-length c = search needs
@@ -147,7 +153,7 @@ returns c =
     let w = c .before .before .send-answer .ensures in
     let size = ap (λ (x : Sequencer). length (x .history)) (sym noted) ∙ l .inv .0 in
     let outcome : Sequencer → Outcome =
-    λ n. settledOf n m (now (a .payload)) (changeOf (n .history) (a .packet) (lastCount n m) (n .floor .0) (n .top) (n .repeats)) in
+    λ n. settledOf n m (now (a .payload)) (changeOf (n .history) (a .packet) (lastCount n m) (n .floor .0) (n .top) (repeatCount n m)) in
     done-as {o = outcome n} (ap outcome noted ∙ sym (accepted-is s (a .packet) (now (a .payload)) (c .before .before .before .before .before .before .before .before .before .before .before .before .before .before .before .before .before .before .before .before .before .before .before .before .before .before .before .pre .accepted) size))
     (record {
       answer = rw (w .size, c .before .before .before .before .before .before .laid .ensures, c .before .before .before .before .before .before .before .before .place2 .ensures, c .before .before .before .before .before .before .before .before .before .before .packet-change .ensures, from);

@@ -14,17 +14,34 @@ const LINE: usize = 1000;
 pub fn play(input: impl Read, output: impl Write) -> io::Result<()> {
     let mut lines = Lines::new(input);
     let mut output = BufWriter::new(output);
+    if let Some(mut group) = open(&mut lines, &mut output)? {
+        events(&mut group, &mut lines, &mut output)?;
+        closing_line(&group, &mut output)?;
+    }
+    output.flush()
+}
+
+/// Plays the schedule in `input` to its end, and prints what is left then.
+pub fn inspect(input: impl Read, output: impl Write) -> io::Result<()> {
+    let mut lines = Lines::new(input);
+    let mut output = BufWriter::new(output);
+    if let Some(mut group) = open(&mut lines, &mut output)? {
+        events(&mut group, &mut lines, &mut io::sink())?;
+        table(&group, &mut output)?;
+    }
+    output.flush()
+}
+
+/// Opens the group of the first line; where it opens none, prints why.
+fn open(lines: &mut Lines<impl Read>, output: &mut impl Write) -> io::Result<Option<Group>> {
     match lines.next_line()?.and_then(Line::opening) {
         None => writeln!(output, "bad line")?,
         Some((n, group)) => match Group::fresh(n, group) {
             Err(refusal) => writeln!(output, "{}", Answer::Refused(refusal))?,
-            Ok(mut group) => {
-                events(&mut group, &mut lines, &mut output)?;
-                closing_line(&group, &mut output)?;
-            }
+            Ok(group) => return Ok(Some(group)),
         },
     }
-    output.flush()
+    Ok(None)
 }
 
 fn events(
@@ -77,6 +94,17 @@ fn closing_line(group: &Group, output: &mut impl Write) -> io::Result<()> {
         write!(output, " {}", member.taken)?;
     }
     writeln!(output)
+}
+
+/// A heading, and then a line a terminal.
+fn table(group: &Group, output: &mut impl Write) -> io::Result<()> {
+    writeln!(output, "terminal taken submitted waiting")?;
+    for (terminal, member) in group.members.iter().enumerate() {
+        let (taken, submitted) = (member.taken, member.submitted);
+        let waiting = u32::from(member.waiting);
+        writeln!(output, "{terminal} {taken} {submitted} {waiting}")?;
+    }
+    Ok(())
 }
 
 /// Reads a first line, given without its line feed: n and the group number.

@@ -37,6 +37,13 @@ pub fn played(text: &[u8]) -> Vec<u8> {
     output
 }
 
+/// What the reference prints of what an input leaves.
+pub fn inspected(text: &[u8]) -> Vec<u8> {
+    let mut output = Vec::new();
+    model::play::inspect(text, &mut output).expect("writing to memory");
+    output
+}
+
 /// Every stored schedule, in the order of their numbers.
 pub fn all() -> Vec<Schedule> {
     let mut schedules = hand::schedules();

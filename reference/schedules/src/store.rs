@@ -1,9 +1,9 @@
 //! The files of the stored schedules: each schedule is a file of
 //! `crates/schedules/data`, named by its number, and `crates/schedules/stdout`
 //! has what they print, one behind the other. `crates/play` has the document's
-//! own schedule.
+//! own schedule, and `crates/inspect` one that leaves each column something.
 
-use crate::{Schedule, all, played};
+use crate::{Schedule, all, inspected, played};
 use std::fmt::Write as _;
 use std::path::{Path, PathBuf};
 use std::{fs, io};
@@ -18,8 +18,9 @@ pub fn name(number: usize) -> String {
     format!("{number:03}")
 }
 
-/// Every file that is kept, and what it has to hold. The input of `play` is
-/// given and not kept; without that crate there is nothing to hold.
+/// Every file that is kept, and what it has to hold. The inputs of `play` and
+/// `inspect` are given and not kept; without such a crate there is nothing to
+/// hold.
 fn files(schedules: &[Schedule]) -> io::Result<Vec<(PathBuf, Vec<u8>)>> {
     let root = root();
     let crates = root.join("crates");
@@ -32,10 +33,13 @@ fn files(schedules: &[Schedule]) -> io::Result<Vec<(PathBuf, Vec<u8>)>> {
     let outputs: Vec<u8> = schedules.iter().flat_map(Schedule::played).collect();
     files.push((crates.join("schedules/stdout"), outputs));
     files.push((root.join("reference/schedules/TABLE.md"), table(schedules)));
-    let play = crates.join("play");
-    if play.exists() {
-        let output = played(&fs::read(play.join("stdin"))?);
-        files.push((play.join("stdout"), output));
+    let programs: [(&str, fn(&[u8]) -> Vec<u8>); 2] = [("play", played), ("inspect", inspected)];
+    for (name, prints) in programs {
+        let program = crates.join(name);
+        if program.exists() {
+            let output = prints(&fs::read(program.join("stdin"))?);
+            files.push((program.join("stdout"), output));
+        }
     }
     Ok(files)
 }

@@ -22,9 +22,9 @@ use Rattle.text.specs.Text.{lineFeed}
 use Rattle.text.specs.declared.Found.{Found}
 use Rattle.text.specs.declared.Found.the-variants.{At, Nothing}
 use Rattle.schedule.specs.declared.Opening.{Opening}
-use Rattle.player.specs.Play.{Stage, opening, running, ended, closed, Told, eventTold, openTold, lineTold, lastOf, linesTold, playOf}
-use Rattle.player.specs.Feed.{keptMost, keptOf, State, start, Fed, fedUpTo, fedOf, endOf}
-use Rattle.player.specs.Laws.{Prints, ends, feeds, Continues, ReadsOn, PrintsPlay}
+use Rattle.player.specs.Play.{Stage, opening, running, ended, closed, Told, Program, eventTold, openTold, lineTold, linesTold, outputOf}
+use Rattle.player.specs.Feed.{keptMost, keptOf, State, start, Fed, saidOf, fedUpTo, fedOf, endOf}
+use Rattle.player.specs.Laws.{Prints, ends, feeds, Continues, ReadsOn, Quiet, PrintsAll}
 use Rattle.player.proofs.Keeping.{kept-kept}
 
 -- a line over 1,000 characters is of another form, cut or not
@@ -125,55 +125,66 @@ module _ (s : State) (line : List ℕ) (k : s .line ≡ keptOf line) where
   goes-told : (part : List ℕ) → lineTold (s .stage) (keptOf (s .line ++ part)) ≡ lineTold (s .stage) (line ++ part)
   goes-told part = ap (lineTold (s .stage)) (goes-on part) ∙ told-kept (s .stage) (line ++ part)
 
+-- a program
+module _ (program : Program) (quiet : Quiet program) where
+  -- what it says of a line, and then prints
+  abbrev on : Stage → List ℕ → List ℕ → List ℕ
+  on stage text rest = program .says stage text ++ rest
+
+  silent : (stage : Stage) (rest : List ℕ) → on stage [] rest ≡ rest
+  silent stage rest = ap (λ (l : List ℕ). l ++ rest) (quiet stage)
+
   -- the end of the input
-  at-end : Open line → endOf s .text ++ lastOf (endOf s .state .stage) ≡ linesTold (s .stage) (linesOf (line ++ []))
+  at-end : (s : State) (line : List ℕ) → s .line ≡ keptOf line → Open line
+      → saidOf program (endOf s) ++ program .last (endOf s .state .stage) ≡ linesTold program (s .stage) (linesOf (line ++ []))
   unfolding endOf linesTold linesOf
-  at-end o = go line o k
+  at-end s [] k o =
+      ap (λ (f : Fed). on (f .state .stage) (f .text) (program .last (f .state .stage))) (sym (if-eq (length (s .line)) 0 _ _ _ (ap length k) refl))
+      ∙ silent (s .stage) (program .last (s .stage))
+  at-end s (c ∷ line) k o =
+      let n : length (s .line) ≡ suc (length (take lineMost line)) = ap length k in
+      let told : lineTold (s .stage) (s .line) ≡ lineTold (s .stage) (c ∷ line) = ap (lineTold (s .stage)) k ∙ told-kept (s .stage) (c ∷ line) in
+      ap (λ (f : Fed). on (f .state .stage) (f .text) (program .last (f .state .stage))) (sym (if-ne (length (s .line)) 0 _ _ _ (λ z. omega arith) refl))
+      ∙ ap (λ (t : Told). on (t .stage) (t .text) (program .last (t .stage))) told
+      ∙ ap (linesTold program (s .stage)) (sym (ap linesOf (append-nil (c ∷ line)) ∙ line-last c line o))
+
+  -- what the rest of the input prints, where a line has not ended of which something is kept
+  prints : {s : State} {input output : List ℕ} → Prints program s input output → (line : List ℕ) → Open line → s .line ≡ keptOf line
+      → output ≡ linesTold program (s .stage) (linesOf (line ++ input))
+  unfolding fedUpTo linesTold Open
+  prints (ends s) line o k = at-end s line k o
+  prints (feeds {output} s part rest p) line o k = go (lineEnd part) refl (λ l u v. prints p l u v)
     where
-      go : (line : List ℕ) → Open line → s .line ≡ keptOf line → endOf s .text ++ lastOf (endOf s .state .stage) ≡ linesTold (s .stage) (linesOf (line ++ []))
-      go [] o k = ap (λ (f : Fed). f .text ++ lastOf (f .state .stage)) (sym (if-eq (length (s .line)) 0 _ _ _ (ap length k) refl))
-      go (c ∷ line) o k =
-          let n : length (s .line) ≡ suc (length (take lineMost line)) = ap length k in
-          let told : lineTold (s .stage) (s .line) ≡ lineTold (s .stage) (c ∷ line) = ap (lineTold (s .stage)) k ∙ told-kept (s .stage) (c ∷ line) in
-          ap (λ (f : Fed). f .text ++ lastOf (f .state .stage)) (sym (if-ne (length (s .line)) 0 _ _ _ (λ z. omega arith) refl))
-          ∙ ap (λ (t : Told). t .text ++ lastOf (t .stage)) told
-          ∙ ap (linesTold (s .stage)) (sym (ap linesOf (append-nil (c ∷ line)) ∙ line-last c line o))
+      go : (f : Found) → lineEnd part ≡ f
+          → ((l : List ℕ) → Open l → fedUpTo f s part .state .line ≡ keptOf l → output ≡ linesTold program (fedUpTo f s part .state .stage) (linesOf (l ++ (drop (fedUpTo f s part .used) part ++ rest))))
+          → saidOf program (fedUpTo f s part) ++ output ≡ linesTold program (s .stage) (linesOf (line ++ (part ++ rest)))
+      go (At e) f h =
+          let r = found-at part 0 e f in
+          let y : e ≡ r .size = r .here ∙ zero-add (r .size) in
+          let shut : Open (take e part) = subst (λ (x : ℕ). Open (take x part)) (sym y) (r .shut) in
+          let split : part ≡ take e part ++ (lineFeed ∷ drop (suc e) part) = subst (λ (x : ℕ). part ≡ take x part ++ (lineFeed ∷ drop (suc x) part)) (sym y) (r .split) in
+          let more = drop (e + 1) part ++ rest in
+          let whole : line ++ (part ++ rest) ≡ (line ++ take e part) ++ (lineFeed ∷ more) =
+          ap (λ (x : List ℕ). line ++ (x ++ rest)) split
+          ∙ ap (λ (x : List ℕ). line ++ x) (append-assoc (take e part) (lineFeed ∷ drop (suc e) part) rest)
+          ∙ sym (append-assoc line (take e part) (lineFeed ∷ (drop (suc e) part ++ rest)))
+          ∙ ap (λ (x : ℕ). (line ++ take e part) ++ (lineFeed ∷ (drop x part ++ rest))) (sym (add-one e)) in
+          let lines : linesOf (line ++ (part ++ rest)) ≡ (line ++ take e part) ∷ linesOf more =
+          ap linesOf whole ∙ line-ends (line ++ take e part) more (open-append line (take e part) o shut) in
+          let told = goes-told s line k (take e part) in
+          let first = lineTold (s .stage) (keptOf (s .line ++ take e part)) in
+          ap (on (first .stage) (first .text)) (h [] tt refl)
+          ∙ ap (λ (t : Told). on (t .stage) (t .text) (linesTold program (t .stage) (linesOf more))) told
+          ∙ ap (linesTold program (s .stage)) (sym lines)
+      go Nothing f h =
+          silent (s .stage) output
+          ∙ h (line ++ part) (open-append line part o (found-none part 0 f)) (goes-on s line k part)
+          ∙ ap (λ (x : List ℕ). linesTold program (s .stage) (linesOf ((line ++ part) ++ (x ++ rest)))) (drop-length part)
+          ∙ ap (λ (x : List ℕ). linesTold program (s .stage) (linesOf x)) (append-assoc line part rest)
 
--- what the rest of the input prints, where a line has not ended of which something is kept
-prints : {s : State} {input output : List ℕ} → Prints s input output → (line : List ℕ) → Open line → s .line ≡ keptOf line
-    → output ≡ linesTold (s .stage) (linesOf (line ++ input))
-unfolding fedUpTo linesTold Open
-prints (ends s) line o k = at-end s line k o
-prints (feeds {output} s part rest p) line o k = go (lineEnd part) refl (λ l u v. prints p l u v)
-  where
-    go : (f : Found) → lineEnd part ≡ f
-        → ((l : List ℕ) → Open l → fedUpTo f s part .state .line ≡ keptOf l → output ≡ linesTold (fedUpTo f s part .state .stage) (linesOf (l ++ (drop (fedUpTo f s part .used) part ++ rest))))
-        → fedUpTo f s part .text ++ output ≡ linesTold (s .stage) (linesOf (line ++ (part ++ rest)))
-    go (At e) f h =
-        let r = found-at part 0 e f in
-        let y : e ≡ r .size = r .here ∙ zero-add (r .size) in
-        let shut : Open (take e part) = subst (λ (x : ℕ). Open (take x part)) (sym y) (r .shut) in
-        let split : part ≡ take e part ++ (lineFeed ∷ drop (suc e) part) = subst (λ (x : ℕ). part ≡ take x part ++ (lineFeed ∷ drop (suc x) part)) (sym y) (r .split) in
-        let more = drop (e + 1) part ++ rest in
-        let whole : line ++ (part ++ rest) ≡ (line ++ take e part) ++ (lineFeed ∷ more) =
-        ap (λ (x : List ℕ). line ++ (x ++ rest)) split
-        ∙ ap (λ (x : List ℕ). line ++ x) (append-assoc (take e part) (lineFeed ∷ drop (suc e) part) rest)
-        ∙ sym (append-assoc line (take e part) (lineFeed ∷ (drop (suc e) part ++ rest)))
-        ∙ ap (λ (x : ℕ). (line ++ take e part) ++ (lineFeed ∷ (drop x part ++ rest))) (sym (add-one e)) in
-        let lines : linesOf (line ++ (part ++ rest)) ≡ (line ++ take e part) ∷ linesOf more =
-        ap linesOf whole ∙ line-ends (line ++ take e part) more (open-append line (take e part) o shut) in
-        let told = goes-told s line k (take e part) in
-        ap (λ (x : List ℕ). lineTold (s .stage) (keptOf (s .line ++ take e part)) .text ++ x) (h [] tt refl)
-        ∙ ap (λ (t : Told). t .text ++ linesTold (t .stage) (linesOf more)) told
-        ∙ ap (linesTold (s .stage)) (sym lines)
-    go Nothing f h =
-        h (line ++ part) (open-append line part o (found-none part 0 f)) (goes-on s line k part)
-        ∙ ap (λ (x : List ℕ). linesTold (s .stage) (linesOf ((line ++ part) ++ (x ++ rest)))) (drop-length part)
-        ∙ ap (λ (x : List ℕ). linesTold (s .stage) (linesOf x)) (append-assoc line part rest)
-
-pub prints-play : PrintsPlay
+pub prints-all : PrintsAll
 unfolding Open
-prints-play input output p = prints p [] tt refl
+prints-all program quiet input output p = prints program quiet p [] tt refl
 
 pub reads-on : ReadsOn
 unfolding fedUpTo
@@ -198,24 +209,26 @@ reads-within s part rest from used r h e =
 pub laid-front : (text lent after : List ℕ) (size : ℕ) → after ≡ front text lent → size ≡ length text → take size after ≡ text
 laid-front text lent after size a e = rw (a, e) (take-at text (drop (length text) lent) (length text) refl)
 
--- nothing was read; a part of what is left was fed; nothing is left
-pub continues-none : (s t : State) (input : List ℕ) → t ≡ s → Continues s input [] t input
-continues-none s t input e rest output p = subst (λ (x : State). Prints x (input ++ rest) output) e p
+module _ (program : Program) where
+  -- nothing was read; a part of what is left was fed; nothing is left
+  pub continues-none : (s t : State) (input : List ℕ) → t ≡ s → Continues program s input [] t input
+  continues-none s t input e rest output p = subst (λ (x : State). Prints program x (input ++ rest) output) e p
 
-pub continues-fed : (s t u : State) (input printed part : List ℕ) (from used : ℕ) → part ≡ take (length input - from) (drop from input) → used ≡ fedOf t part .used → u ≡ fedOf t part .state
-    → Continues s input printed t (drop from input) → Continues s input (printed ++ fedOf t part .text) u (drop (from + used) input)
-continues-fed s t u input printed part from used r n e k rest output p =
-    let fed = fedOf t part in
-    let all : part ≡ drop from input = r ∙ take-all (length input - from) (drop from input) (let d = length-drop from input in omega arith) in
-    let d : drop (from + used) input ≡ drop (fed .used) part = sym (drop-drop used from input) ∙ ap (drop used) (sym all) ∙ ap (λ (x : ℕ). drop x part) n in
-    let q : Prints (fed .state) (drop (fed .used) part ++ rest) output =
-    subst (λ (x : State). Prints x (drop (fed .used) part ++ rest) output) e (subst (λ (l : List ℕ). Prints u (l ++ rest) output) d p) in
-    let f : Prints t (drop from input ++ rest) (fed .text ++ output) = subst (λ (l : List ℕ). Prints t (l ++ rest) (fed .text ++ output)) all (feeds t part rest q) in
-    subst (λ (l : List ℕ). Prints s (input ++ rest) l) (sym (append-assoc printed (fed .text) output)) (k rest (fed .text ++ output) f)
+  pub continues-fed : (s t u : State) (input printed part : List ℕ) (from used : ℕ) → part ≡ take (length input - from) (drop from input) → used ≡ fedOf t part .used → u ≡ fedOf t part .state
+      → Continues program s input printed t (drop from input) → Continues program s input (printed ++ saidOf program (fedOf t part)) u (drop (from + used) input)
+  continues-fed s t u input printed part from used r n e k rest output p =
+      let fed = fedOf t part in
+      let said = saidOf program fed in
+      let all : part ≡ drop from input = r ∙ take-all (length input - from) (drop from input) (let d = length-drop from input in omega arith) in
+      let d : drop (from + used) input ≡ drop (fed .used) part = sym (drop-drop used from input) ∙ ap (drop used) (sym all) ∙ ap (λ (x : ℕ). drop x part) n in
+      let q : Prints program (fed .state) (drop (fed .used) part ++ rest) output =
+      subst (λ (x : State). Prints program x (drop (fed .used) part ++ rest) output) e (subst (λ (l : List ℕ). Prints program u (l ++ rest) output) d p) in
+      let f : Prints program t (drop from input ++ rest) (said ++ output) = subst (λ (l : List ℕ). Prints program t (l ++ rest) (said ++ output)) all (feeds t part rest q) in
+      subst (λ (l : List ℕ). Prints program s (input ++ rest) l) (sym (append-assoc printed said output)) (k rest (said ++ output) f)
 
-pub continues-end : (s : State) (input printed left : List ℕ) → left ≡ [] → Continues start input printed s left
-    → printed ++ (endOf s .text ++ lastOf (endOf s .state .stage)) ≡ playOf input
-continues-end s input printed left e k =
-    let last = endOf s .text ++ lastOf (endOf s .state .stage) in
-    let p : Prints s (left ++ []) last = subst (λ (l : List ℕ). Prints s l last) (sym (append-nil left ∙ e)) (ends s) in
-    prints-play input (printed ++ last) (subst (λ (l : List ℕ). Prints start l (printed ++ last)) (append-nil input) (k [] last p))
+  pub continues-end : Quiet program → (s : State) (input printed left : List ℕ) → left ≡ [] → Continues program start input printed s left
+      → printed ++ (saidOf program (endOf s) ++ program .last (endOf s .state .stage)) ≡ outputOf program input
+  continues-end quiet s input printed left e k =
+      let last = saidOf program (endOf s) ++ program .last (endOf s .state .stage) in
+      let p : Prints program s (left ++ []) last = subst (λ (l : List ℕ). Prints program s l last) (sym (append-nil left ∙ e)) (ends s) in
+      prints-all program quiet input (printed ++ last) (subst (λ (l : List ℕ). Prints program start l (printed ++ last)) (append-nil input) (k [] last p))

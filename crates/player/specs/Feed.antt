@@ -7,7 +7,7 @@ use Rattle.text.specs.Field.{lineEnd}
 use Rattle.schedule.specs.Line.{lineMost}
 use Rattle.text.specs.declared.Found.{Found}
 use Rattle.text.specs.declared.Found.the-variants.{At, Nothing}
-use Rattle.player.specs.Play.{Stage, opening, Told, lineTold}
+use Rattle.player.specs.Play.{Stage, opening, Told, Program, lineTold}
 
 -- a line over 1,000 characters is of another form, whatever stands behind the first 1,001
 abbrev pub keptMost : ℕ
@@ -29,6 +29,10 @@ pub record Fed : Type 0 where
   pub text : List ℕ
   pub state : State
   pub used : ℕ
+
+-- what a program says of it
+abbrev pub saidOf : Program → Fed → List ℕ
+saidOf program fed = program .says (fed .state .stage) (fed .text)
 
 -- a line that has ended
 abbrev pub toldAs : Told → ℕ → Fed

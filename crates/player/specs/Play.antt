@@ -67,11 +67,25 @@ lastOf (running g number) = lastTold g
 lastOf (ended g) = lastTold g
 lastOf closed = []
 
+-- a program that plays a schedule: what it says of the text of a line, by the stage that the line leads to, and what it prints
+-- at the end
+pub record Program : Type 0 where
+  pub says : Stage → List ℕ → List ℕ
+  pub last : Stage → List ℕ
+
 -- all that lines print
-unfoldable pub linesTold : Stage → List (List ℕ) → List ℕ
-linesTold stage [] = lastOf stage
-linesTold stage (line ∷ rest) = lineTold stage line .text ++ linesTold (lineTold stage line .stage) rest
+unfoldable pub linesTold : Program → Stage → List (List ℕ) → List ℕ
+linesTold program stage [] = program .last stage
+linesTold program stage (line ∷ rest) =
+    program .says (lineTold stage line .stage) (lineTold stage line .text) ++ linesTold program (lineTold stage line .stage) rest
 
 -- the output of an input
+abbrev pub outputOf : Program → List ℕ → List ℕ
+outputOf program input = linesTold program opening (linesOf input)
+
+-- `play` says every text, and prints the last line
+abbrev pub playProgram : Program
+playProgram = record { says = λ stage text. text; last = lastOf }
+
 abbrev pub playOf : List ℕ → List ℕ
-playOf input = linesTold opening (linesOf input)
+playOf input = outputOf playProgram input

@@ -34,9 +34,12 @@ stageIn Running g number = play.running g number
 stageIn Ended g number = play.ended g
 stageIn Closed g number = play.closed
 
--- a group that has not the room that it says is none
+-- the phase of a group with n members and that many packets: one that has not the room that it says is none
+abbrev pub phaseWith : ℕ → ℕ → Phase → Phase
+phaseWith n count phase = if n ≤? membersMost and count ≤? packetsMost then phase else Closed
+
 unfoldable pub phaseOf : Whole → Phase → Phase
-phaseOf w phase = if w .sequencer .group .n ≤? membersMost and w .count ≤? packetsMost then phase else Closed
+phaseOf w phase = phaseWith (w .sequencer .group .n) (w .count) phase
 
 abbrev pub stageOf : Player → Stage
 stageOf p = stageIn (phaseOf (p .whole) (p .phase)) (groupOf (p .whole)) (p .number)

@@ -4,7 +4,6 @@ use mathlib.Core.List.{List}
 use mathlib.Core.Option.{Option, none, some}
 use Prim.Native.Nat.{ℕ, _≤_}
 use lib.ListN.{length}
-use Rattle.group.specs.Choice.{if_then_else_, _and_, _≤?_}
 use Rattle.group.specs.Lent.{front}
 use Rattle.group.specs.Limits.{membersMost}
 use Rattle.model.specs.World.{Event}
@@ -16,18 +15,12 @@ use Rattle.schedule.specs.declared.Command.{Command}
 use Rattle.schedule.specs.declared.Command.the-variants.{Submit}
 use Rattle.player.specs.Play as play
 use Rattle.player.specs.Player.{stageIn, phaseOf}
-use Rattle.player.specs.declared.Phase.{Phase}
-use Rattle.player.specs.declared.Phase.the-variants.{Closed}
 use Rattle.player.specs.declared.Told.{Told}
 
 -- there is room for every member, and for the packets that were written
 pub record Fits (w : Whole) : Type 0 where
   pub members : w .sequencer .group .n ≤ membersMost
   pub packets : w .count ≤ packetsMost
-
--- the phase of a group with n members and that many packets: `phaseOf` in numbers
-abbrev pub phaseWith : ℕ → ℕ → Phase → Phase
-phaseWith n count phase = if n ≤? membersMost and count ≤? packetsMost then phase else Closed
 
 -- a submit's payload lies in the bytes that were lent
 abbrev pub Sized : Command → Type 0

@@ -37,8 +37,8 @@ ghost use Rattle.schedule.specs.Line.{eventOf, openingOf};
 ghost use Rattle.simulator.specs.Whole.{groupOf};
 ghost use Rattle.player.specs.Play.{nextNumber, refusedTold, openTold, eventTold, lineTold, lastTold, lastOf};
 ghost use Rattle.player.specs.Feed.{keptMost, keptOf, start, toldAs, fedOf, endOf};
-ghost use Rattle.player.specs.Player.{outputRoom, textIn, stageIn, phaseOf, stageOf, stateOf, Does};
-ghost use Rattle.player.specs.Steps.{Fits, Sized, Performed, Tells, phaseWith};
+ghost use Rattle.player.specs.Player.{outputRoom, textIn, stageIn, phaseWith, phaseOf, stageOf, stateOf, Does};
+ghost use Rattle.player.specs.Steps.{Fits, Sized, Performed, Tells};
 
 // Where playing stands: the first line is awaited, events are read, a line ended them, no group was opened.
 pub enum Phase {
@@ -275,7 +275,7 @@ fn open(whole: Whole, line: &[u8], out: &mut [u8; Player::OUTPUT]) -> Told
 }
 
 // The phase of a group that has the room that it says.
-fn phase_of(n: u8, count: usize, phase: Phase) -> Phase
+pub fn phase_of(n: u8, count: usize, phase: Phase) -> Phase
     ensures { λ r. ⌜ r ≡ phaseWith n count phase ⌝ }
 {
     if Group::MEMBERS < (n as usize) {

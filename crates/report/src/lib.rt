@@ -302,7 +302,7 @@ fn put_tops(top: u32, floor: u32, out: &mut [u8]) -> usize
 }
 
 // Numbers, each behind one space.
-fn put_each(numbers: &[u32], out: &mut [u8], at: usize) -> usize
+pub fn put_each(numbers: &[u32], out: &mut [u8], at: usize) -> usize
     requires { ⌜ at + (1 + numberDigits) * length (now numbers) ≤ length (now out) ⌝ }
     ensures laid { λ r. ⌜ LaidAt at (spaced (map decimalOf (now (numbers .entry)))) (now (out .entry)) (now (out .exit)) r ⌝ }
     ensures short { λ r. ⌜ r ≤ at + (1 + numberDigits) * length (now (numbers .entry)) ⌝ }

@@ -4,11 +4,11 @@ use Prim.Native.Nat.{ℕ}
 use Rattle.descriptor.specs.Descriptor.{Gives, Takes}
 use Rattle.descriptor.specs.declared.Source.{Source}
 use Rattle.descriptor.specs.declared.Sink.{Sink}
-use Rattle.player.specs.Play.{playOf}
+use Rattle.player.specs.Play.{Program, outputOf}
 use Rattle.stream.specs.declared.Played.{Played}
 
--- the source gave an input, and the sink took what the whole input prints
-pub record Plays (source : Source) (sink : Sink) (r : Played) : Type 0 where
+-- the source gave an input, and the sink took what the program prints of the whole input
+pub record Plays (program : Program) (source : Source) (sink : Sink) (r : Played) : Type 0 where
   pub input : List ℕ
   pub gives : Gives source input (r .source)
-  pub takes : Takes sink (playOf input) (r .sink)
+  pub takes : Takes sink (outputOf program input) (r .sink)

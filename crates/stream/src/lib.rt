@@ -1,16 +1,22 @@
-// Plays a schedule from a source to a sink. Each part of the input that was read goes to the player, and what the player
-// prints is handed on at once.
+// Plays a schedule from a source to a sink. Each part of the input that was read goes to the player, and what the program
+// says of it is handed on at once.
 use descriptor::Sink;
 use descriptor::Source;
+use inspection::TABLE_ROOM;
+use inspection::write_left;
+use player::Phase;
 use player::Player;
+use player::phase_of;
+ghost use mathlib.Core.Path.{_≡_};
 ghost use mathlib.Core.List.{[], _++_};
 ghost use lib.ListN.{take};
 ghost use Rattle.descriptor.specs.Descriptor.{Takes};
-ghost use Rattle.player.specs.Feed.{endOf};
-ghost use Rattle.player.specs.Play.{lastOf};
-ghost use Rattle.player.specs.Player.{stateOf};
+ghost use Rattle.inspection.specs.Table.{inspectProgram};
+ghost use Rattle.player.specs.Feed.{saidOf, endOf};
+ghost use Rattle.player.specs.Play.{playProgram};
+ghost use Rattle.player.specs.Player.{phaseWith, stageOf, stateOf};
 ghost use Rattle.stream.specs.Played.{Plays};
-ghost use Rattle.stream.specs.Steps.{Puts, Turns};
+ghost use Rattle.stream.specs.Steps.{programOf, saidSize, Puts, Turns};
 
 // The player and the sink after a part of the input.
 struct Step {
@@ -33,39 +39,72 @@ pub struct Played {
 }
 
 // Hands on the first `size` bytes.
-fn put(sink: Sink, text: [u8; Player::OUTPUT], size: usize) -> Sink
-    ensures { λ r. ⌜ Takes sink (take size text) r ⌝ }
+fn put(sink: Sink, text: &[u8], size: usize) -> Sink
+    ensures { λ r. ⌜ Takes sink (take size (now (text .entry))) r ⌝ }
 {
-    if size < Player::OUTPUT {
+    if size < text.len() {
         return sink.write(&text[..size]);
     }
-    sink.write(&text)
+    sink.write(text)
+}
+
+// The same of a text and of a table.
+fn put_text(sink: Sink, text: [u8; Player::OUTPUT], size: usize) -> Sink
+    ensures { λ r. ⌜ Takes sink (take size text) r ⌝ }
+{
+    put(sink, &text, size)
+}
+
+fn put_table(sink: Sink, table: [u8; TABLE_ROOM], size: usize) -> Sink
+    ensures { λ r. ⌜ Takes sink (take size table) r ⌝ }
+{
+    put(sink, &table, size)
+}
+
+// How many bytes are said of a line's text: all, or, where the program is quiet, those of a line that opened no group.
+fn said(quiet: bool, n: u8, count: usize, phase: Phase, size: usize) -> usize
+    ensures { λ r. ⌜ r ≡ saidSize quiet (phaseWith n count phase) size ⌝ }
+{
+    if quiet {
+        let stands = phase_of(n, count, phase);
+        match stands {
+            Phase::Opening => 0,
+            Phase::Running => 0,
+            Phase::Ended => 0,
+            Phase::Closed => size,
+        }
+    } else {
+        size
+    }
 }
 
 // Plays what was read, a line at a time.
-fn play_part(mut player: Player, part: &[u8], mut sink: Sink) -> Step
-    ensures { λ r. ⌜ Puts (stateOf player) (now (part .entry)) (stateOf (r .player)) [] sink (r .sink) ⌝ }
+fn play_part(quiet: bool, mut player: Player, part: &[u8], mut sink: Sink) -> Step
+    ensures { λ r. ⌜ Puts (programOf quiet) (stateOf player) (now (part .entry)) (stateOf (r .player)) [] sink (r .sink) ⌝ }
 {
     let mut from: usize = 0;
     while from < part.len() {
         let mut text = [0u8; Player::OUTPUT];
         let fed = player.feed(&part[from..], &mut text);
-        sink = put(sink, text, fed.written);
         player = fed.player;
+        let phase = player.phase;
+        let n = player.whole.sequencer.group.n;
+        let size = said(quiet, n, player.whole.count, phase, fed.written);
+        sink = put_text(sink, text, size);
         from += fed.used;
     }
     Step { player, sink }
 }
 
 // Reads once, and plays what came.
-fn play_some(player: Player, source: Source, sink: Sink) -> Turn
-    ensures { λ r. ⌜ Turns player source sink r ⌝ }
+fn play_some(quiet: bool, player: Player, source: Source, sink: Sink) -> Turn
+    ensures { λ r. ⌜ Turns (programOf quiet) player source sink r ⌝ }
 {
     let mut chunk = [0u8; 4096];
     let read = source.read(&mut chunk);
     let size = read.size;
     let next = read.source;
-    let step = play_part(player, &chunk[..size], sink);
+    let step = play_part(quiet, player, &chunk[..size], sink);
     let played = step.player;
     let handed = step.sink;
     let goes_on = if handed.failed() { false } else { size > 0 };
@@ -79,17 +118,17 @@ fn play_some(player: Player, source: Source, sink: Sink) -> Turn
 
 // Plays to the end of the input. A proved loop has to end, and nothing says that an input does: so the loop counts its turns
 // down, from a number that no run uses up.
-fn play_all(player: Player, source: Source, sink: Sink) -> Turn
-    ensures { λ r. ⌜ Turns player source sink r ⌝ }
+fn play_all(quiet: bool, player: Player, source: Source, sink: Sink) -> Turn
+    ensures { λ r. ⌜ Turns (programOf quiet) player source sink r ⌝ }
 {
-    let mut turn = play_some(player, source, sink);
+    let mut turn = play_some(quiet, player, source, sink);
     let mut turns = u64::MAX;
     while turns > 0 {
         if turn.goes_on {
             let player = turn.player;
             let source = turn.source;
             let sink = turn.sink;
-            turn = play_some(player, source, sink);
+            turn = play_some(quiet, player, source, sink);
             turns -= 1;
         } else {
             return turn;
@@ -98,30 +137,60 @@ fn play_all(player: Player, source: Source, sink: Sink) -> Turn
     turn
 }
 
-// The end of the input, and the last line.
-fn finish(player: Player, sink: Sink) -> Sink
-    ensures { λ r. ⌜ Takes sink (endOf (stateOf player) .text ++ lastOf (endOf (stateOf player) .state .stage)) r ⌝ }
+// What is printed at the end: a table where the program is quiet, else the last line.
+fn put_last(quiet: bool, player: Player, sink: Sink) -> Sink
+    ensures { λ r. ⌜ Takes sink (programOf quiet .last (stageOf player)) r ⌝ }
+{
+    if quiet {
+        let mut table = [0u8; TABLE_ROOM];
+        let size = write_left(player, &mut table);
+        return put_table(sink, table, size);
+    }
+    let mut text = [0u8; Player::OUTPUT];
+    let size = player.last(&mut text);
+    put_text(sink, text, size)
+}
+
+// The end of the input.
+fn finish(quiet: bool, player: Player, sink: Sink) -> Sink
+    ensures { λ r. ⌜ Takes sink (saidOf (programOf quiet) (endOf (stateOf player)) ++ programOf quiet .last (endOf (stateOf player) .state .stage)) r ⌝ }
 {
     let mut text = [0u8; Player::OUTPUT];
     let fed = player.end(&mut text);
-    let next = put(sink, text, fed.written);
     let last = fed.player;
-    let size = last.last(&mut text);
-    put(next, text, size)
+    let phase = last.phase;
+    let n = last.whole.sequencer.group.n;
+    let size = said(quiet, n, last.whole.count, phase, fed.written);
+    let next = put_text(sink, text, size);
+    put_last(quiet, last, next)
 }
 
 // Plays the schedule that the source has, to the sink.
-pub fn play(source: Source, sink: Sink) -> Played
-    ensures { λ r. ⌜ Plays source sink r ⌝ }
+fn run(quiet: bool, source: Source, sink: Sink) -> Played
+    ensures { λ r. ⌜ Plays (programOf quiet) source sink r ⌝ }
 {
     let start = Player::fresh();
-    let turn = play_all(start, source, sink);
+    let turn = play_all(quiet, start, source, sink);
     let player = turn.player;
     let read = turn.source;
     let handed = turn.sink;
-    let last = finish(player, handed);
+    let last = finish(quiet, player, handed);
     Played {
         source: read,
         sink: last,
     }
+}
+
+// Prints what each event answers.
+pub fn play(source: Source, sink: Sink) -> Played
+    ensures { λ r. ⌜ Plays playProgram source sink r ⌝ }
+{
+    run(false, source, sink)
+}
+
+// Prints what is left at the end.
+pub fn inspect(source: Source, sink: Sink) -> Played
+    ensures { λ r. ⌜ Plays inspectProgram source sink r ⌝ }
+{
+    run(true, source, sink)
 }

@@ -9,6 +9,7 @@ use lib.ListN.{length, take, drop, drop-of-length-le}
 use Rattle.player.proofs.Laws.{reads-within, laid-front, continues-none, continues-fed, continues-end}
 use Rattle.player.specs.Feed.{start, fedOf}
 use Rattle.player.specs.Laws.{Continues}
+use Rattle.player.specs.Play.{playProgram}
 use Rattle.player.specs.Player.{stateOf}
 use Rattle.playback.specs.Shown.{Shows}
 use Rattle.playback.proofs.Showing.{shows-none, as-shown}
@@ -17,7 +18,7 @@ use Rattle.playback.proofs.play.Statement.{statement}
 use Rattle.playback.proofs.play.Tie as tie
 
 abbrev Inv-loop : tie.InvT-loop
-Inv-loop input out₀ player₀ from₀ at₀ out player from at = (from ≤ length input) × (at ≤ length out) × (length out ≡ length out₀) × ((printed : List ℕ) × Shows printed out₀ out at × Continues start input printed (stateOf player) (drop from input))
+Inv-loop input out₀ player₀ from₀ at₀ out player from at = (from ≤ length input) × (at ≤ length out) × (length out ≡ length out₀) × ((printed : List ℕ) × Shows printed out₀ out at × Continues playProgram start input printed (stateOf player) (drop from input))
 
 abbrev μ-loop : tie.MeasureT-loop
 μ-loop input out₀ player₀ from₀ at₀ out player from at = length input - from
@@ -27,7 +28,7 @@ fresh-requires c κs = search needs
 
 loop-holds : tie.Need-loop-holds Inv-loop μ-loop
 loop-holds c =
-    (search needs, search needs, refl, ([], shows-none _, continues-none start _ (now (c .before .before .before .args .input)) (c .fresh .ensures)))
+    (search needs, search needs, refl, ([], shows-none _, continues-none playProgram start _ (now (c .before .before .before .args .input)) (c .fresh .ensures)))
 
 sub-feed : tie.Need-sub-feed Inv-loop μ-loop
 sub-feed c = search needs
@@ -60,7 +61,7 @@ loop-again c =
     let t = laid-front (fedOf (stateOf (l .player)) (take (length (now (c .before .before .before .before .before .before .before .before .before .before .before .before .before .before .args .input)) - l .from) (drop (l .from) (now (c .before .before .before .before .before .before .before .before .before .before .before .before .before .before .args .input)))) .text) _ _ _ (d .output) (d .written) in
     let k = l .inv .3 in
     let s = as-shown (ap (λ (x : List ℕ). k .0 ++ x) t) (c .before .before .before .before .put .ensures .0 (k .0) _ (k .1)) in
-    let f = continues-fed start (stateOf (l .player)) _ (now (c .before .before .before .before .before .before .before .before .before .before .before .before .before .before .args .input)) (k .0) _ (l .from) _ refl (d .used) (d .state) (k .2) in
+    let f = continues-fed playProgram start (stateOf (l .player)) _ (now (c .before .before .before .before .before .before .before .before .before .before .before .before .before .before .args .input)) (k .0) _ (l .from) _ refl (d .used) (d .state) (k .2) in
     (w .1, c .before .before .before .before .put .ensures .1, search needs, (_, s, f))
 
 finish-requires : tie.Need-finish-requires Inv-loop μ-loop
@@ -75,7 +76,7 @@ returns c =
     let l = c .before .before .before .before .before .loop in
     let k = l .inv .3 in
     let none : drop (l .from) (now (a .input)) ≡ [] = drop-of-length-le (now (a .input)) {i = l .from} (c .before .before .before .before .loop-test .left) in
-    let s = as-shown (continues-end (stateOf (l .player)) (now (a .input)) (k .0) _ none (k .2)) (c .before .before .finish .ensures (k .0) _ (k .1)) in
+    let s = as-shown (continues-end playProgram (λ stage. refl) (stateOf (l .player)) (now (a .input)) (k .0) _ none (k .2)) (c .before .before .finish .ensures (k .0) _ (k .1)) in
     (s .size, s .text)
 
 pub play-spec : {M : Type 1} → statement M

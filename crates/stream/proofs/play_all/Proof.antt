@@ -1,16 +1,16 @@
 -- The loop's invariant: what was played since its first turn.
 -- Assumes nothing.
-use Rattle.stream.specs.Steps.{Turns}
+use Rattle.stream.specs.Steps.{programOf, Turns}
 use Rattle.stream.proofs.Laws.{turns-none, turns-both}
 use borrow.Author.Needs.{needs}
 use Rattle.stream.proofs.play_all.Statement.{statement}
 use Rattle.stream.proofs.play_all.Tie as tie
 
 abbrev Inv-loop : tie.InvT-loop
-Inv-loop turn₀ turns₀ turn turns = Turns (turn₀ .player) (turn₀ .source) (turn₀ .sink) turn
+Inv-loop quiet turn₀ turns₀ turn turns = Turns (programOf quiet) (turn₀ .player) (turn₀ .source) (turn₀ .sink) turn
 
 abbrev μ-loop : tie.MeasureT-loop
-μ-loop turn₀ turns₀ turn turns = turns
+μ-loop quiet turn₀ turns₀ turn turns = turns
 
 play-some-requires : tie.Need-play-some-requires Inv-loop μ-loop
 play-some-requires c κs = search needs

@@ -1,30 +1,29 @@
--- What the rest of the part prints goes behind what the sink took.
+-- What the program says of the rest of the part goes behind what the sink took.
 -- Assumes nothing.
-use mathlib.Core.Path.{refl}
+use mathlib.Core.Path.{refl, ap, _∙_}
 use Prim.Native.Nat.{_+_, _-_, _≤_, _<_}
 use native.Mathlib.Omega.{arith}
 use denote.Ref.{now}
 use lib.ListN.{length, take, drop, drop-of-length-le}
 use Rattle.descriptor.proofs.Laws.{takes-both, takes-as}
-use Rattle.player.proofs.Laws.{reads-within, laid-front, continues-fed}
-use Rattle.player.specs.Feed.{fedOf}
-use Rattle.player.specs.Player.{stateOf}
-use Rattle.stream.specs.Steps.{Puts}
-use Rattle.stream.proofs.Laws.{puts-none}
+use Rattle.player.proofs.Laws.{reads-within, continues-fed}
+use Rattle.player.specs.Feed.{State, fedOf}
+use Rattle.player.specs.Player.{phaseOf, stateOf}
+use Rattle.simulator.specs.Whole.{groupOf}
+use Rattle.stream.specs.Steps.{programOf, Puts}
+use Rattle.stream.proofs.Laws.{said-is, puts-none}
 use borrow.Author.Needs.{needs}
 use Rattle.stream.proofs.play_part.Statement.{statement}
 use Rattle.stream.proofs.play_part.Tie as tie
 
 abbrev Inv-loop : tie.InvT-loop
-Inv-loop player₀ part sink₀ from₀ player sink from = (from ≤ length part) × Puts (stateOf player₀) part (stateOf player) (drop from part) sink₀ sink
+Inv-loop quiet player₀ part sink₀ from₀ player sink from = (from ≤ length part) × Puts (programOf quiet) (stateOf player₀) part (stateOf player) (drop from part) sink₀ sink
 
 abbrev μ-loop : tie.MeasureT-loop
-μ-loop player₀ part sink₀ from₀ player sink from = length part - from
+μ-loop quiet player₀ part sink₀ from₀ player sink from = length part - from
 
 loop-holds : tie.Need-loop-holds Inv-loop μ-loop
-loop-holds c =
-    let a = c .before .args in
-    (search needs, puts-none (stateOf (a .player)) (now (a .part)) (a .sink))
+loop-holds c = let a = c .before .args in (search needs, puts-none (stateOf (a .player)) (now (a .part)) (a .sink))
 
 sub-feed : tie.Need-sub-feed Inv-loop μ-loop
 sub-feed c = search needs
@@ -38,43 +37,52 @@ part-feed-end c = search needs
 feed-requires : tie.Need-feed-requires Inv-loop μ-loop
 feed-requires c κs = search needs
 
-put-requires : tie.Need-put-requires Inv-loop μ-loop
-put-requires c κs = search needs
+said-requires : tie.Need-said-requires Inv-loop μ-loop
+said-requires c κs = search needs
+
+put-text-requires : tie.Need-put-text-requires Inv-loop μ-loop
+put-text-requires c κs = search needs
 
 add-from : tie.Need-add-from Inv-loop μ-loop
 add-from c =
-    let a = c .before .before .before .before .before .before .before .before .before .args in
-    let l = c .before .before .before .before .before .before .before .loop in
-    let r = c .before .before .before .feed in
-    let w = reads-within _ (now (a .part)) _ (l .from) _ refl (c .before .before .before .before .before .before .loop-test .taken) (r .ensures .used) in
-    let y : l .from + r .result .used ≤ length (now (a .part)) = w .1 in
-    let g = c .before .before .before .before .before .before .before .before .before .good .1 .0 in
-    let z : l .from + r .result .used < 18446744073709551616 = omega arith in
+    let a = c .before .before .before .before .before .before .before .before .before .before .args in
+    let l = c .before .before .before .before .before .before .before .before .loop in
+    let r = c .before .before .before .before .feed .result in
+    let w = reads-within _ (now (a .part)) _ (l .from) _ refl (c .before .before .before .before .before .before .before .loop-test .taken) (c .before .before .before .before .feed .ensures .used) in
+    let y : l .from + r .used ≤ length (now (a .part)) = w .1 in
+    let g = c .before .before .before .before .before .before .before .before .before .before .good .1 .1 .0 in
+    let z : l .from + r .used < 18446744073709551616 = omega arith in
     record { fits = z }
 
 loop-less : tie.Need-loop-less Inv-loop μ-loop
 loop-less c =
-    let a = c .before .before .before .before .before .before .before .before .before .args in
-    let l = c .before .before .before .before .before .before .before .loop in
-    let r = c .before .before .before .feed in
-    let w = reads-within _ (now (a .part)) _ (l .from) _ refl (c .before .before .before .before .before .before .loop-test .taken) (r .ensures .used) in
-    let y : l .from + r .result .used ≤ length (now (a .part)) = w .1 in
-    let z : 1 ≤ r .result .used = w .0 in
+    let a = c .before .before .before .before .before .before .before .before .before .before .args in
+    let l = c .before .before .before .before .before .before .before .before .loop in
+    let r = c .before .before .before .before .feed .result in
+    let w = reads-within _ (now (a .part)) _ (l .from) _ refl (c .before .before .before .before .before .before .before .loop-test .taken) (c .before .before .before .before .feed .ensures .used) in
+    let y : l .from + r .used ≤ length (now (a .part)) = w .1 in
+    let z : 1 ≤ r .used = w .0 in
     search needs
 
 loop-again : tie.Need-loop-again Inv-loop μ-loop
+unfolding phaseOf
 loop-again c =
-    let part = now (c .before .before .before .before .before .before .before .before .before .args .part) in
-    let l = c .before .before .before .before .before .before .before .loop in
-    let d = c .before .before .before .feed .ensures in
-    let w = reads-within _ part _ (l .from) _ refl (c .before .before .before .before .before .before .loop-test .taken) (d .used) in
-    let t = laid-front (fedOf (stateOf (l .player)) (take (length part - l .from) (drop (l .from) part)) .text) _ _ _ (d .output) (d .written) in
+    let a = c .before .before .before .before .before .before .before .before .before .before .args in
+    let part = now (a .part) in
+    let l = c .before .before .before .before .before .before .before .before .loop in
+    let p = c .before .before .before .before .feed .result .player in
+    let d = c .before .before .before .before .feed .ensures in
+    let w = reads-within _ (now (a .part)) _ (l .from) _ refl (c .before .before .before .before .before .before .before .loop-test .taken) (c .before .before .before .before .feed .ensures .used) in
+    let program = programOf (a .quiet) in
+    let text = fedOf (stateOf (l .player)) (take (length part - l .from) (drop (l .from) part)) .text in
+    let said = said-is (a .quiet) (phaseOf (p .whole) (p .phase)) (groupOf (p .whole)) (p .number) text _ _ _ _ (d .output) (d .written) (c .before .before .said .ensures) in
+    let t = said ∙ ap (λ (x : State). program .says (x .stage) text) (d .state) in
     let k = l .inv .1 in (
       w .1,
       record {
         printed = _;
-        takes = takes-both (k .takes) (takes-as t (c .before .before .put .ensures));
-        continues = continues-fed _ (stateOf (l .player)) _ part (k .printed) _ (l .from) _ refl (d .used) (d .state) (k .continues);
+        takes = takes-both (k .takes) (takes-as t (c .before .put-text .ensures));
+        continues = continues-fed program _ (stateOf (l .player)) _ part (k .printed) _ (l .from) _ refl (d .used) (d .state) (k .continues);
       },
     )
 
@@ -85,18 +93,4 @@ returns c =
     rw (drop-of-length-le part {i = l .from} (c .loop-test .left)) at (l .inv .1)
 
 pub play-part-spec : {M : Type 1} → statement M
-play-part-spec =
-    tie.close
-    (tie.spec
-    Inv-loop
-    μ-loop
-    loop-holds
-    sub-feed
-    part-feed-start
-    part-feed-end
-    feed-requires
-    put-requires
-    add-from
-    loop-less
-    loop-again
-    returns)
+play-part-spec = tie.close (tie.spec Inv-loop μ-loop loop-holds sub-feed part-feed-start part-feed-end feed-requires said-requires put-text-requires add-from loop-less loop-again returns)

@@ -1,0 +1,60 @@
+-- What `inspect` prints: what a schedule leaves at the end, a heading and then a line a terminal.
+use mathlib.Core.List.{List, [], _∷_, _++_, map}
+use Prim.Native.Nat.{ℕ, zero, suc, _+_, _*_}
+use lib.ListN.{length, getD}
+use Rattle.group.specs.Choice.{if_then_else_}
+use Rattle.group.specs.Limits.{membersMost}
+use Rattle.member.specs.declared.Member.{Member}
+use Rattle.model.specs.World.{Group, noMember}
+use Rattle.player.specs.Play.{Stage, opening, running, ended, closed, Program, outputOf}
+use Rattle.report.specs.Print.{badOpening}
+use Rattle.text.specs.Text.{textOf}
+use Rattle.text.specs.Written.{decimalOf, line, numberDigits}
+
+-- the columns
+abbrev pub columns : List (List ℕ)
+columns = textOf "terminal" ∷ textOf "taken" ∷ textOf "submitted" ∷ textOf "waiting" ∷ []
+
+-- a terminal's numbers behind its own: the last that it took, its submissions so far, how many of them wait
+unfoldable pub rowOf : Member → List ℕ
+rowOf m = m .taken .0 ∷ m .submitted ∷ (if m .waiting then 1 else 0) ∷ []
+
+abbrev pub rowIn : List Member → ℕ → List ℕ
+rowIn members i = rowOf (getD members i noMember)
+
+-- the lines of the first k terminals
+unfoldable pub rowLines : (ℕ → List ℕ) → ℕ → List ℕ
+rowLines row zero = []
+rowLines row (suc k) = rowLines row k ++ line (decimalOf k ∷ map decimalOf (row k))
+
+abbrev pub tableOf : Group → List ℕ
+tableOf g = line columns ++ rowLines (rowIn (g .members)) (length (g .members))
+
+-- a first line missing prints `bad line`
+unfoldable pub leftOf : Stage → List ℕ
+leftOf opening = badOpening
+leftOf (running g number) = tableOf g
+leftOf (ended g) = tableOf g
+leftOf closed = []
+
+-- nothing is said of an event; a first line that opens no group prints what `play` prints of it
+unfoldable pub unopened : Stage → List ℕ → List ℕ
+unopened opening text = []
+unopened (running g number) text = []
+unopened (ended g) text = []
+unopened closed text = text
+
+abbrev pub inspectProgram : Program
+inspectProgram = record { says = unopened; last = leftOf }
+
+-- the output of an input
+abbrev pub inspectOf : List ℕ → List ℕ
+inspectOf input = outputOf inspectProgram input
+
+-- the room of a row: for each column a number and what stands behind it; no heading is longer
+abbrev pub rowRoom : ℕ
+rowRoom = (1 + numberDigits) * length columns
+
+-- the room of the longest table
+abbrev pub tableRoom : ℕ
+tableRoom = rowRoom * (1 + membersMost)

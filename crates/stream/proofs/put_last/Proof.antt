@@ -1,0 +1,36 @@
+-- The text of the program that is quiet, or of the other.
+-- Assumes nothing.
+use mathlib.Core.Path.{sym, ap, _∙_}
+use mathlib.Core.Bool.{Bool}
+use Rattle.descriptor.proofs.Laws.{takes-as}
+use Rattle.inspection.specs.Table.{leftOf}
+use Rattle.player.proofs.Laws.{laid-front}
+use Rattle.player.specs.Play.{lastOf}
+use Rattle.player.specs.Player.{stageOf}
+use Rattle.stream.specs.Steps.{programOf}
+use borrow.Author.Needs.{needs}
+use Rattle.stream.proofs.put_last.Statement.{statement}
+use Rattle.stream.proofs.put_last.Tie as tie
+
+write-left-requires : tie.Need-write-left-requires
+write-left-requires c κs = search needs
+
+put-table-requires : tie.Need-put-table-requires
+put-table-requires c κs = search needs
+
+returns : tie.Need-returns
+unfolding programOf
+returns c = let stage = stageOf (c .before .before .before .before .args .player) in let f = c .before .write-left .ensures in takes-as (laid-front (leftOf stage) _ _ _ (f .1) (f .0) ∙ ap (λ (b : Bool). programOf b .last stage) (sym (c .before .before .before .if1 .taken))) (c .put-table .ensures)
+
+last-requires : tie.Need-last-requires
+last-requires c κs = search needs
+
+put-text-requires : tie.Need-put-text-requires
+put-text-requires c κs = search needs
+
+returns-2 : tie.Need-returns-2
+unfolding programOf
+returns-2 c = let stage = stageOf (c .before .before .before .before .args .player) in let f = c .before .last .ensures in takes-as (laid-front (lastOf stage) _ _ _ (f .1) (f .0) ∙ ap (λ (b : Bool). programOf b .last stage) (sym (c .before .before .before .if1 .left))) (c .put-text .ensures)
+
+pub put-last-spec : {M : Type 1} → statement M
+put-last-spec = tie.close (tie.spec write-left-requires put-table-requires returns last-requires put-text-requires returns-2)

@@ -5,9 +5,11 @@ use mathlib.Core.List.{List, [], _∷_, _++_, map}
 use Prim.Native.Nat.{ℕ, zero, suc, _+_, _≤_, _<_}
 use native.Mathlib.Numerals.{add-one}
 use native.Mathlib.Omega.{arith}
-use lib.ListN.{length}
+use lib.ListN.{length, getD}
 use lib.Seq.{length-take-le}
 use Rattle.group.specs.Lent.{front}
+use Rattle.history.specs.State.{noAcknowledgement}
+use Rattle.member.specs.declared.Member.{Member}
 use Rattle.model.specs.World.{noMember}
 use Rattle.simulator.proofs.Reading.{member-read}
 use Rattle.simulator.specs.Whole.{groupOf}
@@ -36,13 +38,16 @@ rows-same row other (suc k) e =
     ∙ ap (λ (l : List ℕ). rowLines other k ++ line (decimalOf k ∷ map decimalOf l)) (e k (omega arith))
 
 pub rows-of : (w : Whole) → w .sequencer .group .n ≤ length (w .members)
-    → rowLines (rowIn (w .members)) (w .sequencer .group .n) ≡ rowLines (rowIn (groupOf w .members)) (length (groupOf w .members))
+    → rowLines (rowIn (w .members) (w .sequencer .acknowledgements)) (w .sequencer .group .n)
+    ≡ rowLines (rowIn (groupOf w .members) (groupOf w .sequencer .acknowledgements)) (length (groupOf w .members))
 unfolding groupOf
 rows-of w h =
     let n = w .sequencer .group .n in
     let e : length (groupOf w .members) ≡ n = length-take-le n (w .members) h in
-    rows-same (rowIn (w .members)) (rowIn (groupOf w .members)) n (λ i b. ap rowOf (member-read w i noMember (omega arith)))
-    ∙ ap (rowLines (rowIn (groupOf w .members))) (sym e)
+    let table = w .sequencer .acknowledgements in
+    rows-same (rowIn (w .members) table) (rowIn (groupOf w .members) table) n
+    (λ i b. ap (λ (m : Member). rowOf m (getD table i noAcknowledgement .repeats)) (member-read w i noMember (omega arith)))
+    ∙ ap (rowLines (rowIn (groupOf w .members) table)) (sym e)
 
 -- what was laid from the front on
 pub laid-whole : (bytes lent after : List ℕ) (size : ℕ) → LaidAt 0 bytes lent after size → (size ≡ length bytes) × (after ≡ front bytes lent)

@@ -4,6 +4,8 @@ use Prim.Native.Nat.{ℕ, zero, suc, _+_, _*_}
 use lib.ListN.{length, getD}
 use Rattle.group.specs.Choice.{if_then_else_}
 use Rattle.group.specs.Limits.{membersMost}
+use Rattle.history.specs.State.{noAcknowledgement}
+use Rattle.history.specs.declared.Acknowledgement.{Acknowledgement}
 use Rattle.member.specs.declared.Member.{Member}
 use Rattle.model.specs.World.{Group, noMember}
 use Rattle.player.specs.Play.{Stage, opening, running, ended, closed, Program, outputOf}
@@ -13,14 +15,15 @@ use Rattle.text.specs.Written.{decimalOf, line, numberDigits}
 
 -- the columns
 abbrev pub columns : List (List ℕ)
-columns = textOf "terminal" ∷ textOf "taken" ∷ textOf "submitted" ∷ textOf "waiting" ∷ []
+columns = textOf "terminal" ∷ textOf "taken" ∷ textOf "submitted" ∷ textOf "waiting" ∷ textOf "repeats" ∷ []
 
--- a terminal's numbers behind its own: the last that it took, its submissions so far, how many of them wait
-unfoldable pub rowOf : Member → List ℕ
-rowOf m = m .taken .0 ∷ m .submitted ∷ (if m .waiting then 1 else 0) ∷ []
+-- a terminal's numbers behind its own: the last that it took, its submissions so far, how many of them wait, and its repeats at
+-- the sequencer
+unfoldable pub rowOf : Member → ℕ → List ℕ
+rowOf m repeats = m .taken .0 ∷ m .submitted ∷ (if m .waiting then 1 else 0) ∷ repeats ∷ []
 
-abbrev pub rowIn : List Member → ℕ → List ℕ
-rowIn members i = rowOf (getD members i noMember)
+abbrev pub rowIn : List Member → List Acknowledgement → ℕ → List ℕ
+rowIn members table i = rowOf (getD members i noMember) (getD table i noAcknowledgement .repeats)
 
 -- the lines of the first k terminals
 unfoldable pub rowLines : (ℕ → List ℕ) → ℕ → List ℕ
@@ -28,7 +31,7 @@ rowLines row zero = []
 rowLines row (suc k) = rowLines row k ++ line (decimalOf k ∷ map decimalOf (row k))
 
 abbrev pub tableOf : Group → List ℕ
-tableOf g = line columns ++ rowLines (rowIn (g .members)) (length (g .members))
+tableOf g = line columns ++ rowLines (rowIn (g .members) (g .sequencer .acknowledgements)) (length (g .members))
 
 -- a first line missing prints `bad line`
 unfoldable pub leftOf : Stage → List ℕ

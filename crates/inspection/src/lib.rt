@@ -1,5 +1,6 @@
 // What a schedule leaves at the end: a heading, and then a line a terminal.
 use group::Group;
+use history::Acknowledgement;
 use member::Member;
 use player::Phase;
 use player::Player;
@@ -28,7 +29,7 @@ ghost use Rattle.inspection.specs.Table.{columns, rowOf, rowIn, rowLines
 // The columns of the table, and the numbers of a terminal behind its own.
 pub const COLUMNS: usize = 1 + NUMBERS;
 
-const NUMBERS: usize = 3;
+const NUMBERS: usize = 4;
 
 // The room of the longest table: for each column of each line a number and what stands behind it; no heading is longer.
 pub const TABLE_ROOM: usize = (1 + NUMBER_DIGITS) * COLUMNS * (1 + Group::MEMBERS);
@@ -54,13 +55,13 @@ fn count(waiting: bool) -> u32
 }
 
 // A terminal's numbers behind its own.
-fn row(member: Member) -> [u32; NUMBERS]
-    ensures { λ r. ⌜ r ≡ rowOf member ⌝ }
+fn row(member: Member, repeats: u32) -> [u32; NUMBERS]
+    ensures { λ r. ⌜ r ≡ rowOf member repeats ⌝ }
 {
     let taken = member.taken.0;
     let submitted = member.submitted;
     let waiting = count(member.waiting);
-    [taken, submitted, waiting]
+    [taken, submitted, waiting, repeats]
 }
 
 // The line of terminal i.
@@ -75,15 +76,22 @@ fn put_row(i: u32, numbers: &[u32], out: &mut [u8], at: usize) -> usize
 }
 
 // The rows of the first n terminals.
-fn put_rows(members: [Member; Group::MEMBERS], n: usize, out: &mut [u8], at: usize) -> usize
+fn put_rows(
+    members: [Member; Group::MEMBERS],
+    table: [Acknowledgement; Group::MEMBERS],
+    n: usize,
+    out: &mut [u8],
+    at: usize,
+) -> usize
     requires { ⌜ (n ≤ membersMost) × (at + rowRoom * n ≤ length (now out)) ⌝ }
-    ensures { λ r. ⌜ LaidAt at (rowLines (rowIn members) n) (now (out .entry)) (now (out .exit)) r ⌝ }
+    ensures { λ r. ⌜ LaidAt at (rowLines (rowIn members table) n) (now (out .entry)) (now (out .exit)) r ⌝ }
 {
     let mut next = at;
     let mut i: usize = 0;
     while i < n {
         let member = members[i];
-        let numbers = row(member);
+        let entry = table[i];
+        let numbers = row(member, entry.repeats);
         next = put_row(i as u32, &numbers, out, next);
         i += 1;
     }
@@ -91,12 +99,17 @@ fn put_rows(members: [Member; Group::MEMBERS], n: usize, out: &mut [u8], at: usi
 }
 
 // The heading and the rows.
-fn put_table(members: [Member; Group::MEMBERS], n: usize, out: &mut [u8]) -> usize
+fn put_table(
+    members: [Member; Group::MEMBERS],
+    table: [Acknowledgement; Group::MEMBERS],
+    n: usize,
+    out: &mut [u8],
+) -> usize
     requires { ⌜ (n ≤ membersMost) × (tableRoom ≤ length (now out)) ⌝ }
-    ensures { λ r. ⌜ LaidAt 0 (line columns ++ rowLines (rowIn members) n) (now (out .entry)) (now (out .exit)) r ⌝ }
+    ensures { λ r. ⌜ LaidAt 0 (line columns ++ rowLines (rowIn members table) n) (now (out .entry)) (now (out .exit)) r ⌝ }
 {
-    let next = put_text(b"terminal taken submitted waiting\n", out, 0);
-    put_rows(members, n, out, next)
+    let next = put_text(b"terminal taken submitted waiting repeats\n", out, 0);
+    put_rows(members, table, n, out, next)
 }
 
 // The table of a group.
@@ -106,8 +119,9 @@ fn write_group(whole: Whole, out: &mut [u8; TABLE_ROOM]) -> usize
     ensures lent { λ _. ⌜ now (out .exit) ≡ front (tableOf (groupOf whole)) (now (out .entry)) ⌝ }
 {
     let members = whole.members;
+    let table = whole.sequencer.acknowledgements;
     let n = whole.sequencer.group.n as usize;
-    put_table(members, n, out)
+    put_table(members, table, n, out)
 }
 
 // What is left at the end of the input. Gives its length.

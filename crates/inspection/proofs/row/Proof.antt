@@ -13,7 +13,9 @@ count-requires c κs = search needs
 
 returns : tie.Need-returns
 unfolding rowOf
-returns c = let m = c .before .args .member in ap (λ (k : ℕ). m .taken .0 ∷ m .submitted ∷ k ∷ []) (c .count .ensures)
+returns c =
+    let a = c .before .args in
+    ap (λ (k : ℕ). a .member .taken .0 ∷ a .member .submitted ∷ k ∷ a .repeats ∷ []) (c .count .ensures)
 
 pub row-spec : {M : Type 1} → statement M
 row-spec = tie.close (tie.spec count-requires returns)

@@ -19,16 +19,16 @@ cast-n : tie.Need-cast-n
 cast-n c = search needs
 
 put-table-requires : tie.Need-put-table-requires
-put-table-requires c κs = let f = c .before .before .before .pre .members in search needs
+put-table-requires c κs = let f = c .before .before .before .before .pre .members in search needs
 
 returns : tie.Need-returns
 returns c =
-    let w = c .before .before .before .before .args .whole in
-    let lent = now (c .before .before .before .before .args .out) in
-    let places : length (w .members) ≡ membersMost = sym (length-map (w .members) _) ∙ c .before .before .before .before .good .0 .1 .1 .1 .0 .1 .0 .1 in
-    let f = c .before .before .before .before .pre .members in
+    let w = c .before .before .before .before .before .args .whole in
+    let lent = now (c .before .before .before .before .before .args .out) in
+    let places : length (w .members) ≡ membersMost = sym (length-map (w .members) _) ∙ c .before .before .before .before .before .good .0 .1 .1 .1 .0 .1 .0 .1 in
+    let f = c .before .before .before .before .before .pre .members in
     let e = ap (λ (l : List ℕ). line columns ++ l) (rows-of w (omega arith)) in
-    let t = laid-whole (line columns ++ rowLines (rowIn (w .members)) (w .sequencer .group .n)) lent _ _ (c .put-table .ensures) in
+    let t = laid-whole (line columns ++ rowLines (rowIn (w .members) (w .sequencer .acknowledgements)) (w .sequencer .group .n)) lent _ _ (c .put-table .ensures) in
     (t .0 ∙ ap length e, t .1 ∙ ap (λ (bytes : List ℕ). front bytes lent) e)
 
 pub write-group-spec : {M : Type 1} → statement M

@@ -1,67 +1,112 @@
--- What a member acknowledges in its packets: between what it took and the order's length, below every missing number, and never
--- lowered by a call. Other proofs know of it only what these laws say. Assumes nothing.
-use mathlib.Core.Path.{_≡_, refl}
+-- What a member acknowledges in its packets: the end of the row that it took or holds. It lies between what it took and the
+-- order's length, below every missing number, and no call lowers it. Other proofs know of it only what these laws say. Assumes nothing.
+use mathlib.Core.Path.{_≡_, _∙_}
 use mathlib.Core.Logic.{_≢_}
 use mathlib.Core.Bool.{false}
 use mathlib.Core.List.{List}
 use Prim.Native.Nat.{ℕ, _+_, _-_, _≤_, _<_}
 use native.Mathlib.Nat.{le-refl}
 use native.Mathlib.Omega.{arith}
+use borrow.Author.Tests.{ltb-false}
 use lib.ListN.{length}
 use Rattle.group.specs.Limits.{heldMost, largestNumber}
 use Rattle.group.specs.declared.Group.{Group}
+use Rattle.group.specs.declared.SequenceNumber.{SequenceNumber}
+use Rattle.group.proofs.Lists.{at-le, le-or}
 use Rattle.message.specs.Order.{Ordered}
 use Rattle.message.specs.declared.Message.{Message}
 use Rattle.member.specs.Calls.{withWaiting, withHeld, withTaken}
 use Rattle.member.specs.Laws.{Typed}
-use Rattle.member.specs.State.{acknowledgedOf}
+use Rattle.member.specs.State.{rowEndOf, acknowledgedOf}
 use Rattle.member.specs.declared.Member.{Member}
-use Rattle.window.specs.Places.{messageAt, isHeld, lowestMissing}
-use Rattle.window.proofs.Missing.{Lowest}
+use Rattle.window.specs.Places.{messageAt, isHeld, lowestMissing, smallerOf}
+use Rattle.window.specs.Steps.{countsOf, rowCounted}
+use Rattle.window.proofs.Missing.{Lowest, lowest-is}
+use Rattle.window.proofs.Row.{Row, row-is, row-one, row-reach, row-below, row-up, row-same, row-take, row-counted, smaller-le, le-smaller}
 use Rattle.member.proofs.Invariant.{Terminal}
-use Rattle.member.proofs.Soundness.{Sound}
+
+-- how many numbers above t there are, of eight
+abbrev left : ℕ → ℕ
+left t = smallerOf largestNumber (t + heldMost) - t
+
+left-most : (t : ℕ) → left t ≤ heldMost
+left-most t = let z = smaller-le largestNumber (t + heldMost) .1 in omega arith
 
 module _ (m : Member) where
-  -- it is the last number taken
-  pub acknowledged-is : acknowledgedOf m .0 ≡ m .taken .0
-  unfolding acknowledgedOf
-  acknowledged-is = refl
+  -- it is the end of the row above t
+  acknowledged-row : Row (m .held) (m .taken .0) (left (m .taken .0)) (acknowledgedOf m .0)
+  unfolding acknowledgedOf rowEndOf
+  acknowledged-row = row-is (m .held) (m .taken .0) (left (m .taken .0))
 
   pub acknowledged-least : m .taken .0 ≤ acknowledgedOf m .0
-  unfolding acknowledgedOf
-  acknowledged-least = le-refl _
+  acknowledged-least = acknowledged-row .least
 
-  pub acknowledged-fits : Typed m → Sound m → acknowledgedOf m .0 ≤ largestNumber
-  unfolding acknowledgedOf
-  acknowledged-fits typed s = typed .taken
+  pub acknowledged-near : acknowledgedOf m .0 ≤ m .taken .0 + heldMost
+  acknowledged-near = let z = acknowledged-row .most in let y = left-most (m .taken .0) in omega arith
+
+  pub acknowledged-fits : Typed m → acknowledgedOf m .0 ≤ largestNumber
+  acknowledged-fits typed =
+      let z = acknowledged-row .most in
+      let y = smaller-le largestNumber (m .taken .0 + heldMost) .0 in
+      let x = typed .taken in
+      omega arith
+
+  -- what it acknowledges and did not take, it holds
+  pub acknowledged-holds : (s : ℕ) → m .taken .0 < s → s ≤ acknowledgedOf m .0 → 1 ≤ messageAt (m .held) s .count
+  acknowledged-holds = acknowledged-row .holds
 
   -- a missing number lies above it
   pub acknowledged-missing : {k low : ℕ} → Lowest (m .held) (m .taken .0) k low → acknowledgedOf m .0 < low
-  unfolding acknowledgedOf
-  acknowledged-missing l = l .above
+  acknowledged-missing {low = low} l = row-below acknowledged-row low (l .above) (l .missing)
 
   -- a message waits
   pub acknowledged-waiting : (payload : List ℕ) → acknowledgedOf m .0 ≤ acknowledgedOf (withWaiting m payload) .0
-  unfolding acknowledgedOf withWaiting
+  unfolding acknowledgedOf rowEndOf withWaiting
   acknowledged-waiting payload = le-refl _
 
   -- a message is kept under a number that was not held; where one below is missing, that changes nothing
   module _ (k : ℕ) (x : Message) (lo : m .taken .0 < k) (hi : k ≤ m .taken .0 + heldMost) where
     pub acknowledged-held : isHeld (m .held) k ≡ false → acknowledgedOf m .0 ≤ acknowledgedOf (withHeld m k x) .0
-    unfolding acknowledgedOf withHeld
-    acknowledged-held e = le-refl _
+    unfolding acknowledgedOf rowEndOf withHeld
+    acknowledged-held e = row-up acknowledged-row k x (let z = ltb-false 0 (messageAt (m .held) k .count) e in omega arith)
 
     pub acknowledged-gapped : lowestMissing (m .held) (m .taken .0) (k - 1 - m .taken .0) ≢ 0 → acknowledgedOf (withHeld m k x) ≡ acknowledgedOf m
-    unfolding acknowledgedOf withHeld
-    acknowledged-gapped n = refl
+    unfolding acknowledgedOf rowEndOf withHeld
+    acknowledged-gapped n =
+        let l = lowest-is (m .held) (m .taken .0) (k - 1 - m .taken .0) n in
+        let low = lowestMissing (m .held) (m .taken .0) (k - 1 - m .taken .0) in
+        let e = row-one (row-same acknowledged-row k x low (l .above) (let z = l .up-to in omega arith) hi (l .missing)) in
+        λ i. record { 0 = e i }
 
   -- the next number, which is held, is taken
-  pub acknowledged-took : (x : Message) → Typed m → 1 ≤ messageAt (m .held) (m .taken .0 + 1) .count → acknowledgedOf m .0 ≤ acknowledgedOf (withTaken m x) .0
-  unfolding acknowledgedOf withTaken
-  acknowledged-took x typed c = omega arith
+  pub acknowledged-took : (x : Message) → Typed m → m .taken .0 < largestNumber → 1 ≤ messageAt (m .held) (m .taken .0 + 1) .count → acknowledgedOf (withTaken m x) .0 ≡ acknowledgedOf m .0
+  unfolding acknowledgedOf rowEndOf withTaken
+  acknowledged-took x typed more c =
+      let t = m .taken .0 in
+      let w = acknowledged-row in
+      let near = smaller-le largestNumber (t + heldMost) in
+      let next = smaller-le largestNumber (t + 1 + heldMost) in
+      let a = le-smaller largestNumber (t + heldMost) in
+      let b = le-smaller largestNumber (t + 1 + heldMost) in
+      let one = row-reach w (t + 1) (let z = a (t + 1) (omega arith) (omega arith) in omega arith) (λ s lo hi. let e : s ≡ t + 1 = omega arith in rw e c) in
+      row-one (row-take w (left (t + 1)) (typed .held) (left-most t) (omega arith)
+      (let y = w .most in let z = b (smallerOf largestNumber (t + heldMost)) (near .0) (let q = near .1 in omega arith) in let p = b (t + 1) (omega arith) (omega arith) in omega arith)
+      (λ h. le-or (t + heldMost) largestNumber
+      (λ z. let y = a (t + heldMost) z (le-refl _) in let q = near .1 in omega arith)
+      (λ z. let y = a largestNumber (le-refl _) (omega arith) in let q = next .0 in absurd (omega arith))))
+
+  -- what the scan of the counts finds
+  pub acknowledged-counted : (r : SequenceNumber) → m .taken .0 ≤ largestNumber → r .0 ≡ rowCounted (countsOf (m .held)) (m .taken .0) (smallerOf largestNumber (m .taken .0 + heldMost)) → r ≡ acknowledgedOf m
+  unfolding acknowledgedOf rowEndOf
+  acknowledged-counted r most e =
+      let q = e ∙ row-counted (m .held) (m .taken .0) _ (le-smaller largestNumber (m .taken .0 + heldMost) (m .taken .0) most (omega arith)) in
+      λ i. record { 0 = q i }
 
 -- a terminal acknowledges no more than was numbered
 pub acknowledged-most : {group : Group} {i acknowledged : ℕ} {m : Member} {order took : List Ordered} {submitted : List (List ℕ)}
     → Terminal group i acknowledged m order took submitted → acknowledgedOf m .0 ≤ length order
-unfolding acknowledgedOf
-acknowledged-most h = h .taken-le
+acknowledged-most {m = m} {order = order} h =
+    let a = acknowledgedOf m .0 in
+    le-or a (m .taken .0)
+    (λ z. let y = h .taken-le in omega arith)
+    (λ z. at-le order a (h .held-is a z (acknowledged-near m) (acknowledged-holds m a z (le-refl a)) .1))

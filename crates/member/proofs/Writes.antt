@@ -32,7 +32,7 @@ module _ (m : Member) (typed : Typed m) (s : Sound m) where
   request-allowed waits =
       let w = s .waiting .waits waits in
       let size = length (payloadOf (m .message)) in (
-        record { kind = omega arith; member = omega arith; group = typed .group; a = acknowledged-fits m typed s; b = typed .submitted; c = omega arith },
+        record { kind = omega arith; member = omega arith; group = typed .group; a = acknowledged-fits m typed; b = typed .submitted; c = omega arith },
         accepted _ size longestPacket
             (record { enough = omega arith; fields = request-fields (m .group .number) (m .number) (acknowledgedOf m) (firstCount m) size (w .submitted-pos); short = payload-short (m .message) (w .short) }),
       )
@@ -41,7 +41,7 @@ module _ (m : Member) (typed : Typed m) (s : Sound m) where
       → Allowed (fieldsOf (m .group .number) (Gap (m .number) (acknowledgedOf m) (record { 0 = first }) (record { 0 = last }))) []
   unfolding fieldsOf
   gap-allowed first last lo hi most = (
-    record { kind = omega arith; member = omega arith; group = typed .group; a = acknowledged-fits m typed s; b = omega arith; c = most },
+    record { kind = omega arith; member = omega arith; group = typed .group; a = acknowledged-fits m typed; b = omega arith; c = most },
     accepted _ 0 longestPacket
         (record { enough = omega arith; fields = gap-fields (m .group .number) (m .number) (acknowledgedOf m) (record { 0 = first }) (record { 0 = last }) lo hi; short = omega arith }),
   )
@@ -49,7 +49,7 @@ module _ (m : Member) (typed : Typed m) (s : Sound m) where
   pub status-allowed : Allowed (fieldsOf (m .group .number) (Status (m .number) (acknowledgedOf m))) []
   unfolding fieldsOf
   status-allowed = (
-    record { kind = omega arith; member = omega arith; group = typed .group; a = acknowledged-fits m typed s; b = omega arith; c = omega arith },
+    record { kind = omega arith; member = omega arith; group = typed .group; a = acknowledged-fits m typed; b = omega arith; c = omega arith },
     accepted _ 0 longestPacket (record { enough = omega arith; fields = status-fields (m .group .number) (m .number) (acknowledgedOf m); short = omega arith }),
   )
 

@@ -92,14 +92,14 @@ submitOf m payload room =
     (judged (submitVerdict m (length payload)) (refused m)
     (record { member = withWaiting m payload; answer = Answer.Sent; bytes = requestPacket (withWaiting m payload) }))
 
--- repeat: the waiting request is written with today's t. Question 15
+-- repeat: the waiting request is written with what is acknowledged today. Question 15
 unfoldable pub repeatOf : Member → ℕ → Outcome
 repeatOf m room =
     judged (callVerdict m room) (refused m)
     (ask m .waiting or refused m Refusal.NothingWaiting then
     record { member = m; answer = Answer.Sent; bytes = requestPacket m })
 
--- status call: kind 4 with t
+-- status call: kind 4 with what is acknowledged
 unfoldable pub statusOf : Member → ℕ → Outcome
 statusOf m room =
     judged (callVerdict m room) (refused m)

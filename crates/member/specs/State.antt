@@ -1,18 +1,23 @@
 -- What a member holds: n, its number, group, t (last taken), u (submissions so far), at most one waiting message (its count
 -- is u), and 8 places for numbers t + 1 to t + 8.
 use mathlib.Core.Bool.{false}
-use Prim.Native.Nat.{ℕ}
+use Prim.Native.Nat.{ℕ, _+_, _-_}
 use lib.ListN.{replicate}
-use Rattle.group.specs.Limits.{heldMost}
+use Rattle.group.specs.Limits.{heldMost, largestNumber}
 use Rattle.group.specs.declared.Group.{Group}
 use Rattle.group.specs.declared.MemberNumber.{MemberNumber}
 use Rattle.group.specs.declared.SequenceNumber.{SequenceNumber}
 use Rattle.message.specs.Message.{emptyMessage}
+use Rattle.window.specs.Places.{rowEnd, smallerOf}
 use Rattle.member.specs.declared.Member.{Member}
+
+-- the last number through which it has everything, taken or held; no number is over the largest
+unfoldable pub rowEndOf : Member → ℕ
+rowEndOf m = rowEnd (m .held) (m .taken .0) (smallerOf largestNumber (m .taken .0 + heldMost) - m .taken .0)
 
 -- the number that a member acknowledges in every packet that it writes
 unfoldable pub acknowledgedOf : Member → SequenceNumber
-acknowledgedOf m = m .taken
+acknowledgedOf m = record { 0 = rowEndOf m }
 
 -- the count of the waiting message
 abbrev pub firstCount : Member → ℕ

@@ -243,11 +243,12 @@ impl Member {
         }
     }
 
-    // The number that every packet of the member acknowledges.
+    // The number that every packet of the member acknowledges: the last through which it has everything, taken or held.
     fn acknowledged(self) -> SequenceNumber
         ensures { λ r. ⌜ r ≡ acknowledgedOf self ⌝ }
     {
-        self.taken
+        let held = self.held;
+        window::row_end(window::counts(held), self.taken)
     }
 
     // Lays the request of the waiting message at the front of the output, and gives its length.
@@ -502,7 +503,7 @@ impl Member {
         }
     }
 
-    // Writes the waiting request again, with the last number taken by then.
+    // Writes the waiting request again, with what is acknowledged by then.
     pub fn repeat(self, out: &mut [u8]) -> Step
         ensures answer { λ r. ⌜ r ≡ stepOf (repeatOf self (length (now (out .entry)))) ⌝ }
         ensures lent { λ _. ⌜ now (out .exit) ≡ front (repeatOf self (length (now (out .entry))) .bytes) (now (out .entry)) ⌝ }

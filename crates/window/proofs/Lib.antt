@@ -3,3 +3,4 @@ pub mod Missing
 pub mod Keeping
 pub mod Places
 pub mod Scan
+pub mod Row

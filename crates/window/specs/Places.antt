@@ -24,6 +24,11 @@ unfoldable pub lowestMissing : List Message → ℕ → ℕ → ℕ
 lowestMissing held t zero = 0
 lowestMissing held t (suc k) = if isHeld held (t + 1) then lowestMissing held (t + 1) k else t + 1
 
+-- the last of the k numbers above t up to which every one is held, without a hole; t where the first is missing
+unfoldable pub rowEnd : List Message → ℕ → ℕ → ℕ
+rowEnd held t zero = t
+rowEnd held t (suc k) = if isHeld held (t + 1) then rowEnd held (t + 1) k else t
+
 -- the smaller of two numbers
 unfoldable pub smallerOf : ℕ → ℕ → ℕ
 smallerOf a b = if a <? b then a else b

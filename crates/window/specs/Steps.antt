@@ -3,7 +3,7 @@ use mathlib.Core.Bool.{Bool}
 use mathlib.Core.List.{List, [], _∷_}
 use Prim.Native.Nat.{ℕ, zero, suc, _+_, _-_, _%_}
 use lib.ListN.{getD}
-use Rattle.group.specs.Choice.{if_then_else_, _and_, _<?_, _≤?_}
+use Rattle.group.specs.Choice.{if_then_else_, _and_, _<?_, _≤?_, _=?_}
 use Rattle.group.specs.Limits.{heldMost, payloadMost, largestNumber}
 use Rattle.message.specs.Message.{zeroBehind, isEmpty, blank}
 use Rattle.message.specs.declared.Message.{Message}
@@ -40,3 +40,7 @@ countsOf held =
 unfoldable pub lowestUncounted : List ℕ → ℕ → ℕ → ℕ
 lowestUncounted counts t zero = 0
 lowestUncounted counts t (suc k) = if 0 <? getD counts (placeOf (t + 1)) 0 then lowestUncounted counts (t + 1) k else t + 1
+
+-- the end of the row above t, up to `last`, by the counts of the places: the number below the lowest missing, or `last`
+unfoldable pub rowCounted : List ℕ → ℕ → ℕ → ℕ
+rowCounted counts t last = if lowestUncounted counts t (last - t) =? 0 then last else lowestUncounted counts t (last - t) - 1

@@ -10,11 +10,11 @@ ghost use lib.ListN.{length};
 ghost use Rattle.group.specs.Choice.{_and_, _=?_};
 ghost use Rattle.group.specs.Fold.{allAbove};
 ghost use Rattle.group.specs.Lent.{Laid};
-ghost use Rattle.group.specs.Limits.{heldMost, payloadMost, longestPacket};
+ghost use Rattle.group.specs.Limits.{heldMost, payloadMost, longestPacket, largestNumber};
 ghost use Rattle.message.specs.Message.{payloadOf};
 ghost use Rattle.window.specs.Places.{placeOf, smallerOf};
 ghost use Rattle.window.specs.Sound.{placeSound, waitingSound, frameSound};
-ghost use Rattle.window.specs.Steps.{numberIn, messageSound, countsOf, lowestUncounted};
+ghost use Rattle.window.specs.Steps.{numberIn, messageSound, countsOf, lowestUncounted, rowCounted};
 
 // Number s lies in place s modulo 8: the place of the number that lies `ahead` above a number, which may pass the largest.
 pub fn place(number: SequenceNumber, ahead: usize) -> usize
@@ -160,6 +160,18 @@ pub fn reach(top: SequenceNumber, taken: SequenceNumber) -> SequenceNumber
         return top;
     }
     SequenceNumber(taken.0 + (Group::HELD as u32))
+}
+
+// The last number through which nothing above the last taken is missing, by the counts of the places.
+pub fn row_end(counts: [u32; Group::HELD], taken: SequenceNumber) -> SequenceNumber
+    ensures { λ r. ⌜ r .0 ≡ rowCounted counts (taken .0) (smallerOf largestNumber (taken .0 + heldMost)) ⌝ }
+{
+    let last = reach(SequenceNumber(Group::LARGEST), taken);
+    let first = lowest_missing(counts, taken, last);
+    if first.0 == 0 {
+        return last;
+    }
+    SequenceNumber(first.0 - 1)
 }
 
 // Whether that count of that originator is the one that waits, of the member of that number after so many submissions.

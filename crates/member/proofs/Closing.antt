@@ -18,6 +18,7 @@ use Rattle.group.proofs.Choice.{says}
 use Rattle.group.proofs.Lists.{if-elim, at-nil}
 use Rattle.message.specs.Message.{messageOf}
 use Rattle.message.specs.Order.{Ordered, ownOf, countedFrom}
+use Rattle.message.specs.declared.Message.{Message}
 use Rattle.packet.specs.Laws.{Allowed}
 use Rattle.packet.specs.Packet.{obeys, fieldsOf, packetOf}
 use Rattle.packet.specs.declared.Packet.{Packet}
@@ -30,6 +31,7 @@ use Rattle.window.specs.Places.{messageAt, isHeld, lowestMissing}
 use Rattle.member.specs.State.{acknowledgedOf, freshMember}
 use Rattle.member.specs.declared.Answer.{Answer}
 use Rattle.member.specs.declared.Member.{Member}
+use Rattle.member.proofs.Acknowledged.{acknowledged-took}
 use Rattle.member.proofs.Invariant.{Terminal}
 use Rattle.window.proofs.Keeping.{empty-none}
 use Rattle.member.proofs.Keeping.{fresh-none, fresh-typed, fresh-sound}
@@ -63,6 +65,15 @@ pub record HandOk (m : Member) (o : Outcome) : Type 0 where
   pub taken-is : o .member .taken .0 ≡ m .taken .0
   pub held : 1 ≤ messageAt (o .member .held) (m .taken .0 + 1) .count
   pub bytes-are : o .bytes ≡ []
+
+took-next : (m : Member) (x : Message) → withTaken m x .taken .0 ≡ m .taken .0 + 1
+unfolding withTaken
+took-next m x = refl
+
+-- what a take of number t + 1 leaves
+pub record TakeOk (m : Member) (o : Outcome) : Type 0 where
+  pub taken-is : o .member .taken .0 ≡ m .taken .0 + 1
+  pub acknowledged-is : acknowledgedOf (o .member) .0 ≡ acknowledgedOf m .0
 
 module _ (group : Group) (i acknowledged : ℕ) (order took : List Ordered) (submitted : List (List ℕ)) (m : Member) (h : Terminal group i acknowledged m order took submitted) where
   module _ (originator : MemberNumber) (number : SequenceNumber) (c : ℕ) (floor : SequenceNumber) (payload : List ℕ)
@@ -103,9 +114,12 @@ module _ (group : Group) (i acknowledged : ℕ) (order took : List Ordered) (sub
         (λ a. let z = leb-false (number .0) (m .taken .0 + heldMost) a in absurd (omega arith))))
         (λ a. let z = ltb-false (originator .0) (m .group .n) a in let y = ap (λ (x : Group). x .n) (h .group-is) in absurd (omega arith)))
 
-  pub take-ok : 1 ≤ messageAt (m .held) (m .taken .0 + 1) .count → takeOf m longestPacket .member .taken .0 ≡ m .taken .0 + 1
-  unfolding tookOf withTaken
-  take-ok c = ap (λ (o : Outcome). o .member .taken .0) (take-is m (h .sound) c)
+  pub take-ok : 1 ≤ messageAt (m .held) (m .taken .0 + 1) .count → TakeOk m (takeOf m longestPacket)
+  unfolding tookOf
+  take-ok c =
+      let next = messageAt (m .held) (m .taken .0 + 1) in
+      let z = sound-of m (h .sound) .places .holds (m .taken .0 + 1) (omega arith) (omega arith) c .number-le in
+      rw (take-is m (h .sound) c) (record { taken-is = took-next m next; acknowledged-is = acknowledged-took m next (h .typed) (omega arith) c })
 
   -- the status that is written, as the group knows it
   pub status-ok : (statusPacket m ≡ packetOf (fieldsOf (group .number) (Status (m .number) (acknowledgedOf m))) []) × Allowed (fieldsOf (group .number) (Status (m .number) (acknowledgedOf m))) []

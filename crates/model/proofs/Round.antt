@@ -1,11 +1,11 @@
--- The closing round of one terminal: for each number a copy, its handing over and a take; then a status, handed to the
--- sequencer. Assumes nothing.
+-- The closing round of one terminal: its row is taken; for each number above it a copy, its handing over and a take; then a status,
+-- handed to the sequencer. Assumes nothing.
 use mathlib.Core.Path.{_≡_, refl, sym, ap, _∙_, subst}
 use mathlib.Core.Logic.{_≢_}
 use mathlib.Core.Bool.{true}
 use mathlib.Core.Option.{some}
 use mathlib.Core.List.{List, [], _∷_, _++_, append-nil}
-use Prim.Native.Nat.{ℕ, zero, suc, _+_, _≤_, _<_}
+use Prim.Native.Nat.{ℕ, zero, suc, _+_, _-_, _≤_, _<_}
 use native.Mathlib.Omega.{arith}
 use borrow.Author.Tests.{ltb-false}
 use lib.ListN.{length, getD, set, getElem?, length-append}
@@ -16,8 +16,8 @@ use Rattle.group.specs.Limits.{membersMost, largestNumber, longestPacket}
 use Rattle.group.specs.declared.MemberNumber.{MemberNumber}
 use Rattle.group.specs.declared.SequenceNumber.{SequenceNumber}
 use Rattle.group.specs.declared.Group as description
-use Rattle.member.proofs.Acknowledged.{acknowledged-least, acknowledged-most}
-use Rattle.member.proofs.Closing.{HandOk, hand-ok, take-ok, status-is, status-ok}
+use Rattle.member.proofs.Acknowledged.{acknowledged-least, acknowledged-holds, acknowledged-most}
+use Rattle.member.proofs.Closing.{HandOk, hand-ok, TakeOk, take-ok, status-is, status-ok}
 use Rattle.member.specs.Calls as member
 use Rattle.member.specs.Sound as memberSound
 use Rattle.member.specs.State.{acknowledgedOf}
@@ -25,9 +25,10 @@ use Rattle.window.specs.Places.{messageAt}
 use Rattle.member.specs.declared.Answer as memberAnswer
 use Rattle.member.specs.declared.Member.{Member}
 use Rattle.message.specs.Order.{Ordered}
-use Rattle.model.proofs.Invariant.{WorldInv, takenOf}
+use Rattle.model.proofs.Invariant.{WorldInv, takenOf, acknowledgedIn}
 use Rattle.model.proofs.Step.{gather-snoc, next-keeps, run-keeps}
-use Rattle.model.specs.Closing.{closeMember}
+use Rattle.model.proofs.Whole.{floor-le}
+use Rattle.model.specs.Closing.{takeRow, closeMember}
 use Rattle.model.specs.Log.{numberedIn, order}
 use Rattle.model.specs.World.{Event, status, copy, handMember, handSequencer, Group, Happened, missing, withMember, noMember, happen, World, step, run}
 use Rattle.model.specs.World as world
@@ -51,7 +52,7 @@ use Rattle.sequencer.specs.declared.Sequencer.{Sequencer}
 record Effect (g : Group) (i t′ : ℕ) (d : Happened) : Type 0 where
   sequencer-is : d .group .sequencer ≡ g .sequencer
   taken-is : takenOf (d .group .members) i ≡ t′
-  taken-other : (j : ℕ) → j ≢ i → takenOf (d .group .members) j ≡ takenOf (g .members) j
+  others-are : (j : ℕ) → j ≢ i → getD (d .group .members) j noMember ≡ getD (g .members) j noMember
   quiet : numberedIn (d .answer) ≡ []
 
 put-effect : (g : Group) (i t′ : ℕ) (o : member.Outcome) (packets : List (List ℕ)) → i < length (g .members) → o .member .taken .0 ≡ t′ → Effect g i t′ (withMember g i o packets)
@@ -60,7 +61,7 @@ put-effect g i t′ o packets h e =
     record {
       sequencer-is = refl;
       taken-is = ap (λ (m : Member). m .taken .0) (getD-set-same (g .members) i (o .member) noMember h) ∙ e;
-      taken-other = λ j q. ap (λ (m : Member). m .taken .0) (getD-set-other (g .members) i j (o .member) noMember q);
+      others-are = λ j q. getD-set-other (g .members) i j (o .member) noMember q;
       quiet = refl;
     }
 
@@ -123,13 +124,19 @@ hand-effect g i b bytes hi e h =
 
 record TakeEffect (g : Group) (i : ℕ) (d : Happened) : Type 0 where
   effect : Effect g i (takenOf (g .members) i + 1) d
+  acknowledged-is : acknowledgedIn (d .group .members) i ≡ acknowledgedIn (g .members) i
   packets-are : d .group .packets ≡ g .packets
 
-take-effect : (g : Group) (i : ℕ) → i < length (g .members) → member.takeOf (getD (g .members) i noMember) longestPacket .member .taken .0 ≡ takenOf (g .members) i + 1 → TakeEffect g i (happen g (world.take i))
+take-effect : (g : Group) (i : ℕ) → i < length (g .members) → TakeOk (getD (g .members) i noMember) (member.takeOf (getD (g .members) i noMember) longestPacket) → TakeEffect g i (happen g (world.take i))
 unfolding happen
-take-effect g i hi e =
+take-effect g i hi h =
     there (TakeEffect g i) g i hi
-    (record { effect = put-effect g i _ (member.takeOf (getD (g .members) i noMember) longestPacket) [] hi e; packets-are = append-nil (g .packets) })
+    (let o : member.Outcome = member.takeOf (getD (g .members) i noMember) longestPacket in
+    record {
+      effect = put-effect g i _ o [] hi (h .taken-is);
+      acknowledged-is = ap (λ (m : Member). acknowledgedOf m .0) (getD-set-same (g .members) i (o .member) noMember hi) ∙ h .acknowledged-is;
+      packets-are = append-nil (g .packets);
+    })
 
 record StatusEffect (g : Group) (i : ℕ) (d : Happened) : Type 0 where
   effect : Effect g i (takenOf (g .members) i) d
@@ -181,13 +188,13 @@ order-next w e q = gather-snoc _ (w .log) _ ∙ ap (λ (l : List Ordered). order
 length-snoc : {A : Type 0} (l : List A) (x : A) → length (l ++ (x ∷ [])) ≡ length l + 1
 length-snoc l x = simp length-append
 
--- a number copied, handed over and taken
-record Trip (i t′ : ℕ) (w w′ : World) : Type 0 where
+-- terminal i took numbers, up to t′, and p packets were written
+record Trip (i t′ p : ℕ) (w w′ : World) : Type 0 where
   sequencer-is : w′ .group .sequencer ≡ w .group .sequencer
   taken-is : takenOf (w′ .group .members) i ≡ t′
-  taken-other : (j : ℕ) → j ≢ i → takenOf (w′ .group .members) j ≡ takenOf (w .group .members) j
+  others-are : (j : ℕ) → j ≢ i → getD (w′ .group .members) j noMember ≡ getD (w .group .members) j noMember
   order-is : order (w′ .log) ≡ order (w .log)
-  length-is : length (w′ .group .packets) ≡ length (w .group .packets) + 1
+  length-is : length (w′ .group .packets) ≡ length (w .group .packets) + p
 
 -- the terminal took all, and the sequencer knows it
 pub record Closed (i k : ℕ) (w w′ : World) : Type 0 where
@@ -195,7 +202,7 @@ pub record Closed (i k : ℕ) (w w′ : World) : Type 0 where
   pub taken-is : takenOf (w′ .group .members) i ≡ w .group .sequencer .top .0
   pub entry-is : w .group .sequencer .top .0 ≤ takenIn (w′ .group .sequencer .acknowledgements) i
   pub entry-other : (j : ℕ) → j ≢ i → takenIn (w′ .group .sequencer .acknowledgements) j ≡ takenIn (w .group .sequencer .acknowledgements) j
-  pub taken-other : (j : ℕ) → j ≢ i → takenOf (w′ .group .members) j ≡ takenOf (w .group .members) j
+  pub others-are : (j : ℕ) → j ≢ i → getD (w′ .group .members) j noMember ≡ getD (w .group .members) j noMember
   pub order-is : order (w′ .log) ≡ order (w .log)
   pub length-is : length (w′ .group .packets) ≡ length (w .group .packets) + k + 1
 
@@ -203,8 +210,27 @@ module _ (group : description.Group) (hn : group .n ≤ membersMost) (hg : group
   inside : (w : World) → WorldInv group w → i < length (w .group .members)
   inside w v = let z = v .members in omega arith
 
+  -- the row is taken
+  takes-row : (k t : ℕ) (w : World) → WorldInv group w → takenOf (w .group .members) i ≡ t → t + k ≤ acknowledgedIn (w .group .members) i → Trip i (t + k) 0 w (run w (takeRow i k))
+  unfolding run takeRow
+  takes-row zero t w v et le = record { sequencer-is = refl; taken-is = et ∙ omega arith; others-are = λ j x. refl; order-is = refl; length-is = omega arith }
+  takes-row (suc k) t w v et le =
+      let m : Member = getD (w .group .members) i noMember in
+      let e = take-effect (w .group) i (inside w v) (take-ok group i _ _ _ _ m (v .terminal i hi) (acknowledged-holds m (m .taken .0 + 1) (omega arith) (omega arith))) in
+      let w1 : World = step w (world.take i) in
+      let et1 : takenOf (w1 .group .members) i ≡ t + 1 = e .effect .taken-is ∙ ap (λ (x : ℕ). x + 1) et in
+      let d = takes-row k (t + 1) w1 (next-keeps group hn hg w (world.take i) v) et1 (let z = e .acknowledged-is in omega arith) in
+      record {
+        sequencer-is = d .sequencer-is ∙ e .effect .sequencer-is;
+        taken-is = d .taken-is ∙ omega arith;
+        others-are = λ j x. d .others-are j x ∙ e .effect .others-are j x;
+        order-is = d .order-is ∙ order-next w (world.take i) (e .effect .quiet);
+        length-is = d .length-is ∙ ap (λ (l : List (List ℕ)). length l + 0) (e .packets-are);
+      }
+
+  -- a number is copied, handed over and taken
   trip : (w : World) (t b : ℕ) → WorldInv group w → takenOf (w .group .members) i ≡ t → w .group .sequencer .floor .0 ≤ t → t < w .group .sequencer .top .0 → length (w .group .packets) ≡ b
-      → Trip i (t + 1) w (step (step (step w (copy (t + 1))) (handMember b i)) (world.take i))
+      → Trip i (t + 1) 1 w (step (step (step w (copy (t + 1))) (handMember b i)) (world.take i))
   trip w t b v et fl lt eb =
       let q : Sequencer = w .group .sequencer in
       let s = v .sequencer in
@@ -232,7 +258,7 @@ module _ (group : description.Group) (hn : group .n ≤ membersMost) (hg : group
       record {
         sequencer-is = e .effect .sequencer-is ∙ d .effect .sequencer-is ∙ c .sequencer-is;
         taken-is = e .effect .taken-is ∙ ap (λ (k : ℕ). k + 1) (d .effect .taken-is ∙ et1);
-        taken-other = λ j k. e .effect .taken-other j k ∙ d .effect .taken-other j k ∙ ap (λ (l : List Member). takenOf l j) (c .members-are);
+        others-are = λ j k. e .effect .others-are j k ∙ d .effect .others-are j k ∙ ap (λ (l : List Member). getD l j noMember) (c .members-are);
         order-is = order-next w2 (world.take i) (e .effect .quiet) ∙ order-next w1 (handMember b i) (d .effect .quiet) ∙ order-next w (copy (t + 1)) (c .quiet);
         length-is = ap length (e .packets-are ∙ d .packets-are ∙ c .packets-are) ∙ length-snoc (w .group .packets) bytes;
       }
@@ -264,14 +290,14 @@ module _ (group : description.Group) (hn : group .n ≤ membersMost) (hg : group
         entry-is =
             subst (λ (k : ℕ). w .group .sequencer .top .0 ≤ takenIn (step w1 (handSequencer b) .group .sequencer .acknowledgements) k) number (let z = d .entry-is in omega arith);
         entry-other = λ j k. d .entry-other j (λ x. k (x ∙ number)) ∙ ap (λ (q : Sequencer). takenIn (q .acknowledgements) j) (c .effect .sequencer-is);
-        taken-other = λ j k. ap (λ (l : List Member). takenOf l j) (d .members-are) ∙ c .effect .taken-other j k;
+        others-are = λ j k. ap (λ (l : List Member). getD l j noMember) (d .members-are) ∙ c .effect .others-are j k;
         order-is = order-next w1 (handSequencer b) (d .quiet) ∙ order-next w (status i) (c .effect .quiet);
         length-is =
             let z : length (w .group .packets ++ (member.statusPacket m ∷ [])) ≡ length (w .group .packets) + 0 + 1 = length-snoc (w .group .packets) (member.statusPacket m) ∙ (omega arith) in
             ap length (d .packets-are ∙ c .packets-are) ∙ z;
       }
 
-  pub closes-one : (k t b : ℕ) (w : World) → WorldInv group w → takenOf (w .group .members) i ≡ t → w .group .sequencer .floor .0 ≤ t → t + k ≡ w .group .sequencer .top .0 → length (w .group .packets) ≡ b
+  closes-one : (k t b : ℕ) (w : World) → WorldInv group w → takenOf (w .group .members) i ≡ t → w .group .sequencer .floor .0 ≤ t → t + k ≡ w .group .sequencer .top .0 → length (w .group .packets) ≡ b
       → Closed i k w (run w (closeMember i t k b))
   unfolding run closeMember
   closes-one zero t b w v et fl ek eb = ends w b v (omega arith) eb
@@ -287,7 +313,38 @@ module _ (group : description.Group) (hn : group .n ≤ membersMost) (hg : group
         taken-is = d .taken-is ∙ top3;
         entry-is = let z = d .entry-is in omega arith;
         entry-other = λ j x. d .entry-other j x ∙ ap (λ (q : Sequencer). takenIn (q .acknowledgements) j) (c .sequencer-is);
-        taken-other = λ j x. d .taken-other j x ∙ c .taken-other j x;
+        others-are = λ j x. d .others-are j x ∙ c .others-are j x;
+        order-is = d .order-is ∙ c .order-is;
+        length-is = let z = d .length-is in let y = c .length-is in omega arith;
+      }
+
+  -- the whole round of member m
+  pub closes : (m : Member) (b : ℕ) (w : World) → WorldInv group w → getD (w .group .members) i noMember ≡ m → length (w .group .packets) ≡ b
+      → let a = acknowledgedOf m .0 in
+      let k = w .group .sequencer .top .0 - a in
+      Closed i k w (run (run w (takeRow i (a - m .taken .0))) (closeMember i a k b))
+  closes m b w v em eb =
+      let a : ℕ = acknowledgedOf m .0 in
+      let t : ℕ = m .taken .0 in
+      let top : ℕ = w .group .sequencer .top .0 in
+      let et : takenOf (w .group .members) i ≡ t = ap (λ (x : Member). x .taken .0) em in
+      let ea : acknowledgedIn (w .group .members) i ≡ a = ap (λ (x : Member). acknowledgedOf x .0) em in
+      let least = acknowledged-least m in
+      let most = acknowledged-most (v .terminal i hi) in
+      let top-is = v .sequencer .top-is in
+      let fl = floor-le group w i v hi in
+      let c = takes-row (a - t) t w v et (omega arith) in
+      let w1 : World = run w (takeRow i (a - t)) in
+      let v1 : WorldInv group w1 = run-keeps group hn hg w (takeRow i (a - t)) v in
+      let top1 : w1 .group .sequencer .top .0 ≡ top = ap (λ (q : Sequencer). q .top .0) (c .sequencer-is) in
+      let floor1 : w1 .group .sequencer .floor .0 ≡ w .group .sequencer .floor .0 = ap (λ (q : Sequencer). q .floor .0) (c .sequencer-is) in
+      let d = closes-one (top - a) a b w1 v1 (c .taken-is ∙ omega arith) (omega arith) (omega arith) (c .length-is ∙ omega arith) in
+      record {
+        top-is = d .top-is ∙ top1;
+        taken-is = d .taken-is ∙ top1;
+        entry-is = let z = d .entry-is in omega arith;
+        entry-other = λ j x. d .entry-other j x ∙ ap (λ (q : Sequencer). takenIn (q .acknowledgements) j) (c .sequencer-is);
+        others-are = λ j x. d .others-are j x ∙ c .others-are j x;
         order-is = d .order-is ∙ c .order-is;
         length-is = let z = d .length-is in let y = c .length-is in omega arith;
       }

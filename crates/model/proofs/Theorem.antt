@@ -12,13 +12,15 @@ use Rattle.group.specs.Opening.{descriptionOf}
 use Rattle.group.specs.declared.Group as description
 use Rattle.history.proofs.Soundness.{takenIn}
 use Rattle.history.specs.State.{messageAt}
+use Rattle.member.proofs.Acknowledged.{acknowledged-near}
+use Rattle.member.specs.State.{acknowledgedOf}
 use Rattle.member.specs.declared.Member.{Member}
 use Rattle.model.proofs.Invariant.{WorldInv, takenOf}
-use Rattle.model.proofs.Round.{closes-one}
+use Rattle.model.proofs.Round.{closes}
 use Rattle.model.proofs.Step.{run-keeps, fresh-inv}
-use Rattle.model.proofs.Whole.{floor-taken, whole, total, owns}
+use Rattle.model.proofs.Whole.{floor-le, whole, total, owns}
 use Rattle.model.specs.Claim.{Claim, Demand3}
-use Rattle.model.specs.Closing.{closeMember, closeFrom, closing, closingMost}
+use Rattle.model.specs.Closing.{takeRow, closeMember, closeFrom, closing, closingMost}
 use Rattle.model.specs.Log.{order, messagesAbove}
 use Rattle.model.specs.World.{Event, noMember, World, run, fresh}
 use Rattle.sequencer.proofs.Ordering.{floor-all}
@@ -40,49 +42,54 @@ record Closes (n : ℕ) (w w′ : World) : Type 0 where
 
 module _ (group : description.Group) (hn : group .n ≤ membersMost) (hg : group .number ≤ largestNumber) where
   closes-from : (ms : List Member) (i b : ℕ) (w : World) → WorldInv group w → length (w .group .packets) ≡ b → i + length ms ≡ group .n
-      → ((k : ℕ) → k < length ms → takenOf (w .group .members) (i + k) ≡ getD ms k noMember .taken .0)
+      → ((k : ℕ) → k < length ms → getD (w .group .members) (i + k) noMember ≡ getD ms k noMember)
       → ((j : ℕ) → j < i → Has w (w .group .sequencer .top .0) j)
       → Closes (group .n) w (run w (closeFrom ms i (w .group .sequencer .top .0) b))
   unfolding closeFrom run
-  closes-from [] i b w v eb ei ht ha = record { top-is = refl; each = λ j x. ha j (omega arith); order-is = refl }
-  closes-from (m ∷ ms) i b w v eb ei ht ha =
+  closes-from [] i b w v eb ei hm ha = record { top-is = refl; each = λ j x. ha j (omega arith); order-is = refl }
+  closes-from (m ∷ ms) i b w v eb ei hm ha =
       let top : ℕ = w .group .sequencer .top .0 in
-      let t : ℕ = m .taken .0 in
+      let a : ℕ = acknowledgedOf m .0 in
       let hi : i < group .n = omega arith in
-      let et : takenOf (w .group .members) i ≡ t = subst (λ (k : ℕ). takenOf (w .group .members) k ≡ t) (omega arith) (ht 0 (omega arith)) in
-      let le = v .terminal i hi .taken-le in
-      let tp = v .sequencer .top-is in
-      let es : List Event = closeMember i t (top - t) b in
-      let w1 : World = run w es in
-      let v1 : WorldInv group w1 = run-keeps group hn hg w es v in
-      let fl = floor-taken group w i v hi in
-      let c = closes-one group hn hg i hi (top - t) t b w v et (omega arith) (omega arith) eb in
-      let d = closes-from ms (i + 1) (b + (top - t) + 1) w1 v1 (c .length-is ∙ (omega arith)) (omega arith)
+      let em : getD (w .group .members) i noMember ≡ m = subst (λ (k : ℕ). getD (w .group .members) k noMember ≡ m) (omega arith) (hm 0 (omega arith)) in
+      let row : List Event = takeRow i (a - m .taken .0) in
+      let es : List Event = closeMember i a (top - a) b in
+      let w1 : World = run (run w row) es in
+      let v1 : WorldInv group w1 = run-keeps group hn hg (run w row) es (run-keeps group hn hg w row v) in
+      let c = closes group hn hg i hi m b w v em eb in
+      let d = closes-from ms (i + 1) (b + (top - a) + 1) w1 v1 (c .length-is ∙ (omega arith)) (omega arith)
       (λ k x. let e : i + 1 + k ≡ i + suc k = omega arith in
-      c .taken-other (i + 1 + k) (λ z. omega arith) ∙ ap (takenOf (w .group .members)) e ∙ ht (suc k) (omega arith))
+      c .others-are (i + 1 + k) (λ z. omega arith) ∙ ap (λ (j : ℕ). getD (w .group .members) j noMember) e ∙ hm (suc k) (omega arith))
       (λ j x. rw (c .top-is)
       (eq-or j i (λ e. rw e (c .taken-is, c .entry-is))
-      (λ e. let y = ha j (omega arith) in (c .taken-other j e ∙ y .0, rw (c .entry-other j e) (y .1))))) in
+      (λ e. let y = ha j (omega arith) in (ap (λ (x : Member). x .taken .0) (c .others-are j e) ∙ y .0, rw (c .entry-other j e) (y .1))))) in
       let top1 : w1 .group .sequencer .top .0 ≡ top = c .top-is in
-      let rest : List Event = closeFrom ms (i + 1) top (b + (top - t) + 1) in
-      let d′ : Closes (group .n) w1 (run w1 rest) = subst (λ (k : ℕ). Closes (group .n) w1 (run w1 (closeFrom ms (i + 1) k (b + (top - t) + 1)))) top1 d in
-      subst (λ (x : World). Closes (group .n) w x) (sym (run-append w es rest))
+      let rest : List Event = closeFrom ms (i + 1) top (b + (top - a) + 1) in
+      let d′ : Closes (group .n) w1 (run w1 rest) = subst (λ (k : ℕ). Closes (group .n) w1 (run w1 (closeFrom ms (i + 1) k (b + (top - a) + 1)))) top1 d in
+      subst (λ (x : World). Closes (group .n) w x) (sym (run-append w (row ++ es) rest ∙ ap (λ (x : World). run x rest) (run-append w row es)))
       (record { top-is = d′ .top-is ∙ top1; each = λ j x. rw top1 at (d′ .each j x); order-is = d′ .order-is ∙ c .order-is })
 
 -- its length
+row-length : (i k : ℕ) → length (takeRow i k) ≡ k
+unfolding takeRow
+row-length i zero = refl
+row-length i (suc k) = ap suc (row-length i k)
+
 member-length : (i t k b : ℕ) → length (closeMember i t k b) ≡ 3 * k + 2
 unfolding closeMember
 member-length i t zero b = refl
 member-length i t (suc k) b = let z = member-length i (t + 1) k (b + 1) in omega arith
 
-from-length : (ms : List Member) (i top b : ℕ) → ((k : ℕ) → k < length ms → top - getD ms k noMember .taken .0 ≤ placesMost) → length (closeFrom ms i top b) ≤ closingMost * length ms
+from-length : (ms : List Member) (i top b : ℕ) → ((k : ℕ) → k < length ms → top - acknowledgedOf (getD ms k noMember) .0 ≤ placesMost) → length (closeFrom ms i top b) ≤ closingMost * length ms
 unfolding closeFrom
 from-length [] i top b h = omega arith
 from-length (m ∷ ms) i top b h =
+    let a : ℕ = acknowledgedOf m .0 in
     let x = h 0 (omega arith) in
-    let t : ℕ = m .taken .0 in
-    let y = member-length i t (top - t) b in
-    let z = from-length ms (i + 1) top (b + (top - t) + 1) (λ k a. h (suc k) (omega arith)) in
+    let near = acknowledged-near m in
+    let r = row-length i (a - m .taken .0) in
+    let y = member-length i a (top - a) b in
+    let z = from-length ms (i + 1) top (b + (top - a) + 1) (λ k q. h (suc k) (omega arith)) in
     simp length-append (omega arith)
 
 claim : (group : description.Group) → 1 ≤ group .n → group .n ≤ membersMost → group .number ≤ largestNumber → (w : World) → WorldInv group w → Claim (group .n) w
@@ -91,7 +98,7 @@ claim group lo hn hg w v =
     let w′ : World = run w (closing w) in
     let v′ : WorldInv group w′ = run-keeps group hn hg w (closing w) v in
     let c = closes-from group hn hg (w .group .members) 0 (length (w .group .packets)) w v refl (zero-add _ ∙ v .members)
-    (λ k x. ap (takenOf (w .group .members)) (zero-add k)) (λ j x. absurd (not-suc-le-zero x)) in
+    (λ k x. ap (λ (j : ℕ). getD (w .group .members) j noMember) (zero-add k)) (λ j x. absurd (not-suc-le-zero x)) in
     let s′ = v′ .sequencer in
     let tp = c .top-is in
     let same = s′ .top-is in
@@ -104,7 +111,7 @@ claim group lo hn hg w v =
       closing-short =
           let y = from-length (w .group .members) 0 (w .group .sequencer .top .0) (length (w .group .packets))
           (λ k a. let b : k < group .n = (let e = v .members in omega arith) in
-          let f = floor-taken group w k v b in
+          let f = floor-le group w k v b in
           let x = sound-of (w .group .sequencer) (v .sequencer .sound) in
           omega arith) in
           subst (λ (k : ℕ). length (closing w) ≤ closingMost * k) (v .members) y;

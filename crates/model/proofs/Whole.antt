@@ -1,31 +1,35 @@
--- What every list of events leaves: taken and owed make the order, the sum, and each terminal's own messages. Assumes nothing.
+-- What every list of events leaves: taken, the row and the history above it make the order, the sum, and each terminal's own messages. Assumes nothing.
 use mathlib.Core.Path.{_≡_, refl, sym, ap, ap₂, _∙_, subst}
 use mathlib.Core.Logic.{_⊎_, inl, inr}
 use mathlib.Core.Option.{some}
-use mathlib.Core.List.{List, [], _∷_, _++_}
+use mathlib.Core.List.{List, [], _∷_, _++_, append-assoc}
 use Prim.Native.Nat.{ℕ, zero, suc, _+_, _-_, _*_, _≤_, _<_}
 use native.Mathlib.Nat.{le-refl, le-trans, suc-mul, zero-mul}
 use native.Mathlib.Omega.{arith}
 use borrow.Author.Tests.{ltb-true, ltb-false}
-use lib.ListN.{length, getD, take, drop, take-append-drop, drop-of-length-le, length-append}
-use lib.Seq.{length-take-le, drop-drop, take-all}
+use lib.ListN.{length, getD, take, drop, take-append-drop, length-append, length-drop}
+use lib.Seq.{length-take-le, drop-drop, take-all, take-add}
 use Rattle.group.proofs.Lists.{if-elim, none≢some, at, at-nil, at-some, at-append, drop-at-suc, le-or}
 use Rattle.group.specs.Choice.{if_then_else_, _<?_}
 use Rattle.group.specs.declared.Group as description
-use Rattle.member.proofs.Acknowledged.{acknowledged-is}
+use Rattle.member.proofs.Acknowledged.{acknowledged-least, acknowledged-near, acknowledged-holds, acknowledged-most}
+use Rattle.member.proofs.Invariant.{Terminal}
+use Rattle.member.specs.State.{acknowledgedOf}
+use Rattle.member.specs.declared.Member.{Member}
 use Rattle.message.proofs.Kept.{kept-payload}
 use Rattle.message.proofs.Owning.{counted-length}
 use Rattle.message.specs.Message.{messageOf, payloadOf}
 use Rattle.message.specs.Order.{Ordered, Submission, ownOf, countedFrom}
 use Rattle.message.specs.declared.Message.{Message}
-use Rattle.model.proofs.Invariant.{WorldInv, takenOf, acknowledgedIn}
+use Rattle.model.proofs.Invariant.{WorldInv, acknowledgedIn}
 use Rattle.model.specs.Claim.{sum, withoutLast}
-use Rattle.model.specs.Log.{order, taken, submitted, accepted, orderedAt, messagesAbove, historyOf, lastNumber, above, owed}
+use Rattle.model.specs.Log.{order, taken, submitted, accepted, orderedAt, messagesAbove, historyOf, lastNumber, above, rowOf, owed}
 use Rattle.model.specs.World.{World, noMember}
 use Rattle.history.specs.State.{messageAt}
 use Rattle.sequencer.proofs.Ordering.{floor-below}
 use Rattle.sequencer.proofs.Invariant.{SequencerInv}
 use Rattle.sequencer.specs.declared.Sequencer.{Sequencer}
+use Rattle.window.specs.Places as window
 
 -- the messages of l are numbered b + 1, b + 2, ..
 abbrev Runs : ℕ → List Ordered → Type 0
@@ -73,58 +77,79 @@ runs-drop b zero l h s m e = let z = h s m e in omega arith
 runs-drop b (suc f) [] h s m e = absurd (at-nil s e)
 runs-drop b (suc f) (x ∷ l) h s m e = let z = runs-drop (suc b) f l (runs-tail b x l h) s m e in omega arith
 
--- the history is the order without its first floor
-ordered-is : (group : description.Group) (s : Sequencer) (ord : List Ordered) → SequencerInv group s ord → (k : ℕ) (m : Ordered) → at ord k ≡ some m → s .floor .0 < k → orderedAt (messageAt (s .history)) k ≡ m
+-- a message that lies as the order has it
+ordered-of : (lies : ℕ → Message) (k : ℕ) (m : Ordered) → lies k ≡ messageOf (record { 0 = m .originator }) (m .count) (m .payload) → m .number ≡ k → orderedAt lies k ≡ m
 unfolding messageOf
-ordered-is group s ord v k m e b =
-    let o : Message = messageOf (record { 0 = m .originator }) (m .count) (m .payload) in
-    let h : messageAt (s .history) k ≡ o = v .history-is k m e b in
-    let p : payloadOf (messageAt (s .history) k) ≡ m .payload = ap payloadOf h ∙ kept-payload (record { 0 = m .originator }) (m .count) (m .payload) in
-    let q : k ≡ m .number = sym (v .number-is k m e) in
-    λ i. record { number = q i; originator = h i .originator .0; count = h i .count; payload = p i }
+ordered-of lies k m h e =
+    let p : payloadOf (lies k) ≡ m .payload = ap payloadOf h ∙ kept-payload (record { 0 = m .originator }) (m .count) (m .payload) in
+    λ i. record { number = sym e i; originator = h i .originator .0; count = h i .count; payload = p i }
 
-pub history-is : (group : description.Group) (s : Sequencer) (ord : List Ordered) → SequencerInv group s ord → (k f : ℕ) → s .floor .0 ≤ f → f + k ≡ length ord → messagesAbove (messageAt (s .history)) f k ≡ drop f ord
+-- k numbers above f that lie as the order has them are its next k
+messages-are : (lies : ℕ → Message) (ord : List Ordered) (k f : ℕ)
+    → ((s : ℕ) → f < s → s ≤ f + k → (m : Ordered) × (at ord s ≡ some m) × (orderedAt lies s ≡ m)) → messagesAbove lies f k ≡ take k (drop f ord)
 unfolding messagesAbove
-history-is group s ord v zero f a e = sym (drop-of-length-le ord {i = f} (omega arith))
-history-is group s ord v (suc k) f a e =
-    let y = at-some ord (suc f) (omega arith) (omega arith) in
+messages-are lies ord zero f h = refl
+messages-are lies ord (suc k) f h =
+    let y = h (suc f) (omega arith) (omega arith) in
     let one : f + 1 ≡ suc f = omega arith in
-    let here : orderedAt (messageAt (s .history)) (f + 1) ≡ y .0 = rw one (ordered-is group s ord v (suc f) (y .0) (y .1) (omega arith)) in
-    let rest : messagesAbove (messageAt (s .history)) (f + 1) k ≡ drop (suc f) ord = history-is group s ord v k (f + 1) (omega arith) (omega arith) ∙ rw one in
-    ap₂ (λ (m : Ordered) (l : List Ordered). m ∷ l) here rest ∙ sym (drop-at-suc ord f (y .1))
+    let here : orderedAt lies (f + 1) ≡ y .0 = rw one (y .2) in
+    let rest : messagesAbove lies (f + 1) k ≡ take k (drop (suc f) ord) = messages-are lies ord k (f + 1) (λ s lo hi. h s (omega arith) (omega arith)) ∙ rw one in
+    ap₂ (λ (m : Ordered) (l : List Ordered). m ∷ l) here rest ∙ ap (take (suc k)) (sym (drop-at-suc ord f (y .1)))
 
--- floor is at most what each terminal acknowledges, so at most what it took
+-- the history is the order without its first floor
+history-is : (group : description.Group) (s : Sequencer) (ord : List Ordered) → SequencerInv group s ord → historyOf s ≡ drop (s .floor .0) ord
+history-is group s ord v =
+    let top = v .top-is in
+    let f : ℕ = s .floor .0 in
+    messages-are (messageAt (s .history)) ord (s .top .0 - f) f
+    (λ k lo hi. let y = at-some ord k (omega arith) (omega arith) in
+    (y .0, y .1, ordered-of (messageAt (s .history)) k (y .0) (v .history-is k (y .0) (y .1) lo) (v .number-is k (y .0) (y .1))))
+    ∙ take-all (s .top .0 - f) (drop f ord) (simp length-drop (omega arith))
+
+-- a terminal's row is the order's messages above what it took, up to what it acknowledges
+row-is : (group : description.Group) (i a : ℕ) (m : Member) (ord took : List Ordered) (sb : List (List ℕ)) → Terminal group i a m ord took sb
+    → ((k : ℕ) (x : Ordered) → at ord k ≡ some x → x .number ≡ k) → rowOf m ≡ take (acknowledgedOf m .0 - m .taken .0) (drop (m .taken .0) ord)
+row-is group i a m ord took sb h numbered =
+    let least = acknowledged-least m in
+    let near = acknowledged-near m in
+    messages-are (window.messageAt (m .held)) ord (acknowledgedOf m .0 - m .taken .0) (m .taken .0)
+    (λ k lo hi. let x = h .held-is k lo (omega arith) (acknowledged-holds m k lo (omega arith)) in
+    (x .0, x .1, ordered-of (window.messageAt (m .held)) k (x .0) (x .2) (numbered k (x .0) (x .1))))
+
+-- floor is at most what each terminal acknowledges
 pub floor-le : (group : description.Group) (w : World) (i : ℕ) → WorldInv group w → i < group .n → w .group .sequencer .floor .0 ≤ acknowledgedIn (w .group .members) i
 floor-le group w i v b = le-trans (floor-below group _ (w .group .sequencer) (v .sequencer) i b) (v .terminal i b .acknowledged-le)
-
-pub floor-taken : (group : description.Group) (w : World) (i : ℕ) → WorldInv group w → i < group .n → w .group .sequencer .floor .0 ≤ takenOf (w .group .members) i
-floor-taken group w i v b = rw (acknowledged-is (getD (w .group .members) i noMember)) at (floor-le group w i v b)
 
 -- what a terminal took, and is owed
 pub whole : (group : description.Group) (w : World) (i : ℕ) → WorldInv group w → i < group .n → taken i (w .log) ++ owed w i ≡ order (w .log)
 whole group w i v b =
     let q : Sequencer = w .group .sequencer in
+    let f : ℕ = q .floor .0 in
     let ord : List Ordered = order (w .log) in
-    let t : ℕ = takenOf (w .group .members) i in
+    let m : Member = getD (w .group .members) i noMember in
+    let t : ℕ = m .taken .0 in
+    let a : ℕ = acknowledgedOf m .0 in
     let h = v .terminal i b in
     let s = v .sequencer in
-    let tle : t ≤ length ord = h .taken-le in
-    let fle : q .floor .0 ≤ t = floor-taken group w i v b in
-    let top : q .floor .0 ≤ q .top .0 = (let z = s .top-is in omega arith) in
-    let last : lastNumber (taken i (w .log)) ≡ t =
-    rw (h .took-is) (last-is (take t ord) (runs-take 0 t ord (runs ord s)) ∙ length-take-le t ord tle) in
-    let hist : historyOf q ≡ drop (q .floor .0) ord = history-is group q ord s (q .top .0 - q .floor .0) (q .floor .0) (le-refl _) (let z = s .top-is in omega arith) in
-    let cut : q .floor .0 + (t - q .floor .0) ≡ t = omega arith in
-    let owes : owed w i ≡ drop t ord =
-    ap₂ above last hist
-    ∙ ap (λ (k : ℕ). above k (drop (q .floor .0) ord)) (sym cut)
-    ∙ above-drop (q .floor .0) (t - q .floor .0) (drop (q .floor .0) ord) (λ r m e. let z = runs-drop 0 (q .floor .0) ord (runs ord s) r m e in omega arith)
-    ∙ drop-drop (t - q .floor .0) (q .floor .0) ord
+    let least = acknowledged-least m in
+    let fle : f ≤ a = floor-le group w i v b in
+    let row : List Ordered = rowOf m in
+    let up : t + (a - t) ≡ a = omega arith in
+    let cut : f + (a - f) ≡ a = omega arith in
+    let has : taken i (w .log) ++ row ≡ take a ord =
+    ap₂ (λ (x y : List Ordered). x ++ y) (h .took-is) (row-is group i _ m ord _ _ h (s .number-is)) ∙ sym (take-add t (a - t) ord) ∙ ap (λ (k : ℕ). take k ord) up in
+    let last : lastNumber (taken i (w .log) ++ row) ≡ a =
+    ap lastNumber has ∙ last-is (take a ord) (runs-take 0 a ord (runs ord s)) ∙ length-take-le a ord (acknowledged-most h) in
+    let rest : above (lastNumber (taken i (w .log) ++ row)) (historyOf q) ≡ drop a ord =
+    ap₂ above last (history-is group q ord s)
+    ∙ ap (λ (k : ℕ). above k (drop f ord)) (sym cut)
+    ∙ above-drop f (a - f) (drop f ord) (λ r x e. let z = runs-drop 0 f ord (runs ord s) r x e in omega arith)
+    ∙ drop-drop (a - f) f ord
     ∙ ap (λ (k : ℕ). drop k ord) cut in
-    ap₂ (λ (x y : List Ordered). x ++ y) (h .took-is) owes ∙ take-append-drop t ord
+    sym (append-assoc (taken i (w .log)) row _) ∙ ap₂ (λ (x y : List Ordered). x ++ y) has rest ∙ take-append-drop a ord
   where
     runs : (ord : List Ordered) → SequencerInv group (w .group .sequencer) ord → Runs 0 ord
-    runs ord s r m e = let z = s .number-is r m e in omega arith
+    runs ord s r x e = let z = s .number-is r x e in omega arith
 
 -- the sum over all terminals
 sum-is : (n x : ℕ) (f : ℕ → ℕ) → ((i : ℕ) → i < n → f i ≡ x) → sum n f ≡ n * x

@@ -25,8 +25,8 @@ abbrev pub withoutLast : ℕ → List Submission → List Submission
 withoutLast k l = list.take (length l - k) l
 
 pub record Claim (n : ℕ) (w : World) : Type 0 where
-  -- for each terminal, what it took followed by what it is owed, the history's messages numbered above that, equals the whole
-  -- order of numbered messages
+  -- for each terminal, what it took followed by what it is owed, the row that it holds and the history's messages above that row,
+  -- equals the whole order of numbered messages
   pub whole : (i : ℕ) → i < n → taken i (w .log) ++ owed w i ≡ order (w .log)
   -- so taken + owed, summed over all terminals, = n × numbered
   pub total : sum n (λ i. length (taken i (w .log)) + length (owed w i)) ≡ n * length (order (w .log))
@@ -34,7 +34,7 @@ pub record Claim (n : ℕ) (w : World) : Type 0 where
   -- the last
   pub own : (i : ℕ) → i < n
       → (ownOf i (order (w .log)) ≡ accepted i (w .log)) ⊎ (ownOf i (order (w .log)) ≡ withoutLast 1 (accepted i (w .log)))
-  -- from there a closing round of at most 98 × n events
+  -- from there a closing round of at most 106 × n events
   pub closing-short : length (closing w) ≤ closingMost * n
   -- (which changes no order)
   pub closing-order : order (run w (closing w) .log) ≡ order (w .log)

@@ -103,6 +103,9 @@ pub record Examples : Type 0 where
   pub ninth-gap : member.receiveOf (holding 0) (broadcast 9) longestPacket .answer ≡ memberAnswer.Answer.BeyondGap
   pub ninth-packet : member.receiveOf (holding 0) (broadcast 9) longestPacket .bytes
       ≡ packetOf (fieldsOf 7 (Packet.Gap (record { 0 = 0 }) (record { 0 = 0 }) (record { 0 = 1 }) (record { 0 = 8 }))) []
+  -- with t + 1 to t + 3 held the status says t + 3; with a hole at t + 3 it says t + 2
+  pub row-status : member.statusOf (holding 3) longestPacket .bytes ≡ statusOf 0 3
+  pub row-hole : member.statusOf (member.receiveOf (holding 2) (broadcast 4) longestPacket .member) longestPacket .bytes ≡ statusOf 0 2
   -- the 32nd above floor is Numbered, the next Full
   pub thirty-second : sequencer.receiveOf (requested 2 31) (request 0 32 []) longestPacket .answer ≡ sequencerAnswer.Answer.Numbered (record { 0 = 32 })
   pub next-full : sequencer.receiveOf (requested 2 32) (request 0 33 []) longestPacket .answer ≡ sequencerAnswer.Answer.Full

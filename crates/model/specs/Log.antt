@@ -1,15 +1,19 @@
 -- What is read off the list of events and answers, and off the history: the words of demand 3.
 use mathlib.Core.List.{List, [], _∷_, _++_}
 use Prim.Native.Nat.{ℕ, zero, suc, _+_, _-_}
+use lib.ListN.{getD}
 use Rattle.group.specs.Choice.{if_then_else_, _<?_, _=?_}
 use Rattle.member.specs.Order.{tookBy, acceptedBy}
+use Rattle.member.specs.State.{acknowledgedOf}
+use Rattle.member.specs.declared.Member.{Member}
 use Rattle.message.specs.Message.{payloadOf}
 use Rattle.message.specs.Order.{Ordered, Submission, countedFrom}
 use Rattle.message.specs.declared.Message.{Message}
 use Rattle.history.specs.State.{messageAt}
-use Rattle.model.specs.World.{Event, submit, repeat, take, status, poll, copy, handMember, handSequencer, Answer, absent, bySequencer, byMember, Entry, World}
+use Rattle.model.specs.World.{Event, submit, repeat, take, status, poll, copy, handMember, handSequencer, Answer, absent, bySequencer, byMember, Entry, World, noMember}
 use Rattle.sequencer.specs.Order.{numberedBy}
 use Rattle.sequencer.specs.declared.Sequencer.{Sequencer}
+use Rattle.window.specs.Places as window
 
 -- what each entry gives, one after the other
 unfoldable pub gather : {A B : Type 0} → (A → List B) → List A → List B
@@ -100,6 +104,14 @@ unfoldable pub above : ℕ → List Ordered → List Ordered
 above number [] = []
 above number (m ∷ rest) = if number <? m .number then m ∷ above number rest else above number rest
 
--- owed to a terminal are the history's messages numbered above the last one it took (all, if none), lowest first
+-- the row that a member acknowledges above what it took: the messages that it holds from t + 1 on without a hole, lowest first
+abbrev pub rowOf : Member → List Ordered
+rowOf m = messagesAbove (window.messageAt (m .held)) (m .taken .0) (acknowledgedOf m .0 - m .taken .0)
+
+-- owed after what was taken: the row, then the history's messages numbered above the last of both (all, if there is none)
+abbrev pub owedAfter : List Ordered → List Ordered → List Ordered → List Ordered
+owedAfter took row history = row ++ above (lastNumber (took ++ row)) history
+
+-- owed to a terminal are the row that its member holds, and the history's messages above that row
 abbrev pub owed : World → ℕ → List Ordered
-owed w i = above (lastNumber (taken i (w .log))) (historyOf (w .group .sequencer))
+owed w i = owedAfter (taken i (w .log)) (rowOf (getD (w .group .members) i noMember)) (historyOf (w .group .sequencer))

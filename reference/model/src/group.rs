@@ -6,6 +6,7 @@ use crate::answer::{Answer, Refusal};
 use crate::limits::PACKET;
 use crate::member::Member;
 use crate::packet;
+use crate::place::Place;
 use crate::sequencer::Sequencer;
 
 /// One event of a schedule. Members and packets may be named that are not
@@ -208,27 +209,16 @@ impl Run {
             .collect()
     }
 
-    /// The history's messages numbered above the last one that a member
-    /// took, lowest first.
+    /// The messages that a member holds above the last one that it took,
+    /// without a hole, then the history's above them; lowest first.
     pub fn owed(&self, member: usize) -> Vec<Message> {
-        let last = self
-            .taken(member)
-            .last()
-            .map_or(0, |message| message.number);
         let sequencer = &self.group.sequencer;
-        (sequencer.floor..sequencer.top)
-            .map(|below| below + 1)
-            .filter(|&number| number > last)
-            .map(|number| {
-                let place = &sequencer.history[number as usize % sequencer.history.len()];
-                Message {
-                    number,
-                    originator: place.originator,
-                    count: place.count,
-                    payload: place.payload.as_slice().to_vec(),
-                }
-            })
-            .collect()
+        let state = &self.group.members[member];
+        let end = state.row_end();
+        let row = (state.taken..end).map(|below| message(below + 1, &state.places));
+        let rest = (sequencer.floor.max(end)..sequencer.top)
+            .map(|below| message(below + 1, &sequencer.history));
+        row.chain(rest).collect()
     }
 
     /// A member's accepted submissions; the j-th has count j.
@@ -248,7 +238,12 @@ impl Run {
     pub fn closing_round(&mut self) -> usize {
         let before = self.log.len();
         for member in 0..self.group.members.len() {
-            for below in self.group.members[member].taken..self.group.sequencer.top {
+            let Member { taken, .. } = self.group.members[member];
+            let end = self.group.members[member].row_end();
+            for _ in taken..end {
+                self.step(Event::Take { member });
+            }
+            for below in end..self.group.sequencer.top {
                 let number = below + 1;
                 if let Some(packet) = self.write(Event::Copy { number }) {
                     self.step(Event::ToMember { packet, member });
@@ -271,5 +266,16 @@ impl Run {
         self.log
             .iter()
             .filter_map(|(event, outcome)| Some((event, outcome.as_ref()?)))
+    }
+}
+
+/// The message of a number, in its place.
+fn message(number: u32, places: &[Place]) -> Message {
+    let place = &places[number as usize % places.len()];
+    Message {
+        number,
+        originator: place.originator,
+        count: place.count,
+        payload: place.payload.as_slice().to_vec(),
     }
 }

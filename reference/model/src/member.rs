@@ -71,7 +71,7 @@ impl Member {
         settle(self.try_submit(payload, out))
     }
 
-    /// Writes the waiting request again, with today's t.
+    /// Writes the waiting request again, with today's row end.
     pub fn repeat(&self, out: &mut [u8]) -> (Answer, usize) {
         settle(self.try_repeat(out))
     }
@@ -93,6 +93,12 @@ impl Member {
     /// Takes a packet; the answer and the length of the packet written.
     pub fn receive(&mut self, packet: &[u8], out: &mut [u8]) -> (Answer, usize) {
         settle(self.try_receive(packet, out))
+    }
+
+    /// The last number through which a sound member has everything, taken or
+    /// held: what it acknowledges.
+    pub fn row_end(&self) -> u32 {
+        self.taken + self.run()
     }
 
     /// Questions 1 and 2.
@@ -225,13 +231,13 @@ impl Member {
         self.put(GAP, self.taken + run + 1, self.taken + last, &[], out)
     }
 
-    /// Every packet of a member carries its number and acknowledgement.
+    /// Every packet of a member carries its number and its row end.
     fn put(&self, kind: u8, b: u32, c: u32, payload: &[u8], out: &mut [u8]) -> usize {
         let header = Header {
             kind,
             member: self.number,
             group: self.group,
-            a: self.taken,
+            a: self.row_end(),
             b,
             c,
         };

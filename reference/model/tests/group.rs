@@ -1,5 +1,6 @@
 //! Demand 3: whatever happens to a group, what a member took and what it is
-//! owed is the whole order, and a closing round hands it all out.
+//! owed, its row and the history above it, is the whole order, and a closing
+//! round hands it all out.
 
 mod common;
 
@@ -11,6 +12,60 @@ use model::member::Member;
 use model::place::Place;
 use model::sequencer::Sequencer;
 use std::collections::BTreeSet;
+
+/// The last number up to which a member has everything, a number at a time.
+fn row_end(member: &Member) -> u32 {
+    let mut end = member.taken;
+    while end < member.taken + 8 && member.held >> ((end + 1) % 8) & 1 == 1 {
+        end += 1;
+    }
+    end
+}
+
+/// What a member acknowledges is its row end, which lies between floor and
+/// top; what it is owed is that row and the history above it, nothing twice.
+fn check_row(run: &Run, at: usize) {
+    let member = &run.group.members[at];
+    let sequencer = &run.group.sequencer;
+    let end = row_end(member);
+    assert_eq!(member.row_end(), end);
+    assert!((sequencer.floor..=sequencer.top).contains(&end));
+    let owed = run.owed(at);
+    assert!(
+        owed.iter()
+            .map(|m| m.number)
+            .eq(member.taken + 1..=sequencer.top)
+    );
+    for message in owed {
+        let place = if message.number <= end {
+            &member.places[message.number as usize % 8]
+        } else {
+            &sequencer.history[message.number as usize % 32]
+        };
+        assert_eq!(
+            (message.originator, message.count, &message.payload[..]),
+            (place.originator, place.count, place.payload.as_slice())
+        );
+    }
+}
+
+/// A packet that was just written acknowledges the row end of the state that
+/// the call left.
+fn check_written(run: &Run, packet: usize) {
+    let bytes = &run.group.packets[packet];
+    if matches!(bytes[0], 1 | 3 | 4) {
+        let a = u32::from_be_bytes(bytes[8..12].try_into().unwrap());
+        assert_eq!(a, row_end(&run.group.members[usize::from(bytes[1])]));
+    }
+}
+
+/// How long the closing round is: the row, three events for each number above
+/// it, a status and its handing over.
+fn closing_length(run: &Run) -> usize {
+    let top = run.group.sequencer.top;
+    let member = |state: &Member| row_end(state) - state.taken + 3 * (top - row_end(state)) + 2;
+    run.group.members.iter().map(member).sum::<u32>() as usize
+}
 
 /// The claim after any list of events.
 fn check(run: &Run) {
@@ -25,6 +80,7 @@ fn check(run: &Run) {
         assert_eq!(run.group.members[member].taken as usize, taken.len());
         sum += taken.len() + owed.len();
         assert_eq!([taken, owed].concat(), order);
+        check_row(run, member);
 
         let submissions = run.submissions(member);
         let own: Vec<(u32, Vec<u8>)> = order
@@ -45,7 +101,9 @@ fn close(run: &mut Run) {
     let n = run.group.members.len();
     let order = run.order();
     let submissions: Vec<_> = (0..n).map(|member| run.submissions(member)).collect();
-    assert!(run.closing_round() <= 98 * n);
+    let length = closing_length(run);
+    assert!(length <= 106 * n);
+    assert_eq!(run.closing_round(), length);
     assert_eq!(run.order(), order);
     assert_eq!(run.group.sequencer.floor, run.group.sequencer.top);
     assert_eq!(run.group.sequencer.history, [Place::EMPTY; 32]);
@@ -194,15 +252,17 @@ const COMMON: [&str; 17] = [
 /// numbered only after it took the one before.
 const SEVERAL: [&str; 4] = ["beyond", "beyondgap", "full", "keptgap"];
 
-/// The names of the answers met and the longest order.
+/// The names of the answers met, the longest order, and how far floor lay
+/// above what a member took.
 fn random_runs(
     n: u32,
     seeds: std::ops::Range<u64>,
     events: usize,
     every: usize,
-) -> (BTreeSet<String>, u32) {
+) -> (BTreeSet<String>, u32, u32) {
     let mut seen = BTreeSet::new();
     let mut longest = 0;
+    let mut ahead = 0;
     for seed in seeds {
         let mut scheduler = Scheduler::seeded(seed * 31 + u64::from(n));
         let mut run = Run::fresh(n, GROUP).unwrap();
@@ -218,7 +278,14 @@ fn random_runs(
                 assert_eq!(run.group.packets.len(), written);
             }
             seen.insert(name(answer));
+            for (before, after) in ends.1.iter().zip(&run.group.members) {
+                assert!(row_end(before) <= row_end(after));
+                ahead = ahead.max(run.group.sequencer.floor.saturating_sub(after.taken));
+            }
             if let Some(outcome) = outcome {
+                outcome
+                    .packet
+                    .inspect(|&packet| check_written(&run, packet));
                 scheduler.follow(&run, &outcome);
             }
             if at % every == 0 {
@@ -232,17 +299,18 @@ fn random_runs(
         assert_eq!(run.closing_round(), 2 * n as usize);
         check(&run);
     }
-    (seen, longest)
+    (seen, longest, ahead)
 }
 
 fn long_lists(n: u32, seeds: u64, events: usize, at_least: u32) {
-    let (seen, longest) = random_runs(n, 1000..1000 + seeds, events, 500);
+    let (seen, longest, ahead) = random_runs(n, 1000..1000 + seeds, events, 500);
     let mut expected: BTreeSet<String> = COMMON.map(String::from).into();
     if n > 1 {
         expected.extend(SEVERAL.map(String::from));
     }
     assert_eq!(seen, expected);
     assert!(longest >= at_least, "only {longest} numbered");
+    assert!((1..=8).contains(&ahead), "floor {ahead} ahead");
 }
 
 #[test]
@@ -363,29 +431,108 @@ fn what_is_not_there_changes_nothing() {
     assert_eq!(run.log.len(), 9);
 }
 
-/// The longest closing round: the history full, nobody took anything but
-/// the one that submits.
+/// Member 0 submits, and takes its messages at once; the others hold the first
+/// `held` and acknowledge them. So many are numbered, and the next is Full.
+fn filled(n: u32, held: u32) -> Run {
+    let mut run = Run::fresh(n, GROUP).unwrap();
+    for count in 1..=33 + held {
+        let payload = vec![7; count as usize];
+        let sent = run.step(Event::Submit { member: 0, payload }).unwrap();
+        let packet = sent.packet.unwrap();
+        let answer = run.step(Event::ToSequencer { packet }).unwrap();
+        if count == 33 + held {
+            assert_eq!(answer.answer, Answer::Full);
+            break;
+        }
+        assert_eq!(answer.answer, Answer::Numbered(count));
+        let packet = answer.packet.unwrap();
+        run.step(Event::ToMember { packet, member: 0 });
+        run.step(Event::Take { member: 0 });
+        for member in 1..n as usize {
+            if count <= held {
+                run.step(Event::ToMember { packet, member });
+                let packet = run.step(Event::Status { member }).unwrap().packet.unwrap();
+                run.step(Event::ToSequencer { packet });
+            }
+        }
+    }
+    assert_eq!(run.group.sequencer.floor, held);
+    check(&run);
+    run
+}
+
+/// The longest closing rounds: the history full, and whoever did not submit
+/// took nothing. What it holds in a row adds a take each.
 #[test]
 fn the_closing_round_after_a_full_history() {
     for n in [2, 3, 16] {
-        let mut run = Run::fresh(n, GROUP).unwrap();
-        for count in 1..=33u32 {
-            let payload = vec![7; count as usize];
-            let sent = run.step(Event::Submit { member: 0, payload }).unwrap();
-            let packet = sent.packet.unwrap();
-            let answer = run.step(Event::ToSequencer { packet }).unwrap();
-            if count == 33 {
-                assert_eq!(answer.answer, Answer::Full);
-                break;
-            }
-            assert_eq!(answer.answer, Answer::Numbered(count));
-            let packet = answer.packet.unwrap();
-            run.step(Event::ToMember { packet, member: 0 });
-            run.step(Event::Take { member: 0 });
+        for held in [0, 1, 7, 8] {
+            let mut run = filled(n, held);
+            let events = run.clone().closing_round();
+            assert_eq!(events, (98 + held as usize) * (n as usize - 1) + 2);
+            close(&mut run);
         }
-        check(&run);
-        let events = run.clone().closing_round();
-        assert_eq!(events, 98 * (n as usize - 1) + 2);
-        close(&mut run);
     }
+}
+
+/// Every member holds a message that no member took: it is purged.
+#[test]
+fn a_message_is_purged_that_nobody_took() {
+    let mut run = Run::fresh(3, GROUP).unwrap();
+    let payload = vec![9];
+    let sent = run.step(Event::Submit { member: 1, payload }).unwrap();
+    let request = sent.packet.unwrap();
+    let hand = Event::ToSequencer { packet: request };
+    let packet = run.step(hand.clone()).unwrap().packet.unwrap();
+    for member in 0..3 {
+        run.step(Event::ToMember { packet, member });
+        let packet = run.step(Event::Status { member }).unwrap().packet.unwrap();
+        run.step(Event::ToSequencer { packet });
+    }
+    assert_eq!(run.group.sequencer.floor, 1);
+    assert_eq!(run.group.sequencer.history, [Place::EMPTY; 32]);
+    assert!(run.group.members.iter().all(|member| member.taken == 0));
+    check(&run);
+    // Its originator still waits for it: the repeat is old, and its take ends that.
+    assert!(run.group.members[1].waiting);
+    let again = run.step(Event::Repeat { member: 1 }).unwrap();
+    let packet = again.packet.unwrap();
+    let answer = run.step(Event::ToSequencer { packet }).unwrap().answer;
+    assert_eq!(answer, Answer::Old);
+    assert_eq!(run.step(hand).unwrap().answer, Answer::Old);
+    check(&run);
+    run.step(Event::Take { member: 1 });
+    assert!(!run.group.members[1].waiting);
+    close(&mut run);
+}
+
+/// What is held behind a hole is owed once, from the history.
+#[test]
+fn held_behind_a_hole() {
+    let mut run = Run::fresh(2, GROUP).unwrap();
+    let mut broadcasts = Vec::new();
+    for number in 1..=5 {
+        let payload = vec![number];
+        let sent = run.step(Event::Submit { member: 0, payload }).unwrap();
+        let packet = sent.packet.unwrap();
+        let packet = run.step(Event::ToSequencer { packet }).unwrap().packet;
+        let packet = packet.unwrap();
+        run.step(Event::ToMember { packet, member: 0 });
+        run.step(Event::Take { member: 0 });
+        broadcasts.push(packet);
+    }
+    for number in [1, 2, 4] {
+        let packet = broadcasts[number - 1];
+        run.step(Event::ToMember { packet, member: 1 });
+    }
+    assert_eq!(run.group.members[1].row_end(), 2);
+    assert!(run.owed(1).iter().map(|m| m.number).eq(1..=5));
+    check(&run);
+    assert_eq!(closing_length(&run), 2 + (2 + 3 * 3 + 2));
+    let packet = broadcasts[2];
+    run.step(Event::ToMember { packet, member: 1 });
+    assert_eq!(run.group.members[1].row_end(), 4);
+    check(&run);
+    assert_eq!(closing_length(&run), 2 + (4 + 3 + 2));
+    close(&mut run);
 }

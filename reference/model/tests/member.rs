@@ -318,7 +318,7 @@ fn submit_repeat_and_status() {
     );
     let mut expected = state.clone();
     let answer = submit(&mut state, b"one");
-    assert_eq!(answer, (Sent, request(1, 4, 1, b"one")));
+    assert_eq!(answer, (Sent, request(1, 5, 1, b"one")));
     expected.submitted = 1;
     expected.waiting = true;
     expected.message = payload(b"one");
@@ -332,15 +332,18 @@ fn submit_repeat_and_status() {
     assert_eq!(refused(&state, |s, out| s.submit(&[1; PAYLOAD], out)), 14);
     assert_eq!(refused(&state, |s, out| s.submit(b"", out)), 14);
 
-    // A repeat carries today's t.
-    let answer = accepted(&mut state, |s, out| s.repeat(out));
-    assert_eq!(answer, (Sent, request(1, 4, 1, b"one")));
-    take(&mut state);
-    let before = state.clone();
+    // A repeat carries today's row end; a take leaves it.
     let answer = accepted(&mut state, |s, out| s.repeat(out));
     assert_eq!(answer, (Sent, request(1, 5, 1, b"one")));
+    take(&mut state);
+    let answer = accepted(&mut state, |s, out| s.repeat(out));
+    assert_eq!(answer, (Sent, request(1, 5, 1, b"one")));
+    give(&mut state, &broadcast(0, 6, 1, 0, b""));
+    let before = state.clone();
+    let answer = accepted(&mut state, |s, out| s.repeat(out));
+    assert_eq!(answer, (Sent, request(1, 6, 1, b"one")));
     let answer = accepted(&mut state, |s, out| s.status(out));
-    assert_eq!(answer, (Sent, status(1, 5)));
+    assert_eq!(answer, (Sent, status(1, 6)));
     assert_eq!(state, before);
 }
 
@@ -380,7 +383,7 @@ fn only_its_own_waiting_count_ends_the_waiting() {
         assert_eq!(state.submitted, 6);
         assert_eq!(state.message == Payload::EMPTY, !still);
         if !still {
-            assert_eq!(submit(&mut state, b"next").1, request(1, 12, 7, b"next"));
+            assert_eq!(submit(&mut state, b"next").1, request(1, 13, 7, b"next"));
         }
     }
     // Nothing waits: nothing changes.
@@ -402,9 +405,9 @@ fn broadcasts() {
     }
     for (number, answer) in [
         (14, (Kept, vec![])),
-        (16, (KeptGap, gap(1, 11, 14, 15))),
-        (17, (KeptGap, gap(1, 11, 14, 16))),
-        (19, (KeptGap, gap(1, 11, 14, 18))),
+        (16, (KeptGap, gap(1, 13, 14, 15))),
+        (17, (KeptGap, gap(1, 13, 14, 16))),
+        (19, (KeptGap, gap(1, 13, 14, 18))),
     ] {
         for floor in [0, 13] {
             let mut state = busy();
@@ -420,7 +423,7 @@ fn broadcasts() {
     for number in [20, 21, 1000, MAX] {
         let mut state = busy();
         let answer = give(&mut state, &broadcast(1, number, 9, 0, b"new"));
-        assert_eq!(answer, (BeyondGap, gap(1, 11, 14, 19)));
+        assert_eq!(answer, (BeyondGap, gap(1, 13, 14, 19)));
         assert_eq!(state, busy());
     }
 }
@@ -429,16 +432,16 @@ fn broadcasts() {
 fn polls() {
     // 12, 13 and 15 are held; 14 and 16 to 19 are missing.
     for (top, answer) in [
-        (0, (Status, status(1, 11))),
-        (11, (Status, status(1, 11))),
-        (12, (Status, status(1, 11))),
-        (13, (Status, status(1, 11))),
-        (14, (Gap, gap(1, 11, 14, 14))),
-        (15, (Gap, gap(1, 11, 14, 15))),
-        (18, (Gap, gap(1, 11, 14, 18))),
-        (19, (Gap, gap(1, 11, 14, 19))),
-        (20, (Gap, gap(1, 11, 14, 19))),
-        (MAX, (Gap, gap(1, 11, 14, 19))),
+        (0, (Status, status(1, 13))),
+        (11, (Status, status(1, 13))),
+        (12, (Status, status(1, 13))),
+        (13, (Status, status(1, 13))),
+        (14, (Gap, gap(1, 13, 14, 14))),
+        (15, (Gap, gap(1, 13, 14, 15))),
+        (18, (Gap, gap(1, 13, 14, 18))),
+        (19, (Gap, gap(1, 13, 14, 19))),
+        (20, (Gap, gap(1, 13, 14, 19))),
+        (MAX, (Gap, gap(1, 13, 14, 19))),
     ] {
         for floor in [0, top] {
             let mut state = busy();
@@ -449,8 +452,30 @@ fn polls() {
     // All eight held: nothing up to t+8 is missing, whatever top is.
     let mut state = at(11, &[1, 2, 3, 4, 5, 6, 7, 8]);
     for top in [11, 19, 20, MAX] {
-        assert_eq!(give(&mut state, &poll(top, 0)), (Status, status(1, 11)));
+        assert_eq!(give(&mut state, &poll(top, 0)), (Status, status(1, 19)));
     }
+}
+
+/// A number that fills a hole: the row jumps to the next hole.
+#[test]
+fn the_row_jumps() {
+    let mut state = at(11, &[2, 3, 5]);
+    let says = |state: &Member| accepted(&mut state.clone(), |s, out| s.status(out)).1;
+    assert_eq!(says(&state), status(1, 11));
+    assert_eq!(give(&mut state, &broadcast(0, 12, 1, 0, b"")).0, Kept);
+    assert_eq!(says(&state), status(1, 14));
+    assert_eq!(submit(&mut state, b"u").1, request(1, 14, 1, b"u"));
+    // What is held behind the hole is not acknowledged, nor is the gap's own broadcast.
+    let answer = give(&mut state, &broadcast(0, 17, 1, 0, b""));
+    assert_eq!(answer, (KeptGap, gap(1, 14, 15, 16)));
+    assert_eq!(give(&mut state, &broadcast(0, 15, 1, 0, b"")).0, Kept);
+    assert_eq!(says(&state), status(1, 17));
+    // Takes leave it.
+    for _ in 12..=17 {
+        take(&mut state);
+        assert_eq!(says(&state), status(1, 17));
+    }
+    assert_eq!(take(&mut state).0, None);
 }
 
 /// Every set of held numbers at several t, against plain loops.
@@ -461,6 +486,10 @@ fn every_window() {
             let distances: Vec<u32> = (1..=8).filter(|d| held >> (d - 1) & 1 == 1).collect();
             let state = at(t, &distances);
             let missing: Vec<u32> = (1..=8).filter(|d| !distances.contains(d)).collect();
+            let end = t + missing.first().map_or(8, |first| first - 1);
+            let answer = accepted(&mut state.clone(), |s, out| s.status(out));
+            assert_eq!(answer, (Sent, status(1, end)));
+            assert_eq!(submit(&mut state.clone(), b"u").1, request(1, end, 1, b"u"));
             let above = |last: u32| missing.iter().copied().find(|&d| d <= last);
             for distance in 1..=9u32 {
                 let Some(number) = t.checked_add(distance) else {
@@ -471,20 +500,20 @@ fn every_window() {
                     (Old, vec![])
                 } else if distance == 9 {
                     match above(8) {
-                        Some(d) => (BeyondGap, gap(1, t, t + d, t + 8)),
+                        Some(d) => (BeyondGap, gap(1, end, t + d, t + 8)),
                         Option::None => (Beyond, vec![]),
                     }
                 } else {
                     match above(distance - 1) {
-                        Some(d) => (KeptGap, gap(1, t, t + d, number - 1)),
+                        Some(d) => (KeptGap, gap(1, end, t + d, number - 1)),
                         Option::None => (Kept, vec![]),
                     }
                 };
                 assert_eq!(give(&mut state.clone(), &packet), expected);
 
                 let expected = match above(distance.min(8)) {
-                    Some(d) => (Gap, gap(1, t, t + d, t + distance.min(8))),
-                    Option::None => (Status, status(1, t)),
+                    Some(d) => (Gap, gap(1, end, t + d, t + distance.min(8))),
+                    Option::None => (Status, status(1, end)),
                 };
                 assert_eq!(give(&mut state.clone(), &poll(number, 0)), expected);
             }
@@ -522,10 +551,7 @@ fn the_last_numbers() {
     assert_eq!(give(&mut state, &broadcast(0, 1, 1, 0, b"")).0, Old);
     assert_eq!(give(&mut state, &broadcast(0, MAX - 2, 1, 0, b"")).0, Kept);
     assert_eq!(give(&mut state, &broadcast(0, MAX - 1, 1, 0, b"")).0, Kept);
-    assert_eq!(
-        give(&mut state, &poll(MAX, 0)),
-        (Status, status(1, MAX - 3))
-    );
+    assert_eq!(give(&mut state, &poll(MAX, 0)), (Status, status(1, MAX)));
     assert_eq!(take(&mut state).0, took(MAX - 2, 0, 1, true));
     assert_eq!(take(&mut state).0, took(MAX - 1, 0, 1, true));
     assert_eq!(take(&mut state), (took(MAX, 0, 1, false), b"last".to_vec()));

@@ -4,6 +4,7 @@
 use model::Answer;
 use model::group::{Event, Group, Outcome};
 use model::limits::PAYLOAD;
+use model::member::Member;
 use model::packet;
 use model::play::{self, PACKETS};
 use std::collections::BTreeMap;
@@ -11,7 +12,7 @@ use std::collections::BTreeMap;
 /// Everything that `play` can reach. Questions 1 to 7, 9 to 12 and 16 never
 /// answer no here: the group's states are sound, its packets are of its own
 /// making, and 200 of them use up no numbers.
-pub const REACHABLE: [&str; 63] = [
+pub const REACHABLE: [&str; 73] = [
     "opening: missing",
     "opening: bad line",
     "opening: refused 18, n below 1",
@@ -27,22 +28,27 @@ pub const REACHABLE: [&str; 63] = [
     "submit: sent",
     "submit: sent, payload of 0",
     "submit: sent, payload of the most bytes",
+    "submit: sent, a row held",
     "submit: refused 13",
     "submit: refused 13, one waiting",
     "submit: refused 14",
     "submit: absent",
     "submit: absent, payload over the most",
     "repeat: sent",
+    "repeat: sent, a row held",
     "repeat: refused 15",
     "repeat: absent",
     "take: took, more",
     "take: took, last",
     "take: took its own",
     "take: took an empty payload",
+    "take: took what was purged",
     "take: none, nothing held",
     "take: none, a number above held",
     "take: absent",
     "status: sent",
+    "status: sent, a row held",
+    "status: sent, a row held and more behind a hole",
     "status: absent",
     "poll: sent",
     "copy: sent",
@@ -54,6 +60,7 @@ pub const REACHABLE: [&str; 63] = [
     "request: old, below the last count, kept",
     "request: old, below the last count, purged",
     "request: old, the last count, purged",
+    "request: old, its message purged and not yet taken",
     "request: full",
     "gap: wanted from B",
     "gap: wanted from above floor",
@@ -64,13 +71,17 @@ pub const REACHABLE: [&str; 63] = [
     "sequencer: refused 8",
     "sequencer: absent packet",
     "broadcast: kept",
+    "broadcast: kept, the row jumps",
     "broadcast: keptgap",
+    "broadcast: keptgap, a row held",
     "broadcast: old, taken",
     "broadcast: old, held",
     "broadcast: beyond",
     "broadcast: beyondgap",
     "poll packet: gap",
+    "poll packet: gap, a row held",
     "poll packet: status",
+    "poll packet: status, a row held",
     "member: refused 8",
     "member: absent packet",
     "member: absent member",
@@ -163,6 +174,9 @@ fn each(
             (_, 14) => reached("submit: refused 14"),
             _ => {
                 reached("submit: sent");
+                if has_row(&before.members[member]) {
+                    reached("submit: sent, a row held");
+                }
                 match payload.len() {
                     0 => reached("submit: sent, payload of 0"),
                     PAYLOAD => reached("submit: sent, payload of the most bytes"),
@@ -170,11 +184,16 @@ fn each(
                 }
             }
         },
-        Event::Repeat { .. } => reached(match (answer, question) {
-            (None, _) => "repeat: absent",
-            (_, 15) => "repeat: refused 15",
-            _ => "repeat: sent",
-        }),
+        Event::Repeat { member } => match (answer, question) {
+            (None, _) => reached("repeat: absent"),
+            (_, 15) => reached("repeat: refused 15"),
+            _ => {
+                reached("repeat: sent");
+                if has_row(&before.members[member]) {
+                    reached("repeat: sent, a row held");
+                }
+            }
+        },
         Event::Take { member } => match answer {
             None => reached("take: absent"),
             Some(Answer::Took { more, .. }) => {
@@ -186,6 +205,9 @@ fn each(
                 if before.members[member].waiting && !after.members[member].waiting {
                     reached("take: took its own");
                 }
+                if after.members[member].taken <= before.sequencer.floor {
+                    reached("take: took what was purged");
+                }
                 if outcome.is_some_and(|outcome| outcome.payload.is_empty()) {
                     reached("take: took an empty payload");
                 }
@@ -196,10 +218,19 @@ fn each(
                 "take: none, a number above held"
             }),
         },
-        Event::Status { .. } => reached(match answer {
-            None => "status: absent",
-            _ => "status: sent",
-        }),
+        Event::Status { member } => match answer {
+            None => reached("status: absent"),
+            _ => {
+                reached("status: sent");
+                let state = &before.members[member];
+                if has_row(state) {
+                    reached("status: sent, a row held");
+                    if state.held.count_ones() > state.row_end() - state.taken {
+                        reached("status: sent, a row held and more behind a hole");
+                    }
+                }
+            }
+        },
         Event::Poll => reached("poll: sent"),
         Event::Copy { number } => reached(match question {
             17 if number <= before.sequencer.floor => "copy: refused 17, at floor or below",
@@ -213,14 +244,37 @@ fn each(
         },
         Event::ToMember { packet, member } => {
             let (packet, state) = (before.packets.get(packet), before.members.get(member));
-            reached(match (packet, state) {
-                (None, None) => "member: absent packet and member",
-                (None, _) => "member: absent packet",
-                (_, None) => "member: absent member",
-                (Some(bytes), Some(state)) => at_member(bytes, state.taken, answer),
-            });
+            match (packet, state) {
+                (None, None) => reached("member: absent packet and member"),
+                (None, _) => reached("member: absent packet"),
+                (_, None) => reached("member: absent member"),
+                (Some(bytes), Some(state)) => {
+                    reached(at_member(bytes, state.taken, answer));
+                    let end = after.members[member].row_end();
+                    match answer {
+                        Some(Answer::Kept) if end > state.row_end() + 1 => {
+                            reached("broadcast: kept, the row jumps");
+                        }
+                        Some(Answer::KeptGap) if has_row(state) => {
+                            reached("broadcast: keptgap, a row held");
+                        }
+                        Some(Answer::Gap) if has_row(state) => {
+                            reached("poll packet: gap, a row held");
+                        }
+                        Some(Answer::Status) if has_row(state) => {
+                            reached("poll packet: status, a row held");
+                        }
+                        _ => (),
+                    }
+                }
+            }
         }
     }
+}
+
+/// Whether a member holds what it could take.
+fn has_row(member: &Member) -> bool {
+    member.row_end() > member.taken
 }
 
 fn at_sequencer(
@@ -234,6 +288,10 @@ fn at_sequencer(
     let member = usize::from(header.member);
     let (old, new) = (&before.sequencer, &after.sequencer);
     let is_full = old.top - old.floor == 32;
+    let state = &before.members[member];
+    if matches!(answer, Some(Answer::Old)) && state.waiting && header.b == state.submitted {
+        reached("request: old, its message purged and not yet taken");
+    }
     reached(match (header.kind, answer) {
         (packet::REQUEST, Some(Answer::Numbered(_))) if is_full => {
             "request: numbered in a place it freed"

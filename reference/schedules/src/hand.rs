@@ -25,6 +25,12 @@ pub fn schedules() -> Vec<Schedule> {
         polls_and_holes(),
         window_moves_on(),
         taken_numbers_are_old(),
+        asleep(),
+        asleep_for_long(),
+        row_in_every_packet(),
+        row_up_to_a_hole(),
+        row_jumps(),
+        own_purged_while_waiting(),
         repaired(),
         repeated_requests(),
         repeated_with_todays_number(),
@@ -41,6 +47,7 @@ pub fn schedules() -> Vec<Schedule> {
         everything_twice(),
         history_goes_round(),
         closing_round(),
+        closing_round_takes_the_row(),
         lost_requests(),
         events_without_packets(),
         up_to_the_space(),
@@ -216,8 +223,8 @@ fn every_form() -> Schedule {
     s.line("T 1", "took 2 0 2 - last");
     s.line("A 1", "sent");
     s.line("Q 11", "noted");
-    s.line("M 5 0", "kept");
     s.line("R 0", "sent");
+    s.line("M 5 0", "kept");
     s.line("T 0", "took 2 0 2 - last");
     s.line("R 0", "refused 15");
     s.line("Q 12", "again 2");
@@ -386,7 +393,7 @@ fn beyond_a_hole() -> Schedule {
     s.give(broadcasts[9], 1, "beyond");
     s.end(
         "holes: the gap starts at the lowest missing number",
-        "top 12 floor 0 taken 12 0",
+        "top 12 floor 6 taken 12 0",
     )
 }
 
@@ -427,7 +434,7 @@ fn polls_and_holes() -> Schedule {
     s.give(three, 0, "status");
     s.end(
         "polls: gap up to the smaller of top and t+8, else status",
-        "top 11 floor 1 taken 11 1",
+        "top 11 floor 8 taken 11 1",
     )
 }
 
@@ -473,6 +480,155 @@ fn taken_numbers_are_old() -> Schedule {
     s.end(
         "taken numbers are old, also where their place is used again",
         "top 9 floor 0 taken 9 1",
+    )
+}
+
+/// A bench receives everything and nobody touches its screen: floor follows
+/// what it holds.
+fn asleep() -> Schedule {
+    let mut s = Script::open(2, 7);
+    for number in 1..=8 {
+        let broadcast = s.own(number);
+        s.give(broadcast, 1, "kept");
+        s.acknowledge(1);
+        s.acknowledge(0);
+        s.line(&format!("C {number}"), "refused 17");
+    }
+    for number in 9..=36 {
+        let broadcast = s.own(number);
+        s.give(broadcast, 1, "beyond");
+    }
+    s.line("C 9", "sent");
+    s.end(
+        "a bench takes nothing: what it holds leaves the history, which does not fill",
+        "top 36 floor 8 taken 36 0",
+    )
+}
+
+/// The bench's eight places and the history's 32 are all used.
+fn asleep_for_long() -> Schedule {
+    let mut s = Script::open(2, 7);
+    let mut broadcasts: Vec<usize> = (1..=8).map(|number| s.own(number)).collect();
+    for &broadcast in &broadcasts {
+        s.give(broadcast, 1, "kept");
+    }
+    s.acknowledge(1);
+    broadcasts.extend((9..=40).map(|number| s.own(number)));
+    let request = s.submit(0, "29");
+    let poll = s.hand(request, "full");
+    s.give(broadcasts[8], 1, "beyond");
+    let status = s.give(poll, 1, "status");
+    s.hand(status, "noted");
+    s.hand(request, "full");
+    // Awake: the row is taken, and the next one held in its turn.
+    for number in 1..=8 {
+        let more = if number < 8 { "more" } else { "last" };
+        s.take(1, &format!("took {number} 0 {number} {number:02x} {more}"));
+    }
+    s.hand(request, "full");
+    s.give(broadcasts[8], 1, "kept");
+    s.acknowledge(1);
+    s.hand(request, "numbered 41");
+    s.end(
+        "a bench takes nothing: 40 are numbered, the next full; freed once it takes and holds one more",
+        "top 41 floor 9 taken 40 8",
+    )
+}
+
+fn row_in_every_packet() -> Schedule {
+    let mut s = Script::open(2, 7);
+    let broadcasts: Vec<usize> = (1..=4).map(|number| s.own(number)).collect();
+    s.acknowledge(0);
+    s.give(broadcasts[0], 1, "kept");
+    s.acknowledge(1);
+    s.line("C 1", "refused 17");
+    s.line("C 2", "sent");
+    s.give(broadcasts[1], 1, "kept");
+    let fifth = s.number(1, "05", 5);
+    s.line("C 2", "refused 17");
+    s.line("C 3", "sent");
+    s.give(broadcasts[2], 1, "kept");
+    let gap = s.give(fifth, 1, "keptgap");
+    s.hand(gap, "wanted 4 4");
+    s.line("C 3", "refused 17");
+    let poll = s.poll();
+    s.give(broadcasts[3], 1, "kept");
+    let status = s.give(poll, 1, "status");
+    s.hand(status, "noted");
+    s.line("C 4", "refused 17");
+    s.line("C 5", "sent");
+    s.end(
+        "status, request, gap and a poll's status acknowledge what is held; nothing was taken",
+        "top 5 floor 4 taken 4 0",
+    )
+}
+
+fn row_up_to_a_hole() -> Schedule {
+    let mut s = Script::open(2, 7);
+    let broadcasts: Vec<usize> = (1..=4).map(|number| s.own(number)).collect();
+    s.acknowledge(0);
+    s.give(broadcasts[0], 1, "kept");
+    s.give(broadcasts[1], 1, "kept");
+    s.give(broadcasts[3], 1, "keptgap");
+    s.acknowledge(1);
+    // 4 is held behind the hole: neither it nor 3 may leave the history.
+    s.line("C 2", "refused 17");
+    s.line("C 4", "sent");
+    let copy = s.copy(3);
+    s.take(1, "took 1 0 1 01 more");
+    s.take(1, "took 2 0 2 02 last");
+    s.take(1, "none");
+    s.acknowledge(1);
+    s.line("C 3", "sent");
+    s.give(copy, 1, "kept");
+    s.acknowledge(1);
+    s.line("C 4", "refused 17");
+    s.end(
+        "with 1, 2 and 4 held, 2 is acknowledged; what is held behind a hole stays in the history",
+        "top 4 floor 4 taken 4 2",
+    )
+}
+
+fn row_jumps() -> Schedule {
+    let mut s = Script::open(2, 7);
+    let broadcasts: Vec<usize> = (1..=5).map(|number| s.own(number)).collect();
+    s.acknowledge(0);
+    for &broadcast in &broadcasts[1..] {
+        s.give(broadcast, 1, "keptgap");
+    }
+    s.acknowledge(1);
+    s.line("C 1", "sent");
+    s.give(broadcasts[0], 1, "kept");
+    s.acknowledge(1);
+    s.line("C 5", "refused 17");
+    s.end(
+        "a hole is filled: what is acknowledged jumps from 0 to 5",
+        "top 5 floor 5 taken 5 0",
+    )
+}
+
+fn own_purged_while_waiting() -> Schedule {
+    let mut s = Script::open(2, 7);
+    let request = s.submit(1, "aa");
+    let broadcast = s.hand(request, "numbered 1");
+    s.hand(request, "again 1");
+    for member in 0..2 {
+        s.give(broadcast, member, "kept");
+        s.acknowledge(member);
+    }
+    s.line("C 1", "refused 17");
+    // Its message waits until it is taken.
+    s.line("S 1 bb", "refused 14");
+    let again = s.repeat(1);
+    s.hand(again, "old");
+    s.hand(request, "old");
+    s.take(1, "took 1 1 1 aa last");
+    s.line("R 1", "refused 15");
+    s.number(1, "bb", 2);
+    s.take(0, "took 1 1 1 aa last");
+    s.end(
+        "a message that nobody took is purged while its originator waits: its repeat is old",
+        "top 2 floor 1 taken 1 1",
     )
 }
 
@@ -567,19 +723,18 @@ fn repeated_with_todays_number() -> Schedule {
     s.take(0, "took 1 0 1 01 last");
     let request = s.submit(1, "02");
     s.give(broadcast, 1, "kept");
-    s.take(1, "took 1 0 1 01 last");
     let again = s.repeat(1);
     s.acknowledge(0);
     s.hand(request, "numbered 2");
     s.line("C 1", "sent");
-    // The repeated request carries 1 as last taken and empties the history up to it.
+    // The repeated request acknowledges 1, which is held, and empties the history up to it.
     s.hand(again, "again 2");
     s.line("C 1", "refused 17");
     s.line("C 2", "sent");
     s.hand(request, "again 2");
     s.end(
-        "a repeat carries today's last taken number; again notes it",
-        "top 2 floor 1 taken 1 1",
+        "a repeat carries today's row end; again notes it",
+        "top 2 floor 1 taken 1 0",
     )
 }
 
@@ -663,24 +818,21 @@ fn gaps() -> Schedule {
     let early = s.give(broadcasts[4], 1, "keptgap");
     s.hand(early, "wanted 1 4");
     s.give(broadcasts[0], 1, "kept");
-    let short = s.give(broadcasts[2], 1, "keptgap");
-    s.hand(short, "wanted 2 2");
-    s.take(1, "took 1 0 1 01 last");
-    // This gap carries 1 as last taken: noting it raises floor to 1.
-    let noting = s.give(broadcasts[3], 1, "keptgap");
-    s.hand(noting, "wanted 2 3");
+    // This gap acknowledges 1, which is held: noting it raises floor to 1.
+    let noting = s.give(broadcasts[2], 1, "keptgap");
+    s.hand(noting, "wanted 2 2");
     s.line("C 1", "refused 17");
     s.hand(early, "wanted 2 4");
     s.give(broadcasts[1], 1, "kept");
-    for number in 2..=3 {
-        s.take(1, &format!("took {number} 0 {number} {number:02x} more"));
-    }
+    s.take(1, "took 1 0 1 01 more");
     s.acknowledge(1);
     // Floor is 3: the late gaps start above it, or are all below it.
     s.hand(early, "wanted 4 4");
-    s.hand(short, "noted");
     s.hand(noting, "noted");
-    s.take(1, "took 4 0 4 04 more");
+    s.give(broadcasts[3], 1, "kept");
+    for number in 2..=4 {
+        s.take(1, &format!("took {number} 0 {number} {number:02x} more"));
+    }
     s.take(1, "took 5 0 5 05 last");
     s.acknowledge(1);
     s.hand(early, "noted");
@@ -923,6 +1075,34 @@ fn closing_round() -> Schedule {
     }
     s.line("C 10", "refused 17");
     s.end("a closing round", "top 10 floor 10 taken 10 10 10")
+}
+
+fn closing_round_takes_the_row() -> Schedule {
+    let mut s = Script::open(2, 7);
+    let broadcasts: Vec<usize> = (1..=6).map(|number| s.own(number)).collect();
+    for number in [1, 2, 3] {
+        s.give(broadcasts[number - 1], 1, "kept");
+    }
+    s.acknowledge(1);
+    s.give(broadcasts[4], 1, "keptgap");
+    // Floor lies above what member 1 took: no copy would give it 1 to 3.
+    s.acknowledge(0);
+    s.line("C 3", "refused 17");
+    for number in 1..=3 {
+        let more = if number < 3 { "more" } else { "last" };
+        s.take(1, &format!("took {number} 0 {number} {number:02x} {more}"));
+    }
+    for (number, answer, more) in [(4, "kept", "more"), (5, "old", "last"), (6, "kept", "last")] {
+        let copy = s.copy(number);
+        s.give(copy, 1, answer);
+        s.take(1, &format!("took {number} 0 {number} {number:02x} {more}"));
+    }
+    s.acknowledge(1);
+    s.line("C 6", "refused 17");
+    s.end(
+        "a closing round that takes the row, and copies what lies above it",
+        "top 6 floor 6 taken 6 6",
+    )
 }
 
 fn lost_requests() -> Schedule {

@@ -226,7 +226,8 @@ impl Network {
         let random = &mut self.random;
         let members = &self.group.members;
         let member = random.below(members.len());
-        let Member { taken, waiting, .. } = members[member];
+        let Member { waiting, .. } = members[member];
+        let acknowledges = members[member].row_end();
         match random.below(40) {
             0..16 if !self.in_flight.is_empty() => self.arrival(),
             16..22 if !self.wanted.is_empty() => Event::Copy {
@@ -234,7 +235,9 @@ impl Network {
             },
             22..30 => Event::Take { member },
             30..32 if waiting => Event::Repeat { member },
-            32 if taken > self.group.sequencer.acknowledged[member] => Event::Status { member },
+            32 if acknowledges > self.group.sequencer.acknowledged[member] => {
+                Event::Status { member }
+            }
             33 if random.percent(30) => Event::Poll,
             _ if !waiting => Event::Submit {
                 member,

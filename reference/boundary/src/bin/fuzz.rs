@@ -331,10 +331,17 @@ fn sequencing(seed: u64) -> Option<String> {
 /// Packets as its sequencer might send them, and others.
 fn broadcasts(random: &mut Random, n: u8, group: u32) -> Vec<Vec<u8>> {
     let many = random.below(30);
+    // Half of the numbers follow each other, so that rows are held.
+    let mut following = 0;
     (0..many)
         .map(|_| {
             let member = random.below(usize::from(n)) as u8;
-            let ahead = 1 + random.below(19) as u32;
+            let ahead = if random.percent(50) {
+                following += 1;
+                following
+            } else {
+                1 + random.below(19) as u32
+            };
             match random.below(12) {
                 0 => bytes(random),
                 1 => laid(2, member, near(random, group), [ahead, 1, 0], &[]),
@@ -379,10 +386,13 @@ fn membership(seed: u64) -> Option<String> {
                 sum != reference::$call($($word,)* &mut there) || here != there
             }};
         }
-        // The list, each other call in the state after it, and the list where some were taken.
+        // The list, each other call in the state after it, and both where a row is held, of which
+        // some were taken.
         differs!(member_receive(fresh, &list, 1))
             || differs!(member_receive(taken, &list, 1))
             || differs!(member_submit(taken, &text, 1))
+            || differs!(member_repeat(taken, &text, 1))
+            || differs!(member_status(taken, 1))
             || differs!(member_take(after, 9, 1))
             || differs!(member_submit(after, &text, 1))
             || differs!(member_repeat(after, &text, 1))

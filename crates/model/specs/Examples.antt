@@ -71,6 +71,10 @@ alone = submit 0 [] ∷ handSequencer 0 ∷ handMember 1 0 ∷ take 0 ∷ []
 abbrev pub aloneStatus : List Event
 aloneStatus = status 0 ∷ handSequencer 2 ∷ []
 
+-- the same with the message held and not taken
+abbrev pub asleep : List Event
+asleep = submit 0 [] ∷ handSequencer 0 ∷ handMember 1 0 ∷ []
+
 abbrev pub aloneMessage : List Ordered
 aloneMessage = record { number = 1; originator = 0; count = 1; payload = [] } ∷ []
 
@@ -133,6 +137,13 @@ pub record Examples : Type 0 where
   -- and its status empties the history, which holds the message until then
   pub alone-holds : historyOf (run (fresh 1 7) alone .group .sequencer) ≡ aloneMessage
   pub alone-empties : historyOf (run (run (fresh 1 7) alone) aloneStatus .group .sequencer) ≡ []
+  -- where it is held and not taken, it is owed once, and its status empties the history too,
+  pub asleep-owed : owed (run (fresh 1 7) asleep) 0 ≡ aloneMessage
+  pub asleep-empties : historyOf (run (run (fresh 1 7) asleep) aloneStatus .group .sequencer) ≡ []
+  pub asleep-still-owed : owed (run (run (fresh 1 7) asleep) aloneStatus) 0 ≡ aloneMessage
+  -- and a closing round of a take, a status and its handing over gives it
+  pub asleep-closing : length (closing (run (fresh 1 7) asleep)) ≡ 3
+  pub asleep-given : taken 0 (run (run (fresh 1 7) asleep) (closing (run (fresh 1 7) asleep)) .log) ≡ aloneMessage
   -- group 7, member 1, first message "ab", in hexadecimal
   pub ab-written : request 0 1 (0x61 ∷ 0x62 ∷ []) ≡ ab
   pub ab-read : readOf ab ≡ Reading.Fields (fieldsOf 7 (Packet.Request (record { 0 = 1 }) (record { 0 = 0 }) 1))

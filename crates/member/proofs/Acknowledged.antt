@@ -24,6 +24,7 @@ use Rattle.window.specs.Steps.{countsOf, rowCounted}
 use Rattle.window.proofs.Missing.{Lowest, lowest-is}
 use Rattle.window.proofs.Row.{Row, row-is, row-one, row-reach, row-below, row-up, row-same, row-take, row-counted, smaller-le, le-smaller}
 use Rattle.member.proofs.Invariant.{Terminal}
+use Rattle.member.proofs.Soundness.{Sound}
 
 -- how many numbers above t there are, of eight
 abbrev left : ℕ → ℕ
@@ -79,10 +80,11 @@ module _ (m : Member) where
         λ i. record { 0 = e i }
 
   -- the next number, which is held, is taken
-  pub acknowledged-took : (x : Message) → Typed m → m .taken .0 < largestNumber → 1 ≤ messageAt (m .held) (m .taken .0 + 1) .count → acknowledgedOf (withTaken m x) .0 ≡ acknowledgedOf m .0
+  pub acknowledged-took : (x : Message) → Typed m → Sound m → 1 ≤ messageAt (m .held) (m .taken .0 + 1) .count → acknowledgedOf (withTaken m x) .0 ≡ acknowledgedOf m .0
   unfolding acknowledgedOf rowEndOf withTaken
-  acknowledged-took x typed more c =
+  acknowledged-took x typed sound c =
       let t = m .taken .0 in
+      let more = sound .places .holds (t + 1) (omega arith) (omega arith) c .number-le in
       let w = acknowledged-row in
       let near = smaller-le largestNumber (t + heldMost) in
       let next = smaller-le largestNumber (t + 1 + heldMost) in

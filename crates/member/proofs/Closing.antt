@@ -118,8 +118,7 @@ module _ (group : Group) (i acknowledged : ℕ) (order took : List Ordered) (sub
   unfolding tookOf
   take-ok c =
       let next = messageAt (m .held) (m .taken .0 + 1) in
-      let z = sound-of m (h .sound) .places .holds (m .taken .0 + 1) (omega arith) (omega arith) c .number-le in
-      rw (take-is m (h .sound) c) (record { taken-is = took-next m next; acknowledged-is = acknowledged-took m next (h .typed) (omega arith) c })
+      rw (take-is m (h .sound) c) (record { taken-is = took-next m next; acknowledged-is = acknowledged-took m next (h .typed) (sound-of m (h .sound)) c })
 
   -- the status that is written, as the group knows it
   pub status-ok : (statusPacket m ≡ packetOf (fieldsOf (group .number) (Status (m .number) (acknowledgedOf m))) []) × Allowed (fieldsOf (group .number) (Status (m .number) (acknowledgedOf m))) []

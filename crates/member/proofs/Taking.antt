@@ -4,14 +4,14 @@ use mathlib.Core.Path.{_≡_, refl, sym, ap, _∙_}
 use mathlib.Core.Bool.{Bool, true, false}
 use mathlib.Core.Option.{some}
 use mathlib.Core.List.{List, [], _∷_, _++_, append-nil}
-use Prim.Native.Nat.{ℕ, _+_, _≤_, _<_}
+use Prim.Native.Nat.{ℕ, _+_, _≤_}
 use native.Mathlib.Nat.{le-refl}
 use lib.ListN.{length}
 use native.Mathlib.Numerals.{add-one}
 use native.Mathlib.Omega.{arith}
 use borrow.Author.Tests.{ltb-true}
 use Rattle.group.specs.Choice.{if_then_else_}
-use Rattle.group.specs.Limits.{longestPacket, largestNumber}
+use Rattle.group.specs.Limits.{longestPacket}
 use Rattle.group.proofs.Choice.{says}
 use Rattle.group.proofs.Lists.{if-elim, judged-elim, at, at-le, take-at-suc}
 use Rattle.group.specs.declared.Group.{Group}
@@ -78,19 +78,17 @@ module _ (group : Group) (i acknowledged : ℕ) (order took : List Ordered) (sub
       still-waits true e = let z : _≡_ {A = ℕ} 0 1 = cc in absurd (omega arith)
       still-waits false e = h .waiting-is e
 
-      -- its number is not over the largest
-      numbers-left : m .taken .0 < largestNumber
-      numbers-left = let z = sound-of m (h .sound) .places .holds (m .taken .0 + 1) (omega arith) (omega arith) holds .number-le in omega arith
-
       taken-terminal : Terminal group i acknowledged (withTaken m next) order (took ++ (ordered (m .taken .0 + 1) (next .originator .0) (next .count) (payloadOf next) ∷ [])) submitted
       unfolding withTaken
       taken-terminal =
+          let s = sound-of m (h .sound) in
+          let f = s .places .holds (m .taken .0 + 1) (omega arith) (omega arith) holds in
           record {
             group-is = h .group-is;
             number-is = h .number-is;
-            typed = taken-typed m (h .typed) next numbers-left;
-            sound = of-sound _ (taken-sound m (h .typed) next (sound-of m (h .sound)));
-            acknowledged-le = rw (acknowledged-took m next (h .typed) numbers-left holds) (h .acknowledged-le);
+            typed = taken-typed m (h .typed) next (let z = f .number-le in omega arith);
+            sound = of-sound _ (taken-sound m (h .typed) next s);
+            acknowledged-le = rw (acknowledged-took m next (h .typed) s holds) (h .acknowledged-le);
             taken-le = at-le order (m .taken .0 + 1) (this .1);
             took-is =
                 rw (handed, add-one) (ap (λ (l : List Ordered). l ++ (this .0 ∷ [])) (h .took-is) ∙ sym (take-at-suc order (m .taken .0) (rw add-one at (this .1))));
@@ -110,7 +108,7 @@ module _ (group : Group) (i acknowledged : ℕ) (order took : List Ordered) (sub
 
       takes-good : GoodTake (tookOf m next)
       unfolding tookOf tookBy withTaken
-      takes-good = record { terminal = taken-terminal; up = rw (acknowledged-took m next (h .typed) numbers-left holds) (le-refl _); grown = λ c payload e. e; known = tt }
+      takes-good = record { terminal = taken-terminal; up = rw (acknowledged-took m next (h .typed) (sound-of m (h .sound)) holds) (le-refl _); grown = λ c payload e. e; known = tt }
 
     take-none : (answer : Answer) → tookBy answer [] ≡ [] → GoodTake (answered m answer)
     unfolding answered

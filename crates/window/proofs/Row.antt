@@ -1,6 +1,6 @@
 -- The facts that determine the end of a row of held numbers, and from them how it lies to a missing number, to a message kept and
 -- to one taken; and that the scan of the counts finds it. Assumes nothing.
-use mathlib.Core.Path.{_≡_, refl, sym, ap, _∙_, subst}
+use mathlib.Core.Path.{_≡_, refl, sym, ap}
 use mathlib.Core.Logic.{_≢_}
 use mathlib.Core.List.{List}
 use Prim.Native.Nat.{ℕ, zero, suc, _+_, _-_, _≤_, _<_}
@@ -17,7 +17,6 @@ use Rattle.message.specs.Message.{emptyMessage, blank}
 use Rattle.message.specs.declared.Message.{Message}
 use Rattle.window.specs.Places.{placeOf, messageAt, isHeld, lowestMissing, rowEnd, smallerOf}
 use Rattle.window.specs.Steps.{countsOf, lowestUncounted, rowCounted}
-use Rattle.window.proofs.Keeping.{empty-none}
 use Rattle.window.proofs.Missing.{Lowest, lowest-is, lowest-none, held-same}
 use Rattle.window.proofs.Scan.{uncounted}
 
@@ -101,7 +100,7 @@ module _ {held : List Message} {t k r : ℕ} (w : Row held t k r) where
           hole = λ h. rw (other (r + 1) (λ e. omega arith)) (w .hole h);
         }
 
-  -- the number t + 1 is taken: the row stays, looked at up to a number k′ further on
+  -- the number t + 1 is taken: the row stays, since the number that its place is for next is not held
   pub row-take : (k′ : ℕ) → length held ≡ heldMost → k ≤ heldMost → t < r → r ≤ t + 1 + k′ → (t + k < t + 1 + k′ → k ≡ heldMost) → Row (set held (placeOf (t + 1)) emptyMessage) (t + 1) k′ r
   unfolding emptyMessage
   row-take k′ long near one most next =

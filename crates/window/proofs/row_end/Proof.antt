@@ -1,6 +1,5 @@
 -- The row ends below the lowest missing number that the scan finds, or where the scan ends.
 -- Assumes nothing.
-use native.Mathlib.Omega.{arith}
 use Rattle.window.proofs.Row.{row-whole, row-broken}
 use borrow.Author.Needs.{needs}
 use Rattle.window.proofs.row_end.Statement.{statement}

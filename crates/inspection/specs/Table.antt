@@ -6,6 +6,7 @@ use Rattle.group.specs.Choice.{if_then_else_}
 use Rattle.group.specs.Limits.{membersMost}
 use Rattle.history.specs.State.{noAcknowledgement}
 use Rattle.history.specs.declared.Acknowledgement.{Acknowledgement}
+use Rattle.member.specs.State.{rowEndOf}
 use Rattle.member.specs.declared.Member.{Member}
 use Rattle.model.specs.World.{Group, noMember}
 use Rattle.player.specs.Play.{Stage, opening, running, ended, closed, Program, outputOf}
@@ -15,12 +16,12 @@ use Rattle.text.specs.Written.{decimalOf, line, numberDigits}
 
 -- the columns
 abbrev pub columns : List (List ℕ)
-columns = textOf "terminal" ∷ textOf "taken" ∷ textOf "submitted" ∷ textOf "waiting" ∷ textOf "repeats" ∷ []
+columns = textOf "terminal" ∷ textOf "taken" ∷ textOf "row" ∷ textOf "submitted" ∷ textOf "waiting" ∷ textOf "repeats" ∷ []
 
--- a terminal's numbers behind its own: the last that it took, its submissions so far, how many of them wait, and its repeats at
--- the sequencer
+-- a terminal's numbers behind its own: the last that it took, the end of the row that it took or holds, its submissions so far,
+-- how many of them wait, and its repeats at the sequencer
 unfoldable pub rowOf : Member → ℕ → List ℕ
-rowOf m repeats = m .taken .0 ∷ m .submitted ∷ (if m .waiting then 1 else 0) ∷ repeats ∷ []
+rowOf m repeats = m .taken .0 ∷ rowEndOf m ∷ m .submitted ∷ (if m .waiting then 1 else 0) ∷ repeats ∷ []
 
 abbrev pub rowIn : List Member → List Acknowledgement → ℕ → List ℕ
 rowIn members table i = rowOf (getD members i noMember) (getD table i noAcknowledgement .repeats)

@@ -29,7 +29,7 @@ ghost use Rattle.inspection.specs.Table.{columns, rowOf, rowIn, rowLines
 // The columns of the table, and the numbers of a terminal behind its own.
 pub const COLUMNS: usize = 1 + NUMBERS;
 
-const NUMBERS: usize = 4;
+const NUMBERS: usize = 5;
 
 // The room of the longest table: for each column of each line a number and what stands behind it; no heading is longer.
 pub const TABLE_ROOM: usize = (1 + NUMBER_DIGITS) * COLUMNS * (1 + Group::MEMBERS);
@@ -59,9 +59,10 @@ fn row(member: Member, repeats: u32) -> [u32; NUMBERS]
     ensures { λ r. ⌜ r ≡ rowOf member repeats ⌝ }
 {
     let taken = member.taken.0;
+    let end = member.row_end().0;
     let submitted = member.submitted;
     let waiting = count(member.waiting);
-    [taken, submitted, waiting, repeats]
+    [taken, end, submitted, waiting, repeats]
 }
 
 // The line of terminal i.
@@ -108,7 +109,7 @@ fn put_table(
     requires { ⌜ (n ≤ membersMost) × (tableRoom ≤ length (now out)) ⌝ }
     ensures { λ r. ⌜ LaidAt 0 (line columns ++ rowLines (rowIn members table) n) (now (out .entry)) (now (out .exit)) r ⌝ }
 {
-    let next = put_text(b"terminal taken submitted waiting repeats\n", out, 0);
+    let next = put_text(b"terminal taken row submitted waiting repeats\n", out, 0);
     put_rows(members, table, n, out, next)
 }
 

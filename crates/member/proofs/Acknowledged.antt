@@ -98,11 +98,15 @@ module _ (m : Member) where
       (λ z. let y = a largestNumber (le-refl _) (omega arith) in let q = next .0 in absurd (omega arith))))
 
   -- what the scan of the counts finds
-  pub acknowledged-counted : (r : SequenceNumber) → m .taken .0 ≤ largestNumber → r .0 ≡ rowCounted (countsOf (m .held)) (m .taken .0) (smallerOf largestNumber (m .taken .0 + heldMost)) → r ≡ acknowledgedOf m
-  unfolding acknowledgedOf rowEndOf
-  acknowledged-counted r most e =
-      let q = e ∙ row-counted (m .held) (m .taken .0) _ (le-smaller largestNumber (m .taken .0 + heldMost) (m .taken .0) most (omega arith)) in
-      λ i. record { 0 = q i }
+  pub end-counted : (r : ℕ) → m .taken .0 ≤ largestNumber → r ≡ rowCounted (countsOf (m .held)) (m .taken .0) (smallerOf largestNumber (m .taken .0 + heldMost)) → r ≡ rowEndOf m
+  unfolding rowEndOf
+  end-counted r most e =
+      e ∙ row-counted (m .held) (m .taken .0) _ (le-smaller largestNumber (m .taken .0 + heldMost) (m .taken .0) most (omega arith))
+
+  -- what is acknowledged is the row's end
+  pub acknowledged-end : (r : SequenceNumber) → r .0 ≡ rowEndOf m → r ≡ acknowledgedOf m
+  unfolding acknowledgedOf
+  acknowledged-end r e = λ i. record { 0 = e i }
 
 -- a terminal acknowledges no more than was numbered
 pub acknowledged-most : {group : Group} {i acknowledged : ℕ} {m : Member} {order took : List Ordered} {submitted : List (List ℕ)}

@@ -18,7 +18,7 @@ ghost use Rattle.group.specs.Limits.{heldMost, payloadMost, longestPacket, larg
 ghost use Rattle.group.specs.Opening.{descriptionOf};
 ghost use Rattle.message.specs.Message.{payloadOf, blank};
 ghost use Rattle.packet.specs.Packet.{fieldsVerdict, fieldsOf, packetOf};
-ghost use Rattle.member.specs.State.{acknowledgedOf, freshMember};
+ghost use Rattle.member.specs.State.{rowEndOf, acknowledgedOf, freshMember};
 ghost use Rattle.member.specs.Sound.{soundOf};
 ghost use Rattle.member.specs.Calls.{stepOf, answered, requestPacket, statusPacket, callVerdict, submitVerdict, submitOf, repeatOf, statusOf, gapUpTo, keptOf, broadcastOf, pollOf, contentStep, receiveOf, takeOf, freshOf};
 ghost use Rattle.group.specs.Wording.{verdictWording};
@@ -243,12 +243,19 @@ impl Member {
         }
     }
 
-    // The number that every packet of the member acknowledges: the last through which it has everything, taken or held.
-    fn acknowledged(self) -> SequenceNumber
-        ensures { λ r. ⌜ r ≡ acknowledgedOf self ⌝ }
+    // The last number through which the member has everything, taken or held.
+    pub fn row_end(self) -> SequenceNumber
+        ensures { λ r. ⌜ r .0 ≡ rowEndOf self ⌝ }
     {
         let held = self.held;
         window::row_end(window::counts(held), self.taken)
+    }
+
+    // The number that every packet of the member acknowledges.
+    fn acknowledged(self) -> SequenceNumber
+        ensures { λ r. ⌜ r ≡ acknowledgedOf self ⌝ }
+    {
+        self.row_end()
     }
 
     // Lays the request of the waiting message at the front of the output, and gives its length.

@@ -98,12 +98,12 @@ fn closing_line(group: &Group, output: &mut impl Write) -> io::Result<()> {
 
 /// A heading, and then a line a terminal.
 fn table(group: &Group, output: &mut impl Write) -> io::Result<()> {
-    writeln!(output, "terminal taken submitted waiting repeats")?;
+    writeln!(output, "terminal taken row submitted waiting repeats")?;
     for (terminal, member) in group.members.iter().enumerate() {
-        let (taken, submitted) = (member.taken, member.submitted);
-        let waiting = u32::from(member.waiting);
+        let (taken, row) = (member.taken, member.row_end());
+        let (submitted, waiting) = (member.submitted, u32::from(member.waiting));
         let repeats = group.sequencer.repeats[terminal];
-        writeln!(output, "{terminal} {taken} {submitted} {waiting} {repeats}")?;
+        writeln!(output, "{terminal} {taken} {row} {submitted} {waiting} {repeats}")?;
     }
     Ok(())
 }

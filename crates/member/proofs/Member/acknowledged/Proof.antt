@@ -1,19 +1,15 @@
--- The row's end by the counts of the places is what the definition says.
+-- What is acknowledged is the row's end.
 -- Assumes nothing.
-use Rattle.member.proofs.Acknowledged.{acknowledged-counted}
+use Rattle.member.proofs.Acknowledged.{acknowledged-end}
 use borrow.Author.Needs.{needs}
 use Rattle.member.proofs.Member.acknowledged.Statement.{statement}
 use Rattle.member.proofs.Member.acknowledged.Tie as tie
-
-counts-requires : tie.Need-counts-requires
-counts-requires c κs = search needs
 
 row-end-requires : tie.Need-row-end-requires
 row-end-requires c κs = search needs
 
 returns : tie.Need-returns
-returns c =
-    acknowledged-counted (c .before .before .before .args .self) _ (search needs) (rw (c .before .counts .ensures) at (c .row-end .ensures))
+returns c = acknowledged-end (c .before .args .self) _ (c .row-end .ensures)
 
 pub acknowledged-spec : {M : Type 1} → statement M
-acknowledged-spec = tie.close (tie.spec counts-requires row-end-requires returns)
+acknowledged-spec = tie.close (tie.spec row-end-requires returns)

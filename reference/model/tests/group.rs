@@ -431,31 +431,74 @@ fn what_is_not_there_changes_nothing() {
     assert_eq!(run.log.len(), 9);
 }
 
+/// Member 0's next message is numbered, and it takes it at once; the
+/// broadcast.
+fn own(run: &mut Run) -> usize {
+    let payload = vec![7; 3];
+    let sent = run.step(Event::Submit { member: 0, payload }).unwrap();
+    let packet = sent.packet.unwrap();
+    let numbered = run.step(Event::ToSequencer { packet }).unwrap();
+    let packet = numbered.packet.unwrap();
+    run.step(Event::ToMember { packet, member: 0 });
+    run.step(Event::Take { member: 0 });
+    packet
+}
+
+/// A member's status reaches the sequencer.
+fn acknowledge(run: &mut Run, member: usize) {
+    let packet = run.step(Event::Status { member }).unwrap().packet.unwrap();
+    run.step(Event::ToSequencer { packet });
+}
+
+/// 102 events a member are too few: all but member 0 hold eight and took
+/// none, the history is full, and its last n messages reached nobody.
+#[test]
+fn a_closing_round_of_more_than_102_events_a_member() {
+    for n in [2usize, 3, 16] {
+        let mut run = Run::fresh(n as u32, GROUP).unwrap();
+        for _ in 0..8 {
+            let packet = own(&mut run);
+            for member in 1..n {
+                run.step(Event::ToMember { packet, member });
+            }
+        }
+        (0..n).for_each(|member| acknowledge(&mut run, member));
+        assert_eq!(run.group.sequencer.floor, 8);
+        for _ in n..32 {
+            own(&mut run);
+        }
+        for member in 0..n {
+            let payload = vec![9];
+            let sent = run.step(Event::Submit { member, payload }).unwrap();
+            let packet = sent.packet.unwrap();
+            run.step(Event::ToSequencer { packet });
+        }
+        assert_eq!(run.group.sequencer.top, 40);
+        check(&run);
+        assert_eq!(closing_length(&run), 109 * n - 104);
+        assert!(n < 16 || closing_length(&run) > 102 * n);
+        close(&mut run);
+    }
+}
+
 /// Member 0 submits, and takes its messages at once; the others hold the first
 /// `held` and acknowledge them. So many are numbered, and the next is Full.
 fn filled(n: u32, held: u32) -> Run {
     let mut run = Run::fresh(n, GROUP).unwrap();
-    for count in 1..=33 + held {
-        let payload = vec![7; count as usize];
-        let sent = run.step(Event::Submit { member: 0, payload }).unwrap();
-        let packet = sent.packet.unwrap();
-        let answer = run.step(Event::ToSequencer { packet }).unwrap();
-        if count == 33 + held {
-            assert_eq!(answer.answer, Answer::Full);
-            break;
-        }
-        assert_eq!(answer.answer, Answer::Numbered(count));
-        let packet = answer.packet.unwrap();
-        run.step(Event::ToMember { packet, member: 0 });
-        run.step(Event::Take { member: 0 });
+    for number in 1..=32 + held {
+        let packet = own(&mut run);
         for member in 1..n as usize {
-            if count <= held {
+            if number <= held {
                 run.step(Event::ToMember { packet, member });
-                let packet = run.step(Event::Status { member }).unwrap().packet.unwrap();
-                run.step(Event::ToSequencer { packet });
+                acknowledge(&mut run, member);
             }
         }
     }
+    let payload = vec![];
+    let sent = run.step(Event::Submit { member: 0, payload }).unwrap();
+    let packet = sent.packet.unwrap();
+    let answer = run.step(Event::ToSequencer { packet }).unwrap().answer;
+    assert_eq!(answer, Answer::Full);
     assert_eq!(run.group.sequencer.floor, held);
     check(&run);
     run
@@ -486,8 +529,7 @@ fn a_message_is_purged_that_nobody_took() {
     let packet = run.step(hand.clone()).unwrap().packet.unwrap();
     for member in 0..3 {
         run.step(Event::ToMember { packet, member });
-        let packet = run.step(Event::Status { member }).unwrap().packet.unwrap();
-        run.step(Event::ToSequencer { packet });
+        acknowledge(&mut run, member);
     }
     assert_eq!(run.group.sequencer.floor, 1);
     assert_eq!(run.group.sequencer.history, [Place::EMPTY; 32]);
@@ -511,15 +553,8 @@ fn a_message_is_purged_that_nobody_took() {
 fn held_behind_a_hole() {
     let mut run = Run::fresh(2, GROUP).unwrap();
     let mut broadcasts = Vec::new();
-    for number in 1..=5 {
-        let payload = vec![number];
-        let sent = run.step(Event::Submit { member: 0, payload }).unwrap();
-        let packet = sent.packet.unwrap();
-        let packet = run.step(Event::ToSequencer { packet }).unwrap().packet;
-        let packet = packet.unwrap();
-        run.step(Event::ToMember { packet, member: 0 });
-        run.step(Event::Take { member: 0 });
-        broadcasts.push(packet);
+    for _ in 0..5 {
+        broadcasts.push(own(&mut run));
     }
     for number in [1, 2, 4] {
         let packet = broadcasts[number - 1];

@@ -112,6 +112,21 @@ module _ {A : Type 0} where
   take-at-suc (y ∷ l) zero {x} e = let h : y ≡ x = cc in ap (λ (z : A). z ∷ []) h
   take-at-suc (y ∷ l) (suc j) e = ap (λ (r : List A). y ∷ r) (take-at-suc l j e)
 
+  -- the first k have what the list has up to number k, and nothing else
+  pub at-taken : (k : ℕ) (l : List A) (s : ℕ) {x : A} → at (take k l) s ≡ some x → (s ≤ k) × (at l s ≡ some x)
+  at-taken zero l s e = absurd (at-nil s e)
+  at-taken (suc k) [] s e = absurd (at-nil s e)
+  at-taken (suc k) (y ∷ l) zero e = absurd (none≢some e)
+  at-taken (suc k) (y ∷ l) (suc zero) e = (suc-le-suc zero-le, e)
+  at-taken (suc k) (y ∷ l) (suc (suc j)) e = let z = at-taken k l (suc j) e in (suc-le-suc (z .0), z .1)
+
+  pub at-take : (k : ℕ) (l : List A) (s : ℕ) {x : A} → s ≤ k → at l s ≡ some x → at (take k l) s ≡ some x
+  at-take k l zero h e = e
+  at-take zero l (suc j) h e = absurd (not-suc-le-zero h)
+  at-take (suc k) [] (suc j) h e = absurd (at-nil (suc j) e)
+  at-take (suc k) (y ∷ l) (suc zero) h e = e
+  at-take (suc k) (y ∷ l) (suc (suc j)) h e = at-take k l (suc j) (le-of-suc-le-suc h) e
+
   pub drop-at-suc : (l : List A) (j : ℕ) {x : A} → at l (suc j) ≡ some x → drop j l ≡ x ∷ drop (suc j) l
   drop-at-suc [] j e = absurd (none≢some e)
   drop-at-suc (y ∷ l) zero {x} e = let h : y ≡ x = cc in ap (λ (z : A). z ∷ l) h

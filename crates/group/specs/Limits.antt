@@ -17,6 +17,10 @@ payloadMost = 240
 abbrev pub heldMost : ℕ
 heldMost = 8
 
+-- the most messages of a member that wait
+abbrev pub waitingMost : ℕ
+waitingMost = 5
+
 -- the bytes of a packet before its payload
 abbrev pub headerSize : ℕ
 headerSize = 20

@@ -30,7 +30,7 @@ numberOf CountAhead = 11
 numberOf WantedAhead = 12
 -- Has a submitted or written payload at most the limit's bytes?
 numberOf LongPayload = 13
--- On submit, is nothing waiting?
+-- On submit, are fewer than five waiting?
 numberOf AlreadyWaiting = 14
 -- On repeat, is something waiting?
 numberOf NothingWaiting = 15

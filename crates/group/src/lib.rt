@@ -1,6 +1,6 @@
 // The group's own description: its limits, its two kinds of number, and what may be refused.
 ghost use mathlib.Core.Path.{_≡_};
-ghost use Rattle.group.specs.Limits.{membersMost, placesMost, payloadMost, heldMost, headerSize, longestPacket, largestNumber};
+ghost use Rattle.group.specs.Limits.{membersMost, placesMost, payloadMost, heldMost, waitingMost, headerSize, longestPacket, largestNumber};
 ghost use Rattle.group.specs.Refusal.{numberOf};
 ghost use Rattle.group.specs.Opening.{openOf};
 ghost use Rattle.group.specs.Wording.{openedWording};
@@ -92,6 +92,9 @@ impl Group {
     // The places of a member for what it has not taken yet.
     pub const HELD: usize = 8;
 
+    // The most messages of a member that wait.
+    pub const WAITING: usize = 5;
+
     // The bytes of a packet before its payload.
     pub const HEADER: usize = 20;
 
@@ -140,6 +143,12 @@ fn held_most() -> usize
     ensures { λ r. ⌜ r ≡ heldMost ⌝ }
 {
     Group::HELD
+}
+
+fn waiting_most() -> usize
+    ensures { λ r. ⌜ r ≡ waitingMost ⌝ }
+{
+    Group::WAITING
 }
 
 fn header_size() -> usize

@@ -2,7 +2,6 @@
 use mathlib.Core.List.{List, [], _∷_, _++_, map}
 use Prim.Native.Nat.{ℕ, zero, suc, _+_, _*_}
 use lib.ListN.{length, getD}
-use Rattle.group.specs.Choice.{if_then_else_}
 use Rattle.group.specs.Limits.{membersMost}
 use Rattle.history.specs.State.{noAcknowledgement}
 use Rattle.history.specs.declared.Acknowledgement.{Acknowledgement}
@@ -21,7 +20,7 @@ columns = textOf "terminal" ∷ textOf "taken" ∷ textOf "row" ∷ textOf "subm
 -- a terminal's numbers behind its own: the last that it took, the end of the row that it took or holds, its submissions so far,
 -- how many of them wait, and its repeats at the sequencer
 unfoldable pub rowOf : Member → ℕ → List ℕ
-rowOf m repeats = m .taken .0 ∷ rowEndOf m ∷ m .submitted ∷ (if m .waiting then 1 else 0) ∷ repeats ∷ []
+rowOf m repeats = m .taken .0 ∷ rowEndOf m ∷ m .submitted ∷ m .waiting ∷ repeats ∷ []
 
 abbrev pub rowIn : List Member → List Acknowledgement → ℕ → List ℕ
 rowIn members table i = rowOf (getD members i noMember) (getD table i noAcknowledgement .repeats)

@@ -16,7 +16,6 @@ ghost use mathlib.Core.Path.{_≡_};
 ghost use mathlib.Core.List.{_∷_, _++_, map};
 ghost use Prim.Native.Nat.{_+_, _*_, _≤_};
 ghost use lib.ListN.{length};
-ghost use Rattle.group.specs.Choice.{if_then_else_};
 ghost use Rattle.group.specs.Lent.{front};
 ghost use Rattle.group.specs.Limits.{membersMost};
 ghost use Rattle.player.specs.Player.{stageOf};
@@ -47,13 +46,6 @@ fn table_room() -> usize
     TABLE_ROOM
 }
 
-// How many messages wait.
-fn count(waiting: bool) -> u32
-    ensures { λ r. ⌜ r ≡ (if waiting then 1 else 0) ⌝ }
-{
-    if waiting { 1 } else { 0 }
-}
-
 // A terminal's numbers behind its own.
 fn row(member: Member, repeats: u32) -> [u32; NUMBERS]
     ensures { λ r. ⌜ r ≡ rowOf member repeats ⌝ }
@@ -61,7 +53,7 @@ fn row(member: Member, repeats: u32) -> [u32; NUMBERS]
     let taken = member.taken.0;
     let end = member.row_end().0;
     let submitted = member.submitted;
-    let waiting = count(member.waiting);
+    let waiting = member.waiting;
     [taken, end, submitted, waiting, repeats]
 }
 

@@ -8,7 +8,7 @@ use native.Mathlib.Omega.{arith}
 use borrow.Author.Tests.{lt-ltb}
 use lib.ListN.{length}
 use Rattle.group.specs.Choice.{if_then_else_, ask_or_then_, _<?_, _≤?_, _=?_}
-use Rattle.group.specs.Limits.{heldMost, payloadMost, largestNumber}
+use Rattle.group.specs.Limits.{heldMost, waitingMost, payloadMost, largestNumber}
 use Rattle.group.specs.Question.{Question, firstNo, judged}
 use Rattle.group.specs.declared.Refusal.{Refusal}
 use Rattle.group.specs.declared.Verdict.{Verdict}
@@ -25,7 +25,7 @@ use Rattle.member.specs.Calls.{Outcome, answered, refused, requestPacket
 use Rattle.member.specs.Laws.{callQuestions, fieldsQuestions, submitQuestions, repeatQuestions, receiveQuestions, FirstNo, SubmitFirstNo, RepeatFirstNo, StatusFirstNo, TakeFirstNo, ReceiveFirstNo}
 use Rattle.window.specs.Places.{isHeld, lowestMissing}
 use Rattle.member.specs.declared.Answer.{Answer}
-use Rattle.member.specs.declared.Answer.the-variants.{Refused, Sent, Old, Kept, KeptGap, Beyond, BeyondGap, Gap, Status, None, Took}
+use Rattle.member.specs.declared.Answer.the-variants.{Refused, Sent, Queued, Old, Kept, KeptGap, Beyond, BeyondGap, Gap, Status, None, Took}
 use Rattle.member.specs.declared.Member.{Member}
 use Rattle.member.proofs.Laws.{call-sound}
 use Rattle.member.proofs.Soundness.{Sound, sound-of}
@@ -34,6 +34,7 @@ use Rattle.member.proofs.Soundness.{Sound, sound-of}
 abbrev refuses : Answer → Bool
 refuses (Refused refusal) = true
 refuses Sent = false
+refuses (Queued count) = false
 refuses Old = false
 refuses Kept = false
 refuses KeptGap = false
@@ -87,22 +88,23 @@ unfolding repeatOf firstNo judged
 repeat-first-no m room =
     let step : Outcome = record { member = m; answer = Answer.Sent; bytes = requestPacket m } in
     asked m (repeatQuestions m room) _ step
-    (call-asked m room (record { yes = m .waiting; refusal = Refusal.NothingWaiting } ∷ []) _ step
-    (λ _. judged-ask (refused m) step (m .waiting) Refusal.NothingWaiting []))
+    (call-asked m room (record { yes = 1 ≤? m .waiting; refusal = Refusal.NothingWaiting } ∷ []) _ step
+    (λ _. judged-ask (refused m) step (1 ≤? m .waiting) Refusal.NothingWaiting []))
     (record { no = refl })
 
 pub submit-first-no : SubmitFirstNo
-unfolding submitOf submitVerdict firstNo
+unfolding submitOf submitVerdict answered firstNo
 submit-first-no m payload room =
-    let step : Outcome = record { member = withWaiting m payload; answer = Answer.Sent; bytes = requestPacket (withWaiting m payload) } in
-    asked m (submitQuestions m payload room) _ step
+    asked m (submitQuestions m payload room) _ _
     (call-asked m room
     (record { yes = length payload ≤? payloadMost; refusal = Refusal.LongPayload }
-    ∷ record { yes = if m .waiting then false else true; refusal = Refusal.AlreadyWaiting }
+    ∷ record { yes = m .waiting <? waitingMost; refusal = Refusal.AlreadyWaiting }
     ∷ record { yes = m .submitted <? largestNumber; refusal = Refusal.NumbersUsedUp }
     ∷ [])
-    _ step (λ _. refl))
-    (record { no = refl })
+    _ _ (λ _. refl))
+    (if-elim Accepts (m .waiting =? 0)
+    (λ _. record { no = refl })
+    (λ _. record { no = refl }))
 
 -- what a packet that passes all questions does: a broadcast or a poll
 abbrev acceptedStep : Member → Header → List ℕ → Outcome

@@ -144,9 +144,8 @@ fresh-terminal group i lo hi inside most =
       held-is = λ k a b c. absurd (empty-none (rw (fresh-none group number k) at c));
       submitted-is = refl;
       count-le = omega arith;
-      count-near = omega arith;
-      idle = λ _. refl;
-      waiting-is = λ e. let z : _≡_ {A = ℕ} 0 1 = cc in absurd (omega arith);
+      own-taken = refl;
+      waiting-is = λ c lo hi. absurd (omega arith);
       own-is = refl;
       payload-ok = λ c payload e. absurd (at-nil c e);
     }

@@ -1,46 +1,60 @@
 -- Each change of a member's state keeps it within its types and sound, the facts that it does not touch as they are; and a fresh
 -- state is sound. Assumes nothing.
-use mathlib.Core.Path.{_≡_, refl}
+use mathlib.Core.Path.{_≡_, refl, ap}
 use mathlib.Core.Bool.{Bool, true, false}
 use mathlib.Core.List.{List}
-use Prim.Native.Nat.{ℕ, _+_, _≤_, _<_}
+use Prim.Native.Nat.{ℕ, _+_, _-_, _≤_, _<_}
 use native.Mathlib.Omega.{arith}
-use lib.ListN.{length, getD-replicate, length-replicate}
+use lib.ListN.{length, set, getD-replicate, length-replicate}
 use Rattle.group.specs.Choice.{if_then_else_}
-use Rattle.group.specs.Limits.{membersMost, heldMost, payloadMost, largestNumber}
+use Rattle.group.specs.Limits.{membersMost, heldMost, waitingMost, payloadMost, largestNumber}
 use Rattle.group.specs.declared.Group.{Group}
 use Rattle.group.specs.declared.MemberNumber.{MemberNumber}
+use Rattle.group.proofs.Choice.{says}
+use Rattle.group.proofs.Lists.{if-elim}
 use Rattle.message.specs.Message.{messageOf, emptyMessage, blank}
 use Rattle.message.specs.declared.Message.{Message}
 use Rattle.message.proofs.Kept.{kept-zero, empty-zero}
 use Rattle.member.specs.Calls.{withWaiting, withHeld, withTaken, isOwn}
 use Rattle.member.specs.Laws.{Typed}
-use Rattle.window.specs.Places.{placeOf, messageAt}
-use Rattle.member.specs.State.{freshMember}
+use Rattle.window.specs.Places.{placeOf, messageAt, queuePlace, queuedAt}
+use Rattle.member.specs.State.{firstCount, freshMember}
 use Rattle.member.specs.declared.Member.{Member}
-use Rattle.window.proofs.Keeping.{empty-none, held-places, taken-places}
+use Rattle.window.proofs.Keeping.{empty-none, held-places, taken-places, queue-length, queued-each, waiting-more, waiting-less}
 use Rattle.window.proofs.Missing.{set-length}
 use Rattle.window.proofs.Soundness.{HeldSound, WaitingSound}
 use Rattle.member.proofs.Soundness.{Sound}
+
+-- a taken message that is the member's own that waits first
+pub own-first : (m : Member) (message : Message) → isOwn m message ≡ true → (1 ≤ m .waiting) × (message .originator .0 ≡ m .number .0) × (message .count ≡ firstCount m)
+unfolding isOwn
+own-first m message e = (search says, search says, search says)
+
+-- a message that waits first may be requested
+pub waiting-first : (m : Member) (payload : List ℕ) → length (m .queue) ≡ waitingMost → length payload ≤ payloadMost → m .waiting ≡ 0
+    → (1 ≤ m .waiting + 1) × (m .waiting + 1 ≤ m .submitted + 1)
+    × (queuedAt (set (m .queue) (queuePlace (m .submitted + 1)) (messageOf (m .number) (m .submitted + 1) payload)) (m .submitted + 1 - (m .waiting + 1) + 1) .length ≤ payloadMost)
+unfolding messageOf
+waiting-first m payload long short none =
+    let e : m .submitted + 1 - (m .waiting + 1) + 1 ≡ m .submitted + 1 = omega arith in
+    (omega arith, omega arith, queued-each (m .queue) long (m .submitted + 1) _ (λ (x : Message). x .length ≤ payloadMost) _ (λ _. short) (λ z. absurd (z (ap queuePlace e))))
 
 module _ (m : Member) (typed : Typed m) where
   -- a message waits
   pub waiting-typed : (payload : List ℕ) → m .submitted < largestNumber → Typed (withWaiting m payload)
   unfolding withWaiting
-  waiting-typed payload left = record { group = typed .group; taken = typed .taken; submitted = omega arith; held = typed .held }
+  waiting-typed payload left = record { group = typed .group; taken = typed .taken; submitted = omega arith; queue = queue-length (m .queue) (typed .queue) (m .submitted + 1) _; held = typed .held }
 
-  pub waiting-sound : (payload : List ℕ) → length payload ≤ payloadMost → Sound m → Sound (withWaiting m payload)
+  pub waiting-sound : (payload : List ℕ) → length payload ≤ payloadMost → m .waiting < waitingMost → Sound m → Sound (withWaiting m payload)
   unfolding withWaiting messageOf
-  waiting-sound payload short s =
+  waiting-sound payload short less s =
       record {
         n-pos = s .n-pos;
         n-most = s .n-most;
         number-lt = s .number-lt;
         waiting =
-            record {
-              waits = λ _. record { submitted-pos = omega arith; originator-is = refl; count-is = refl; short = short; zero-behind = kept-zero (m .number) (m .submitted + 1) payload };
-              idle = λ e. let z : _≡_ {A = ℕ} 0 1 = cc in absurd (omega arith);
-            };
+            waiting-more (m .number .0) (m .submitted) (m .waiting) (m .queue) (typed .queue) (s .waiting) (messageOf (m .number) (m .submitted + 1) payload) less
+            (record { originator-is = refl; count-is = refl; short = short; zero-behind = kept-zero (m .number) (m .submitted + 1) payload });
         places = s .places;
       }
 
@@ -48,7 +62,7 @@ module _ (m : Member) (typed : Typed m) where
   module _ (k : ℕ) (x : Message) where
     pub held-typed : Typed (withHeld m k x)
     unfolding withHeld
-    held-typed = record { group = typed .group; taken = typed .taken; submitted = typed .submitted; held = set-length (m .held) (typed .held) k x }
+    held-typed = record { group = typed .group; taken = typed .taken; submitted = typed .submitted; queue = typed .queue; held = set-length (m .held) (typed .held) k x }
 
     pub held-sound : m .taken .0 < k → k ≤ m .taken .0 + heldMost → 1 ≤ x .count → HeldSound (m .group .n) k x → Sound m → Sound (withHeld m k x)
     unfolding withHeld
@@ -63,16 +77,25 @@ module _ (m : Member) (typed : Typed m) where
 
   -- number t + 1 is taken
   module _ (message : Message) where
-    own-waiting : (own : Bool) → WaitingSound (m .number .0) (m .submitted) (m .waiting) (m .message)
-        → WaitingSound (m .number .0) (m .submitted) (if own then false else m .waiting) (if own then emptyMessage else m .message)
+    own-waiting : (own : Bool) → (own ≡ true → 1 ≤ m .waiting) → WaitingSound (m .number .0) (m .submitted) (m .waiting) (m .queue)
+        → WaitingSound (m .number .0) (m .submitted) (if own then m .waiting - 1 else m .waiting) (if own then set (m .queue) (queuePlace (firstCount m)) emptyMessage else m .queue)
     unfolding if_then_else_
-    own-waiting true w = record { waits = λ e. let z : _≡_ {A = ℕ} 0 1 = cc in absurd (omega arith); idle = λ _. empty-zero }
-    own-waiting false w = w
+    own-waiting true f w = waiting-less (m .number .0) (m .submitted) (m .waiting) (m .queue) (typed .queue) w (f refl)
+    own-waiting false f w = w
 
     pub taken-typed : m .taken .0 < largestNumber → Typed (withTaken m message)
     unfolding withTaken
     taken-typed left =
-        record { group = typed .group; taken = omega arith; submitted = typed .submitted; held = set-length (m .held) (typed .held) (m .taken .0 + 1) emptyMessage }
+        record {
+          group = typed .group;
+          taken = omega arith;
+          submitted = typed .submitted;
+          queue =
+              if-elim (λ (q : List Message). length q ≡ waitingMost) (isOwn m message)
+              (λ _. queue-length (m .queue) (typed .queue) (firstCount m) emptyMessage)
+              (λ _. typed .queue);
+          held = set-length (m .held) (typed .held) (m .taken .0 + 1) emptyMessage;
+        }
 
     pub taken-sound : Sound m → Sound (withTaken m message)
     unfolding withTaken
@@ -81,7 +104,7 @@ module _ (m : Member) (typed : Typed m) where
           n-pos = s .n-pos;
           n-most = s .n-most;
           number-lt = s .number-lt;
-          waiting = own-waiting (isOwn m message) (s .waiting);
+          waiting = own-waiting (isOwn m message) (λ e. own-first m message e .0) (s .waiting);
           places = taken-places (m .group .n) (m .taken .0) (m .held) (typed .held) (s .places);
         }
 
@@ -94,7 +117,7 @@ module _ (group : Group) (number : MemberNumber) where
 
   pub fresh-typed : group .number ≤ largestNumber → Typed (freshMember group number)
   unfolding freshMember
-  fresh-typed h = record { group = h; taken = omega arith; submitted = omega arith; held = length-replicate heldMost emptyMessage }
+  fresh-typed h = record { group = h; taken = omega arith; submitted = omega arith; queue = length-replicate waitingMost emptyMessage; held = length-replicate heldMost emptyMessage }
 
   pub fresh-sound : 1 ≤ group .n → group .n ≤ membersMost → number .0 < group .n → Sound (freshMember group number)
   unfolding freshMember
@@ -103,7 +126,13 @@ module _ (group : Group) (number : MemberNumber) where
         n-pos = lo;
         n-most = hi;
         number-lt = inside;
-        waiting = record { waits = λ e. let z : _≡_ {A = ℕ} 0 1 = cc in absurd (omega arith); idle = λ _. empty-zero };
+        waiting =
+            record {
+              most = omega arith;
+              enough = omega arith;
+              waits = λ c lo hi. absurd (omega arith);
+              idle = λ c lo hi. rw (getD-replicate waitingMost (queuePlace c) emptyMessage blank (omega arith)) empty-zero;
+            };
         places =
             record {
               holds = λ k a b c. absurd (empty-none (rw (fresh-none k) at c));

@@ -8,8 +8,8 @@ use Prim.Native.Nat.{ℕ, _+_, _-_, _≤_, _<_}
 use native.Mathlib.Omega.{arith}
 use borrow.Author.Tests.{leb-true, ltb-true}
 use lib.ListN.{length}
-use Rattle.group.specs.Choice.{if_then_else_, _<?_, _≤?_}
-use Rattle.group.specs.Limits.{headerSize, payloadMost, largestNumber}
+use Rattle.group.specs.Choice.{if_then_else_, _<?_, _≤?_, _=?_}
+use Rattle.group.specs.Limits.{headerSize, payloadMost, waitingMost, largestNumber}
 use Rattle.group.specs.declared.Refusal.{Refusal}
 use Rattle.group.specs.declared.Verdict.{Verdict}
 use Rattle.group.proofs.Choice.{if-was, says}
@@ -26,7 +26,7 @@ use Rattle.packet.specs.declared.Reading.{Reading}
 use Rattle.packet.proofs.Facts.{KnownBy}
 use Rattle.packet.proofs.Laws.{read-written, fields-content}
 use Rattle.packet.proofs.Verdicts.{readable, askable}
-use Rattle.member.specs.Calls.{Outcome, answered, requestPacket, statusPacket, callVerdict, submitVerdict, withWaiting, submitOf, repeatOf, statusOf, readStep, receiveOf, withTaken, tookOf, takeOf}
+use Rattle.member.specs.Calls.{Outcome, answered, firstWaiting, requestPacket, statusPacket, callVerdict, submitVerdict, withWaiting, submitOf, repeatOf, statusOf, readStep, receiveOf, withTaken, tookOf, takeOf}
 use Rattle.member.specs.Laws.{Typed, Keeps, WritesPacket, SubmitKeeps, RepeatKeeps, StatusKeeps, ReceiveKeeps, TakeKeeps}
 use Rattle.member.specs.Sound.{soundOf}
 use Rattle.window.specs.Places.{messageAt, isHeld}
@@ -46,19 +46,16 @@ call-sound m room e = if-was (soundOf m) _ _ Verdict.Accepted e (accepted≢ Ref
 -- what a submission that is accepted was asked
 pub record Submittable (m : Member) (size : ℕ) : Type 0 where
   pub short : size ≤ payloadMost
-  pub idle : m .waiting ≡ false
+  pub less : m .waiting < waitingMost
   pub left : m .submitted < largestNumber
 
 pub submittable : (m : Member) (size : ℕ) → submitVerdict m size ≡ Verdict.Accepted → Submittable m size
 unfolding submitVerdict
 submittable m size e =
     let a = if-was (size ≤? payloadMost) _ _ Verdict.Accepted e (accepted≢ Refusal.LongPayload) in
-    let b = if-was (if m .waiting then false else true) _ _ Verdict.Accepted (a .1) (accepted≢ Refusal.AlreadyWaiting) in
+    let b = if-was (m .waiting <? waitingMost) _ _ Verdict.Accepted (a .1) (accepted≢ Refusal.AlreadyWaiting) in
     let c = if-was (m .submitted <? largestNumber) _ _ Verdict.Accepted (b .1) (accepted≢ Refusal.NumbersUsedUp) in
-    record { short = leb-true size payloadMost (a .0); idle = idle (m .waiting) (b .0); left = ltb-true (m .submitted) largestNumber (c .0) }
-  where
-    idle : (waiting : Bool) → (if waiting then false else true) ≡ true → waiting ≡ false
-    idle waiting = if-elim (λ (b : Bool). b ≡ true → waiting ≡ false) waiting (λ _ z. let y : _≡_ {A = ℕ} 0 1 = cc in absurd (omega arith)) (λ z _. z)
+    record { short = leb-true size payloadMost (a .0); less = ltb-true (m .waiting) waitingMost (b .0); left = ltb-true (m .submitted) largestNumber (c .0) }
 
 module _ (m : Member) (typed : Typed m) where
   -- a sound state within its types, left by a call
@@ -79,28 +76,30 @@ writes : (bytes : List ℕ) (g : ℕ) (content : Packet) (payload : List ℕ) �
     → (bytes ≡ []) ⊎ ((h : Header) × (readOf bytes ≡ Reading.Fields h))
 writes bytes g content payload e a = inr (fieldsOf g content, ap readOf e ∙ read-written (fieldsOf g content) payload a .0)
 
-request-writes : (m : Member) (answer : Answer) → Typed m → Sound m → m .waiting ≡ true → WritesPacket (record { member = m; answer = answer; bytes = requestPacket m })
+request-writes : (m : Member) (answer : Answer) → Typed m → Sound m → 1 ≤ m .waiting → WritesPacket (record { member = m; answer = answer; bytes = requestPacket m })
 unfolding requestPacket
 request-writes m answer typed s waits =
-    writes _ (m .group .number) (Request (m .number) (acknowledgedOf m) (firstCount m)) (payloadOf (m .message)) refl (request-allowed m typed s waits)
+    writes _ (m .group .number) (Request (m .number) (acknowledgedOf m) (firstCount m)) (payloadOf (firstWaiting m)) refl (request-allowed m typed s waits)
 
 pub submit-keeps : SubmitKeeps
-unfolding submitOf withWaiting
+unfolding submitOf withWaiting answered
 submit-keeps m payload room typed =
     judged-elim (Good m typed) (callVerdict m room) (λ r _. quiet m typed (Answer.Refused r))
     (λ e. judged-elim (Good m typed) (submitVerdict m (length payload)) (λ r _. quiet m typed (Answer.Refused r))
     (λ f. let a = submittable m (length payload) f in
-    let s = waiting-sound m typed payload (a .short) (sound-of m (call-sound m room e)) in
+    let s = waiting-sound m typed payload (a .short) (a .less) (sound-of m (call-sound m room e)) in
     let t = waiting-typed m typed payload (a .left) in
-    (kept m typed (withWaiting m payload) Answer.Sent _ t s, request-writes (withWaiting m payload) Answer.Sent t s refl)))
+    if-elim (Good m typed) (m .waiting =? 0)
+    (λ _. (kept m typed (withWaiting m payload) Answer.Sent _ t s, request-writes (withWaiting m payload) Answer.Sent t s (omega arith)))
+    (λ _. (kept m typed (withWaiting m payload) _ _ t s, inl refl))))
 
 pub repeat-keeps : RepeatKeeps
 unfolding repeatOf
 repeat-keeps m room typed =
     judged-elim (Good m typed) (callVerdict m room) (λ r _. quiet m typed (Answer.Refused r))
-    (λ e. if-elim (Good m typed) (m .waiting)
+    (λ e. if-elim (Good m typed) (1 ≤? m .waiting)
     (λ f. let s = sound-of m (call-sound m room e) in
-    (same m typed Answer.Sent _, request-writes m Answer.Sent typed s f))
+    (same m typed Answer.Sent _, request-writes m Answer.Sent typed s (leb-true 1 (m .waiting) f)))
     (λ _. quiet m typed (Answer.Refused Refusal.NothingWaiting)))
 
 pub status-keeps : StatusKeeps

@@ -5,21 +5,23 @@ use mathlib.Core.Bool.{false}
 use mathlib.Core.Logic.{_⊎_, inl, inr}
 use mathlib.Core.Option.{some}
 use mathlib.Core.List.{List, [], _∷_, _++_, append-nil}
-use Prim.Native.Nat.{ℕ, suc, _+_, _≤_, _<_}
+use Prim.Native.Nat.{ℕ, suc, _+_, _-_, _≤_, _<_}
 use native.Mathlib.Nat.{le-refl, le-trans}
 use native.Mathlib.Numerals.{add-one}
 use native.Mathlib.Omega.{arith}
+use borrow.Author.Tests.{leb-true}
 use lib.ListN.{length, length-append}
 use lib.Seq.{take-append-le}
-use Rattle.group.specs.Limits.{heldMost, payloadMost, longestPacket, largestNumber}
+use Rattle.group.specs.Choice.{_≤?_, _=?_}
+use Rattle.group.specs.Limits.{heldMost, waitingMost, payloadMost, longestPacket, largestNumber}
 use Rattle.group.specs.declared.Group.{Group}
 use Rattle.group.specs.declared.MemberNumber.{MemberNumber}
 use Rattle.group.specs.declared.Refusal.{Refusal}
-use Rattle.group.proofs.Lists.{if-elim, judged-elim, at, All, at-append, at-last, at-snoc}
-use Rattle.message.specs.Message.{messageOf, payloadOf}
+use Rattle.group.proofs.Lists.{eq-or, if-elim, judged-elim, at, All, at-append, at-last, at-snoc}
+use Rattle.message.specs.Message.{messageOf}
 use Rattle.message.specs.Order.{Ordered, ownOf, countedFrom}
 use Rattle.message.specs.declared.Message.{Message}
-use Rattle.message.proofs.Kept.{kept-payload}
+use Rattle.message.proofs.Owning.{own-most}
 use Rattle.packet.specs.Packet.{headerOf, contentOf, fieldsOf, payloadAt, readOf, written}
 use Rattle.packet.specs.declared.Header.{Header}
 use Rattle.packet.specs.declared.Packet.{Packet}
@@ -30,14 +32,15 @@ use Rattle.packet.proofs.Laws.{read-written, content-fields}
 use Rattle.packet.proofs.RoundTrip.{header-back}
 use Rattle.member.specs.Calls.{Outcome, answered, requestPacket, callVerdict, submitVerdict, withWaiting, submitOf, repeatOf, statusOf, withHeld, readStep, receiveOf}
 use Rattle.member.specs.Order.{acceptedBy}
-use Rattle.member.specs.State.{acknowledgedOf, firstCount}
+use Rattle.member.specs.State.{acknowledgedOf}
 use Rattle.member.specs.declared.Answer.{Answer}
 use Rattle.member.specs.declared.Member.{Member}
-use Rattle.member.proofs.Invariant.{Terminal, MemberGood}
+use Rattle.member.proofs.Invariant.{requestedBy, Terminal, MemberGood, first-requested, requested-grows}
 use Rattle.member.proofs.Keeping.{waiting-typed, waiting-sound}
 use Rattle.member.proofs.Laws.{Right, submittable, read-keepable}
 use Rattle.member.proofs.Acknowledged.{acknowledged-waiting, acknowledged-held}
-use Rattle.window.specs.Places.{isHeld}
+use Rattle.window.specs.Places.{isHeld, queuePlace}
+use Rattle.window.proofs.Keeping.{queue-one, queued-each}
 use Rattle.window.proofs.Missing.{place-one, held-each}
 use Rattle.member.proofs.Receiving.{Keepable, read-heard}
 use Rattle.member.proofs.Soundness.{Sound, sound-of, of-sound}
@@ -45,22 +48,23 @@ use Rattle.member.proofs.Writes.{Own, request-own, status-own}
 
 module _ (group : Group) (i acknowledged : ℕ) (order took : List Ordered) (submitted : List (List ℕ)) where
   -- packets that are the member's own are terminal i's
-  own-known : (o : Outcome) (took′ : List Ordered) (submitted′ : List (List ℕ)) → Terminal group i acknowledged (o .member) order took′ submitted′ → Own submitted′ o
-      → All (KnownBy (group .number) i (acknowledgedOf (o .member) .0) submitted′) (written (o .bytes))
+  own-known : (o : Outcome) (took′ : List Ordered) (submitted′ : List (List ℕ)) → Terminal group i acknowledged (o .member) order took′ submitted′ → Own (requestedBy (o .member) submitted′) o
+      → All (KnownBy (group .number) i (acknowledgedOf (o .member) .0) (requestedBy (o .member) submitted′)) (written (o .bytes))
   own-known o took′ submitted′ h k =
       let a = acknowledgedOf (o .member) .0 in
-      subst (λ (x : Group). All (KnownBy (x .number) i a submitted′) (written (o .bytes))) (h .group-is)
-      (subst (λ (x : ℕ). All (KnownBy (o .member .group .number) x a submitted′) (written (o .bytes))) (h .number-is) k)
+      let r = requestedBy (o .member) submitted′ in
+      subst (λ (x : Group). All (KnownBy (x .number) i a r) (written (o .bytes))) (h .group-is)
+      (subst (λ (x : ℕ). All (KnownBy (o .member .group .number) x a r) (written (o .bytes))) (h .number-is) k)
 
   module _ (m : Member) (h : Terminal group i acknowledged m order took submitted) where
     abbrev Good : Outcome → Type 0
     Good o = MemberGood group i acknowledged order submitted m took submitted (written (o .bytes)) o
 
     -- a call that leaves the state
-    same : (o : Outcome) → o .member ≡ m → Own submitted o → Good o
+    same : (o : Outcome) → o .member ≡ m → Own (requestedBy (o .member) submitted) o → Good o
     same o e k =
         let h′ : Terminal group i acknowledged (o .member) order took submitted = rw e h in
-        record { terminal = h′; up = rw e (le-refl _); grown = λ c payload z. z; known = own-known o took submitted h′ k }
+        record { terminal = h′; up = rw e (le-refl _); grown = requested-grows h h′ (le-refl _) (λ c payload z. z); known = own-known o took submitted h′ k }
 
     quiet : (answer : Answer) → Good (answered m answer)
     unfolding answered written
@@ -71,17 +75,15 @@ module _ (group : Group) (i acknowledged : ℕ) (order took : List Ordered) (sub
     unfolding statusOf
     status-good =
         judged-elim Good (callVerdict m longestPacket) (λ r _. quiet (Answer.Refused r))
-        (λ e. same _ refl (status-own m (h .typed) (sound-of m (h .sound)) submitted Answer.Sent))
+        (λ e. same _ refl (status-own m (h .typed) (sound-of m (h .sound)) (requestedBy m submitted) Answer.Sent))
 
     pub repeat-good : Good (repeatOf m longestPacket)
     unfolding repeatOf
     repeat-good =
         judged-elim Good (callVerdict m longestPacket) (λ r _. quiet (Answer.Refused r))
-        (λ _. if-elim Good (m .waiting)
-        (λ e. let s = sound-of m (h .sound) in
-        let last = h .waiting-is e in
-        let p : payloadOf (m .message) ≡ last .0 = ap payloadOf (last .2) ∙ kept-payload (record { 0 = i }) (firstCount m) (last .0) in
-        same _ refl (request-own m (h .typed) s submitted Answer.Sent e (last .1 ∙ ap some (sym p))))
+        (λ _. if-elim Good (1 ≤? m .waiting)
+        (λ e. let w = leb-true 1 (m .waiting) e in
+        same _ refl (request-own m (h .typed) (sound-of m (h .sound)) (requestedBy m submitted) Answer.Sent w (first-requested h w)))
         (λ _. quiet (Answer.Refused Refusal.NothingWaiting)))
 
     -- submit
@@ -92,7 +94,7 @@ module _ (group : Group) (i acknowledged : ℕ) (order took : List Ordered) (sub
     unfolding answered acceptedBy
     submit-refused payload refusal = rw append-nil (quiet (Answer.Refused refusal))
 
-    module _ (payload : List ℕ) (short : length payload ≤ payloadMost) (idle : m .waiting ≡ false) (left : m .submitted < largestNumber) where
+    module _ (payload : List ℕ) (short : length payload ≤ payloadMost) (less : m .waiting < waitingMost) (left : m .submitted < largestNumber) where
       last : at (submitted ++ (payload ∷ [])) (m .submitted + 1) ≡ some payload
       last = rw (add-one, h .submitted-is) (at-last submitted payload)
 
@@ -104,7 +106,7 @@ module _ (group : Group) (i acknowledged : ℕ) (order took : List Ordered) (sub
           go (inr z) = rw (← (z .1)) short
 
       waiting-sound′ : Sound (withWaiting m payload)
-      waiting-sound′ = waiting-sound m (h .typed) payload short (sound-of m (h .sound))
+      waiting-sound′ = waiting-sound m (h .typed) payload short less (sound-of m (h .sound))
 
       waiting-terminal : Terminal group i acknowledged (withWaiting m payload) order took (submitted ++ (payload ∷ []))
       unfolding withWaiting
@@ -119,34 +121,55 @@ module _ (group : Group) (i acknowledged : ℕ) (order took : List Ordered) (sub
             took-is = h .took-is;
             held-is = h .held-is;
             submitted-is = simp length-append (omega arith);
-            count-le = omega arith;
-            count-near = (let z = h .idle idle in omega arith);
-            idle = λ e. let z : _≡_ {A = ℕ} 0 1 = cc in absurd (omega arith);
-            waiting-is = λ _. (payload, last, ap (λ (k : ℕ). messageOf (record { 0 = k }) (m .submitted + 1) payload) (h .number-is));
-            own-is = h .own-is ∙ ap (countedFrom 1) (sym (take-append-le (length (ownOf i order)) submitted (payload ∷ []) (omega arith)));
+            count-le = (let z = h .count-le in omega arith);
+            own-taken = (let z = h .own-taken in omega arith);
+            waiting-is = λ c lo hi.
+                queued-each (m .queue) (h .typed .queue) (m .submitted + 1) (messageOf (m .number) (m .submitted + 1) payload)
+                (λ (x : Message). (p : List ℕ) × (at (submitted ++ (payload ∷ [])) c ≡ some p) × (x ≡ messageOf (record { 0 = i }) c p)) c
+                (λ e. rw (queue-one (m .submitted - m .waiting) (m .submitted + 1) c (omega arith) (let z = sound-of m (h .sound) .waiting .enough in omega arith) (omega arith) (let z = sound-of m (h .sound) .waiting .enough in omega arith) e)
+                (payload, last, ap (λ (k : ℕ). messageOf (record { 0 = k }) (m .submitted + 1) payload) (h .number-is)))
+                (λ e. let z = h .waiting-is c (omega arith) (eq-or c (m .submitted + 1) (λ q. absurd (e (ap queuePlace q))) (λ q. omega arith)) in
+                (z .0, at-append submitted (payload ∷ []) c (z .1), z .2));
+            own-is = h .own-is ∙ ap (countedFrom 1) (sym (take-append-le (length (ownOf i order)) submitted (payload ∷ []) (own-most i order submitted (h .own-is))));
             payload-ok = all-short;
           }
 
-      submits-good : GoodSubmit payload (record { member = withWaiting m payload; answer = Answer.Sent; bytes = requestPacket (withWaiting m payload) })
-      unfolding withWaiting acceptedBy messageOf
-      submits-good =
+      one-waits : 1 ≤ withWaiting m payload .waiting
+      unfolding withWaiting
+      one-waits = omega arith
+
+      grown : (c : ℕ) (p : List ℕ) → at (requestedBy m submitted) c ≡ some p → at (requestedBy (withWaiting m payload) (submitted ++ (payload ∷ []))) c ≡ some p
+      grown = requested-grows h waiting-terminal (le-refl _) (λ c p e. at-append submitted (payload ∷ []) c e)
+
+      -- none waited: its request is written
+      sends-good : GoodSubmit payload (record { member = withWaiting m payload; answer = Answer.Sent; bytes = requestPacket (withWaiting m payload) })
+      unfolding acceptedBy
+      sends-good =
           let o : Outcome = record { member = withWaiting m payload; answer = Answer.Sent; bytes = requestPacket (withWaiting m payload) } in
-          let k = kept-payload (m .number) (m .submitted + 1) payload in
           record {
             terminal = waiting-terminal;
             up = acknowledged-waiting m payload;
-            grown = λ c p e. at-append submitted (payload ∷ []) c e;
+            grown = grown;
             known =
                 own-known o took (submitted ++ (payload ∷ [])) waiting-terminal
-                (request-own (withWaiting m payload) (waiting-terminal .typed) waiting-sound′ (submitted ++ (payload ∷ [])) Answer.Sent refl (last ∙ ap some (sym k)));
+                (request-own (withWaiting m payload) (waiting-terminal .typed) waiting-sound′ (requestedBy (withWaiting m payload) (submitted ++ (payload ∷ []))) Answer.Sent
+                one-waits (first-requested waiting-terminal one-waits));
           }
+
+      -- behind another: nothing is written
+      queues-good : GoodSubmit payload (answered (withWaiting m payload) (Answer.Queued (m .submitted + 1)))
+      unfolding answered acceptedBy written
+      queues-good = record { terminal = waiting-terminal; up = acknowledged-waiting m payload; grown = grown; known = tt }
 
     pub submit-good : (payload : List ℕ) → GoodSubmit payload (submitOf m payload longestPacket)
     unfolding submitOf
     submit-good payload =
         judged-elim (GoodSubmit payload) (callVerdict m longestPacket) (λ r _. submit-refused payload r)
         (λ _. judged-elim (GoodSubmit payload) (submitVerdict m (length payload)) (λ r _. submit-refused payload r)
-        (λ e. let a = submittable m (length payload) e in submits-good payload (a .short) (a .idle) (a .left)))
+        (λ e. let a = submittable m (length payload) e in
+        if-elim (GoodSubmit payload) (m .waiting =? 0)
+        (λ _. sends-good payload (a .short) (a .less) (a .left))
+        (λ _. queues-good payload (a .short) (a .less) (a .left))))
 
     -- a packet
     abbrev Here : Member → Type 0
@@ -172,8 +195,7 @@ module _ (group : Group) (i acknowledged : ℕ) (order took : List Ordered) (sub
               (λ e. h .held-is j a b);
           submitted-is = h .submitted-is;
           count-le = h .count-le;
-          count-near = h .count-near;
-          idle = h .idle;
+          own-taken = h .own-taken;
           waiting-is = h .waiting-is;
           own-is = h .own-is;
           payload-ok = h .payload-ok;
@@ -210,4 +232,4 @@ module _ (group : Group) (i acknowledged : ℕ) (order took : List Ordered) (sub
             judged-elim Good (callVerdict m longestPacket) (λ r _. quiet (Answer.Refused r))
             (λ _. let o : Outcome = readStep m (readOf bytes) (payloadAt bytes) in
             let a = read-heard Here (λ m′ e. e .typed) (λ m′ e. sound-of m′ (e .sound)) m h (readOf bytes) (payloadAt bytes) known-keepable in
-            record { terminal = a .state; up = a .up; grown = λ c payload e. e; known = own-known o took submitted (a .state) (a .own submitted) })
+            record { terminal = a .state; up = a .up; grown = requested-grows h (a .state) (le-refl _) (λ c payload e. e); known = own-known o took submitted (a .state) (a .own (requestedBy (o .member) submitted)) })

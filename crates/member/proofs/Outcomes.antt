@@ -10,7 +10,7 @@ use lib.ListN.{length, getD, set}
 use Rattle.group.specs.Choice.{if_then_else_, _and_, _≤?_, _<?_, _=?_}
 use Rattle.group.specs.Fold.{allAbove}
 use Rattle.group.specs.Lent.{front, Laid}
-use Rattle.group.specs.Limits.{heldMost, headerSize, payloadMost, longestPacket, largestNumber}
+use Rattle.group.specs.Limits.{heldMost, waitingMost, headerSize, payloadMost, longestPacket, largestNumber}
 use Rattle.group.specs.Question.{judged}
 use Rattle.group.specs.declared.MemberNumber.{MemberNumber}
 use Rattle.group.specs.declared.Refusal.{Refusal}
@@ -31,8 +31,9 @@ use Rattle.member.specs.Calls.{Outcome, stepOf, answered, gapPacket, cal
 use Rattle.window.specs.Sound.{placeSound}
 use Rattle.member.specs.Sound.{soundOf}
 use Rattle.member.specs.State.{acknowledgedOf, firstCount}
-use Rattle.window.specs.Places.{placeOf, messageAt, lowestMissing}
+use Rattle.window.specs.Places.{placeOf, messageAt, queuePlace, lowestMissing}
 use Rattle.member.proofs.Acknowledged.{acknowledged-missing, acknowledged-gapped}
+use Rattle.member.proofs.Keeping.{own-first}
 use Rattle.window.proofs.Missing.{lowest-is, lowest-other}
 use Rattle.member.specs.Steps.{Spoken, Replied, withPlace, Hears}
 use Rattle.member.specs.declared.Answer.{Answer}
@@ -95,7 +96,7 @@ hears-same m o reply r x y d e =
     (record {
       inside = omega arith;
       kept = d .same
-          ∙ (λ j. record { group = m .group; number = m .number; taken = m .taken; submitted = m .submitted; waiting = m .waiting; message = m .message; held = sym (set-same (m .held)) j });
+          ∙ (λ j. record { group = m .group; number = m .number; taken = m .taken; submitted = m .submitted; waiting = m .waiting; queue = m .queue; held = sym (set-same (m .held)) j });
       spoken = d .spoken;
     })
 
@@ -209,15 +210,6 @@ module _ {A : Type 0} (v : Verdict) (refused : Refusal → A) (accepted : A) whe
   unfolding judged
   judged-no q e = rw e
 
--- a test of what does not wait
-pub waits : (w : Bool) → w ≡ true → if w then false else true ≡ false
-unfolding if_then_else_
-waits w e = rw e
-
-pub waits-not : (w : Bool) → w ≡ false → if w then false else true ≡ true
-unfolding if_then_else_
-waits-not w e = rw e
-
 accepted≢ : (q : Refusal) → Refused q ≡ Accepted → ⊥
 accepted≢ q e = let z : _≡_ {A = ℕ} 0 1 = cc in omega arith
 
@@ -230,13 +222,13 @@ asked m room e =
     (s .0, leb-true longestPacket room (l .0))
 
 -- what questions 13, 14 and 16 have said
-pub asked-submission : (m : Member) (size : ℕ) → submitVerdict m size ≡ Accepted → (size ≤ payloadMost) × (m .submitted < largestNumber)
+pub asked-submission : (m : Member) (size : ℕ) → submitVerdict m size ≡ Accepted → (size ≤ payloadMost) × (m .waiting < waitingMost) × (m .submitted < largestNumber)
 unfolding submitVerdict
 asked-submission m size e =
     let s = if-was (size ≤? payloadMost) _ _ Accepted e (accepted≢ Refusal.LongPayload) in
-    let w = if-was (if m .waiting then false else true) _ _ Accepted (s .1) (accepted≢ Refusal.AlreadyWaiting) in
+    let w = if-was (m .waiting <? waitingMost) _ _ Accepted (s .1) (accepted≢ Refusal.AlreadyWaiting) in
     let u = if-was (m .submitted <? largestNumber) _ _ Accepted (w .1) (accepted≢ Refusal.NumbersUsedUp) in
-    (leb-true size payloadMost (s .0), ltb-true (m .submitted) largestNumber (u .0))
+    (leb-true size payloadMost (s .0), ltb-true (m .waiting) waitingMost (w .0), ltb-true (m .submitted) largestNumber (u .0))
 
 module _ (m : Member) (e : soundOf m ≡ true) where
   -- the following number, held in a sound state, has a short message and is not over the largest
@@ -249,22 +241,26 @@ module _ (m : Member) (e : soundOf m ≡ true) where
       (search says depth 9, search says depth 9)
 
 -- the test of the code is the definition's
-pub own-is : (m : Member) (message : Message) (r b : Bool) → r ≡ (m .waiting and message .originator .0 =? m .number .0 and message .count =? firstCount m) → r ≡ b
+pub own-is : (m : Member) (message : Message) (r b : Bool) → r ≡ (1 ≤? m .waiting and message .originator .0 =? m .number .0 and message .count =? firstCount m) → r ≡ b
     → isOwn m message ≡ b
 unfolding isOwn
 own-is m message r b e t = sym e ∙ t
 
+-- where it holds, some message waits
+pub own-some : (m : Member) (originator count : ℕ) (r : Bool) → r ≡ (1 ≤? m .waiting and originator =? m .number .0 and count =? firstCount m) → r ≡ true → 1 ≤ m .waiting
+own-some m originator count r e t = leb-true 1 (m .waiting) (both-first _ _ (sym e ∙ t))
+
 -- the state after a take, with the place and the empty message as the code has them
 module _ (m : Member) (message empty : Message) (at : ℕ) (z : empty ≡ emptyMessage) (e : at ≡ placeOf (m .taken .0 + 1)) where
-  pub taken-own : isOwn m message ≡ true
+  pub taken-own : (first : ℕ) → first ≡ queuePlace (message .count) → isOwn m message ≡ true
       → withTaken m message
-      ≡ record { group = m .group; number = m .number; taken = record { 0 = m .taken .0 + 1 }; submitted = m .submitted; waiting = false; message = empty; held = set (m .held) at empty }
+      ≡ record { group = m .group; number = m .number; taken = record { 0 = m .taken .0 + 1 }; submitted = m .submitted; waiting = m .waiting - 1; queue = set (m .queue) first empty; held = set (m .held) at empty }
   unfolding withTaken if_then_else_
-  taken-own o = rw (z, e, o)
+  taken-own first f o = let q : first ≡ queuePlace (firstCount m) = f ∙ ap queuePlace (own-first m message o .2) in rw (z, e, o, q)
 
   pub taken-other : isOwn m message ≡ false
       → withTaken m message
-      ≡ record { group = m .group; number = m .number; taken = record { 0 = m .taken .0 + 1 }; submitted = m .submitted; waiting = m .waiting; message = m .message; held = set (m .held) at empty }
+      ≡ record { group = m .group; number = m .number; taken = record { 0 = m .taken .0 + 1 }; submitted = m .submitted; waiting = m .waiting; queue = m .queue; held = set (m .held) at empty }
   unfolding withTaken if_then_else_
   taken-other o = rw (z, e, o)
 

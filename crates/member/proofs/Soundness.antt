@@ -16,19 +16,19 @@ pub record Sound (m : Member) : Type 0 where
   pub n-pos : 1 ≤ m .group .n
   pub n-most : m .group .n ≤ membersMost
   pub number-lt : m .number .0 < m .group .n
-  pub waiting : WaitingSound (m .number .0) (m .submitted) (m .waiting) (m .message)
+  pub waiting : WaitingSound (m .number .0) (m .submitted) (m .waiting) (m .queue)
   pub places : PlacesSound (m .group .n) (m .taken .0) (m .held)
 
 pub sound-of : (m : Member) → soundOf m ≡ true → Sound m
 unfolding soundOf frameSound
 sound-of m e =
-    let w : waitingSound (m .number) (m .submitted) (m .waiting) (m .message) ≡ true = search says in
+    let w : waitingSound (m .number) (m .submitted) (m .waiting) (m .queue) ≡ true = search says in
     let p : allAbove (placeSound (m .group .n) (m .held)) (m .taken .0) heldMost ≡ true = search says in
     record {
       n-pos = search says;
       n-most = search says;
       number-lt = search says;
-      waiting = waiting-of (m .number) (m .submitted) (m .waiting) (m .message) w;
+      waiting = waiting-of (m .number) (m .submitted) (m .queue) (m .waiting) w;
       places = places-of (m .group .n) (m .held) (m .taken .0) p;
     }
 
@@ -36,5 +36,5 @@ pub of-sound : (m : Member) → Sound m → soundOf m ≡ true
 unfolding soundOf frameSound
 of-sound m s =
     both-hold _ _ (both-hold _ _ (le-leb _ _ (s .n-pos)) (both-hold _ _ (le-leb _ _ (s .n-most)) (lt-ltb _ _ (s .number-lt))))
-    (both-hold _ _ (of-waiting (m .number) (m .submitted) (m .waiting) (m .message) (s .waiting))
+    (both-hold _ _ (of-waiting (m .number) (m .submitted) (m .queue) (m .waiting) (s .waiting))
     (of-places (m .group .n) (m .held) (m .taken .0) (s .places)))

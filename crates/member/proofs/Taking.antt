@@ -1,35 +1,36 @@
 -- A take of a terminal's member owes the group what demand 3's invariant asks: what is handed out is the order's next message.
 -- Assumes nothing.
-use mathlib.Core.Path.{_≡_, refl, sym, ap, _∙_}
+use mathlib.Core.Path.{_≡_, refl, sym, ap, _∙_, subst}
 use mathlib.Core.Bool.{Bool, true, false}
 use mathlib.Core.Option.{some}
 use mathlib.Core.List.{List, [], _∷_, _++_, append-nil}
-use Prim.Native.Nat.{ℕ, _+_, _≤_}
+use Prim.Native.Nat.{ℕ, _+_, _-_, _≤_, _<_}
 use native.Mathlib.Nat.{le-refl}
-use lib.ListN.{length}
+use lib.ListN.{length, take, set}
 use native.Mathlib.Numerals.{add-one}
 use native.Mathlib.Omega.{arith}
-use borrow.Author.Tests.{ltb-true}
+use borrow.Author.Tests.{ltb-true, le-leb, eq-eqb}
 use Rattle.group.specs.Choice.{if_then_else_}
 use Rattle.group.specs.Limits.{longestPacket}
-use Rattle.group.proofs.Choice.{says}
+use Rattle.group.proofs.Choice.{both-hold}
 use Rattle.group.proofs.Lists.{if-elim, judged-elim, at, at-le, take-at-suc}
 use Rattle.group.specs.declared.Group.{Group}
 use Rattle.message.specs.Message.{messageOf, emptyMessage, payloadOf}
 use Rattle.message.specs.Order.{Ordered, ownOf}
 use Rattle.message.specs.declared.Message.{Message}
 use Rattle.message.proofs.Kept.{kept-payload}
+use Rattle.message.proofs.Owning.{own-grows, own-more, own-other, own-most, own-count}
 use Rattle.packet.proofs.Facts.{ordered}
 use Rattle.member.specs.Calls.{Outcome, answered, callVerdict, isOwn, withTaken, tookOf, takeOf}
 use Rattle.member.specs.Order.{tookBy}
 use Rattle.member.specs.State.{firstCount}
-use Rattle.window.specs.Places.{messageAt, isHeld}
+use Rattle.window.specs.Places.{messageAt, isHeld, queuePlace, queuedAt}
 use Rattle.member.specs.declared.Answer.{Answer}
 use Rattle.member.specs.declared.Member.{Member}
-use Rattle.member.proofs.Invariant.{Terminal, MemberGood}
+use Rattle.member.proofs.Invariant.{Terminal, MemberGood, requested-grows}
 use Rattle.member.proofs.Acknowledged.{acknowledged-took}
-use Rattle.window.proofs.Keeping.{empty-none}
-use Rattle.member.proofs.Keeping.{taken-typed, taken-sound}
+use Rattle.window.proofs.Keeping.{empty-none, queue-one, queued-each}
+use Rattle.member.proofs.Keeping.{own-first, taken-typed, taken-sound}
 use Rattle.window.proofs.Missing.{place-near, held-each}
 use Rattle.member.proofs.Soundness.{sound-of, of-sound}
 
@@ -41,8 +42,7 @@ module _ (group : Group) (i acknowledged : ℕ) (order took : List Ordered) (sub
   abbrev next : Message
   next = messageAt (m .held) (m .taken .0 + 1)
 
-  module _ (cap : (k : ℕ) (x : Ordered) → at order k ≡ some x → x .originator ≡ i → x .count ≤ length (ownOf i order))
-      (numbered : (k : ℕ) (x : Ordered) → at order k ≡ some x → x .number ≡ k) where
+  module _ (numbered : (k : ℕ) (x : Ordered) → at order k ≡ some x → x .number ≡ k) where
     module _ (holds : 1 ≤ next .count) where
       -- the order's message of number t + 1
       this : (y : Ordered) × (at order (m .taken .0 + 1) ≡ some y) × (next ≡ messageOf (record { 0 = y .originator }) (y .count) (y .payload))
@@ -60,23 +60,55 @@ module _ (group : Group) (i acknowledged : ℕ) (order took : List Ordered) (sub
           let d : payloadOf next ≡ y .payload = ap payloadOf e ∙ kept-payload (record { 0 = y .originator }) (y .count) (y .payload) in
           λ j. record { number = a j; originator = b j; count = c j; payload = d j }
 
-      -- where it is the member's own waiting message, every submission is numbered
-      own-numbered : isOwn m next ≡ true → length (ownOf i order) ≡ m .submitted
+      -- where it is the terminal's, it is the first that waits
+      own-waits : this .0 .originator ≡ i → isOwn m next ≡ true
       unfolding isOwn messageOf
-      own-numbered e =
-          let a : next .originator .0 ≡ m .number .0 = search says in
-          let b : next .count ≡ firstCount m = search says in
+      own-waits e =
           let y = this .0 in
-          let c : next .originator .0 ≡ y .originator = ap (λ (z : Message). z .originator .0) (this .2) in
-          let d : next .count ≡ y .count = ap (λ (z : Message). z .count) (this .2) in
-          let k = cap (m .taken .0 + 1) y (this .1) (sym c ∙ a ∙ h .number-is) in
-          omega arith
+          let t : ℕ = m .taken .0 in
+          let c = subst (λ (k : ℕ). (y .count ≡ length (ownOf k (take t order)) + 1) × (length (ownOf k (take t order)) + 1 ≤ length (ownOf k order))) e
+          (own-count order submitted t y (rw add-one at (this .1)) (rw e (h .own-is))) in
+          let q : length (ownOf i (take t order)) ≡ m .submitted - m .waiting = sym (ap (λ (l : List Ordered). length (ownOf i l)) (h .took-is)) ∙ h .own-taken in
+          let most = own-most i order submitted (h .own-is) in
+          let size = h .submitted-is in
+          let a : next .originator .0 ≡ m .number .0 = ap (λ (z : Message). z .originator .0) (this .2) ∙ e ∙ sym (h .number-is) in
+          let b : next .count ≡ y .count = ap (λ (z : Message). z .count) (this .2) in
+          let some-wait : 1 ≤ m .waiting = omega arith in
+          both-hold _ _ (le-leb 1 (m .waiting) some-wait) (both-hold _ _ (eq-eqb _ _ a) (eq-eqb (next .count) (firstCount m) (omega arith)))
 
-      still-waits : (own : Bool) → (if own then false else m .waiting) ≡ true
-          → (payload : List ℕ) × (at submitted (firstCount m) ≡ some payload) × ((if own then emptyMessage else m .message) ≡ messageOf (record { 0 = i }) (firstCount m) payload)
+      -- its own messages taken are the submissions but for those that wait
+      taken-own : (own : Bool) → isOwn m next ≡ own → length (ownOf i (took ++ (this .0 ∷ []))) ≡ m .submitted - (if own then m .waiting - 1 else m .waiting)
+      unfolding if_then_else_ messageOf
+      taken-own true e =
+          let f = own-first m next e in
+          let y = this .0 in
+          let o : y .originator ≡ i = sym (ap (λ (z : Message). z .originator .0) (this .2)) ∙ f .1 ∙ h .number-is in
+          let z = subst (λ (k : ℕ). length (ownOf k (took ++ (y ∷ []))) ≡ length (ownOf k took) + 1) o (own-more took y) in
+          let q = h .own-taken in
+          let enough = sound-of m (h .sound) .waiting .enough in
+          omega arith
+      taken-own false e =
+          ap length (own-other i took (this .0) (λ o. let t = own-waits o in let z : _≡_ {A = ℕ} 0 1 = cc in omega arith)) ∙ h .own-taken
+
+      still-waits : (own : Bool) → isOwn m next ≡ own → (c : ℕ) → m .submitted - (if own then m .waiting - 1 else m .waiting) < c → c ≤ m .submitted
+          → (payload : List ℕ) × (at submitted c ≡ some payload) × (queuedAt (if own then set (m .queue) (queuePlace (firstCount m)) emptyMessage else m .queue) c ≡ messageOf (record { 0 = i }) c payload)
       unfolding if_then_else_
-      still-waits true e = let z : _≡_ {A = ℕ} 0 1 = cc in absurd (omega arith)
-      still-waits false e = h .waiting-is e
+      still-waits true e c lo hi =
+          let some-wait = own-first m next e .0 in
+          let w = sound-of m (h .sound) .waiting in
+          let enough = w .enough in
+          let most = w .most in
+          queued-each (m .queue) (h .typed .queue) (firstCount m) emptyMessage
+          (λ (x : Message). (payload : List ℕ) × (at submitted c ≡ some payload) × (x ≡ messageOf (record { 0 = i }) c payload)) c
+          (λ q. absurd (let z = queue-one (m .submitted - m .waiting) (firstCount m) c (omega arith) (omega arith) (omega arith) (omega arith) q in omega arith))
+          (λ q. h .waiting-is c (omega arith) hi)
+      still-waits false e c lo hi = h .waiting-is c lo hi
+
+      -- what is numbered of its own stays below the first that waits
+      counts : (own : Bool) → length (ownOf i order) ≤ m .submitted - (if own then m .waiting - 1 else m .waiting) + 1
+      unfolding if_then_else_
+      counts true = let z = h .count-le in omega arith
+      counts false = h .count-le
 
       taken-terminal : Terminal group i acknowledged (withTaken m next) order (took ++ (ordered (m .taken .0 + 1) (next .originator .0) (next .count) (payloadOf next) ∷ [])) submitted
       unfolding withTaken
@@ -98,17 +130,22 @@ module _ (group : Group) (i acknowledged : ℕ) (order took : List Ordered) (sub
                 (λ e c. absurd (empty-none c))
                 (λ e. h .held-is k (omega arith) (place-near (m .taken .0) k a b e));
             submitted-is = h .submitted-is;
-            count-le = h .count-le;
-            count-near = h .count-near;
-            idle = if-elim (λ (w : Bool). w ≡ false → length (ownOf i order) ≡ m .submitted) (isOwn m next) (λ own _. own-numbered own) (λ _. h .idle);
-            waiting-is = still-waits (isOwn m next);
+            count-le = counts (isOwn m next);
+            own-taken = rw handed (taken-own (isOwn m next) refl);
+            waiting-is = still-waits (isOwn m next) refl;
             own-is = h .own-is;
             payload-ok = h .payload-ok;
           }
 
       takes-good : GoodTake (tookOf m next)
       unfolding tookOf tookBy withTaken
-      takes-good = record { terminal = taken-terminal; up = rw (acknowledged-took m next (h .typed) (sound-of m (h .sound)) holds) (le-refl _); grown = λ c payload e. e; known = tt }
+      takes-good =
+          record {
+            terminal = taken-terminal;
+            up = rw (acknowledged-took m next (h .typed) (sound-of m (h .sound)) holds) (le-refl _);
+            grown = requested-grows h taken-terminal (own-grows i took _) (λ c payload e. e);
+            known = tt;
+          }
 
     take-none : (answer : Answer) → tookBy answer [] ≡ [] → GoodTake (answered m answer)
     unfolding answered

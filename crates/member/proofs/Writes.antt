@@ -4,7 +4,7 @@ use mathlib.Core.Path.{_≡_, refl}
 use mathlib.Core.Bool.{true}
 use mathlib.Core.Option.{some}
 use mathlib.Core.List.{List, []}
-use Prim.Native.Nat.{ℕ, _≤_, _<_}
+use Prim.Native.Nat.{ℕ, _+_, _-_, _≤_, _<_}
 use native.Mathlib.Nat.{le-refl}
 use native.Mathlib.Omega.{arith}
 use lib.ListN.{length}
@@ -18,7 +18,7 @@ use Rattle.packet.specs.declared.Packet.the-variants.{Request, Gap, Status}
 use Rattle.packet.proofs.Facts.{KnownBy}
 use Rattle.packet.proofs.Permitted.{request-fields, gap-fields, status-fields}
 use Rattle.packet.proofs.Verdicts.{accepted}
-use Rattle.member.specs.Calls.{Outcome, requestPacket, gapPacket, statusPacket}
+use Rattle.member.specs.Calls.{Outcome, firstWaiting, requestPacket, gapPacket, statusPacket}
 use Rattle.member.specs.Laws.{Typed}
 use Rattle.member.specs.State.{acknowledgedOf, firstCount}
 use Rattle.member.specs.declared.Answer.{Answer}
@@ -27,14 +27,16 @@ use Rattle.member.proofs.Acknowledged.{acknowledged-fits}
 use Rattle.member.proofs.Soundness.{Sound}
 
 module _ (m : Member) (typed : Typed m) (s : Sound m) where
-  pub request-allowed : m .waiting ≡ true → Allowed (fieldsOf (m .group .number) (Request (m .number) (acknowledgedOf m) (firstCount m))) (payloadOf (m .message))
+  pub request-allowed : 1 ≤ m .waiting → Allowed (fieldsOf (m .group .number) (Request (m .number) (acknowledgedOf m) (firstCount m))) (payloadOf (firstWaiting m))
   unfolding fieldsOf
   request-allowed waits =
-      let w = s .waiting .waits waits in
-      let size = length (payloadOf (m .message)) in (
-        record { kind = omega arith; member = omega arith; group = typed .group; a = acknowledged-fits m typed; b = typed .submitted; c = omega arith },
+      let enough = s .waiting .enough in
+      let most = typed .submitted in
+      let w = s .waiting .waits (firstCount m) (omega arith) (omega arith) in
+      let size = length (payloadOf (firstWaiting m)) in (
+        record { kind = omega arith; member = omega arith; group = typed .group; a = acknowledged-fits m typed; b = omega arith; c = omega arith },
         accepted _ size longestPacket
-            (record { enough = omega arith; fields = request-fields (m .group .number) (m .number) (acknowledgedOf m) (firstCount m) size (w .submitted-pos); short = payload-short (m .message) (w .short) }),
+            (record { enough = omega arith; fields = request-fields (m .group .number) (m .number) (acknowledgedOf m) (firstCount m) size (omega arith); short = payload-short (firstWaiting m) (w .short) }),
       )
 
   pub gap-allowed : (first last : ℕ) → acknowledgedOf m .0 < first → first ≤ last → last ≤ largestNumber
@@ -77,13 +79,13 @@ module _ (m : Member) (typed : Typed m) (sound : Sound m) (submitted : List (Lis
   status-own answer =
       (record { content = Status (m .number) (acknowledgedOf m); payload = []; bytes-are = refl; allowed = status-allowed m typed sound; says = (refl, le-refl _) }, tt)
 
-  pub request-own : (answer : Answer) → m .waiting ≡ true → at submitted (firstCount m) ≡ some (payloadOf (m .message))
+  pub request-own : (answer : Answer) → 1 ≤ m .waiting → at submitted (firstCount m) ≡ some (payloadOf (firstWaiting m))
       → Own submitted (record { member = m; answer = answer; bytes = requestPacket m })
   unfolding requestPacket packetOf headerBytes fieldsOf written
   request-own answer waits last = (
     record {
       content = Request (m .number) (acknowledgedOf m) (firstCount m);
-      payload = payloadOf (m .message);
+      payload = payloadOf (firstWaiting m);
       bytes-are = refl;
       allowed = request-allowed m typed sound waits;
       says = (refl, le-refl _, last);

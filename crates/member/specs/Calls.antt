@@ -1,10 +1,10 @@
 -- The member's calls: each goes down its questions in their order, and then takes its step.
-use mathlib.Core.Bool.{Bool, true, false}
+use mathlib.Core.Bool.{Bool}
 use mathlib.Core.List.{List, []}
 use Prim.Native.Nat.{ℕ, _+_, _-_}
 use lib.ListN.{length, set}
 use Rattle.group.specs.Choice.{if_then_else_, ask_or_then_, _and_, _<?_, _≤?_, _=?_}
-use Rattle.group.specs.Limits.{heldMost, payloadMost, longestPacket, largestNumber}
+use Rattle.group.specs.Limits.{heldMost, waitingMost, payloadMost, longestPacket, largestNumber}
 use Rattle.group.specs.Opening.{descriptionOf, openOf}
 use Rattle.group.specs.Question.{judged}
 use Rattle.group.specs.declared.MemberNumber.{MemberNumber}
@@ -20,7 +20,7 @@ use Rattle.packet.specs.declared.Packet.{Packet}
 use Rattle.packet.specs.declared.Reading.{Reading}
 use Rattle.packet.specs.declared.Reading.the-variants.{Fields}
 use Rattle.member.specs.Sound.{soundOf}
-use Rattle.window.specs.Places.{smallerOf, placeOf, messageAt, isHeld, lowestMissing}
+use Rattle.window.specs.Places.{smallerOf, placeOf, messageAt, isHeld, queuePlace, queuedAt, lowestMissing}
 use Rattle.member.specs.State.{acknowledgedOf, firstCount, freshMember}
 use Rattle.member.specs.declared.Answer.{Answer}
 use Rattle.member.specs.declared.Member.{Member}
@@ -45,10 +45,14 @@ answered m answer = record { member = m; answer = answer; bytes = [] }
 abbrev pub refused : Member → Refusal → Outcome
 refused m refusal = answered m (Answer.Refused refusal)
 
--- the packets that a member writes: its request with its count and payload, a gap, a status
+-- the first message that waits
+abbrev pub firstWaiting : Member → Message
+firstWaiting m = queuedAt (m .queue) (firstCount m)
+
+-- the packets that a member writes: the request of the first that waits with its count and payload, a gap, a status
 unfoldable pub requestPacket : Member → List ℕ
 requestPacket m =
-    packetOf (fieldsOf (m .group .number) (Packet.Request (m .number) (acknowledgedOf m) (firstCount m))) (payloadOf (m .message))
+    packetOf (fieldsOf (m .group .number) (Packet.Request (m .number) (acknowledgedOf m) (firstCount m))) (payloadOf (firstWaiting m))
 
 unfoldable pub gapPacket : Member → ℕ → ℕ → List ℕ
 gapPacket m first last =
@@ -68,11 +72,11 @@ callVerdict m room =
 unfoldable pub submitVerdict : Member → ℕ → Verdict
 submitVerdict m size =
     ask size ≤? payloadMost or Verdict.Refused Refusal.LongPayload then
-    ask (if m .waiting then false else true) or Verdict.Refused Refusal.AlreadyWaiting then
+    ask m .waiting <? waitingMost or Verdict.Refused Refusal.AlreadyWaiting then
     ask m .submitted <? largestNumber or Verdict.Refused Refusal.NumbersUsedUp then
     Verdict.Accepted
 
--- u grows by 1, and the message waits
+-- u grows by 1, and the message waits behind those that do
 unfoldable pub withWaiting : Member → List ℕ → Member
 withWaiting m payload =
     record {
@@ -80,23 +84,25 @@ withWaiting m payload =
       number = m .number;
       taken = m .taken;
       submitted = m .submitted + 1;
-      waiting = true;
-      message = messageOf (m .number) (m .submitted + 1) payload;
+      waiting = m .waiting + 1;
+      queue = set (m .queue) (queuePlace (m .submitted + 1)) (messageOf (m .number) (m .submitted + 1) payload);
       held = m .held;
     }
 
--- submit: its request is written
+-- submit: its request is written, or, behind one that waits, nothing
 unfoldable pub submitOf : Member → List ℕ → ℕ → Outcome
 submitOf m payload room =
     judged (callVerdict m room) (refused m)
     (judged (submitVerdict m (length payload)) (refused m)
-    (record { member = withWaiting m payload; answer = Answer.Sent; bytes = requestPacket (withWaiting m payload) }))
+    (if m .waiting =? 0
+    then record { member = withWaiting m payload; answer = Answer.Sent; bytes = requestPacket (withWaiting m payload) }
+    else answered (withWaiting m payload) (Answer.Queued (m .submitted + 1))))
 
--- repeat: the waiting request is written with what is acknowledged today. Question 15
+-- repeat: the request of the first that waits is written with what is acknowledged today. Question 15
 unfoldable pub repeatOf : Member → ℕ → Outcome
 repeatOf m room =
     judged (callVerdict m room) (refused m)
-    (ask m .waiting or refused m Refusal.NothingWaiting then
+    (ask 1 ≤? m .waiting or refused m Refusal.NothingWaiting then
     record { member = m; answer = Answer.Sent; bytes = requestPacket m })
 
 -- status call: kind 4 with what is acknowledged
@@ -114,7 +120,7 @@ withHeld m number message =
       taken = m .taken;
       submitted = m .submitted;
       waiting = m .waiting;
-      message = m .message;
+      queue = m .queue;
       held = set (m .held) (placeOf number) message;
     }
 
@@ -165,14 +171,15 @@ readStep m (Reading.Refused refusal) payload = refused m refusal
 unfoldable pub receiveOf : Member → List ℕ → ℕ → Outcome
 receiveOf m packet room = judged (callVerdict m room) (refused m) (readStep m (readOf packet) (payloadAt packet))
 
--- whether a taken message is the member's own waiting one
+-- whether a taken message is the member's own that waits first
 unfoldable pub isOwn : Member → Message → Bool
 isOwn m message =
-    m .waiting
+    1 ≤? m .waiting
     and message .originator .0 =? m .number .0
     and message .count =? firstCount m
 
--- t + 1 handed out: its place is cleared, t grows by 1, and if it is the member's own waiting count nothing waits any more
+-- t + 1 handed out: its place is cleared, t grows by 1, and if it is the member's own that waits first, it waits no more and the
+-- next is first
 unfoldable pub withTaken : Member → Message → Member
 withTaken m message =
     record {
@@ -180,8 +187,8 @@ withTaken m message =
       number = m .number;
       taken = record { 0 = m .taken .0 + 1 };
       submitted = m .submitted;
-      waiting = if isOwn m message then false else m .waiting;
-      message = if isOwn m message then emptyMessage else m .message;
+      waiting = if isOwn m message then m .waiting - 1 else m .waiting;
+      queue = if isOwn m message then set (m .queue) (queuePlace (firstCount m)) emptyMessage else m .queue;
       held = set (m .held) (placeOf (m .taken .0 + 1)) emptyMessage;
     }
 

@@ -6,7 +6,7 @@ use mathlib.Core.Logic.{_⊎_}
 use Prim.Native.Nat.{ℕ, _≤_}
 use lib.ListN.{length}
 use Rattle.group.specs.Choice.{if_then_else_, _<?_, _≤?_, _=?_}
-use Rattle.group.specs.Limits.{heldMost, payloadMost, longestPacket, largestNumber}
+use Rattle.group.specs.Limits.{heldMost, waitingMost, payloadMost, longestPacket, largestNumber}
 use Rattle.group.specs.Question.{Question, firstNo}
 use Rattle.group.specs.declared.Refusal.{Refusal}
 use Rattle.group.specs.declared.Verdict.{Verdict}
@@ -42,12 +42,12 @@ abbrev pub submitQuestions : Member → List ℕ → ℕ → List Question
 submitQuestions m payload room =
     callQuestions m room
     ++ (record { yes = length payload ≤? payloadMost; refusal = Refusal.LongPayload }
-    ∷ record { yes = if m .waiting then false else true; refusal = Refusal.AlreadyWaiting }
+    ∷ record { yes = m .waiting <? waitingMost; refusal = Refusal.AlreadyWaiting }
     ∷ record { yes = m .submitted <? largestNumber; refusal = Refusal.NumbersUsedUp }
     ∷ [])
 
 abbrev pub repeatQuestions : Member → ℕ → List Question
-repeatQuestions m room = callQuestions m room ++ (record { yes = m .waiting; refusal = Refusal.NothingWaiting } ∷ [])
+repeatQuestions m room = callQuestions m room ++ (record { yes = 1 ≤? m .waiting; refusal = Refusal.NothingWaiting } ∷ [])
 
 -- demand 1: a refusal is answered exactly if some question says no, with the first one's number; then the state is the same
 -- and nothing is written. Every other input is accepted
@@ -70,11 +70,12 @@ TakeFirstNo = (m : Member) (room : ℕ) → FirstNo m (callQuestions m room) (ta
 abbrev pub ReceiveFirstNo : Type 0
 ReceiveFirstNo = (m : Member) (packet : List ℕ) (room : ℕ) → FirstNo m (receiveQuestions m packet room) (receiveOf m packet room)
 
--- a state that its types can hold: its array has its length, and its numbers are not over the largest
+-- a state that its types can hold: its arrays have their lengths, and its numbers are not over the largest
 pub record Typed (m : Member) : Type 0 where
   pub group : m .group .number ≤ largestNumber
   pub taken : m .taken .0 ≤ largestNumber
   pub submitted : m .submitted ≤ largestNumber
+  pub queue : length (m .queue) ≡ waitingMost
   pub held : length (m .held) ≡ heldMost
 
 -- a call leaves a state that its types can hold, sound if it was sound

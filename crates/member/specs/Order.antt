@@ -3,12 +3,13 @@ use mathlib.Core.List.{List, [], _∷_}
 use Prim.Native.Nat.{ℕ}
 use Rattle.message.specs.Order.{Ordered}
 use Rattle.member.specs.declared.Answer.{Answer}
-use Rattle.member.specs.declared.Answer.the-variants.{Refused, Sent, Old, Kept, KeptGap, Beyond, BeyondGap, Gap, Status, None, Took}
+use Rattle.member.specs.declared.Answer.the-variants.{Refused, Sent, Queued, Old, Kept, KeptGap, Beyond, BeyondGap, Gap, Status, None, Took}
 
 -- the message that a take handed out: number, originator and count of its answer, and the payload that it wrote
 unfoldable pub tookBy : Answer → List ℕ → List Ordered
 tookBy (Refused refusal) bytes = []
 tookBy Sent bytes = []
+tookBy (Queued count) bytes = []
 tookBy Old bytes = []
 tookBy Kept bytes = []
 tookBy KeptGap bytes = []
@@ -24,6 +25,7 @@ tookBy (Took number originator count more) bytes =
 unfoldable pub acceptedBy : Answer → List ℕ → List (List ℕ)
 acceptedBy (Refused refusal) payload = []
 acceptedBy Sent payload = payload ∷ []
+acceptedBy (Queued count) payload = payload ∷ []
 acceptedBy Old payload = payload ∷ []
 acceptedBy Kept payload = payload ∷ []
 acceptedBy KeptGap payload = payload ∷ []

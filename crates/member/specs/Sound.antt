@@ -6,9 +6,9 @@ use Rattle.group.specs.Limits.{heldMost}
 use Rattle.window.specs.Sound.{placeSound, waitingSound, frameSound}
 use Rattle.member.specs.declared.Member.{Member}
 
--- its numbers, its waiting message and its 8 places are sound
+-- its numbers, its waiting messages and its 8 places are sound
 unfoldable pub soundOf : Member → Bool
 soundOf m =
     frameSound (m .group .n) (m .number)
-    and waitingSound (m .number) (m .submitted) (m .waiting) (m .message)
+    and waitingSound (m .number) (m .submitted) (m .waiting) (m .queue)
     and allAbove (placeSound (m .group .n) (m .held)) (m .taken .0) heldMost

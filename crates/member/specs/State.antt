@@ -1,9 +1,8 @@
--- What a member holds: n, its number, group, t (last taken), u (submissions so far), at most one waiting message (its count
--- is u), and 8 places for numbers t + 1 to t + 8.
-use mathlib.Core.Bool.{false}
+-- What a member holds: n, its number, group, t (last taken), u (submissions so far), at most five waiting messages (their counts
+-- are the last up to u), and 8 places for numbers t + 1 to t + 8.
 use Prim.Native.Nat.{ℕ, _+_, _-_}
 use lib.ListN.{replicate}
-use Rattle.group.specs.Limits.{heldMost, largestNumber}
+use Rattle.group.specs.Limits.{heldMost, waitingMost, largestNumber}
 use Rattle.group.specs.declared.Group.{Group}
 use Rattle.group.specs.declared.MemberNumber.{MemberNumber}
 use Rattle.group.specs.declared.SequenceNumber.{SequenceNumber}
@@ -19,9 +18,9 @@ rowEndOf m = rowEnd (m .held) (m .taken .0) (smallerOf largestNumber (m .taken .
 unfoldable pub acknowledgedOf : Member → SequenceNumber
 acknowledgedOf m = record { 0 = rowEndOf m }
 
--- the count of the waiting message
+-- the count of the first waiting message; the next submission's where none waits
 abbrev pub firstCount : Member → ℕ
-firstCount m = m .submitted
+firstCount m = m .submitted - m .waiting + 1
 
 -- fresh: t and u zero, nothing held
 unfoldable pub freshMember : Group → MemberNumber → Member
@@ -31,7 +30,7 @@ freshMember group number =
       number = number;
       taken = record { 0 = 0 };
       submitted = 0;
-      waiting = false;
-      message = emptyMessage;
+      waiting = 0;
+      queue = replicate waitingMost emptyMessage;
       held = replicate heldMost emptyMessage;
     }

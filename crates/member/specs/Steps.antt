@@ -32,7 +32,7 @@ withPlace m at message =
       taken = m .taken;
       submitted = m .submitted;
       waiting = m .waiting;
-      message = m .message;
+      queue = m .queue;
       held = set (m .held) at message;
     }
 

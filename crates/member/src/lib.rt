@@ -20,7 +20,7 @@ ghost use Rattle.message.specs.Message.{payloadOf, blank};
 ghost use Rattle.packet.specs.Packet.{fieldsVerdict, fieldsOf, packetOf};
 ghost use Rattle.member.specs.State.{rowEndOf, acknowledgedOf, freshMember};
 ghost use Rattle.member.specs.Sound.{soundOf};
-ghost use Rattle.member.specs.Calls.{stepOf, answered, requestPacket, statusPacket, callVerdict, submitVerdict, submitOf, repeatOf, statusOf, gapUpTo, keptOf, broadcastOf, pollOf, contentStep, receiveOf, takeOf, freshOf};
+ghost use Rattle.member.specs.Calls.{stepOf, answered, firstWaiting, requestPacket, statusPacket, callVerdict, submitVerdict, submitOf, repeatOf, statusOf, gapUpTo, keptOf, broadcastOf, pollOf, contentStep, receiveOf, takeOf, freshOf};
 ghost use Rattle.group.specs.Wording.{verdictWording};
 ghost use Rattle.member.specs.Wording.{wordingOf};
 ghost use Rattle.member.specs.Steps.{Spoken, Replied, Hears};
@@ -30,8 +30,8 @@ pub struct Member {
     pub number: MemberNumber,
     pub taken: SequenceNumber,
     pub submitted: u32,
-    pub waiting: bool,
-    pub message: Message,
+    pub waiting: u32,
+    pub queue: [Message; Group::WAITING],
     pub held: [Message; Group::HELD],
 }
 
@@ -39,6 +39,7 @@ pub struct Member {
 pub enum Answer {
     Refused(Refusal),
     Sent,
+    Queued(u32),
     Old,
     Kept,
     KeptGap,
@@ -89,6 +90,16 @@ fn put_bare(packet: Packet, group: u32, out: &mut [u8]) -> usize
 {
     let none = [0u8; 0];
     packet.put(group, &none, out)
+}
+
+// Lays a packet with the payload of a message at the front of the output, and gives its length.
+fn put_message(packet: Packet, group: u32, message: Message, out: &mut [u8]) -> usize
+    requires { ⌜ (fieldsVerdict (fieldsOf group packet) (length (payloadOf message)) (length (payloadOf message)) ≡ Verdict.Accepted) × (message .length ≤ payloadMost) × (longestPacket ≤ length (now out)) ⌝ }
+    ensures { λ r. ⌜ Laid (packetOf (fieldsOf group packet) (payloadOf message)) r (now (out .entry)) (now (out .exit)) ⌝ }
+{
+    let length = message.length;
+    let payload = message.payload;
+    packet.put(group, &payload[..length], out)
 }
 
 // A no: nothing is written.
@@ -151,8 +162,8 @@ impl Member {
             number,
             taken: SequenceNumber(0),
             submitted: 0,
-            waiting: false,
-            message: empty,
+            waiting: 0,
+            queue: [empty; Group::WAITING],
             held: [empty; Group::HELD],
         }
     }
@@ -175,8 +186,8 @@ impl Member {
     {
         let number = self.number;
         if window::frame_sound(self.group.n, number) {
-            let message = self.message;
-            if window::waiting_sound(number, self.submitted, self.waiting, message) {
+            let queue = self.queue;
+            if window::waiting_sound(number, self.submitted, self.waiting, queue) {
                 let held = self.held;
                 window::held_sound(self.group.n, held, self.taken)
             } else {
@@ -208,7 +219,7 @@ impl Member {
         if Group::PAYLOAD < size {
             return Verdict::Refused(Refusal::LongPayload);
         }
-        if self.waiting {
+        if Group::WAITING <= (self.waiting as usize) {
             return Verdict::Refused(Refusal::AlreadyWaiting);
         }
         if self.submitted < Group::LARGEST {
@@ -258,22 +269,22 @@ impl Member {
         self.row_end()
     }
 
-    // Lays the request of the waiting message at the front of the output, and gives its length.
+    // Lays the request of the first message that waits at the front of the output, and gives its length.
     fn put_request(self, out: &mut [u8]) -> usize
-        requires { ⌜ (1 ≤ self .submitted) × (self .message .length ≤ payloadMost) × (longestPacket ≤ length (now out)) ⌝ }
+        requires { ⌜ (1 ≤ self .waiting) × (self .waiting ≤ self .submitted) × (firstWaiting self .length ≤ payloadMost) × (longestPacket ≤ length (now out)) ⌝ }
         ensures { λ r. ⌜ Laid (requestPacket self) r (now (out .entry)) (now (out .exit)) ⌝ }
     {
-        let message = self.message;
-        let length = message.length;
-        let payload = message.payload;
+        let count = self.submitted - self.waiting + 1;
+        let at = window::queue_place(count as usize);
+        let message = self.queue[at];
         let sender = self.number;
         let taken = self.acknowledged();
         let packet = Packet::Request {
             sender,
             taken,
-            count: self.submitted,
+            count,
         };
-        packet.put(self.group.number, &payload[..length], out)
+        put_message(packet, self.group.number, message, out)
     }
 
     // The answer with the status packet.
@@ -466,7 +477,7 @@ impl Member {
         let v = self.ask(out.len());
         match v {
             Verdict::Accepted => {
-                if self.waiting {
+                if 1 <= self.waiting {
                     let written = self.put_request(out);
                     return Reply {
                         answer: Answer::Sent,
@@ -479,7 +490,7 @@ impl Member {
         }
     }
 
-    // Submits a message: its request is written.
+    // Submits a message: its request is written, or, behind one that waits, nothing.
     pub fn submit(mut self, payload: &[u8], out: &mut [u8]) -> Step
         ensures answer { λ r. ⌜ r ≡ stepOf (submitOf self (now (payload .entry)) (length (now (out .entry)))) ⌝ }
         ensures lent { λ _. ⌜ now (out .exit) ≡ front (submitOf self (now (payload .entry)) (length (now (out .entry))) .bytes) (now (out .entry)) ⌝ }
@@ -494,13 +505,20 @@ impl Member {
                         let number = self.number;
                         let count = self.submitted + 1;
                         let message = Message::keep(number, count, payload);
+                        let place = window::queue_place(count as usize);
                         self.submitted = count;
-                        self.waiting = true;
-                        self.message = message;
-                        let written = self.put_request(out);
+                        self.waiting = self.waiting + 1;
+                        self.queue[place] = message;
+                        if self.waiting == 1 {
+                            let written = self.put_request(out);
+                            return self.replied(Reply {
+                                answer: Answer::Sent,
+                                written,
+                            });
+                        }
                         return self.replied(Reply {
-                            answer: Answer::Sent,
-                            written,
+                            answer: Answer::Queued(count),
+                            written: 0,
                         });
                     }
                     Verdict::Refused(q) => return self.replied(refused(q)),
@@ -510,7 +528,7 @@ impl Member {
         }
     }
 
-    // Writes the waiting request again, with what is acknowledged by then.
+    // Writes the request of the first message that waits again, with what is acknowledged by then.
     pub fn repeat(self, out: &mut [u8]) -> Step
         ensures answer { λ r. ⌜ r ≡ stepOf (repeatOf self (length (now (out .entry)))) ⌝ }
         ensures lent { λ _. ⌜ now (out .exit) ≡ front (repeatOf self (length (now (out .entry))) .bytes) (now (out .entry)) ⌝ }
@@ -530,8 +548,8 @@ impl Member {
         self.replied(reply)
     }
 
-    // Hands out the following number, if it is held: its place is cleared, and if it is the member's own waiting message nothing
-    // waits any more.
+    // Hands out the following number, if it is held: its place is cleared, and if it is the member's own that waits first, the
+    // next is first.
     pub fn take(mut self, out: &mut [u8]) -> Step
         ensures answer { λ r. ⌜ r ≡ stepOf (takeOf self (length (now (out .entry)))) ⌝ }
         ensures lent { λ _. ⌜ now (out .exit) ≡ front (takeOf self (length (now (out .entry))) .bytes) (now (out .entry)) ⌝ }
@@ -557,8 +575,9 @@ impl Member {
                         originator,
                         message.count,
                     ) {
-                        self.waiting = false;
-                        self.message = empty;
+                        let first = window::queue_place(message.count as usize);
+                        self.waiting = self.waiting - 1;
+                        self.queue[first] = empty;
                         return self.replied(reply);
                     }
                     return self.replied(reply);

@@ -5,12 +5,12 @@ use mathlib.Core.Logic.{_≢_}
 use mathlib.Core.Bool.{Bool, true, false}
 use mathlib.Core.Option.{some}
 use mathlib.Core.List.{List, [], _∷_, _++_, append-nil}
-use Prim.Native.Nat.{ℕ, suc, _+_, _≤_}
+use Prim.Native.Nat.{ℕ, zero, suc, _+_, _≤_}
 use native.Mathlib.Omega.{arith}
 use borrow.Author.Tests.{eq-eqb, ne-eqb}
-use lib.ListN.{length, take, length-append, length-take}
-use lib.Seq.{length-take-le}
-use Rattle.group.proofs.Lists.{at, take-at-suc}
+use lib.ListN.{length, take, drop, getElem?, length-append, length-take, take-append-drop}
+use lib.Seq.{length-take-le, take-take}
+use Rattle.group.proofs.Lists.{none≢some, at, get-lt, get-append, get-last, take-at-suc}
 use Rattle.group.specs.Choice.{if_then_else_, _=?_}
 use Rattle.message.specs.Order.{Ordered, Submission, ownOf, countedFrom}
 
@@ -66,6 +66,45 @@ own-most i order submitted own =
     let e : length (ownOf i order) ≡ length (take (length (ownOf i order)) submitted) = ap length own ∙ counted-length 1 (take (length (ownOf i order)) submitted) in
     let z = simp length-take at e in
     omega arith
+
+-- they are among the first k submissions exactly if they are no more
+pub owns-take : (i k : ℕ) (order : List Ordered) (submitted : List (List ℕ)) → length (ownOf i order) ≤ k → Owns i order submitted → Owns i order (take k submitted)
+owns-take i k order submitted h own = own ∙ ap (countedFrom 1) (sym (take-take (length (ownOf i order)) k submitted h))
+
+pub owns-taken : (i k : ℕ) (order : List Ordered) (submitted : List (List ℕ)) → Owns i order (take k submitted) → (length (ownOf i order) ≤ k) × Owns i order submitted
+owns-taken i k order submitted own =
+    let z = simp length-take at (own-most i order (take k submitted) own) in
+    let h : length (ownOf i order) ≤ k = omega arith in
+    (h, own ∙ ap (countedFrom 1) (take-take (length (ownOf i order)) k submitted h))
+
+-- the count of each of them is its place
+counted-at : (count : ℕ) (l : List (List ℕ)) (j : ℕ) {x : Submission} → getElem? (countedFrom count l) j ≡ some x → x .count ≡ count + j
+unfolding countedFrom
+counted-at count [] j e = absurd (none≢some e)
+counted-at count (y ∷ l) zero {x} e =
+    let z : record { count = count; payload = y } ≡ x = cc in
+    let q : count ≡ x .count = ap (λ (s : Submission). s .count) z in
+    omega arith
+counted-at count (y ∷ l) (suc j) e = let z = counted-at (count + 1) l j e in omega arith
+
+-- so a message of the order has the count after its originator's messages below it, and these are no more than they all are
+pub own-count : (order : List Ordered) (submitted : List (List ℕ)) (t : ℕ) (m : Ordered) → at order (suc t) ≡ some m → Owns (m .originator) order submitted
+    → (m .count ≡ length (ownOf (m .originator) (take t order)) + 1) × (length (ownOf (m .originator) (take t order)) + 1 ≤ length (ownOf (m .originator) order))
+own-count order submitted t m e own =
+    let i : ℕ = m .originator in
+    let q : ℕ = length (ownOf i (take t order)) in
+    let p : ℕ = length (ownOf i order) in
+    let cut : order ≡ (take t order ++ (m ∷ [])) ++ drop (suc t) order =
+    sym (take-append-drop (suc t) order) ∙ ap (λ (l : List Ordered). l ++ drop (suc t) order) (take-at-suc order t e) in
+    let all : ownOf i order ≡ (ownOf i (take t order) ++ (submissionOf m ∷ [])) ++ ownOf i (drop (suc t) order) =
+    ap (ownOf i) cut ∙ own-append i (take t order ++ (m ∷ [])) (drop (suc t) order)
+    ∙ ap (λ (l : List Submission). l ++ ownOf i (drop (suc t) order)) (own-same (take t order) m) in
+    let here : getElem? (ownOf i order) q ≡ some (submissionOf m) =
+    ap (λ (l : List Submission). getElem? l q) all
+    ∙ get-append (ownOf i (take t order) ++ (submissionOf m ∷ [])) (ownOf i (drop (suc t) order)) q (get-last (ownOf i (take t order)) (submissionOf m)) in
+    let c = counted-at 1 (take p submitted) q (ap (λ (l : List Submission). getElem? l q) (sym own) ∙ here) in
+    let lt = get-lt (ownOf i order) q here in
+    (omega arith, omega arith)
 
 -- the order grows by a message of another, or by the submission with the count after them
 pub own-still : (i : ℕ) (order : List Ordered) (submitted : List (List ℕ)) (m : Ordered) → m .originator ≢ i → Owns i order submitted → Owns i (order ++ (m ∷ [])) submitted

@@ -29,7 +29,7 @@ use Rattle.window.specs.Places as window
 use Rattle.window.specs.Sound as windowSound
 
 pub examples : Examples
-unfolding if_then_else_ all allAbove least openOf judged member.answered rowEndOf acknowledgedOf member.requestPacket member.gapPacket member.statusPacket member.callVerdict member.submitVerdict member.withWaiting member.submitOf member.repeatOf member.statusOf member.withHeld member.gapUpTo member.keptOf member.broadcastOf window.smallerOf member.pollOf member.contentStep member.readStep member.receiveOf member.isOwn member.withTaken member.tookOf member.takeOf member.openedOf member.freshOf windowSound.placeSound windowSound.waitingSound windowSound.frameSound memberSound.soundOf window.lowestMissing window.rowEnd freshMember allZero messageOf emptyMessage payloadOf zeroBehind isEmpty takeRow closeMember closeFrom request broadcast statusOf requested holding gather numberedIn tookIn tookAt tookBy messagesAbove lastNumber above happen run freshMembers fresh numberAt bytesOf headerOf knownKind payloadFits obeys fieldsVerdict readOf headerBytes packetOf writeVerdict writeOf contentOf fieldsOf written sequencer.answered sequencer.broadcastOf sequencer.pollPacket oneMore repeatsSum repeatsOf sequencer.repeatedOf isOf findOf sequencer.oldOf sequencer.againOf sequencer.fullOf sequencer.withMessage sequencer.numberedOf sequencer.requestOf sequencer.gapOf senderVerdict countVerdict wantedVerdict sequencer.contentStep sequencer.readStep sequencer.callVerdict sequencer.receiveOf sequencer.pollOf sequencer.copyOf sequencer.openedOf sequencer.freshOf largerOf tableNoted clearedOf withTable noteOf numberedBy entrySound keptSound placeSound frameSound soundOf floorOf freshSequencer
+unfolding if_then_else_ all allAbove least openOf judged member.answered rowEndOf acknowledgedOf member.requestPacket member.gapPacket member.statusPacket member.callVerdict member.submitVerdict member.withWaiting member.submitOf member.repeatOf member.statusOf member.withHeld member.gapUpTo member.keptOf member.broadcastOf window.smallerOf member.pollOf member.contentStep member.readStep member.receiveOf member.isOwn member.withTaken member.tookOf member.takeOf member.openedOf member.freshOf windowSound.placeSound windowSound.queueSound windowSound.waitingSound windowSound.frameSound memberSound.soundOf window.lowestMissing window.rowEnd freshMember allZero messageOf emptyMessage payloadOf zeroBehind isEmpty takeRow closeMember closeFrom request broadcast statusOf requested holding gather numberedIn tookIn tookAt tookBy messagesAbove lastNumber above happen run freshMembers fresh numberAt bytesOf headerOf knownKind payloadFits obeys fieldsVerdict readOf headerBytes packetOf writeVerdict writeOf contentOf fieldsOf written sequencer.answered sequencer.broadcastOf sequencer.pollPacket oneMore repeatsSum repeatsOf sequencer.repeatedOf isOf findOf sequencer.oldOf sequencer.againOf sequencer.fullOf sequencer.withMessage sequencer.numberedOf sequencer.requestOf sequencer.gapOf senderVerdict countVerdict wantedVerdict sequencer.contentStep sequencer.readStep sequencer.callVerdict sequencer.receiveOf sequencer.pollOf sequencer.copyOf sequencer.openedOf sequencer.freshOf largerOf tableNoted clearedOf withTable noteOf numberedBy entrySound keptSound placeSound frameSound soundOf floorOf freshSequencer
 examples =
     record {
       floor = refl;

@@ -5,7 +5,7 @@ use Prim.Native.Nat.{ℕ, _<_}
 use lib.ListN.{length, getD}
 use Rattle.group.proofs.Lists.{All}
 use Rattle.group.specs.declared.Group as description
-use Rattle.member.proofs.Invariant.{Terminal}
+use Rattle.member.proofs.Invariant.{requestedBy, Terminal}
 use Rattle.member.specs.State.{acknowledgedOf}
 use Rattle.member.specs.declared.Member.{Member}
 use Rattle.message.specs.Order.{Ordered}
@@ -23,13 +23,17 @@ takenOf members i = getD members i noMember .taken .0
 abbrev pub acknowledgedIn : List Member → ℕ → ℕ
 acknowledgedIn members i = acknowledgedOf (getD members i noMember) .0
 
+-- its submissions that were requested
+abbrev pub requestedIn : List Member → (ℕ → List (List ℕ)) → ℕ → List (List ℕ)
+requestedIn members submitted i = requestedBy (getD members i noMember) (submitted i)
+
 -- the group under an order, what each terminal took, and what it submitted
 pub record Inv (group : description.Group) (w : Group) (ord : List Ordered) (tk : ℕ → List Ordered) (sb : ℕ → List (List ℕ)) : Type 0 where
   pub sequencer : SequencerInv group (w .sequencer) ord
   pub members : length (w .members) ≡ group .n
   pub terminal : (i : ℕ) → i < group .n
       → Terminal group i (takenIn (w .sequencer .acknowledgements) i) (getD (w .members) i noMember) ord (tk i) (sb i)
-  pub packets : All (Known (group .number) ord (acknowledgedIn (w .members)) sb) (w .packets)
+  pub packets : All (Known (group .number) ord (acknowledgedIn (w .members)) (requestedIn (w .members) sb)) (w .packets)
 
 -- the same where the three are read off the log
 abbrev pub WorldInv : description.Group → World → Type 0

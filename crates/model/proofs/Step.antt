@@ -9,7 +9,7 @@ use native.Mathlib.Nat.{not-suc-le-zero, le-of-suc-le-suc, zero-add}
 use native.Mathlib.Omega.{arith}
 use borrow.Author.Tests.{ltb-true, ltb-false, eq-eqb, ne-eqb}
 use borrow.Author.Needs.{needs}
-use lib.ListN.{length, getD, getElem?, replicate, getD-replicate}
+use lib.ListN.{length, getD, getElem?, replicate, getD-replicate, length-take}
 use Rattle.group.proofs.Choice.{choices, tests, if-true, if-false}
 use Rattle.group.proofs.Lists.{if-elim, at, all-get}
 use Rattle.group.specs.Choice.{if_then_else_, _<?_, _=?_}
@@ -19,7 +19,7 @@ use Rattle.group.specs.declared.Opened.{Opened}
 use Rattle.group.specs.declared.Group as description
 use Rattle.member.proofs.Acknowledged.{acknowledged-most}
 use Rattle.member.proofs.Closing.{fresh-terminal}
-use Rattle.member.proofs.Invariant.{MemberGood}
+use Rattle.member.proofs.Invariant.{MemberGood, requested-owns}
 use Rattle.member.proofs.Ordering as memberOrdering
 use Rattle.member.proofs.Taking.{take-good}
 use Rattle.member.specs.Calls as member
@@ -27,8 +27,8 @@ use Rattle.member.specs.Order.{tookBy, acceptedBy}
 use Rattle.member.specs.State.{freshMember}
 use Rattle.member.specs.declared.Opening.{Opening}
 use Rattle.message.proofs.Owning.{Owns}
-use Rattle.message.specs.Order.{Ordered, ownOf}
-use Rattle.model.proofs.Invariant.{Inv, WorldInv, acknowledgedIn}
+use Rattle.message.specs.Order.{Ordered}
+use Rattle.model.proofs.Invariant.{Inv, WorldInv, acknowledgedIn, requestedIn}
 use Rattle.model.proofs.Keep.{keep-sequencer, keep-member}
 use Rattle.model.specs.Log.{gather, numberedIn, order, tookIn, acceptedIn, tookAt, submittedAt, taken, submitted}
 use Rattle.model.specs.World.{Event, submit, repeat, status, poll, copy, handMember, handSequencer, absent, bySequencer, byMember, Group, Happened, missing, withMember, withSequencer, noMember, atMember, takeAt, handToMember, handToSequencer, happen, World, step, run, freshMembers, fresh}
@@ -127,17 +127,13 @@ module _ (group : description.Group) (w : Group) (ord : List Ordered) (tk : ℕ 
       (λ b. absent-kept (submit i p))
 
   -- a message's count is at most the number of its originator's messages
-  count-own : (s : ℕ) (x : Ordered) → at ord s ≡ some x → x .count ≤ length (ownOf (x .originator) ord)
-  count-own s x e = let z = v .sequencer .count-most s x e in let y = v .sequencer .counts-are (x .originator) (v .sequencer .originator-ok s x e) in omega arith
-
   take-kept : (i : ℕ) → Kept (world.take i) (takeAt w i)
   unfolding tookAt submittedAt tookIn
   take-kept i =
       if-elim (Kept (world.take i)) (i <? length (w .members))
       (λ b. let m = getD (w .members) i noMember in let o = member.takeOf m longestPacket in
       member-kept i (world.take i) o [] (tookBy (o .answer) (o .bytes)) [] (inside i b) (if-same i _ _) refl (λ j q. if-other i j _ _ q) (λ j q. refl)
-      (rw (append-nil (sb i)) (take-good group i _ ord (tk i) (sb i) m (v .terminal i (inside i b))
-      (λ s x e z. subst (λ (k : ℕ). x .count ≤ length (ownOf k ord)) z (count-own s x e)) (v .sequencer .number-is))))
+      (rw (append-nil (sb i)) (take-good group i _ ord (tk i) (sb i) m (v .terminal i (inside i b)) (v .sequencer .number-is))))
       (λ b. absent-kept (world.take i))
 
   repeat-kept : (i : ℕ) → Kept (repeat i) (atMember w i (λ m. member.repeatOf m longestPacket))
@@ -164,7 +160,7 @@ module _ (group : description.Group) (w : Group) (ord : List Ordered) (tk : ℕ 
       at-i p e =
           if-elim (Kept (handMember k i)) (i <? length (w .members))
           (λ b. still-kept i (handMember k i) _ _ (inside i b) (λ j. refl) (λ j. refl)
-          (memberOrdering.receive-good group i _ ord (tk i) (sb i) (getD (w .members) i noMember) (v .terminal i (inside i b)) (acknowledgedIn (w .members)) sb p (all-get _ (w .packets) k (v .packets) e)))
+          (memberOrdering.receive-good group i _ ord (tk i) (sb i) (getD (w .members) i noMember) (v .terminal i (inside i b)) (acknowledgedIn (w .members)) (requestedIn (w .members) sb) p (all-get _ (w .packets) k (v .packets) e)))
           (λ b. absent-kept (handMember k i))
 
       go : (x : Option (List ℕ)) → getElem? (w .packets) k ≡ x → Kept (handMember k i) (handToMember w i x)
@@ -174,7 +170,7 @@ module _ (group : description.Group) (w : Group) (ord : List Ordered) (tk : ℕ 
   -- an event of the sequencer
   sequencer-kept : (e : Event) (o : sequencer.Outcome)
       → ((j : ℕ) → tookAt j e (bySequencer (o .answer) (o .bytes)) ≡ []) → ((j : ℕ) → submittedAt j e (bySequencer (o .answer) (o .bytes)) ≡ [])
-      → SequencerGood group ord (acknowledgedIn (w .members)) sb (written (o .bytes)) o → Kept e (withSequencer w o)
+      → SequencerGood group ord (acknowledgedIn (w .members)) (requestedIn (w .members) sb) (written (o .bytes)) o → Kept e (withSequencer w o)
   unfolding numberedIn
   sequencer-kept e o ot os h =
       inv-ext group _ _ _ tk _ sb _ refl (λ j. rw (ot j) (append-nil (tk j))) (λ j. rw (os j) (append-nil (sb j))) (keep-sequencer group w ord tk sb o v h)
@@ -185,11 +181,11 @@ module _ (group : description.Group) (w : Group) (ord : List Ordered) (tk : ℕ 
   t-le : (i : ℕ) → i < group .n → acknowledgedIn (w .members) i ≤ length ord
   t-le i b = acknowledged-most (v .terminal i b)
 
-  sizes : (i : ℕ) → i < group .n → length (sb i) ≤ largestNumber
-  sizes i b = let z = v .terminal i b .typed .submitted in let y = v .terminal i b .submitted-is in omega arith
+  sizes : (i : ℕ) → i < group .n → length (requestedIn (w .members) sb i) ≤ largestNumber
+  sizes i b = let z = v .terminal i b .typed .submitted in let y = v .terminal i b .submitted-is in simp length-take (omega arith)
 
-  owns : (i : ℕ) → i < group .n → Owns i ord (sb i)
-  owns i b = v .terminal i b .own-is
+  owns : (i : ℕ) → i < group .n → Owns i ord (requestedIn (w .members) sb i)
+  owns i b = requested-owns (v .terminal i b)
 
   hand-sequencer-kept : (k : ℕ) → Kept (handSequencer k) (handToSequencer w (getElem? (w .packets) k))
   unfolding tookAt submittedAt
@@ -199,7 +195,7 @@ module _ (group : description.Group) (w : Group) (ord : List Ordered) (tk : ℕ 
       go none e = absent-kept (handSequencer k)
       go (some p) e =
           sequencer-kept (handSequencer k) _ (λ j. refl) (λ j. refl)
-          (sequencerOrdering.receive-good group ord (w .sequencer) (v .sequencer) (acknowledgedIn (w .members)) sb acked t-le sizes owns p (all-get _ (w .packets) k (v .packets) e))
+          (sequencerOrdering.receive-good group ord (w .sequencer) (v .sequencer) (acknowledgedIn (w .members)) (requestedIn (w .members) sb) acked t-le sizes owns p (all-get _ (w .packets) k (v .packets) e))
 
   pub step-keeps : (e : Event) → Kept e (happen w e)
   unfolding happen tookAt submittedAt
@@ -208,10 +204,10 @@ module _ (group : description.Group) (w : Group) (ord : List Ordered) (tk : ℕ 
   step-keeps (world.take i) = take-kept i
   step-keeps (status i) = status-kept i
   step-keeps poll =
-      sequencer-kept poll _ (λ j. refl) (λ j. refl) (sequencerOrdering.poll-good group ord (w .sequencer) (v .sequencer) (acknowledgedIn (w .members)) sb acked t-le sizes owns)
+      sequencer-kept poll _ (λ j. refl) (λ j. refl) (sequencerOrdering.poll-good group ord (w .sequencer) (v .sequencer) (acknowledgedIn (w .members)) (requestedIn (w .members) sb) acked t-le sizes owns)
   step-keeps (copy number) =
       sequencer-kept (copy number) _ (λ j. refl) (λ j. refl)
-      (sequencerOrdering.copy-good group ord (w .sequencer) (v .sequencer) (acknowledgedIn (w .members)) sb acked t-le sizes owns (record { 0 = number }))
+      (sequencerOrdering.copy-good group ord (w .sequencer) (v .sequencer) (acknowledgedIn (w .members)) (requestedIn (w .members) sb) acked t-le sizes owns (record { 0 = number }))
   step-keeps (handMember k i) = hand-kept k i
   step-keeps (handSequencer k) = hand-sequencer-kept k
 

@@ -1,6 +1,5 @@
 -- What every list of events leaves: taken, the row and the history above it make the order, the sum, and each terminal's own messages. Assumes nothing.
 use mathlib.Core.Path.{_≡_, refl, sym, ap, ap₂, _∙_, subst}
-use mathlib.Core.Logic.{_⊎_, inl, inr}
 use mathlib.Core.Option.{some}
 use mathlib.Core.List.{List, [], _∷_, _++_, append-assoc}
 use Prim.Native.Nat.{ℕ, zero, suc, _+_, _-_, _*_, _≤_, _<_}
@@ -9,15 +8,17 @@ use native.Mathlib.Omega.{arith}
 use borrow.Author.Tests.{ltb-true, ltb-false}
 use lib.ListN.{length, getD, take, drop, take-append-drop, length-append, length-drop}
 use lib.Seq.{length-take-le, drop-drop, take-all, take-add}
-use Rattle.group.proofs.Lists.{if-elim, none≢some, at, at-nil, at-some, at-append, drop-at-suc, le-or}
+use Rattle.group.proofs.Lists.{if-elim, none≢some, at, at-nil, at-some, at-append, drop-at-suc}
 use Rattle.group.specs.Choice.{if_then_else_, _<?_}
+use Rattle.group.specs.Limits.{waitingMost}
 use Rattle.group.specs.declared.Group as description
 use Rattle.member.proofs.Acknowledged.{acknowledged-least, acknowledged-near, acknowledged-holds, acknowledged-most}
-use Rattle.member.proofs.Invariant.{Terminal}
+use Rattle.member.proofs.Invariant.{Terminal, numbered-near}
+use Rattle.member.proofs.Soundness.{sound-of}
 use Rattle.member.specs.State.{acknowledgedOf}
 use Rattle.member.specs.declared.Member.{Member}
 use Rattle.message.proofs.Kept.{kept-payload}
-use Rattle.message.proofs.Owning.{counted-length}
+use Rattle.message.proofs.Owning.{counted-length, own-most}
 use Rattle.message.specs.Message.{messageOf, payloadOf}
 use Rattle.message.specs.Order.{Ordered, Submission, ownOf, countedFrom}
 use Rattle.message.specs.declared.Message.{Message}
@@ -172,16 +173,19 @@ counted-take a (suc k) [] = refl
 counted-take a (suc k) (x ∷ l) = ap (λ (r : List Submission). record { count = a; payload = x } ∷ r) (counted-take (a + 1) k l)
 
 pub owns : (group : description.Group) (w : World) (i : ℕ) → WorldInv group w → i < group .n
-    → (ownOf i (order (w .log)) ≡ accepted i (w .log)) ⊎ (ownOf i (order (w .log)) ≡ withoutLast 1 (accepted i (w .log)))
+    → (k : ℕ) × (k ≤ waitingMost) × (ownOf i (order (w .log)) ≡ withoutLast k (accepted i (w .log)))
 owns group w i v b =
     let h = v .terminal i b in
+    let m : Member = getD (w .group .members) i noMember in
     let sb : List (List ℕ) = submitted i (w .log) in
     let p : ℕ = length (ownOf i (order (w .log))) in
     let len = counted-length 1 sb in
     let this : ownOf i (order (w .log)) ≡ take p (accepted i (w .log)) = h .own-is ∙ counted-take 1 p sb in
-    let le = h .count-le in
-    let near = h .count-near in
+    let near = numbered-near h .0 in
+    let le = own-most i (order (w .log)) sb (h .own-is) in
     let size = h .submitted-is in
-    le-or (length sb) p
-    (λ z. inl (this ∙ take-all p (accepted i (w .log)) (omega arith)))
-    (λ z. let y : p ≡ length (accepted i (w .log)) - 1 = omega arith in inr (this ∙ ap (λ (k : ℕ). take k (accepted i (w .log))) y))
+    let waits = sound-of m (h .sound) .waiting in
+    let most = waits .most in
+    let enough = waits .enough in
+    let y : p ≡ length (accepted i (w .log)) - (m .submitted - p) = omega arith in
+    (m .submitted - p, omega arith, this ∙ ap (λ (k : ℕ). take k (accepted i (w .log))) y)

@@ -1,12 +1,11 @@
 -- Demand 3: one claim about the whole list of events, a field for each of its sentences; and what an event that is refused
 -- leaves. `proofs/Theorem.antt` has the proofs.
 use mathlib.Core.Path.{_≡_}
-use mathlib.Core.Logic.{_⊎_}
 use mathlib.Core.List.{List, [], _++_}
 use Prim.Native.Nat.{ℕ, zero, suc, _+_, _-_, _*_, _≤_, _<_}
 use lib.ListN.{length}
 use lib.ListN as list
-use Rattle.group.specs.Limits.{membersMost, largestNumber}
+use Rattle.group.specs.Limits.{membersMost, waitingMost, largestNumber}
 use Rattle.group.specs.declared.Refusal.{Refusal}
 use Rattle.member.specs.declared.Answer as memberAnswer
 use Rattle.message.specs.Order.{Submission, ownOf}
@@ -30,10 +29,9 @@ pub record Claim (n : ℕ) (w : World) : Type 0 where
   pub whole : (i : ℕ) → i < n → taken i (w .log) ++ owed w i ≡ order (w .log)
   -- so taken + owed, summed over all terminals, = n × numbered
   pub total : sum n (λ i. length (taken i (w .log)) + length (owed w i)) ≡ n * length (order (w .log))
-  -- each terminal's own messages in the order are exactly its accepted submissions, once each, in its order, all or all but
-  -- the last
-  pub own : (i : ℕ) → i < n
-      → (ownOf i (order (w .log)) ≡ accepted i (w .log)) ⊎ (ownOf i (order (w .log)) ≡ withoutLast 1 (accepted i (w .log)))
+  -- each terminal's own messages in the order are exactly its accepted submissions, once each, in its order, without the last
+  -- few, five at most
+  pub own : (i : ℕ) → i < n → (k : ℕ) × (k ≤ waitingMost) × (ownOf i (order (w .log)) ≡ withoutLast k (accepted i (w .log)))
   -- from there a closing round of at most 106 × n events
   pub closing-short : length (closing w) ≤ closingMost * n
   -- (which changes no order)

@@ -34,5 +34,5 @@ use Rattle.player.specs.Play.{nextNumber, openTold, eventTold, lineTold, lastOf
 use Rattle.playback.specs.Document.{DocumentPlayed}
 
 pub document-played : DocumentPlayed
-unfolding if_then_else_ all allAbove least openOf judged member.answered rowEndOf acknowledgedOf member.requestPacket member.gapPacket member.statusPacket member.callVerdict member.submitVerdict member.withWaiting member.submitOf member.repeatOf member.statusOf member.withHeld member.gapUpTo member.keptOf member.broadcastOf window.smallerOf member.pollOf member.contentStep member.readStep member.receiveOf member.isOwn member.withTaken member.tookOf member.takeOf member.openedOf member.freshOf windowSound.placeSound windowSound.waitingSound windowSound.frameSound memberSound.soundOf window.lowestMissing window.rowEnd freshMember allZero messageOf emptyMessage payloadOf zeroBehind isEmpty happen freshMembers fresh numberAt bytesOf headerOf knownKind payloadFits obeys fieldsVerdict readOf headerBytes packetOf writeVerdict writeOf contentOf packet.fieldsOf written sequencer.answered sequencer.broadcastOf sequencer.pollPacket oneMore sequencer.repeatedOf isOf findOf sequencer.oldOf sequencer.againOf sequencer.fullOf sequencer.withMessage sequencer.numberedOf sequencer.requestOf sequencer.gapOf senderVerdict countVerdict wantedVerdict sequencer.contentStep sequencer.readStep sequencer.callVerdict sequencer.receiveOf sequencer.pollOf sequencer.copyOf sequencer.openedOf sequencer.freshOf largerOf tableNoted clearedOf withTable noteOf entrySound keptSound placeSound frameSound soundOf floorOf freshSequencer digitOf before linesOf fieldsOf letterOf valueFrom upToLargest numberIn pairsOf isHex hexBytes alone withNumber submitted handed withTwo formOf eventOf opened openingForm openingOf glyphOf decimalDigits decimalOf hexOf payloadText spaced moreText valueText sequencerWording.wordingOf memberWording.wordingOf wordingFields answerFields nextNumber openTold eventTold lineTold lastOf linesTold
+unfolding if_then_else_ all allAbove least openOf judged member.answered rowEndOf acknowledgedOf member.requestPacket member.gapPacket member.statusPacket member.callVerdict member.submitVerdict member.withWaiting member.submitOf member.repeatOf member.statusOf member.withHeld member.gapUpTo member.keptOf member.broadcastOf window.smallerOf member.pollOf member.contentStep member.readStep member.receiveOf member.isOwn member.withTaken member.tookOf member.takeOf member.openedOf member.freshOf windowSound.placeSound windowSound.queueSound windowSound.waitingSound windowSound.frameSound memberSound.soundOf window.lowestMissing window.rowEnd freshMember allZero messageOf emptyMessage payloadOf zeroBehind isEmpty happen freshMembers fresh numberAt bytesOf headerOf knownKind payloadFits obeys fieldsVerdict readOf headerBytes packetOf writeVerdict writeOf contentOf packet.fieldsOf written sequencer.answered sequencer.broadcastOf sequencer.pollPacket oneMore sequencer.repeatedOf isOf findOf sequencer.oldOf sequencer.againOf sequencer.fullOf sequencer.withMessage sequencer.numberedOf sequencer.requestOf sequencer.gapOf senderVerdict countVerdict wantedVerdict sequencer.contentStep sequencer.readStep sequencer.callVerdict sequencer.receiveOf sequencer.pollOf sequencer.copyOf sequencer.openedOf sequencer.freshOf largerOf tableNoted clearedOf withTable noteOf entrySound keptSound placeSound frameSound soundOf floorOf freshSequencer digitOf before linesOf fieldsOf letterOf valueFrom upToLargest numberIn pairsOf isHex hexBytes alone withNumber submitted handed withTwo formOf eventOf opened openingForm openingOf glyphOf decimalDigits decimalOf hexOf payloadText spaced moreText valueText sequencerWording.wordingOf memberWording.wordingOf wordingFields answerFields nextNumber openTold eventTold lineTold lastOf linesTold
 document-played = refl

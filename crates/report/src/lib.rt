@@ -181,6 +181,7 @@ fn put_member(
             count,
             more,
         } => put_took(number, originator, count, more, payload, out, at),
+        member::Answer::Queued(count) => put_indexed(b"queued", count as usize, out, at),
     }
 }
 

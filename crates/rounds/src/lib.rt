@@ -38,6 +38,7 @@ fn member_sum(sum: u64, answer: member::Answer, written: usize) -> u64 {
         member::Answer::Refused(q) => q.number() as u64,
         member::Answer::Old => 32,
         member::Answer::Sent => 35,
+        member::Answer::Queued(count) => mix(56, count as u64),
         member::Answer::Kept => 48,
         member::Answer::KeptGap => 49,
         member::Answer::Beyond => 50,
@@ -344,6 +345,75 @@ pub extern "C" fn rounds_member_take(
         left -= 1;
     }
     sum
+}
+
+// Submits so often.
+fn member_submits(
+    mut member: Member,
+    mut sum: u64,
+    payload: &[u8],
+    calls: u32,
+    out: &mut [u8],
+) -> Membership {
+    let mut left = calls;
+    while 0 < left {
+        let step = member.submit(payload, out);
+        let answer = step.answer;
+        member = step.member;
+        sum = member_sum(sum, answer, step.written);
+        left -= 1;
+    }
+    Membership { member, sum }
+}
+
+// A fresh member that has submitted so often and then heard a list of packets.
+fn member_typed(
+    n: u8,
+    number: u8,
+    group: u32,
+    payload: &[u8],
+    waiting: u32,
+    heard: &[u8],
+    out: &mut [u8],
+) -> Member {
+    let opening = Member::fresh(n, MemberNumber(number), group);
+    let member = opening.member;
+    let typed = member_submits(member, 0, payload, waiting, out);
+    let typist = typed.member;
+    let run = member_hears(typist, 0, heard, out);
+    run.member
+}
+
+// Rounds of take calls and then submit calls, each time of a member that has submitted so often and then heard; then a repeat
+// call, which reads the first that waits.
+#[no_mangle]
+pub extern "C" fn rounds_member_queue(
+    n: u8,
+    number: u8,
+    group: u32,
+    payload: &[u8],
+    waiting: u32,
+    heard: &[u8],
+    takes: u32,
+    submits: u32,
+    rounds: u32,
+    out: &mut [u8],
+) -> u64 {
+    let member = member_typed(n, number, group, payload, waiting, heard, out);
+    let mut last = member;
+    let mut sum: u64 = 0;
+    let mut left = rounds;
+    while 0 < left {
+        let taken = member_takes(member, sum, takes, out);
+        let taker = taken.member;
+        let run = member_submits(taker, taken.sum, payload, submits, out);
+        last = run.member;
+        sum = run.sum;
+        left -= 1;
+    }
+    let step = last.repeat(out);
+    let answer = step.answer;
+    member_sum(sum, answer, step.written)
 }
 
 // Rounds of the status call.

@@ -1,10 +1,10 @@
--- The 8 places of a member, for numbers t + 1 to t + 8.
+-- The 8 places of a member, for numbers t + 1 to t + 8, and the 5 places of its messages that wait.
 use mathlib.Core.Bool.{Bool}
 use mathlib.Core.List.{List}
 use Prim.Native.Nat.{ℕ, zero, suc, _+_, _%_}
 use lib.ListN.{getD}
 use Rattle.group.specs.Choice.{if_then_else_, _<?_}
-use Rattle.group.specs.Limits.{heldMost}
+use Rattle.group.specs.Limits.{heldMost, waitingMost}
 use Rattle.message.specs.Message.{blank}
 use Rattle.message.specs.declared.Message.{Message}
 
@@ -18,6 +18,13 @@ messageAt held number = getD held (placeOf number) blank
 -- a place is empty exactly if its count is 0
 abbrev pub isHeld : List Message → ℕ → Bool
 isHeld held number = 0 <? messageAt held number .count
+
+-- the message with count c of those that wait lies in place c modulo 5
+abbrev pub queuePlace : ℕ → ℕ
+queuePlace count = count % waitingMost
+
+abbrev pub queuedAt : List Message → ℕ → Message
+queuedAt queue count = getD queue (queuePlace count) blank
 
 -- "missing" means above t and not held: the lowest missing of the k numbers above t; 0: none is
 unfoldable pub lowestMissing : List Message → ℕ → ℕ → ℕ

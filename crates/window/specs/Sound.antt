@@ -1,13 +1,14 @@
 -- When the parts of a member's state are sound: question 1, sentence by sentence.
 use mathlib.Core.Bool.{Bool}
 use mathlib.Core.List.{List}
-use Prim.Native.Nat.{ℕ}
+use Prim.Native.Nat.{ℕ, _-_}
 use Rattle.group.specs.Choice.{if_then_else_, _and_, _<?_, _≤?_, _=?_}
-use Rattle.group.specs.Limits.{membersMost, payloadMost, largestNumber}
+use Rattle.group.specs.Fold.{allAbove}
+use Rattle.group.specs.Limits.{membersMost, payloadMost, waitingMost, largestNumber}
 use Rattle.group.specs.declared.MemberNumber.{MemberNumber}
 use Rattle.message.specs.Message.{zeroBehind, isEmpty}
 use Rattle.message.specs.declared.Message.{Message}
-use Rattle.window.specs.Places.{messageAt, isHeld}
+use Rattle.window.specs.Places.{messageAt, isHeld, queuedAt}
 
 -- held originators are below n with counts of at least 1, lengths at most 240, no held number is over the largest, and every
 -- unused place and byte is zero
@@ -20,17 +21,23 @@ placeSound n held number =
     and number ≤? largestNumber
     else isEmpty (messageAt held number)
 
--- a message waits only if u is at least 1; it is the member's own, its count is u, its length at most 240, and every unused
--- byte is zero
-unfoldable pub waitingSound : MemberNumber → ℕ → Bool → Message → Bool
-waitingSound number submitted waiting message =
-    if waiting
-    then 1 ≤? submitted
-    and message .originator .0 =? number .0
-    and message .count =? submitted
-    and message .length ≤? payloadMost
-    and zeroBehind message
-    else isEmpty message
+-- of the five counts above those that were taken: one up to u waits, it is the member's own, its count is its place's, its length
+-- at most 240, and every unused byte is zero; the place of one above u is all zero
+unfoldable pub queueSound : MemberNumber → List Message → ℕ → ℕ → Bool
+queueSound number queue submitted count =
+    if count ≤? submitted
+    then queuedAt queue count .originator .0 =? number .0
+    and queuedAt queue count .count =? count
+    and queuedAt queue count .length ≤? payloadMost
+    and zeroBehind (queuedAt queue count)
+    else isEmpty (queuedAt queue count)
+
+-- at most five messages wait, no more than were submitted: the last ones
+unfoldable pub waitingSound : MemberNumber → ℕ → ℕ → List Message → Bool
+waitingSound number submitted waiting queue =
+    waiting ≤? waitingMost
+    and waiting ≤? submitted
+    and allAbove (queueSound number queue submitted) (submitted - waiting) waitingMost
 
 -- n is 1 to 16, and its number is below n
 unfoldable pub frameSound : ℕ → MemberNumber → Bool

@@ -5,6 +5,7 @@ use Prim.Native.Nat.{ℕ, zero, suc, _+_, _-_, _%_}
 use lib.ListN.{getD}
 use Rattle.group.specs.Choice.{if_then_else_, _and_, _<?_, _≤?_, _=?_}
 use Rattle.group.specs.Limits.{heldMost, payloadMost, largestNumber}
+use Rattle.group.specs.declared.MemberNumber.{MemberNumber}
 use Rattle.message.specs.Message.{zeroBehind, isEmpty, blank}
 use Rattle.message.specs.declared.Message.{Message}
 use Rattle.window.specs.Places.{placeOf}
@@ -21,6 +22,16 @@ messageSound n message number =
     and message .length ≤? payloadMost
     and zeroBehind message
     and number ≤? largestNumber
+    else isEmpty message
+
+-- whether the place of a count is sound, of the message that lies in it
+unfoldable pub queuedSound : MemberNumber → ℕ → Message → ℕ → Bool
+queuedSound number submitted message count =
+    if count ≤? submitted
+    then message .originator .0 =? number .0
+    and message .count =? count
+    and message .length ≤? payloadMost
+    and zeroBehind message
     else isEmpty message
 
 -- the counts of the eight places

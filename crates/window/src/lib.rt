@@ -7,14 +7,14 @@ use message::Message;
 ghost use mathlib.Core.Path.{_≡_};
 ghost use Prim.Native.Nat.{_+_, _-_, _≤_, _<_};
 ghost use lib.ListN.{length};
-ghost use Rattle.group.specs.Choice.{_and_, _=?_};
+ghost use Rattle.group.specs.Choice.{_and_, _≤?_, _=?_};
 ghost use Rattle.group.specs.Fold.{allAbove};
 ghost use Rattle.group.specs.Lent.{Laid};
-ghost use Rattle.group.specs.Limits.{heldMost, payloadMost, longestPacket, largestNumber};
+ghost use Rattle.group.specs.Limits.{heldMost, payloadMost, waitingMost, longestPacket, largestNumber};
 ghost use Rattle.message.specs.Message.{payloadOf};
-ghost use Rattle.window.specs.Places.{placeOf, smallerOf};
-ghost use Rattle.window.specs.Sound.{placeSound, waitingSound, frameSound};
-ghost use Rattle.window.specs.Steps.{numberIn, messageSound, countsOf, lowestUncounted, rowCounted};
+ghost use Rattle.window.specs.Places.{placeOf, queuePlace, smallerOf};
+ghost use Rattle.window.specs.Sound.{placeSound, queueSound, waitingSound, frameSound};
+ghost use Rattle.window.specs.Steps.{numberIn, messageSound, queuedSound, countsOf, lowestUncounted, rowCounted};
 
 // Number s lies in place s modulo 8: the place of the number that lies `ahead` above a number, which may pass the largest.
 pub fn place(number: SequenceNumber, ahead: usize) -> usize
@@ -73,27 +73,71 @@ pub fn frame_sound(n: u8, number: MemberNumber) -> bool
     number.0 < n
 }
 
-// A message waits only as the member's own last one; else its place is all zero.
-pub fn waiting_sound(number: MemberNumber, submitted: u32, waiting: bool, message: Message) -> bool
-    ensures { λ r. ⌜ r ≡ waitingSound number submitted waiting message ⌝ }
+// The message with a count lies in place count modulo 5, of those that wait.
+pub fn queue_place(count: usize) -> usize
+    ensures { λ r. ⌜ r ≡ queuePlace count ⌝ }
 {
-    if waiting {
-        if submitted < 1 {
-            return false;
-        }
+    count % Group::WAITING
+}
+
+// A message waits as the member's own with its place's count; a place of a count that was not submitted is all zero.
+fn queued_sound(number: MemberNumber, submitted: u32, message: Message, count: usize) -> bool
+    ensures { λ r. ⌜ r ≡ queuedSound number submitted message count ⌝ }
+{
+    if count <= (submitted as usize) {
         if message.originator.0 != number.0 {
             return false;
         }
-        if message.count != submitted {
+        if (message.count as usize) != count {
             return false;
         }
         if Group::PAYLOAD < message.length {
             return false;
         }
-        message.zero_behind()
-    } else {
-        message.is_empty()
+        return message.zero_behind();
     }
+    message.is_empty()
+}
+
+// At most five messages wait, no more than were submitted, and each of the five places is sound.
+pub fn waiting_sound(
+    number: MemberNumber,
+    submitted: u32,
+    waiting: u32,
+    queue: [Message; Group::WAITING],
+) -> bool
+    ensures { λ r. ⌜ r ≡ waitingSound number submitted waiting queue ⌝ }
+{
+    if Group::WAITING < (waiting as usize) {
+        return false;
+    }
+    if submitted < waiting {
+        return false;
+    }
+    queue_sound(number, submitted, submitted - waiting, queue)
+}
+
+// The places of the five counts above those that were taken are sound.
+fn queue_sound(
+    number: MemberNumber,
+    submitted: u32,
+    taken: u32,
+    queue: [Message; Group::WAITING],
+) -> bool
+    requires { ⌜ taken ≤ submitted ⌝ }
+    ensures { λ r. ⌜ r ≡ allAbove (queueSound number queue submitted) taken waitingMost ⌝ }
+{
+    let mut i: usize = 0;
+    while i < Group::WAITING {
+        let count = (taken as usize) + i + 1;
+        let at = queue_place(count);
+        if queued_sound(number, submitted, queue[at], count) {
+            i += 1;
+        } else {
+            return false;
+        }
+    }
+    true
 }
 
 // The number that a place is for, of the eight above the last taken.
@@ -174,21 +218,22 @@ pub fn row_end(counts: [u32; Group::HELD], taken: SequenceNumber) -> SequenceNum
     SequenceNumber(first.0 - 1)
 }
 
-// Whether that count of that originator is the one that waits, of the member of that number after so many submissions.
+// Whether that count of that originator is the first that waits, of the member of that number after so many submissions.
 pub fn own(
     number: MemberNumber,
     submitted: u32,
-    waiting: bool,
+    waiting: u32,
     originator: MemberNumber,
     count: u32,
 ) -> bool
-    ensures { λ r. ⌜ r ≡ (waiting and originator .0 =? number .0 and count =? submitted) ⌝ }
+    requires { ⌜ waiting ≤ submitted ⌝ }
+    ensures { λ r. ⌜ r ≡ (1 ≤? waiting and originator .0 =? number .0 and count =? submitted - waiting + 1) ⌝ }
 {
-    if waiting {
-        if originator.0 != number.0 {
-            return false;
-        }
-        return count == submitted;
+    if waiting < 1 {
+        return false;
     }
-    false
+    if originator.0 != number.0 {
+        return false;
+    }
+    count == submitted - waiting + 1
 }

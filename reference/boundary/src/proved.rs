@@ -101,6 +101,21 @@ mod ffi {
             out: *mut u8,
             room: usize,
         ) -> u64;
+        pub fn rounds_member_queue(
+            n: u8,
+            number: u8,
+            group: u32,
+            payload: *const u8,
+            size: usize,
+            waiting: u32,
+            heard: *const u8,
+            heard_size: usize,
+            takes: u32,
+            submits: u32,
+            rounds: u32,
+            out: *mut u8,
+            room: usize,
+        ) -> u64;
         pub fn rounds_member_take(
             n: u8,
             number: u8,
@@ -312,6 +327,36 @@ pub fn member_repeat(end: Member<'_>, payload: &[u8], rounds: u32, out: &mut [u8
             end.takes,
             payload.as_ptr(),
             payload.len(),
+            rounds,
+            out.as_mut_ptr(),
+            out.len(),
+        )
+    }
+}
+
+/// Rounds of take calls and then submit calls, each time of a member that has
+/// submitted and then heard; then a repeat call.
+pub fn member_queue(
+    end: Member<'_>,
+    payload: &[u8],
+    waiting: u32,
+    submits: u32,
+    rounds: u32,
+    out: &mut [u8],
+) -> u64 {
+    // SAFETY: as above.
+    unsafe {
+        ffi::rounds_member_queue(
+            end.n,
+            end.number,
+            end.group,
+            payload.as_ptr(),
+            payload.len(),
+            waiting,
+            end.heard.as_ptr(),
+            end.heard.len(),
+            end.takes,
+            submits,
             rounds,
             out.as_mut_ptr(),
             out.len(),

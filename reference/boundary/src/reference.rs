@@ -19,6 +19,7 @@ fn code(answer: Answer) -> u64 {
         Answer::Full => 33,
         Answer::Noted => 34,
         Answer::Sent => 35,
+        Answer::Queued(count) => mix(56, count.into()),
         Answer::Again(number) => mix(36, number.into()),
         Answer::Numbered(number) => mix(37, number.into()),
         Answer::Wanted(first, last) => mix(mix(38, first.into()), last.into()),
@@ -184,6 +185,38 @@ pub fn member_repeat(end: Member<'_>, payload: &[u8], rounds: u32, out: &mut [u8
     let mut state = member_state(end, out);
     state.submit(payload, out);
     (0..rounds).fold(0, |sum, _| summed(sum, black_box(&state).repeat(out)))
+}
+
+/// Rounds of take calls and then submit calls, each time of a member that has
+/// submitted and then heard; then a repeat call.
+#[inline(never)]
+pub fn member_queue(
+    end: Member<'_>,
+    payload: &[u8],
+    waiting: u32,
+    submits: u32,
+    rounds: u32,
+    out: &mut [u8],
+) -> u64 {
+    let mut start = member::Member::fresh(end.n.into(), end.number.into(), end.group).unwrap();
+    for _ in 0..waiting {
+        start.submit(payload, out);
+    }
+    for packet in packets(end.heard) {
+        start.receive(packet, out);
+    }
+    let mut state = start.clone();
+    let mut sum = 0;
+    for _ in 0..rounds {
+        state.clone_from(&start);
+        for _ in 0..end.takes {
+            sum = summed(sum, black_box(&mut state).take(out));
+        }
+        for _ in 0..submits {
+            sum = summed(sum, black_box(&mut state).submit(payload, out));
+        }
+    }
+    summed(sum, state.repeat(out))
 }
 
 /// Rounds of so many take calls, each round in the same state.

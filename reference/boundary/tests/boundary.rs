@@ -176,6 +176,7 @@ fn rounds_of_every_call() {
     same!(member_receive(end, heard, 5));
     same!(member_submit(end, b"c", 5));
     same!(member_repeat(end, b"c", 5));
+    same!(member_queue(taken, b"c", 3, 4, 5));
     same!(member_take(end, 3, 5));
     same!(member_status(end, 5));
     for kind in 0..7 {

@@ -32,7 +32,7 @@ pub enum Refusal {
     GapAboveTop = 12,
     /// A payload of more than 240 bytes.
     PayloadTooLong = 13,
-    /// A submit while a message waits.
+    /// A submit while five messages wait.
     AlreadyWaiting = 14,
     /// A repeat while nothing waits.
     NothingWaiting = 15,
@@ -64,6 +64,8 @@ pub enum Answer {
     Refused(Refusal),
     /// A packet was written and there is nothing else to say.
     Sent,
+    /// Member: the message waits behind another, with this count.
+    Queued(u32),
 
     /// Sequencer: the message has this number and is broadcast.
     Numbered(u32),
@@ -112,6 +114,7 @@ impl fmt::Display for Answer {
         match *self {
             Answer::Refused(refusal) => write!(f, "refused {}", refusal.number()),
             Answer::Sent => f.write_str("sent"),
+            Answer::Queued(count) => write!(f, "queued {count}"),
             Answer::Numbered(number) => write!(f, "numbered {number}"),
             Answer::Again(number) => write!(f, "again {number}"),
             Answer::Full => f.write_str("full"),

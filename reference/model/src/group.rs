@@ -226,7 +226,9 @@ impl Run {
         let payloads =
             self.answered()
                 .filter_map(|(event, outcome)| match (event, outcome.answer) {
-                    (Event::Submit { member: m, payload }, Answer::Sent) if *m == member => {
+                    (Event::Submit { member: m, payload }, Answer::Sent | Answer::Queued(_))
+                        if *m == member =>
+                    {
                         Some(payload.clone())
                     }
                     _ => None,

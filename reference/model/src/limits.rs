@@ -6,6 +6,8 @@ pub const MEMBERS: usize = 16;
 pub const HISTORY: usize = 32;
 /// Places of a member, for the numbers t+1 to t+8.
 pub const WINDOW: usize = 8;
+/// Messages of a member that wait, at most.
+pub const WAITING: usize = 5;
 /// Bytes of a packet's header.
 pub const HEADER: usize = 20;
 /// Bytes of a payload, at most.

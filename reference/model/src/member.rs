@@ -1,10 +1,10 @@
-//! A member: submits one message at a time and takes all messages in the
-//! order of their numbers.
+//! A member: submits messages, up to five of which wait, and takes all
+//! messages in the order of their numbers.
 
 use crate::answer::{Answer, Outcome, Refusal, settle};
-use crate::limits::{LARGEST, MEMBERS, PACKET, PAYLOAD, WINDOW};
+use crate::limits::{LARGEST, MEMBERS, PACKET, PAYLOAD, WAITING, WINDOW};
 use crate::packet::{self, BROADCAST, GAP, Header, POLL, REQUEST, STATUS};
-use crate::place::{Payload, Place};
+use crate::place::Place;
 
 /// A member's state.
 #[derive(Clone, Debug, PartialEq, Eq)]
@@ -19,10 +19,11 @@ pub struct Member {
     pub taken: u32,
     /// u, the submissions so far.
     pub submitted: u32,
-    /// Whether a message waits to be numbered; its count is u.
-    pub waiting: bool,
-    /// The waiting message, else zeros.
-    pub message: Payload,
+    /// How many messages wait: the last ones submitted.
+    pub waiting: u8,
+    /// The waiting messages, that with count c in place c modulo 5; else
+    /// zeros.
+    pub queue: [Place; WAITING],
     /// One bit a place, set if the place holds a message.
     pub held: u8,
     /// The numbers t+1 to t+8, number s in place s modulo 8.
@@ -39,8 +40,8 @@ impl Member {
             group,
             taken: 0,
             submitted: 0,
-            waiting: false,
-            message: Payload::EMPTY,
+            waiting: 0,
+            queue: [Place::EMPTY; WAITING],
             held: 0,
             places: [Place::EMPTY; WINDOW],
         })
@@ -52,9 +53,9 @@ impl Member {
         let left = LARGEST - self.taken;
         (1..=MEMBERS).contains(&usize::from(self.n))
             && self.number < self.n
-            && (!self.waiting || self.submitted >= 1)
-            && (self.waiting || self.message.length == 0)
-            && self.message.is_sound()
+            && usize::from(self.waiting) <= WAITING
+            && u32::from(self.waiting) <= self.submitted
+            && self.queue_is_sound()
             && (left >= WINDOW as u32 || self.window() >> left == 0)
             && self.places.iter().enumerate().all(|(at, place)| {
                 let fits = if self.held >> at & 1 == 1 {
@@ -66,12 +67,28 @@ impl Member {
             })
     }
 
-    /// Submits a message and writes its request.
+    /// Each of the five counts above those taken has its message up to u, and
+    /// none above.
+    fn queue_is_sound(&self) -> bool {
+        let taken = u64::from(self.submitted) - u64::from(self.waiting);
+        (taken + 1..=taken + WAITING as u64).all(|count| {
+            let place = &self.queue[(count % WAITING as u64) as usize];
+            let fits = if count <= u64::from(self.submitted) {
+                place.originator == self.number && u64::from(place.count) == count
+            } else {
+                place.is_zero()
+            };
+            fits && place.payload.is_sound()
+        })
+    }
+
+    /// Submits a message and writes its request, or, behind one that waits,
+    /// nothing.
     pub fn submit(&mut self, payload: &[u8], out: &mut [u8]) -> (Answer, usize) {
         settle(self.try_submit(payload, out))
     }
 
-    /// Writes the waiting request again, with today's row end.
+    /// Writes the request of the first message that waits again, with today's row end.
     pub fn repeat(&self, out: &mut [u8]) -> (Answer, usize) {
         settle(self.try_repeat(out))
     }
@@ -110,17 +127,22 @@ impl Member {
     fn try_submit(&mut self, payload: &[u8], out: &mut [u8]) -> Outcome {
         self.ready(out)?;
         Refusal::PayloadTooLong.unless(payload.len() <= PAYLOAD)?;
-        Refusal::AlreadyWaiting.unless(!self.waiting)?;
+        Refusal::AlreadyWaiting.unless(usize::from(self.waiting) < WAITING)?;
         Refusal::NumbersUsedUp.unless(self.submitted < LARGEST)?;
         self.submitted += 1;
-        self.waiting = true;
-        self.message.set(payload);
-        Ok((Answer::Sent, self.put_request(out)))
+        self.waiting += 1;
+        let count = self.submitted;
+        self.queue[queue_place(count)].keep(self.number, count, payload);
+        Ok(if self.waiting == 1 {
+            (Answer::Sent, self.put_request(out))
+        } else {
+            (Answer::Queued(count), 0)
+        })
     }
 
     fn try_repeat(&self, out: &mut [u8]) -> Outcome {
         self.ready(out)?;
-        Refusal::NothingWaiting.unless(self.waiting)?;
+        Refusal::NothingWaiting.unless(self.waiting > 0)?;
         Ok((Answer::Sent, self.put_request(out)))
     }
 
@@ -142,9 +164,9 @@ impl Member {
         out[..length].copy_from_slice(bytes);
         self.places[at] = Place::EMPTY;
         self.held &= !(1 << at);
-        if self.waiting && originator == self.number && count == self.submitted {
-            self.waiting = false;
-            self.message = Payload::EMPTY;
+        if self.waiting > 0 && originator == self.number && count == self.first_count() {
+            self.waiting -= 1;
+            self.queue[queue_place(count)] = Place::EMPTY;
         }
         let took = Answer::Took {
             number: self.taken,
@@ -219,7 +241,14 @@ impl Member {
     }
 
     fn put_request(&self, out: &mut [u8]) -> usize {
-        self.put(REQUEST, self.submitted, 0, self.message.as_slice(), out)
+        let count = self.first_count();
+        let first = &self.queue[queue_place(count)];
+        self.put(REQUEST, count, 0, first.payload.as_slice(), out)
+    }
+
+    /// The count of the first message that waits, of one that does.
+    fn first_count(&self) -> u32 {
+        self.submitted - u32::from(self.waiting) + 1
     }
 
     fn put_status(&self, out: &mut [u8]) -> usize {
@@ -243,6 +272,11 @@ impl Member {
         };
         packet::put(&header, payload, out)
     }
+}
+
+/// The place of a count among the messages that wait.
+fn queue_place(count: u32) -> usize {
+    count as usize % WAITING
 }
 
 /// The place of a number at a member.

@@ -103,7 +103,10 @@ fn table(group: &Group, output: &mut impl Write) -> io::Result<()> {
         let (taken, row) = (member.taken, member.row_end());
         let (submitted, waiting) = (member.submitted, u32::from(member.waiting));
         let repeats = group.sequencer.repeats[terminal];
-        writeln!(output, "{terminal} {taken} {row} {submitted} {waiting} {repeats}")?;
+        writeln!(
+            output,
+            "{terminal} {taken} {row} {submitted} {waiting} {repeats}"
+        )?;
     }
     Ok(())
 }

@@ -211,12 +211,12 @@ fn an_empty_payload_is_a_message() {
     let mut sequencer = numbered(2, 0);
     let mut member = Member::fresh(2, 1, GROUP).unwrap();
     let (_, bytes) = submit(&mut member, b"");
-    assert!(member.waiting);
+    assert_eq!(member.waiting, 1);
     let (answer, bytes) = hand(&mut sequencer, &bytes);
     assert_eq!((answer, bytes.len()), (Numbered(1), 20));
     assert_eq!(give(&mut member, &bytes).0, Kept);
     assert_eq!(take(&mut member), (took(1, 1, 1, false), vec![]));
-    assert!(!member.waiting);
+    assert_eq!(member.waiting, 0);
 }
 
 #[test]

@@ -88,7 +88,7 @@ fn check(run: &Run) {
             .filter(|message| usize::from(message.originator) == member)
             .map(|message| (message.count, message.payload.clone()))
             .collect();
-        assert!(own.len() == submissions.len() || own.len() + 1 == submissions.len());
+        assert!(own.len() <= submissions.len() && submissions.len() <= own.len() + 5);
         assert_eq!(own[..], submissions[..own.len()]);
     }
     assert_eq!(sum, n * order.len());
@@ -155,7 +155,7 @@ impl Scheduler {
         let member = self.random.below(n) + if absent { n } else { 0 };
         let packet = self.random.below(written + 1) + if absent { written } else { 0 };
         match self.random.below(100) {
-            0..30 => {
+            0..18 => {
                 let length = match self.random.below(8) {
                     0 => PAYLOAD - 1 + self.random.below(3),
                     _ => self.random.below(12),
@@ -163,7 +163,7 @@ impl Scheduler {
                 let payload = (0..length).map(|_| self.random.next() as u8).collect();
                 Event::Submit { member, payload }
             }
-            30..36 => Event::Repeat { member },
+            18..36 => Event::Repeat { member },
             36..66 if self.lazy >> member & 1 == 1 && !self.chance(40) => Event::Poll,
             36..66 => Event::Take { member },
             66..74 => Event::Status { member },
@@ -228,7 +228,7 @@ fn name(answer: Option<Answer>) -> String {
 }
 
 /// What every group meets in a long schedule.
-const COMMON: [&str; 17] = [
+const COMMON: [&str; 18] = [
     "absent",
     "again",
     "gap",
@@ -237,6 +237,7 @@ const COMMON: [&str; 17] = [
     "noted",
     "numbered",
     "old",
+    "queued",
     "refused 13",
     "refused 14",
     "refused 15",
@@ -536,7 +537,7 @@ fn a_message_is_purged_that_nobody_took() {
     assert!(run.group.members.iter().all(|member| member.taken == 0));
     check(&run);
     // Its originator still waits for it: the repeat is old, and its take ends that.
-    assert!(run.group.members[1].waiting);
+    assert_eq!(run.group.members[1].waiting, 1);
     let again = run.step(Event::Repeat { member: 1 }).unwrap();
     let packet = again.packet.unwrap();
     let answer = run.step(Event::ToSequencer { packet }).unwrap().answer;
@@ -544,7 +545,7 @@ fn a_message_is_purged_that_nobody_took() {
     assert_eq!(run.step(hand).unwrap().answer, Answer::Old);
     check(&run);
     run.step(Event::Take { member: 1 });
-    assert!(!run.group.members[1].waiting);
+    assert_eq!(run.group.members[1].waiting, 0);
     close(&mut run);
 }
 

@@ -37,12 +37,13 @@ fn at(t: u32, distances: &[u32]) -> Member {
     state
 }
 
-/// A message waits; 12, 13 and 15 are held, in places 4, 5 and 7.
+/// Messages 5 and 6 wait; 12, 13 and 15 are held, in places 4, 5 and 7.
 fn busy() -> Member {
     let mut state = at(11, &[1, 2, 4]);
     state.submitted = 6;
-    state.waiting = true;
-    state.message = payload(b"wait");
+    state.waiting = 2;
+    state.queue[0] = place(1, 5, b"wait");
+    state.queue[1] = place(1, 6, b"next");
     state.places[4] = place(0, 3, b"");
     state.places[7] = place(2, 1, &[6; PAYLOAD]);
     assert!(state.is_sound());
@@ -71,24 +72,30 @@ fn unsound_states_are_refused_by_every_call() {
         ("number n", |s| s.number = 3),
         ("number 255", |s| s.number = 255),
         ("waiting and nothing submitted", |s| s.submitted = 0),
+        ("more waiting than submitted", |s| s.submitted = 1),
+        ("six waiting", |s| s.waiting = 6),
+        ("255 waiting", |s| s.waiting = 255),
+        ("waiting originator another", |s| s.queue[0].originator = 2),
+        ("waiting count another", |s| s.queue[0].count = 6),
+        ("waiting count of five before", |s| s.queue[1].count = 1),
         ("waiting length too long", |s| {
-            s.message.length = PAYLOAD as u8 + 1
+            s.queue[0].payload.length = PAYLOAD as u8 + 1
         }),
-        ("waiting length 255", |s| s.message.length = 255),
-        ("byte behind the waiting", |s| s.message.bytes[4] = 1),
+        ("waiting length 255", |s| s.queue[1].payload.length = 255),
+        ("byte behind the waiting", |s| {
+            s.queue[0].payload.bytes[4] = 1
+        }),
         ("last byte behind the waiting", |s| {
-            s.message.bytes[PAYLOAD - 1] = 1
+            s.queue[1].payload.bytes[PAYLOAD - 1] = 1;
         }),
-        ("not waiting, message left", |s| s.waiting = false),
-        ("not waiting, byte left", |s| {
-            s.waiting = false;
-            s.message = Payload::EMPTY;
-            s.message.bytes[PAYLOAD - 1] = 1;
-        }),
-        ("not waiting, length left", |s| {
-            s.waiting = false;
-            s.message = Payload::EMPTY;
-            s.message.length = 1;
+        ("a message left that does not wait", |s| s.waiting = 1),
+        ("none waiting, messages left", |s| s.waiting = 0),
+        ("one too many waiting", |s| s.waiting = 3),
+        ("free place, originator", |s| s.queue[2].originator = 1),
+        ("free place, count", |s| s.queue[3].count = 1),
+        ("free place, length", |s| s.queue[4].payload.length = 1),
+        ("free place, byte", |s| {
+            s.queue[2].payload.bytes[PAYLOAD - 1] = 1
         }),
         ("held originator n", |s| s.places[4].originator = 3),
         ("held originator 255", |s| s.places[5].originator = 255),
@@ -159,18 +166,24 @@ fn every_call_refuses(state: &Member) {
 fn nothing_else_is_unsound() {
     let changes: &[Change] = &[
         |s| s.group = MAX,
-        |s| s.submitted = MAX,
+        // 4294967294 and 4294967295 wait, in places 4 and 0.
+        |s| {
+            s.submitted = MAX;
+            s.queue = [Place::EMPTY; 5];
+            s.queue[4] = place(1, MAX - 1, b"wait");
+            s.queue[0] = place(1, MAX, b"next");
+        },
         // 15 becomes the largest.
         |s| s.taken = MAX - 4,
-        |s| s.message = Payload::EMPTY,
-        |s| s.message = payload(&[0; PAYLOAD]),
+        |s| s.queue[0].payload = Payload::EMPTY,
+        |s| s.queue[0].payload = payload(&[0; PAYLOAD]),
         |s| s.n = 16,
         // Counts need not rise, may be equal and above u.
         |s| s.places[5] = place(1, MAX, b""),
         |s| s.places[5] = s.places[4],
         |s| {
-            s.waiting = false;
-            s.message = Payload::EMPTY;
+            s.waiting = 0;
+            s.queue = [Place::EMPTY; 5];
         },
     ];
     for change in changes {
@@ -207,8 +220,8 @@ fn opening() {
             let opened = (u32::from(state.n), u32::from(state.number), state.group);
             assert_eq!(opened, (n, number, 0x0102_0304));
             assert_eq!((state.taken, state.submitted), (0, 0));
-            assert_eq!((state.waiting, state.held), (false, 0));
-            assert_eq!(state.message, Payload::EMPTY);
+            assert_eq!((state.waiting, state.held), (0, 0));
+            assert_eq!(state.queue, [Place::EMPTY; 5]);
             assert_eq!(state.places, [Place::EMPTY; 8]);
         }
     }
@@ -320,9 +333,19 @@ fn submit_repeat_and_status() {
     let answer = submit(&mut state, b"one");
     assert_eq!(answer, (Sent, request(1, 5, 1, b"one")));
     expected.submitted = 1;
-    expected.waiting = true;
-    expected.message = payload(b"one");
+    expected.waiting = 1;
+    expected.queue[1] = place(1, 1, b"one");
     assert_eq!(state, expected);
+
+    // Up to four more wait behind it, and nothing is written.
+    for (count, payload) in [(2, "two"), (3, ""), (4, "four"), (5, "five")] {
+        let bytes = payload.as_bytes();
+        assert_eq!(submit(&mut state, bytes), (Queued(count), vec![]));
+        expected.submitted = count;
+        expected.waiting = count as u8;
+        expected.queue[count as usize % 5] = place(1, count, bytes);
+        assert_eq!(state, expected);
+    }
 
     // Question 13 comes before 14.
     assert_eq!(
@@ -368,31 +391,61 @@ fn taking() {
     assert_eq!(take(&mut state), (took(14, 0, 4, true), vec![]));
     assert_eq!(take(&mut state), (took(15, 2, 1, false), vec![6; PAYLOAD]));
     assert_eq!((state.held, state.places), (0, [Place::EMPTY; 8]));
-    assert!(state.waiting);
+    assert_eq!(state.waiting, 2);
     assert_eq!(take(&mut state), (None, vec![]));
 }
 
 #[test]
-fn only_its_own_waiting_count_ends_the_waiting() {
-    // u is 6: another's count 6, an own earlier and a later one.
-    for (originator, count, still) in [(0, 6, true), (1, 5, true), (1, 7, true), (1, 6, false)] {
+fn only_its_own_first_count_moves_the_queue() {
+    // 5 and 6 wait: another's count 5, an own earlier and two later ones.
+    for (originator, count, left) in [(0, 5, 2), (1, 4, 2), (1, 6, 2), (1, 7, 2), (1, 5, 1)] {
         let mut state = busy();
+        let mut queue = state.queue;
         state.places[4] = place(originator, count, b"wait");
         assert_eq!(take(&mut state).0, took(12, originator, count, true));
-        assert_eq!(state.waiting, still);
-        assert_eq!(state.submitted, 6);
-        assert_eq!(state.message == Payload::EMPTY, !still);
-        if !still {
-            assert_eq!(submit(&mut state, b"next").1, request(1, 13, 7, b"next"));
-        }
+        assert_eq!((state.waiting, state.submitted), (left, 6));
+        let first = if left == 1 {
+            queue[0] = Place::EMPTY;
+            request(1, 13, 6, b"next")
+        } else {
+            request(1, 13, 5, b"wait")
+        };
+        assert_eq!(state.queue, queue);
+        // The following repeat sends the first.
+        assert_eq!(accepted(&mut state, |s, out| s.repeat(out)), (Sent, first));
     }
     // Nothing waits: nothing changes.
     let mut state = busy();
-    state.waiting = false;
-    state.message = Payload::EMPTY;
+    state.waiting = 0;
+    state.queue = [Place::EMPTY; 5];
     state.places[4] = place(1, 6, b"wait");
     take(&mut state);
-    assert_eq!((state.waiting, state.submitted), (false, 6));
+    assert_eq!((state.waiting, state.submitted), (0, 6));
+}
+
+#[test]
+fn the_queue_drains_in_order() {
+    let mut state = at(0, &[]);
+    for count in 1..=5u32 {
+        submit(&mut state, &[count as u8]);
+    }
+    for count in 1..=9u32 {
+        let packet = request(1, count - 1, count, &[count as u8]);
+        // The request is lost, and repeated.
+        for _ in 0..2 {
+            let answer = accepted(&mut state, |s, out| s.repeat(out));
+            assert_eq!(answer, (Sent, packet.clone()));
+        }
+        give(&mut state, &broadcast(1, count, count, 0, &[count as u8]));
+        take(&mut state);
+        if count <= 4 {
+            let answer = submit(&mut state, &[count as u8 + 5]);
+            assert_eq!(answer, (Queued(count + 5), vec![]));
+        }
+        assert!(state.is_sound());
+    }
+    assert_eq!((state.waiting, state.queue), (0, [Place::EMPTY; 5]));
+    assert_eq!(refused(&state, |s, out| s.repeat(out)), 15);
 }
 
 #[test]
@@ -568,11 +621,11 @@ fn the_last_numbers() {
     // The last submission.
     state.submitted = MAX - 1;
     assert_eq!(submit(&mut state, b"u").1, request(1, MAX, MAX, b"u"));
-    assert_eq!(refused(&state, |s, out| s.submit(b"", out)), 14);
+    assert_eq!(refused(&state, |s, out| s.submit(b"", out)), 16);
     let answer = accepted(&mut state, |s, out| s.repeat(out));
     assert_eq!(answer, (Sent, request(1, MAX, MAX, b"u")));
-    state.waiting = false;
-    state.message = Payload::EMPTY;
+    state.waiting = 0;
+    state.queue = [Place::EMPTY; 5];
     assert_eq!(
         refused(&state, |s, out| s.submit(&[0; PAYLOAD + 1], out)),
         13

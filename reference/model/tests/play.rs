@@ -68,7 +68,7 @@ fn the_form_of_answers() {
         ("A 0", "sent 3"),
         ("Q 3", "noted"),
         ("S 0 -", "sent 4"),
-        ("S 0 -", "refused 14"),
+        ("R 1", "refused 15"),
         ("Q 4", "numbered 2 5"),
         ("M 5 1", "keptgap 6"),
         ("Q 6", "wanted 1 1"),
@@ -107,6 +107,13 @@ fn the_form_of_answers() {
         ("Q 14", "numbered 3 15"),
         ("M 15 0", "kept"),
         ("T 0", "took 3 1 1 000aff last"),
+        ("S 0 -", "sent 16"),
+        ("S 0 00", "queued 4"),
+        ("S 0 -", "queued 5"),
+        ("S 0 -", "queued 6"),
+        ("S 0 -", "queued 7"),
+        ("S 0 -", "refused 14"),
+        ("R 0", "sent 17"),
     ]);
     plays("N 2 7", &schedule, "top 3 floor 1 taken 3 2");
 }

@@ -12,7 +12,7 @@ use std::collections::BTreeMap;
 /// Everything that `play` can reach. Questions 1 to 7, 9 to 12 and 16 never
 /// answer no here: the group's states are sound, its packets are of its own
 /// making, and 200 of them use up no numbers.
-pub const REACHABLE: [&str; 73] = [
+pub const REACHABLE: [&str; 79] = [
     "opening: missing",
     "opening: bad line",
     "opening: refused 18, n below 1",
@@ -29,6 +29,10 @@ pub const REACHABLE: [&str; 73] = [
     "submit: sent, payload of 0",
     "submit: sent, payload of the most bytes",
     "submit: sent, a row held",
+    "submit: queued",
+    "submit: queued, payload of 0",
+    "submit: queued, payload of the most bytes",
+    "submit: queued, the fifth",
     "submit: refused 13",
     "submit: refused 13, one waiting",
     "submit: refused 14",
@@ -36,11 +40,13 @@ pub const REACHABLE: [&str; 73] = [
     "submit: absent, payload over the most",
     "repeat: sent",
     "repeat: sent, a row held",
+    "repeat: sent, one that was queued",
     "repeat: refused 15",
     "repeat: absent",
     "take: took, more",
     "take: took, last",
     "take: took its own",
+    "take: took its own, the next is first",
     "take: took an empty payload",
     "take: took what was purged",
     "take: none, nothing held",
@@ -166,12 +172,23 @@ fn each(
                     reached("submit: absent, payload over the most");
                 }
             }
-            (_, 13) => reached(if before.members[member].waiting {
+            (_, 13) => reached(if before.members[member].waiting > 0 {
                 "submit: refused 13, one waiting"
             } else {
                 "submit: refused 13"
             }),
             (_, 14) => reached("submit: refused 14"),
+            (Some(Answer::Queued(_)), _) => {
+                reached("submit: queued");
+                if after.members[member].waiting == 5 {
+                    reached("submit: queued, the fifth");
+                }
+                match payload.len() {
+                    0 => reached("submit: queued, payload of 0"),
+                    PAYLOAD => reached("submit: queued, payload of the most bytes"),
+                    _ => (),
+                }
+            }
             _ => {
                 reached("submit: sent");
                 if has_row(&before.members[member]) {
@@ -189,7 +206,13 @@ fn each(
             (_, 15) => reached("repeat: refused 15"),
             _ => {
                 reached("repeat: sent");
-                if has_row(&before.members[member]) {
+                let state = &before.members[member];
+                if first_count(state) == before.sequencer.counts[member] + 1
+                    && !requested(before, member)
+                {
+                    reached("repeat: sent, one that was queued");
+                }
+                if has_row(state) {
                     reached("repeat: sent, a row held");
                 }
             }
@@ -202,8 +225,12 @@ fn each(
                 } else {
                     "take: took, last"
                 });
-                if before.members[member].waiting && !after.members[member].waiting {
+                let waiting = after.members[member].waiting;
+                if before.members[member].waiting > waiting {
                     reached("take: took its own");
+                    if waiting > 0 {
+                        reached("take: took its own, the next is first");
+                    }
                 }
                 if after.members[member].taken <= before.sequencer.floor {
                     reached("take: took what was purged");
@@ -272,6 +299,20 @@ fn each(
     }
 }
 
+/// The count of the first message that waits.
+fn first_count(member: &Member) -> u32 {
+    member.submitted - u32::from(member.waiting) + 1
+}
+
+/// Whether a packet requests the first message that waits.
+fn requested(group: &Group, member: usize) -> bool {
+    let count = first_count(&group.members[member]);
+    group.packets.iter().any(|bytes| {
+        let header = packet::read(bytes).expect("a packet of the group");
+        header.kind == packet::REQUEST && usize::from(header.member) == member && header.b == count
+    })
+}
+
 /// Whether a member holds what it could take.
 fn has_row(member: &Member) -> bool {
     member.row_end() > member.taken
@@ -289,7 +330,7 @@ fn at_sequencer(
     let (old, new) = (&before.sequencer, &after.sequencer);
     let is_full = old.top - old.floor == 32;
     let state = &before.members[member];
-    if matches!(answer, Some(Answer::Old)) && state.waiting && header.b == state.submitted {
+    if matches!(answer, Some(Answer::Old)) && state.waiting > 0 && header.b == first_count(state) {
         reached("request: old, its message purged and not yet taken");
     }
     reached(match (header.kind, answer) {

@@ -41,6 +41,10 @@ pub fn schedules() -> Vec<Schedule> {
         not_over_a_gap(),
         own_and_others(),
         refused_submits(),
+        typing_ahead(),
+        queue_waits_for_the_take(),
+        queues_of_two(),
+        queue_goes_round(),
         absent(),
         other_end(),
         copies(),
@@ -206,7 +210,7 @@ fn every_form() -> Schedule {
     s.line("A 0", "sent");
     s.line("Q 3", "noted");
     s.line("S 0 -", "sent");
-    s.line("S 0 -", "refused 14");
+    s.line("S 0 63", "queued 3");
     s.line("Q 4", "numbered 2");
     s.line("M 5 1", "keptgap");
     s.line("Q 6", "wanted 1 1");
@@ -226,11 +230,12 @@ fn every_form() -> Schedule {
     s.line("R 0", "sent");
     s.line("M 5 0", "kept");
     s.line("T 0", "took 2 0 2 - last");
-    s.line("R 0", "refused 15");
+    s.line("R 0", "sent");
+    s.line("R 1", "refused 15");
     s.line("Q 12", "again 2");
     s.line("M 0 0", "refused 8");
     s.line("Q 1", "refused 8");
-    s.line("M 14 0", "absent");
+    s.line("M 15 0", "absent");
     s.end(
         "nearly every answer in one schedule",
         "top 2 floor 1 taken 2 2",
@@ -617,14 +622,14 @@ fn own_purged_while_waiting() -> Schedule {
         s.acknowledge(member);
     }
     s.line("C 1", "refused 17");
-    // Its message waits until it is taken.
-    s.line("S 1 bb", "refused 14");
+    // Its message waits until it is taken, and the next waits behind it.
+    s.queue(1, "bb", 2);
     let again = s.repeat(1);
     s.hand(again, "old");
     s.hand(request, "old");
     s.take(1, "took 1 1 1 aa last");
-    s.line("R 1", "refused 15");
-    s.number(1, "bb", 2);
+    let next = s.repeat(1);
+    s.hand(next, "numbered 2");
     s.take(0, "took 1 1 1 aa last");
     s.end(
         "a message that nobody took is purged while its originator waits: its repeat is old",
@@ -868,25 +873,26 @@ fn own_and_others() -> Schedule {
     s.give(first, 1, "kept");
     // Another's message with the same count: member 1 still waits.
     s.take(1, "took 1 0 1 00 last");
-    s.line("S 1 22", "refused 14");
     s.repeat(1);
     s.give(second, 1, "kept");
-    s.line("S 1 22", "refused 14");
+    s.repeat(1);
     s.take(1, "took 2 1 1 11 last");
     s.line("R 1", "refused 15");
     let third = s.number(1, "22", 3);
-    s.line("S 1 33", "refused 14");
+    s.repeat(1);
     s.give(third, 1, "kept");
     s.take(1, "took 3 1 2 22 last");
+    s.line("R 1", "refused 15");
     // Member 0 waits until it takes its own.
-    s.line("S 0 33", "refused 14");
+    s.repeat(0);
     s.give(first, 0, "kept");
-    s.line("S 0 33", "refused 14");
+    s.repeat(0);
     s.take(0, "took 1 0 1 00 last");
+    s.line("R 0", "refused 15");
     s.submit(0, "33");
     s.give(second, 0, "kept");
     s.take(0, "took 2 1 1 11 last");
-    s.line("S 0 44", "refused 14");
+    s.repeat(0);
     s.end(
         "a take of another's message leaves the own one waiting",
         "top 3 floor 0 taken 2 3",
@@ -900,25 +906,152 @@ fn refused_submits() -> Schedule {
     s.line(&format!("S 0 {long}"), "refused 13");
     s.line("R 0", "refused 15");
     let request = s.submit(0, "01");
-    // The payload is asked about before the waiting message.
     s.line(&format!("S 0 {long}"), "refused 13");
-    s.line("S 0 02", "refused 14");
+    for count in 2..=5 {
+        s.queue(0, &format!("{count:02x}"), count);
+    }
+    // The payload is asked about before the waiting messages.
+    s.line(&format!("S 0 {long}"), "refused 13");
+    s.line("S 0 06", "refused 14");
     s.line("S 0 -", "refused 14");
     let again = s.repeat(0);
     s.hand(again, "numbered 1");
     let broadcast = s.hand(request, "again 1");
     s.give(broadcast, 0, "kept");
-    s.line("S 0 02", "refused 14");
+    s.line("S 0 06", "refused 14");
     s.take(0, "took 1 0 1 01 last");
-    s.line("R 0", "refused 15");
-    s.line(&format!("S 0 {long}"), "refused 13");
     // The refused submits used up no count.
-    let second = s.number(0, "02", 2);
-    s.give(second, 0, "kept");
-    s.take(0, "took 2 0 2 02 last");
+    s.queue(0, "06", 6);
+    s.line("S 0 07", "refused 14");
+    s.line("R 1", "refused 15");
     s.end(
         "refused submits and repeats: 13 before 14, 15, no count used up",
-        "top 2 floor 0 taken 2 0",
+        "top 1 floor 0 taken 1 0",
+    )
+}
+
+/// Five are typed in a row; every request and every broadcast is lost once.
+fn typing_ahead() -> Schedule {
+    let mut s = Script::open(2, 7);
+    s.submit(1, "01");
+    for count in 2..=5 {
+        s.queue(1, &format!("{count:02x}"), count);
+    }
+    s.line("S 1 06", "refused 14");
+    for number in 1..=5 {
+        s.repeat(1);
+        let request = s.repeat(1);
+        s.hand(request, &format!("numbered {number}"));
+        let broadcast = s.hand(request, &format!("again {number}"));
+        s.give(broadcast, 1, "kept");
+        s.take(1, &format!("took {number} 1 {number} {number:02x} last"));
+        s.take(1, "none");
+    }
+    s.line("R 1", "refused 15");
+    s.end(
+        "five typed in a row, requested one by one in their order by repeats",
+        "top 5 floor 0 taken 0 5",
+    )
+}
+
+/// Nothing behind the first is requested before the first was taken, also
+/// if the first was numbered long ago.
+fn queue_waits_for_the_take() -> Schedule {
+    let mut s = Script::open(2, 7);
+    let first = s.submit(0, "61");
+    s.queue(0, "62", 2);
+    let broadcast = s.hand(first, "numbered 1");
+    let again = s.repeat(0);
+    s.hand(again, "again 1");
+    s.give(broadcast, 0, "kept");
+    let again = s.repeat(0);
+    s.hand(again, "again 1");
+    s.take(0, "took 1 0 1 61 last");
+    let second = s.repeat(0);
+    let broadcast = s.hand(second, "numbered 2");
+    s.hand(first, "old");
+    s.give(broadcast, 0, "kept");
+    s.take(0, "took 2 0 2 62 last");
+    let third = s.submit(0, "63");
+    s.hand(third, "numbered 3");
+    s.end(
+        "a queued message is requested by the repeat behind the take of the one before it",
+        "top 3 floor 0 taken 2 0",
+    )
+}
+
+/// Takes of others' messages leave the queue, and so do late requests.
+fn queues_of_two() -> Schedule {
+    let mut s = Script::open(3, 7);
+    let of_one = s.submit(1, "11");
+    let of_two = s.submit(2, "21");
+    s.queue(1, "12", 2);
+    s.queue(2, "22", 2);
+    s.queue(1, "13", 3);
+    let first = s.hand(of_two, "numbered 1");
+    let second = s.hand(of_one, "numbered 2");
+    for member in [1, 2] {
+        s.give(first, member, "kept");
+        s.give(second, member, "kept");
+    }
+    s.take(1, "took 1 2 1 21 more");
+    let still = s.repeat(1);
+    s.hand(still, "again 2");
+    s.take(1, "took 2 1 1 11 last");
+    let next = s.repeat(1);
+    let third = s.hand(next, "numbered 3");
+    s.hand(still, "old");
+    s.take(2, "took 1 2 1 21 more");
+    let next = s.repeat(2);
+    let fourth = s.hand(next, "numbered 4");
+    for member in [1, 2] {
+        s.give(third, member, "kept");
+        s.give(fourth, member, "kept");
+    }
+    s.take(2, "took 2 1 1 11 more");
+    s.take(2, "took 3 1 2 12 more");
+    s.take(2, "took 4 2 2 22 last");
+    s.line("R 2", "refused 15");
+    s.take(1, "took 3 1 2 12 more");
+    s.take(1, "took 4 2 2 22 last");
+    let last = s.repeat(1);
+    s.hand(last, "numbered 5");
+    s.end(
+        "two terminals that type ahead: each queue moves with its own messages alone",
+        "top 5 floor 0 taken 0 4 4",
+    )
+}
+
+/// The places of the queue are used again and again, with shorter payloads
+/// where longer ones lay.
+fn queue_goes_round() -> Schedule {
+    let mut s = Script::open(1, 7);
+    let hex = |count: u32| match count % 3 {
+        0 => "-".into(),
+        1 => format!("{count:02x}").repeat(PAYLOAD),
+        _ => format!("{count:02x}"),
+    };
+    let mut request = s.submit(0, &hex(1));
+    for count in 2..=5 {
+        s.queue(0, &hex(count), count);
+    }
+    for number in 1..=14 {
+        let broadcast = s.hand(request, &format!("numbered {number}"));
+        s.give(broadcast, 0, "kept");
+        let payload = hex(number);
+        s.take(0, &format!("took {number} 0 {number} {payload} last"));
+        if number < 14 {
+            if number + 5 <= 14 {
+                s.queue(0, &hex(number + 5), number + 5);
+            }
+            request = s.repeat(0);
+        }
+    }
+    s.line("R 0", "refused 15");
+    s.submit(0, "0f");
+    s.end(
+        "the five places of the queue go round, longer and shorter payloads in turn",
+        "top 14 floor 13 taken 14",
     )
 }
 

@@ -234,12 +234,12 @@ impl Network {
                 number: self.wanted.remove(0),
             },
             22..30 => Event::Take { member },
-            30..32 if waiting => Event::Repeat { member },
+            30..32 if waiting > 0 => Event::Repeat { member },
             32 if acknowledges > self.group.sequencer.acknowledged[member] => {
                 Event::Status { member }
             }
             33 if random.percent(30) => Event::Poll,
-            _ if !waiting => Event::Submit {
+            _ if waiting == 0 || random.percent(5) => Event::Submit {
                 member,
                 payload: self.payload(),
             },

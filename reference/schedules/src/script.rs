@@ -53,6 +53,11 @@ impl Script {
         self.line(&format!("S {member} {hex}"), "sent")
     }
 
+    /// Submit behind a message that waits, with that count.
+    pub fn queue(&mut self, member: usize, hex: &str, count: u32) {
+        self.line(&format!("S {member} {hex}"), &format!("queued {count}"));
+    }
+
     /// Repeat; the request's index.
     pub fn repeat(&mut self, member: usize) -> usize {
         self.line(&format!("R {member}"), "sent")

@@ -99,6 +99,18 @@ enum-known-answer-2 c = search needs
 put-took-requires : tie.Need-put-took-requires
 put-took-requires c κs = search needs
 
+enum-known-answer-3 : tie.Need-enum-known-answer-3
+enum-known-answer-3 c = search needs
+
+slice-aggregate-put-indexed-6 : tie.Need-slice-aggregate-put-indexed-6
+slice-aggregate-put-indexed-6 c = search needs
+
+cast-put-indexed : tie.Need-cast-put-indexed
+cast-put-indexed c = search needs
+
+put-indexed-requires-6 : tie.Need-put-indexed-requires-6
+put-indexed-requires-6 c κs = search needs
+
 same-length : tie.Need-same-length
 same-length c = search needs
 
@@ -176,6 +188,13 @@ returns-11 : tie.Need-returns-11
 unfolding wordingOf wordingFields valueText
 returns-11 c = (rw (c .before .before .before .before .before .answer2 .given .1) (c .before .before .put-took .ensures .0), search needs)
 
+same-length-12 : tie.Need-same-length-12
+same-length-12 c = search needs
+
+returns-12 : tie.Need-returns-12
+unfolding wordingOf wordingFields valueText
+returns-12 c = (rw (c .before .before .before .before .before .before .answer3 .given .1) (c .before .before .put-indexed6 .ensures .0), search needs)
+
 pub put-member-spec : {M : Type 1} → statement M
 put-member-spec =
     tie.close
@@ -211,6 +230,10 @@ put-member-spec =
     put-word-requires-4
     enum-known-answer-2
     put-took-requires
+    enum-known-answer-3
+    slice-aggregate-put-indexed-6
+    cast-put-indexed
+    put-indexed-requires-6
     same-length
     returns
     same-length-2
@@ -232,4 +255,6 @@ put-member-spec =
     same-length-10
     returns-10
     same-length-11
-    returns-11)
+    returns-11
+    same-length-12
+    returns-12)

@@ -11,8 +11,14 @@ returns c = search (choices, needs) depth 9
 returns-2 : tie.Need-returns-2
 returns-2 c = search (choices, needs) depth 9
 
+sub-result : tie.Need-sub-result
+sub-result c = search needs
+
+add-result : tie.Need-add-result
+add-result c = search needs
+
 returns-3 : tie.Need-returns-3
 returns-3 c = search (choices, needs) depth 9
 
 pub own-spec : {M : Type 1} → statement M
-own-spec = tie.close (tie.spec returns returns-2 returns-3)
+own-spec = tie.close (tie.spec returns returns-2 sub-result add-result returns-3)

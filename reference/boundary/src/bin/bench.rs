@@ -2,7 +2,7 @@
 //! reference, in turns, and prints the medians.
 
 use boundary::{LINE, Member, Sequencer, list, proved, reference};
-use model::limits::{HISTORY, PACKET, PAYLOAD, WINDOW};
+use model::limits::{HISTORY, PACKET, PAYLOAD, WAITING, WINDOW};
 use model::packet::{self, BROADCAST, GAP, Header, POLL, REQUEST, STATUS};
 use std::collections::BTreeMap;
 use std::hint::black_box;
@@ -385,10 +385,12 @@ type MemberRounds = Box<dyn Fn(Side, Member<'_>, u32, &mut [u8]) -> u64>;
 fn member(n: u8, length: usize, held: usize) -> Vec<Case> {
     let text = payload(length);
     let broadcast = |number: u32| laid(BROADCAST, 0, GROUP, [number, number, 0], &text);
+    let own = |number: u32| laid(BROADCAST, 1, GROUP, [number, number, 0], &text);
     let poll = |top: u32| laid(POLL, 0, GROUP, [top, 0, 0], &[]);
     let window = WINDOW as u32;
     let last = held as u32;
     let heard = list((1..=last).map(broadcast));
+    let owns = list((1..=last).map(own));
 
     let mut cases = Vec::new();
     let with = format!("n {n}, payload {length}, held {held}");
@@ -458,6 +460,14 @@ fn member(n: u8, length: usize, held: usize) -> Vec<Case> {
             on!(side, member_submit(end, &submitted, rounds, out))
         }),
     );
+    let (queued, typed) = (text.clone(), text.clone());
+    case(
+        "member.submit queued",
+        1,
+        Box::new(move |side, end, rounds, out| {
+            on!(side, member_queue(end, &queued, 4, 1, rounds, out))
+        }),
+    );
     case(
         "member.repeat",
         1,
@@ -468,6 +478,22 @@ fn member(n: u8, length: usize, held: usize) -> Vec<Case> {
         1,
         Box::new(|side, end, rounds, out| on!(side, member_status(end, rounds, out))),
     );
+    if held > 0 {
+        let most = last.min(WAITING as u32);
+        case(
+            "member.take own",
+            last as usize,
+            Box::new(move |side, end, rounds, out| {
+                let (heard, takes) = (&owns[..], last);
+                let end = Member {
+                    heard,
+                    takes,
+                    ..end
+                };
+                on!(side, member_queue(end, &typed, most, 0, rounds, out))
+            }),
+        );
+    }
     let (take, calls) = if held > 0 {
         ("member.take", last)
     } else {

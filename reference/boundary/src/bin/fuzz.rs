@@ -358,6 +358,23 @@ fn broadcasts(random: &mut Random, n: u8, group: u32) -> Vec<Vec<u8>> {
         .collect()
 }
 
+/// Broadcasts of the first numbers, of which some are the member's own.
+fn own(random: &mut Random, n: u8, number_of: u8, group: u32) -> Vec<Vec<u8>> {
+    let mut count = 0;
+    (1..9)
+        .map(|number| {
+            let mut from = (number_of, number);
+            if random.percent(70) {
+                count += 1;
+                from.1 = count;
+            } else if random.percent(90) {
+                from.0 = random.below(usize::from(n)) as u8;
+            }
+            laid(2, from.0, group, [number, from.1, 0], &payload(random))
+        })
+        .collect()
+}
+
 fn membership(seed: u64) -> Option<String> {
     let random = &mut Random::seeded(seed);
     let n = 1 + random.below(16) as u8;
@@ -369,6 +386,9 @@ fn membership(seed: u64) -> Option<String> {
     // The first numbers, of which some are taken.
     let first = list((1..9).map(|number| laid(2, 0, group, [number, number, 0], &text)));
     let takes = random.below(10) as u32;
+    // Its own messages among others', in the order of their counts.
+    let owns = list(own(random, n, number_of, group));
+    let (waiting, submits) = (random.below(8) as u32, random.below(8) as u32);
     let differs = |packets: &[Vec<u8>]| {
         let list = list(packets);
         let (mut here, mut there) = (lent.clone(), lent.clone());
@@ -393,6 +413,8 @@ fn membership(seed: u64) -> Option<String> {
             || differs!(member_submit(taken, &text, 1))
             || differs!(member_repeat(taken, &text, 1))
             || differs!(member_status(taken, 1))
+            || differs!(member_queue(end(&owns, takes), &text, waiting, submits, 1))
+            || differs!(member_queue(end(&list, takes), &text, waiting, submits, 1))
             || differs!(member_take(after, 9, 1))
             || differs!(member_submit(after, &text, 1))
             || differs!(member_repeat(after, &text, 1))

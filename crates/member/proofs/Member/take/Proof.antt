@@ -9,7 +9,8 @@ use lib.ListN.{length}
 use Rattle.group.proofs.Choice.{if-lt, if-nlt}
 use Rattle.window.specs.Places.{messageAt}
 use Rattle.member.specs.Calls.{takeOf}
-use Rattle.member.proofs.Outcomes.{stepped, quiet, took, taken-own, taken-other, own-is, judged-yes, judged-no, asked, next-short}
+use Rattle.member.proofs.Outcomes.{stepped, quiet, took, taken-own, taken-other, own-is, own-some, judged-yes, judged-no, asked, next-short}
+use Rattle.member.proofs.Soundness.{sound-of}
 use borrow.Author.Needs.{needs}
 use Rattle.member.proofs.Member.take.Statement.{statement}
 use Rattle.member.proofs.Member.take.Tie as tie
@@ -62,7 +63,25 @@ add-self c =
     record { fits = omega arith }
 
 own-requires : tie.Need-own-requires
-own-requires c κs = search needs
+own-requires c κs =
+    let m = c .before .before .before .before .before .before .before .before .before .before .before .before .before .before .before .before .before .before .before .before .args .t1 in
+    let s = asked m _ (sym (c .before .before .before .before .before .before .before .before .before .before .before .before .before .before .before .before .before .before .ask .ensures) ∙ c .before .before .before .before .before .before .before .before .before .before .before .before .before .before .before .before .enum-told .given .1) in
+    sound-of m (s .0) .waiting .enough
+
+cast-queue-place : tie.Need-cast-queue-place
+cast-queue-place c = search needs
+
+queue-place-requires : tie.Need-queue-place-requires
+queue-place-requires c κs = search needs
+
+sub-self : tie.Need-sub-self
+sub-self c = own-some (c .before .before .before .before .before .before .before .before .before .before .before .before .before .before .before .before .before .before .before .before .before .before .before .before .args .t1) _ _ _ (c .before .before .before .own .ensures) (c .before .before .if2 .taken)
+
+mul-empty-2 : tie.Need-mul-empty-2
+mul-empty-2 c = search needs
+
+element-set-from-empty-2 : tie.Need-element-set-from-empty-2
+element-set-from-empty-2 c = search needs
 
 replied-requires : tie.Need-replied-requires
 replied-requires c κs = search needs
@@ -73,12 +92,12 @@ same-length c = search needs
 returns : tie.Need-returns
 unfolding takeOf
 returns c =
-    let a = c .before .before .before .before .before .before .before .before .before .before .before .before .before .before .before .before .before .before .before .before .before .before .before .args in
+    let a = c .before .before .before .before .before .before .before .before .before .before .before .before .before .before .before .before .before .before .before .before .before .before .before .before .before .args in
     let m = a .t1 in
-    let h : 0 < messageAt (m .held) (m .taken .0 + 1) .count = rw (c .before .before .before .before .before .before .before .before .before .before .before .before .before .before .before .before .before .place .ensures) at (c .before .before .before .before .before .before .before .before .before .before .before .before .before .before .if1 .taken) in
-    let s = judged-yes _ _ _ (sym (c .before .before .before .before .before .before .before .before .before .before .before .before .before .before .before .before .before .before .before .before .before .ask .ensures) ∙ c .before .before .before .before .before .before .before .before .before .before .before .before .before .before .before .before .before .before .before .enum-told .given .1) in
-    let t = taken-own m _ _ _ (c .before .before .before .before .before .before .empty .ensures) (c .before .before .before .before .before .before .before .before .before .before .before .before .before .before .before .before .before .place .ensures) (own-is m _ _ true (c .before .before .own .ensures) (c .before .if2 .taken)) in
-    stepped (takeOf m (length (now (a .out)))) _ _ _ _ _ (rw (c .before .before .before .before .before .before .before .before .before .before .before .before .before .before .before .before .before .place .ensures) (if-lt 0 _ _ _ _ h refl ∙ s)) (took m _ _ _ _ _ _ t (c .before .before .before .before .before .before .before .before .before .before .before .before .place2 .ensures) (c .before .before .before .before .before .before .before .before .before .handed .ensures)) (c .replied .ensures)
+    let h : 0 < messageAt (m .held) (m .taken .0 + 1) .count = rw (c .before .before .before .before .before .before .before .before .before .before .before .before .before .before .before .before .before .before .before .place .ensures) at (c .before .before .before .before .before .before .before .before .before .before .before .before .before .before .before .before .if1 .taken) in
+    let s = judged-yes _ _ _ (sym (c .before .before .before .before .before .before .before .before .before .before .before .before .before .before .before .before .before .before .before .before .before .before .before .ask .ensures) ∙ c .before .before .before .before .before .before .before .before .before .before .before .before .before .before .before .before .before .before .before .before .before .enum-told .given .1) in
+    let t = taken-own m _ _ _ (c .before .before .before .before .before .before .before .before .empty .ensures) (c .before .before .before .before .before .before .before .before .before .before .before .before .before .before .before .before .before .before .before .place .ensures) _ (c .before .queue-place .ensures) (own-is m _ _ true (c .before .before .before .before .own .ensures) (c .before .before .before .if2 .taken)) in
+    stepped (takeOf m (length (now (a .out)))) _ _ _ _ _ (rw (c .before .before .before .before .before .before .before .before .before .before .before .before .before .before .before .before .before .before .before .place .ensures) (if-lt 0 _ _ _ _ h refl ∙ s)) (took m _ _ _ _ _ _ t (c .before .before .before .before .before .before .before .before .before .before .before .before .before .before .place2 .ensures) (c .before .before .before .before .before .before .before .before .before .before .before .handed .ensures)) (c .replied .ensures)
 
 replied-requires-2 : tie.Need-replied-requires-2
 replied-requires-2 c κs = search needs
@@ -141,6 +160,11 @@ take-spec =
     element-set-from-empty
     add-self
     own-requires
+    cast-queue-place
+    queue-place-requires
+    sub-self
+    mul-empty-2
+    element-set-from-empty-2
     replied-requires
     same-length
     returns

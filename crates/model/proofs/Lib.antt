@@ -4,5 +4,7 @@ pub mod Step
 pub mod Whole
 pub mod Round
 pub mod Theorem
+pub mod Sums
+pub mod Longest
 pub mod Refusals
 pub mod Examples

@@ -70,12 +70,12 @@ module _ (group : description.Group) (hn : group .n ≤ membersMost) (hg : group
       (record { top-is = d′ .top-is ∙ top1; each = λ j x. rw top1 at (d′ .each j x); order-is = d′ .order-is ∙ c .order-is })
 
 -- its length
-row-length : (i k : ℕ) → length (takeRow i k) ≡ k
+pub row-length : (i k : ℕ) → length (takeRow i k) ≡ k
 unfolding takeRow
 row-length i zero = refl
 row-length i (suc k) = ap suc (row-length i k)
 
-member-length : (i t k b : ℕ) → length (closeMember i t k b) ≡ 3 * k + 2
+pub member-length : (i t k b : ℕ) → length (closeMember i t k b) ≡ 3 * k + 2
 unfolding closeMember
 member-length i t zero b = refl
 member-length i t (suc k) b = let z = member-length i (t + 1) k (b + 1) in omega arith

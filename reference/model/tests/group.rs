@@ -8,6 +8,7 @@ use common::{GROUP, Random};
 use model::answer::{Answer, Refusal};
 use model::group::{Event, Outcome, Run};
 use model::limits::PAYLOAD;
+use model::longest::longest_closing;
 use model::member::Member;
 use model::place::Place;
 use model::sequencer::Sequencer;
@@ -102,7 +103,7 @@ fn close(run: &mut Run) {
     let order = run.order();
     let submissions: Vec<_> = (0..n).map(|member| run.submissions(member)).collect();
     let length = closing_length(run);
-    assert!(length <= 106 * n);
+    assert!(length <= longest_closing(n));
     assert_eq!(run.closing_round(), length);
     assert_eq!(run.order(), order);
     assert_eq!(run.group.sequencer.floor, run.group.sequencer.top);

@@ -6,6 +6,7 @@
 
 pub mod coverage;
 pub mod hand;
+pub mod longest;
 pub mod malformed;
 pub mod random;
 pub mod script;
@@ -49,5 +50,6 @@ pub fn all() -> Vec<Schedule> {
     let mut schedules = hand::schedules();
     schedules.extend(malformed::schedules());
     schedules.extend(random::stored());
+    schedules.extend(longest::schedules());
     schedules
 }

@@ -1,35 +1,58 @@
 -- A closing round after the list of each n has the figure's length, by computation. Assumes nothing.
-use mathlib.Core.Path.{refl}
-use Rattle.group.specs.Choice.{if_then_else_}
-use Rattle.group.specs.Fold.{all, allAbove, least}
-use Rattle.group.specs.Opening.{openOf}
-use Rattle.group.specs.Question.{judged}
-use Rattle.member.specs.Calls as member
-use Rattle.member.specs.Sound as memberSound
-use Rattle.member.specs.State.{rowEndOf, acknowledgedOf, freshMember}
-use Rattle.message.specs.Message.{allZero, messageOf, emptyMessage, payloadOf, zeroBehind, isEmpty}
-use Rattle.model.specs.Closing.{takeRow, closeMember, closeFrom}
-use Rattle.model.specs.World.{happen, run, freshMembers, fresh}
+use mathlib.Core.Path.{_≡_, refl, ap, _∙_}
+use mathlib.Core.Bool.{Bool, true}
+use Prim.Native.Nat.{ℕ}
+use native.Mathlib.Omega.{arith}
+use borrow.Author.Tests.{eqb-true}
+use lib.ListN.{length}
 use Rattle.big_endian.specs.Number.{numberAt, bytesOf}
-use Rattle.packet.specs.Packet.{headerOf, knownKind, payloadFits, obeys, fieldsVerdict, readOf, headerBytes, packetOf, writeVerdict, writeOf, contentOf, fieldsOf, written}
-use Rattle.history.specs.Ask.{senderVerdict, countVerdict, wantedVerdict}
+use Rattle.group.proofs.Fold.{above-each}
+use Rattle.group.proofs.Lists.{le-or}
+use Rattle.group.specs.Choice.{if_then_else_, _=?_}
+use Rattle.group.specs.Fold.{allAbove, least}
+use Rattle.group.specs.Opening.{descriptionOf, openOf}
+use Rattle.group.specs.Question.{judged}
+use Rattle.history.specs.Ask.{senderVerdict, countVerdict}
 use Rattle.history.specs.Note.{largerOf, tableNoted, clearedOf}
-use Rattle.history.specs.Repeat.{oneMore, isOf, findOf}
-use Rattle.history.specs.Sound.{entrySound, keptSound, placeSound, frameSound}
 use Rattle.history.specs.State.{floorOf}
+use Rattle.longest.proofs.Quick.{past, leaves, run-leaves}
+use Rattle.longest.specs.Slowest.{rounds, hands, holders, lasts, slowest, Reached}
+use Rattle.member.specs.Calls as member
+use Rattle.member.specs.State.{rowEndOf, acknowledgedOf, freshMember}
+use Rattle.message.specs.Message.{messageOf, emptyMessage, payloadOf}
+use Rattle.model.proofs.Step.{fresh-inv}
+use Rattle.model.specs.Closing.{takeRow, closeMember, closeFrom}
+use Rattle.model.specs.Longest.{longestClosing}
+use Rattle.model.specs.World.{Group, freshMembers, fresh}
+use Rattle.packet.specs.Packet.{headerOf, knownKind, payloadFits, obeys, fieldsVerdict, readOf, headerBytes, packetOf, contentOf, fieldsOf, written}
 use Rattle.sequencer.specs.Calls as sequencer
 use Rattle.sequencer.specs.Note.{withTable, noteOf}
-use Rattle.sequencer.specs.Sound.{soundOf}
 use Rattle.sequencer.specs.State.{freshSequencer}
 use Rattle.window.specs.Places as window
-use Rattle.window.specs.Sound as windowSound
-use Rattle.longest.specs.Slowest.{rounds, hands, holders, lasts, slowest, Reaches}
 
-reaches-1 : Reaches 1
-unfolding if_then_else_ all allAbove least openOf judged member.answered rowEndOf acknowledgedOf member.requestPacket member.gapPacket member.statusPacket member.callVerdict member.submitVerdict member.withWaiting member.submitOf member.repeatOf member.statusOf member.withHeld member.gapUpTo member.keptOf member.broadcastOf window.smallerOf member.pollOf member.contentStep member.readStep member.receiveOf member.isOwn member.withTaken member.tookOf member.takeOf member.openedOf member.freshOf windowSound.placeSound windowSound.queueSound windowSound.waitingSound windowSound.frameSound memberSound.soundOf window.lowestMissing window.rowEnd freshMember allZero messageOf emptyMessage payloadOf zeroBehind isEmpty takeRow closeMember closeFrom happen run freshMembers fresh numberAt bytesOf headerOf knownKind payloadFits obeys fieldsVerdict readOf headerBytes packetOf writeVerdict writeOf contentOf fieldsOf written sequencer.answered sequencer.broadcastOf sequencer.pollPacket oneMore sequencer.repeatedOf isOf findOf sequencer.oldOf sequencer.againOf sequencer.fullOf sequencer.withMessage sequencer.numberedOf sequencer.requestOf sequencer.gapOf senderVerdict countVerdict wantedVerdict sequencer.contentStep sequencer.readStep sequencer.callVerdict sequencer.receiveOf sequencer.pollOf sequencer.copyOf sequencer.openedOf sequencer.freshOf largerOf tableNoted clearedOf withTable noteOf entrySound keptSound placeSound frameSound soundOf floorOf freshSequencer rounds hands holders lasts slowest
-reaches-1 = refl
+-- how long the closing round of a group is
+abbrev lengthOf : Group → ℕ
+lengthOf g = length (closeFrom (g .members) 0 (g .sequencer .top .0) (length (g .packets)))
 
-reaches-2 : Reaches 2
-unfolding if_then_else_ all allAbove least openOf judged member.answered rowEndOf acknowledgedOf member.requestPacket member.gapPacket member.statusPacket member.callVerdict member.submitVerdict member.withWaiting member.submitOf member.repeatOf member.statusOf member.withHeld member.gapUpTo member.keptOf member.broadcastOf window.smallerOf member.pollOf member.contentStep member.readStep member.receiveOf member.isOwn member.withTaken member.tookOf member.takeOf member.openedOf member.freshOf windowSound.placeSound windowSound.queueSound windowSound.waitingSound windowSound.frameSound memberSound.soundOf window.lowestMissing window.rowEnd freshMember allZero messageOf emptyMessage payloadOf zeroBehind isEmpty takeRow closeMember closeFrom happen run freshMembers fresh numberAt bytesOf headerOf knownKind payloadFits obeys fieldsVerdict readOf headerBytes packetOf writeVerdict writeOf contentOf fieldsOf written sequencer.answered sequencer.broadcastOf sequencer.pollPacket oneMore sequencer.repeatedOf isOf findOf sequencer.oldOf sequencer.againOf sequencer.fullOf sequencer.withMessage sequencer.numberedOf sequencer.requestOf sequencer.gapOf senderVerdict countVerdict wantedVerdict sequencer.contentStep sequencer.readStep sequencer.callVerdict sequencer.receiveOf sequencer.pollOf sequencer.copyOf sequencer.openedOf sequencer.freshOf largerOf tableNoted clearedOf withTable noteOf entrySound keptSound placeSound frameSound soundOf floorOf freshSequencer rounds hands holders lasts slowest
-reaches-2 = refl
+-- whether the list of n leads to the figure: it is computed with all that these lines name
+unfoldable leads : ℕ → Bool
+unfolding if_then_else_ least openOf judged member.answered rowEndOf acknowledgedOf member.requestPacket member.statusPacket member.submitVerdict member.withWaiting member.withHeld member.gapUpTo member.keptOf member.broadcastOf window.smallerOf member.contentStep member.readStep member.isOwn member.withTaken member.tookOf member.openedOf member.freshOf window.lowestMissing window.rowEnd freshMember messageOf emptyMessage payloadOf takeRow closeMember closeFrom freshMembers fresh numberAt bytesOf headerOf knownKind payloadFits obeys fieldsVerdict readOf headerBytes packetOf contentOf fieldsOf written sequencer.answered sequencer.broadcastOf sequencer.withMessage sequencer.numberedOf sequencer.requestOf senderVerdict countVerdict sequencer.contentStep sequencer.readStep sequencer.openedOf sequencer.freshOf largerOf tableNoted clearedOf withTable noteOf floorOf freshSequencer rounds hands holders lasts slowest past leaves
+leads n = lengthOf (leaves (fresh n 7 .group) (slowest n)) =? longestClosing n
 
+-- eight at a time, since the steps that one check may take have a limit
+low : allAbove leads 0 8 ≡ true
+unfolding leads allAbove
+low = refl
+
+high : allAbove leads 8 8 ≡ true
+unfolding leads allAbove
+high = refl
+
+leads-there : (n : ℕ) → leads n ≡ true → lengthOf (leaves (fresh n 7 .group) (slowest n)) ≡ longestClosing n
+unfolding leads
+leads-there n e = eqb-true (lengthOf (leaves (fresh n 7 .group) (slowest n))) (longestClosing n) e
+
+pub reached : Reached
+reached n lo hi =
+    ap lengthOf (run-leaves (descriptionOf n 7) hi (omega arith) (fresh n 7) (slowest n) (fresh-inv n 7 lo hi (omega arith)))
+    ∙ leads-there n (le-or n 8 (λ le. above-each leads 0 8 low n lo le) (λ lt. above-each leads 8 8 high n lt hi))

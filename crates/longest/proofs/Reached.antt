@@ -34,12 +34,12 @@ use Rattle.window.specs.Places as window
 abbrev lengthOf : Group → ℕ
 lengthOf g = length (closeFrom (g .members) 0 (g .sequencer .top .0) (length (g .packets)))
 
--- whether the list of n leads to the figure: it is computed with all that these lines name
+-- whether the list of n leads to the figure, computed with all that the line names
 unfoldable leads : ℕ → Bool
 unfolding if_then_else_ least openOf judged member.answered rowEndOf acknowledgedOf member.requestPacket member.statusPacket member.submitVerdict member.withWaiting member.withHeld member.gapUpTo member.keptOf member.broadcastOf window.smallerOf member.contentStep member.readStep member.isOwn member.withTaken member.tookOf member.openedOf member.freshOf window.lowestMissing window.rowEnd freshMember messageOf emptyMessage payloadOf takeRow closeMember closeFrom freshMembers fresh numberAt bytesOf headerOf knownKind payloadFits obeys fieldsVerdict readOf headerBytes packetOf contentOf fieldsOf written sequencer.answered sequencer.broadcastOf sequencer.withMessage sequencer.numberedOf sequencer.requestOf senderVerdict countVerdict sequencer.contentStep sequencer.readStep sequencer.openedOf sequencer.freshOf largerOf tableNoted clearedOf withTable noteOf floorOf freshSequencer rounds hands holders lasts slowest past leaves
 leads n = lengthOf (leaves (fresh n 7 .group) (slowest n)) =? longestClosing n
 
--- eight at a time, since the steps that one check may take have a limit
+-- eight at a time: the steps that one declaration may take have a limit
 low : allAbove leads 0 8 ≡ true
 unfolding leads allAbove
 low = refl

@@ -25,7 +25,7 @@ AtMost = (n number : ℕ) → 1 ≤ n → n ≤ membersMost → number ≤ large
 abbrev pub lastTaken : World → ℕ → ℕ
 lastTaken w i = getD (w .group .members) i noMember .taken .0
 
--- above the t of a terminal that took most lie at most n numbers: each terminal has at most one message that waits for its take
+-- above the t of a terminal that took most lie at most n numbers: each terminal has at most one message of its own above its t
 abbrev pub FewLeft : Type 0
 FewLeft = (n number : ℕ) → 1 ≤ n → n ≤ membersMost → number ≤ largestNumber → (events : List Event)
     → let w = run (fresh n number) events in

@@ -1,0 +1,4 @@
+pub mod Choosing
+pub mod Solid
+pub mod Laws
+pub mod Examples

@@ -12,6 +12,7 @@ use Rattle.group.specs.Lent.{front, Laid}
 use Rattle.group.specs.Limits.{membersMost}
 use Rattle.group.specs.Opening as group
 use Rattle.group.specs.declared.Opened.{Opened}
+use Rattle.group.specs.declared.Refusal.{Refusal}
 use Rattle.group.specs.declared.Refusal.the-variants.{UnsoundState, Opening}
 use Rattle.group.proofs.Choice.{if-ne, if-true, if-false, both-hold, first-fails, then-fails}
 use Rattle.model.specs.World.{Event, handSequencer}
@@ -20,7 +21,7 @@ use Rattle.text.specs.LaidAt.{LaidAt}
 use Rattle.text.specs.Written.{line}
 use Rattle.workload.specs.Calls.{Outcome, stepOf, loadAt, refused, nextOf}
 use Rattle.workload.specs.Choice.{Chosen, drawn, chosen, eventFrom}
-use Rattle.workload.specs.Line.{eventFields}
+use Rattle.workload.specs.Line.{eventFields, lineRoom}
 use Rattle.workload.specs.declared.Answer.{Answer}
 use Rattle.workload.specs.Wording.{wordingOf}
 use Rattle.workload.specs.declared.Load.{Load}
@@ -73,9 +74,10 @@ module _ (load : Load) where
 
   -- what the code made of the next event
   pub next-step : {event : Event} (generator : Generator) (written : ℕ) (before after : List ℕ) → record { event = event; state = generator .state } ≡ eventFrom (load .n) (load .generator .state)
-      → Laid (line (eventFields event)) written before after
+      → LaidAt 0 (line (eventFields event)) before after written
       → (record { load = record { generator = generator; n = load .n }; answer = Answer.Written; written = written } ≡ stepOf lineOutcome) × (after ≡ front (lineOutcome .bytes) before)
-  next-step generator written before after e h =
+  next-step generator written before after e at =
+      let h = laid-whole at in
       let chose = ap (λ (c : Chosen). c .event) e in
       let state = ap (λ (c : Chosen). c .state) e in
       let size = h .size ∙ ap (λ (x : Event). length (line (eventFields x))) chose in (
@@ -84,8 +86,12 @@ module _ (load : Load) where
       )
 
 -- what a call gives back and leaves, by an outcome that is its own
-pub done : {o p : Outcome} {step : Step} → o ≡ p → (before after : List ℕ) → step ≡ stepOf p → after ≡ front (p .bytes) before
-    → (step ≡ stepOf o) × ((after ≡ front (o .bytes) before) × (wordingOf (step .answer) ≡ wordingOf (o .answer)))
-done {o} {p} {step} e before after s l =
+pub done : {o p : Outcome} {step : Step} → o ≡ p → (before after : List ℕ) → step ≡ stepOf p → after ≡ front (p .bytes) before → step .written ≤ lineRoom
+    → (step ≡ stepOf o) × ((after ≡ front (o .bytes) before) × ((wordingOf (step .answer) ≡ wordingOf (o .answer)) × (step .written ≤ lineRoom)))
+done {o} {p} {step} e before after s l k =
     let a = s ∙ ap stepOf (sym e) in
-    (a, (l ∙ ap (λ (x : Outcome). front (x .bytes) before) (sym e), ap (λ (x : Step). wordingOf (x .answer)) a))
+    (a, (l ∙ ap (λ (x : Outcome). front (x .bytes) before) (sym e), (ap (λ (x : Step). wordingOf (x .answer)) a, k)))
+
+-- nothing was written
+pub none-within : {step : Step} {load : Load} {refusal : Refusal} → step ≡ stepOf (refused load refusal) → step .written ≤ lineRoom
+none-within {step} {load} {refusal} e = let z : step .written ≡ 0 = ap (λ (x : Step). x .written) e in omega arith

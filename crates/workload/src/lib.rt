@@ -13,7 +13,8 @@ ghost use mathlib.Core.List.{[], _∷_};
 ghost use Prim.Native.Nat.{_≤_, _<_};
 ghost use lib.ListN.{length};
 ghost use Rattle.generator.specs.Generator.{stepped};
-ghost use Rattle.group.specs.Lent.{front, Laid};
+ghost use Rattle.group.specs.Lent.{front};
+ghost use Rattle.text.specs.LaidAt.{LaidAt};
 ghost use Rattle.text.specs.Text.{textOf};
 ghost use Rattle.text.specs.Written.{decimalOf, payloadText, line};
 ghost use Rattle.workload.specs.Choice.{lettersMost, bytesMost, drawn, chosen};
@@ -187,7 +188,7 @@ fn choose(letter: u32, generator: Generator, n: u32) -> Chosen
 // A letter and one number.
 fn put_one(letter: u8, x: u32, out: &mut [u8]) -> usize
     requires { ⌜ lineRoom ≤ length (now out) ⌝ }
-    ensures { λ r. ⌜ Laid (line ((letter ∷ []) ∷ decimalOf x ∷ [])) r (now (out .entry)) (now (out .exit)) ⌝ }
+    ensures { λ r. ⌜ LaidAt 0 (line ((letter ∷ []) ∷ decimalOf x ∷ [])) (now (out .entry)) (now (out .exit)) r ⌝ }
 {
     let next = put(letter, out, 0);
     let next = put_number(x, out, next);
@@ -197,7 +198,7 @@ fn put_one(letter: u8, x: u32, out: &mut [u8]) -> usize
 // A letter and two numbers.
 fn put_two(letter: u8, x: u32, y: u32, out: &mut [u8]) -> usize
     requires { ⌜ lineRoom ≤ length (now out) ⌝ }
-    ensures { λ r. ⌜ Laid (line ((letter ∷ []) ∷ decimalOf x ∷ decimalOf y ∷ [])) r (now (out .entry)) (now (out .exit)) ⌝ }
+    ensures { λ r. ⌜ LaidAt 0 (line ((letter ∷ []) ∷ decimalOf x ∷ decimalOf y ∷ [])) (now (out .entry)) (now (out .exit)) r ⌝ }
 {
     let next = put(letter, out, 0);
     let next = put_number(x, out, next);
@@ -208,7 +209,7 @@ fn put_two(letter: u8, x: u32, y: u32, out: &mut [u8]) -> usize
 // `S i hex`
 fn put_submit(member: u32, byte: u8, out: &mut [u8]) -> usize
     requires { ⌜ lineRoom ≤ length (now out) ⌝ }
-    ensures { λ r. ⌜ Laid (line (textOf "S" ∷ decimalOf member ∷ payloadText (byte ∷ []) ∷ [])) r (now (out .entry)) (now (out .exit)) ⌝ }
+    ensures { λ r. ⌜ LaidAt 0 (line (textOf "S" ∷ decimalOf member ∷ payloadText (byte ∷ []) ∷ [])) (now (out .entry)) (now (out .exit)) r ⌝ }
 {
     let payload = [byte];
     let next = put(b'S', out, 0);
@@ -220,7 +221,7 @@ fn put_submit(member: u32, byte: u8, out: &mut [u8]) -> usize
 // `P`
 fn put_poll(out: &mut [u8]) -> usize
     requires { ⌜ lineRoom ≤ length (now out) ⌝ }
-    ensures { λ r. ⌜ Laid (line (textOf "P" ∷ [])) r (now (out .entry)) (now (out .exit)) ⌝ }
+    ensures { λ r. ⌜ LaidAt 0 (line (textOf "P" ∷ [])) (now (out .entry)) (now (out .exit)) r ⌝ }
 {
     let next = put(b'P', out, 0);
     put(b'\n', out, next)
@@ -229,7 +230,7 @@ fn put_poll(out: &mut [u8]) -> usize
 // The line of an event.
 fn put_event(event: Event, out: &mut [u8]) -> usize
     requires { ⌜ lineRoom ≤ length (now out) ⌝ }
-    ensures { λ r. ⌜ Laid (line (eventFields (eventIn event))) r (now (out .entry)) (now (out .exit)) ⌝ }
+    ensures { λ r. ⌜ LaidAt 0 (line (eventFields (eventIn event))) (now (out .entry)) (now (out .exit)) r ⌝ }
 {
     match event {
         Event::Submit(member, byte) => put_submit(member, byte, out),
@@ -263,6 +264,7 @@ impl Load {
         ensures answer { λ r. ⌜ r ≡ stepOf (openOf seed n group) ⌝ }
         ensures lent { λ _. ⌜ now (out .exit) ≡ front (openOf seed n group .bytes) (now (out .entry)) ⌝ }
         ensures wording { λ r. ⌜ wordingOf (r .answer) ≡ wordingOf (openOf seed n group .answer) ⌝ }
+        ensures within { λ r. ⌜ r .written ≤ lineRoom ⌝ }
     {
         let none = Load {
             generator: Generator { state: 0 },
@@ -294,6 +296,7 @@ impl Load {
         ensures answer { λ r. ⌜ r ≡ stepOf (nextOf self) ⌝ }
         ensures lent { λ _. ⌜ now (out .exit) ≡ front (nextOf self .bytes) (now (out .entry)) ⌝ }
         ensures wording { λ r. ⌜ wordingOf (r .answer) ≡ wordingOf (nextOf self .answer) ⌝ }
+        ensures within { λ r. ⌜ r .written ≤ lineRoom ⌝ }
     {
         let n = self.n;
         if n < 1 {

@@ -3,7 +3,6 @@
 use mathlib.Core.List.{[], _∷_}
 use Rattle.text.specs.Written.{decimalOf}
 use Rattle.text.proofs.Pieces.{laid-line}
-use Rattle.workload.proofs.Choosing.{laid-whole}
 use borrow.Author.Needs.{needs}
 use Rattle.workload.proofs.put_one.Statement.{statement}
 use Rattle.workload.proofs.put_one.Tie as tie
@@ -23,7 +22,7 @@ same-length c = search needs
 returns : tie.Need-returns
 returns c =
     let a = c .before .before .before .before .before .before .before .before .before .before .before .before .before .args in
-    laid-whole (laid-line (a .letter ∷ []) (decimalOf (a .x) ∷ []) (c .before .before .before .before .before .before .before .before .before .before .put .ensures) (c .before .before .before .before .before .before .put-number .ensures .0) (c .before .before .put2 .ensures))
+    laid-line (a .letter ∷ []) (decimalOf (a .x) ∷ []) (c .before .before .before .before .before .before .before .before .before .before .put .ensures) (c .before .before .before .before .before .before .put-number .ensures .0) (c .before .before .put2 .ensures)
 
 pub put-one-spec : {M : Type 1} → statement M
 put-one-spec =

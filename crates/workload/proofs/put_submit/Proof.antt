@@ -4,7 +4,6 @@ use mathlib.Core.List.{[], _∷_}
 use Rattle.text.specs.Text.{textOf}
 use Rattle.text.specs.Written.{decimalOf, payloadText}
 use Rattle.text.proofs.Pieces.{laid-fields, laid-line}
-use Rattle.workload.proofs.Choosing.{laid-whole}
 use borrow.Author.Needs.{needs}
 use Rattle.workload.proofs.put_submit.Statement.{statement}
 use Rattle.workload.proofs.put_submit.Tie as tie
@@ -32,7 +31,7 @@ returns c =
     let a = c .before .before .before .before .before .before .before .before .before .before .before .before .before .before .before .before .before .before .args in
     let digits = payloadText (a .byte ∷ []) in
     let fields = laid-fields (decimalOf (a .member) ∷ []) (digits ∷ []) (c .before .before .before .before .before .before .before .before .before .before .before .put-number .ensures .0) (c .before .before .before .before .before .before .put-payload .ensures .0) in
-    laid-whole (laid-line (textOf "S") (decimalOf (a .member) ∷ digits ∷ []) (c .before .before .before .before .before .before .before .before .before .before .before .before .before .before .before .put .ensures) fields (c .before .before .put2 .ensures))
+    laid-line (textOf "S") (decimalOf (a .member) ∷ digits ∷ []) (c .before .before .before .before .before .before .before .before .before .before .before .before .before .before .before .put .ensures) fields (c .before .before .put2 .ensures)
 
 pub put-submit-spec : {M : Type 1} → statement M
 put-submit-spec =

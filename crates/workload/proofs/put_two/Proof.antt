@@ -3,7 +3,6 @@
 use mathlib.Core.List.{[], _∷_}
 use Rattle.text.specs.Written.{decimalOf}
 use Rattle.text.proofs.Pieces.{laid-fields, laid-line}
-use Rattle.workload.proofs.Choosing.{laid-whole}
 use borrow.Author.Needs.{needs}
 use Rattle.workload.proofs.put_two.Statement.{statement}
 use Rattle.workload.proofs.put_two.Tie as tie
@@ -27,7 +26,7 @@ returns : tie.Need-returns
 returns c =
     let a = c .before .before .before .before .before .before .before .before .before .before .before .before .before .before .before .before .before .args in
     let fields = laid-fields (decimalOf (a .x) ∷ []) (decimalOf (a .y) ∷ []) (c .before .before .before .before .before .before .before .before .before .before .put-number .ensures .0) (c .before .before .before .before .before .before .put-number2 .ensures .0) in
-    laid-whole (laid-line (a .letter ∷ []) (decimalOf (a .x) ∷ decimalOf (a .y) ∷ []) (c .before .before .before .before .before .before .before .before .before .before .before .before .before .before .put .ensures) fields (c .before .before .put2 .ensures))
+    laid-line (a .letter ∷ []) (decimalOf (a .x) ∷ decimalOf (a .y) ∷ []) (c .before .before .before .before .before .before .before .before .before .before .before .before .before .before .put .ensures) fields (c .before .before .put2 .ensures)
 
 pub put-two-spec : {M : Type 1} → statement M
 put-two-spec =

@@ -2,7 +2,7 @@
 -- Assumes nothing.
 use mathlib.Core.Path.{refl}
 use Rattle.workload.specs.Choice.{eventFrom}
-use Rattle.workload.proofs.Choosing.{next-none, next-many, next-line, next-step, done}
+use Rattle.workload.proofs.Choosing.{next-none, next-many, next-line, next-step, done, none-within}
 use borrow.Author.Needs.{needs}
 use Rattle.workload.proofs.Load.next.Statement.{statement}
 use Rattle.workload.proofs.Load.next.Tie as tie
@@ -13,7 +13,7 @@ refused-requires c κs = search needs
 returns : tie.Need-returns
 returns c =
     let load = c .before .before .args .self in
-    done (next-none load (c .before .if1 .taken)) _ _ (c .refused .ensures) refl
+    done (next-none load (c .before .if1 .taken)) _ _ (c .refused .ensures) refl (none-within (c .refused .ensures))
 
 cast-if2 : tie.Need-cast-if2
 cast-if2 c = search needs
@@ -24,7 +24,7 @@ refused-requires-2 c κs = search needs
 returns-2 : tie.Need-returns-2
 returns-2 c =
     let load = c .before .before .before .args .self in
-    done (next-many load (c .before .if2 .taken)) _ _ (c .refused2 .ensures) refl
+    done (next-many load (c .before .if2 .taken)) _ _ (c .refused2 .ensures) refl (none-within (c .refused2 .ensures))
 
 draw-requires : tie.Need-draw-requires
 draw-requires c κs = search needs
@@ -45,7 +45,7 @@ returns-3 c =
     let d = c .before .before .before .before .draw .ensures in
     let e = rw (d .0, d .1 .0) at (c .before .before .before .choose .ensures) in
     let s = next-step load _ _ _ _ e (c .put-event .ensures) in
-    done (next-line load (c .before .before .before .before .before .before .if1 .left) (c .before .before .before .before .before .if2 .left)) _ _ (s .0) (s .1)
+    done (next-line load (c .before .before .before .before .before .before .if1 .left) (c .before .before .before .before .before .if2 .left)) _ _ (s .0) (s .1) (search needs)
 
 pub next-spec : {M : Type 1} → statement M
 next-spec =

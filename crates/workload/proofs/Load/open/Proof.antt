@@ -3,7 +3,7 @@
 use mathlib.Core.Path.{refl, sym, ap, _∙_}
 use Rattle.group.specs.Opening as group
 use Rattle.workload.specs.Calls.{opened}
-use Rattle.workload.proofs.Choosing.{open-many, done}
+use Rattle.workload.proofs.Choosing.{laid-whole, open-many, done, none-within}
 use borrow.Author.Needs.{needs}
 use Rattle.workload.proofs.Load.open.Statement.{statement}
 use Rattle.workload.proofs.Load.open.Tie as tie
@@ -18,7 +18,7 @@ returns : tie.Need-returns
 unfolding opened
 returns c =
     let a = c .before .before .args in
-    done (ap (opened (a .seed)) (open-many (a .n) (a .group) (c .before .if1 .taken))) _ _ (c .refused .ensures) refl
+    done (ap (opened (a .seed)) (open-many (a .n) (a .group) (c .before .if1 .taken))) _ _ (c .refused .ensures) refl (none-within (c .refused .ensures))
 
 cast-fresh : tie.Need-cast-fresh
 cast-fresh c = search needs
@@ -46,15 +46,16 @@ unfolding opened
 returns-2 c =
     let a = c .before .before .before .before .before .before .before .before .args in
     let e = sym (c .before .before .before .before .before .before .fresh .ensures .0) ∙ c .before .before .before .before .opened .given .1 in
-    let l = c .put-two .ensures in
-    done (ap (opened (a .seed)) e) _ _ (rw (l .size)) (l .lent)
+    let l = laid-whole (c .put-two .ensures) in
+    let f = c .put-two .ensures .fits in
+    done (ap (opened (a .seed)) e) _ _ (rw (l .size)) (l .lent) (search needs)
 
 returns-3 : tie.Need-returns-3
 unfolding opened
 returns-3 c =
     let a = c .before .before .before .before .before .before .args in
     let e = sym (c .before .before .before .before .fresh .ensures .0) ∙ c .before .before .opened2 .given .1 in
-    done (ap (opened (a .seed)) e) _ _ (c .refused2 .ensures) refl
+    done (ap (opened (a .seed)) e) _ _ (c .refused2 .ensures) refl (none-within (c .refused2 .ensures))
 
 pub open-spec : {M : Type 1} → statement M
 open-spec =

@@ -15,6 +15,9 @@ pub mod shrink;
 /// hexadecimal, and the words and numbers around it.
 pub const LINE: usize = 2 * PAYLOAD + 66;
 
+/// Room that the proved library asks for a line of a load.
+pub const LOAD_LINE: usize = 24;
+
 /// A sequencer that has heard a list of packets since it was fresh.
 #[derive(Clone, Copy, Debug)]
 pub struct Sequencer<'a> {

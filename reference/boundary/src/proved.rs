@@ -4,7 +4,7 @@
 //! No function keeps an address, and each is proved to read and write within
 //! the slices that it is lent.
 
-use crate::{Member, Sequencer};
+use crate::{LOAD_LINE, Member, Sequencer};
 use model::packet::Header;
 
 mod ffi {
@@ -23,6 +23,16 @@ mod ffi {
             room: usize,
         ) -> usize;
         pub fn boundary_play(input: *const u8, size: usize, out: *mut u8, room: usize) -> usize;
+        pub fn boundary_load_open(
+            seed: u32,
+            n: u32,
+            group: u32,
+            line: *mut [u8; LOAD_LINE],
+        ) -> usize;
+        pub fn boundary_load_next(state: *mut [u32; 1], n: u8, line: *mut [u8; LOAD_LINE])
+        -> usize;
+        pub fn rounds_generator(seed: u32, rounds: u32) -> u64;
+        pub fn rounds_load(seed: u32, n: u8, rounds: u32, line: *mut [u8; LOAD_LINE]) -> u64;
         pub fn rounds_read_list(sum: u64, packets: *const u8, size: usize) -> u64;
         pub fn rounds_sequencer_receive(
             n: u8,
@@ -198,6 +208,45 @@ pub fn write(header: &Header, payload: &[u8], out: &mut [u8]) -> Result<usize, u
 pub fn play(input: &[u8], out: &mut [u8]) -> usize {
     // SAFETY: the slices live through the call, and the lent one is not the other.
     unsafe { ffi::boundary_play(input.as_ptr(), input.len(), out.as_mut_ptr(), out.len()) }
+}
+
+/// The text of a whole load; `None` where n is refused.
+pub fn load(seed: u32, n: u32, group: u32, events: u32) -> Option<Vec<u8>> {
+    let mut line = [0; LOAD_LINE];
+    // SAFETY: the array lives through the call.
+    let size = unsafe { ffi::boundary_load_open(seed, n, group, &mut line) };
+    if size == 0 {
+        return None;
+    }
+    let mut text = line[..size].to_vec();
+    let mut state = [seed];
+    for _ in 0..events {
+        // SAFETY: the arrays live through the call.
+        let size = unsafe { ffi::boundary_load_next(&mut state, n as u8, &mut line) };
+        text.extend(&line[..size]);
+    }
+    Some(text)
+}
+
+/// The next line of a load of so many members, which may be refused: its size, what the line holds
+/// then, and the state.
+pub fn load_next(state: u32, n: u8, line: &mut [u8; LOAD_LINE]) -> (usize, u32) {
+    let mut state = [state];
+    // SAFETY: the arrays live through the call.
+    let size = unsafe { ffi::boundary_load_next(&mut state, n, line) };
+    (size, state[0])
+}
+
+/// Steps of the generator, each with its output.
+pub fn generator(seed: u32, rounds: u32) -> u64 {
+    // SAFETY: only numbers cross.
+    unsafe { ffi::rounds_generator(seed, rounds) }
+}
+
+/// Lines of a load.
+pub fn load_lines(seed: u32, n: u8, rounds: u32) -> u64 {
+    // SAFETY: the array lives through the call.
+    unsafe { ffi::rounds_load(seed, n, rounds, &mut [0; LOAD_LINE]) }
 }
 
 /// Rounds of reading a list of packets.

@@ -1,10 +1,12 @@
 //! The same rounds of calls on the reference. The state stands behind a
 //! black box at each call, so that no work is drawn out of a loop.
 
-use crate::{Member, Sequencer};
+use crate::{LOAD_LINE, Member, Sequencer};
+use model::load::{self, Generator, Load};
 use model::packet::{self, Header};
 use model::{Answer, member, sequencer};
 use std::hint::black_box;
+use std::io::Write;
 
 /// Takes a value into a running sum.
 fn mix(sum: u64, value: u64) -> u64 {
@@ -73,6 +75,33 @@ pub fn play(input: &[u8], out: &mut [u8]) -> usize {
     let mut rest = out;
     model::play::play(input, &mut rest).expect("room for what is printed");
     room - rest.len()
+}
+
+/// The text of a whole load; `None` where n is refused.
+pub fn load(seed: u32, n: u32, group: u32, events: u32) -> Option<Vec<u8>> {
+    load::text(seed, n, group, events).ok()
+}
+
+/// Steps of the generator, each with its output.
+#[inline(never)]
+pub fn generator(seed: u32, rounds: u32) -> u64 {
+    let mut generator = Generator { state: seed };
+    (0..rounds).fold(0, |sum, _| {
+        generator.step();
+        mix(sum, generator.output().into())
+    })
+}
+
+/// Lines of a load.
+#[inline(never)]
+pub fn load_lines(seed: u32, n: u8, rounds: u32) -> u64 {
+    let mut load = Load::open(seed, n.into()).unwrap();
+    let mut line = [0; LOAD_LINE];
+    (0..rounds).fold(0, |sum, _| {
+        let mut rest = &mut line[..];
+        writeln!(rest, "{}", load.event()).expect("room for a line");
+        mix(sum, (LOAD_LINE - rest.len()) as u64)
+    })
 }
 
 #[inline(never)]

@@ -1,6 +1,6 @@
 //! What crosses the boundary is what the other side sees.
 
-use boundary::{Member, Sequencer, list, proved, reference};
+use boundary::{LOAD_LINE, Member, Sequencer, list, proved, reference};
 use model::limits::{PACKET, PAYLOAD};
 use model::packet::Header;
 
@@ -194,4 +194,47 @@ fn stored_schedules() {
         assert_eq!(out[..length], expected, "{}", schedule.shows);
         assert_eq!(out[length..], [0xaa], "{}", schedule.shows);
     }
+}
+
+/// Loads of every n and of edges, byte for byte.
+#[test]
+fn loads() {
+    for seed in [0, 1, 42, 0x8000_0000, u32::MAX] {
+        for n in (0..=17).chain([256, 260, u32::MAX]) {
+            for group in [0, 7, u32::MAX] {
+                assert_eq!(
+                    proved::load(seed, n, group, 500),
+                    reference::load(seed, n, group, 500)
+                );
+            }
+        }
+        assert_eq!(
+            proved::generator(seed, 1000),
+            reference::generator(seed, 1000)
+        );
+        assert_eq!(
+            proved::load_lines(seed, 16, 1000),
+            reference::load_lines(seed, 16, 1000)
+        );
+    }
+}
+
+/// A load of no members, or of more than 16, has no line: nothing is written, and the state stays.
+#[test]
+fn a_load_without_lines() {
+    for n in [0, 17, 255] {
+        let mut line = [0xaa; LOAD_LINE];
+        assert_eq!(proved::load_next(42, n, &mut line), (0, 42));
+        assert_eq!(line, [0xaa; LOAD_LINE]);
+    }
+}
+
+/// What lies behind a line keeps its value.
+#[test]
+fn behind_a_line() {
+    let mut line = [0xaa; LOAD_LINE];
+    let (size, state) = proved::load_next(0, 3, &mut line);
+    assert_eq!(&line[..size], b"M 140 0\n");
+    assert_eq!(line[size..], [0xaa; LOAD_LINE - 8]);
+    assert_eq!(state, 2_654_435_769u32.wrapping_mul(3));
 }

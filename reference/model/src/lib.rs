@@ -8,6 +8,7 @@
 pub mod answer;
 pub mod group;
 pub mod limits;
+pub mod load;
 pub mod longest;
 pub mod member;
 pub mod packet;

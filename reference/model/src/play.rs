@@ -192,7 +192,7 @@ impl<'a> Line<'a> {
 }
 
 /// Digits, up to the largest number.
-fn number(field: &[u8]) -> Option<u32> {
+pub fn number(field: &[u8]) -> Option<u32> {
     let (&first, rest) = field.split_first()?;
     rest.iter().try_fold(digit(first)?, |value, &byte| {
         value.checked_mul(10)?.checked_add(digit(byte)?)

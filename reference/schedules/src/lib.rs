@@ -1,11 +1,12 @@
 //! Schedules for `play`, and what it prints for each of them: those written
-//! by hand, one for each thing to show, and random ones from fixed seeds.
+//! by hand, one for each thing to show, random ones and loads from fixed seeds.
 //!
 //! [`store`] keeps them in files, [`coverage`] tells what they reach, and
 //! [`random`] makes as many more as a fuzz run wants.
 
 pub mod coverage;
 pub mod hand;
+pub mod loads;
 pub mod longest;
 pub mod malformed;
 pub mod random;
@@ -51,5 +52,6 @@ pub fn all() -> Vec<Schedule> {
     schedules.extend(malformed::schedules());
     schedules.extend(random::stored());
     schedules.extend(longest::schedules());
+    schedules.extend(loads::schedules());
     schedules
 }

@@ -1,9 +1,11 @@
 //! The files of the stored schedules: each schedule is a file of
 //! `crates/schedules/data`, named by its number, and `crates/schedules/stdout`
 //! has what they print, one behind the other. `crates/play` has the document's
-//! own schedule, and `crates/inspect` one that leaves each column something.
+//! own schedule, `crates/inspect` one that leaves each column something, and
+//! `crates/load` the words of a load.
 
 use crate::{Schedule, all, inspected, played};
+use model::{load, play};
 use std::fmt::Write as _;
 use std::path::{Path, PathBuf};
 use std::{fs, io};
@@ -18,9 +20,9 @@ pub fn name(number: usize) -> String {
     format!("{number:03}")
 }
 
-/// Every file that is kept, and what it has to hold. The inputs of `play` and
-/// `inspect` are given and not kept; without such a crate there is nothing to
-/// hold.
+/// Every file that is kept, and what it has to hold. The inputs of `play`,
+/// `inspect` and `load` are given and not kept; without such a crate there is
+/// nothing to hold.
 fn files(schedules: &[Schedule]) -> io::Result<Vec<(PathBuf, Vec<u8>)>> {
     let root = root();
     let crates = root.join("crates");
@@ -41,7 +43,25 @@ fn files(schedules: &[Schedule]) -> io::Result<Vec<(PathBuf, Vec<u8>)>> {
             files.push((program.join("stdout"), output));
         }
     }
+    let program = crates.join("load");
+    if program.exists() {
+        let output = loaded(&fs::read(program.join("args"))?);
+        files.push((program.join("stdout"), output));
+    }
     Ok(files)
+}
+
+/// What `load` prints of its words, one to a line.
+fn loaded(words: &[u8]) -> Vec<u8> {
+    let numbers: Option<Vec<u32>> = words
+        .trim_ascii()
+        .split(|&byte| byte == b'\n')
+        .map(play::number)
+        .collect();
+    let Some(&[seed, n, group, events]) = numbers.as_deref() else {
+        panic!("four numbers");
+    };
+    load::text(seed, n, group, events).expect("an allowed opening")
 }
 
 /// What each schedule shows, as a table.

@@ -2,7 +2,7 @@
 //! were written by hand.
 
 use schedules::coverage::{self, Counts, REACHABLE};
-use schedules::{all, store};
+use schedules::{all, loads, store};
 use std::collections::BTreeSet;
 
 #[test]
@@ -39,7 +39,7 @@ fn names_and_sizes() {
         .iter()
         .map(|schedule| schedule.played().len())
         .sum();
-    assert!(data + outputs < 1_000_000, "{data} + {outputs}");
+    assert!(data + outputs < 1_200_000, "{data} + {outputs}");
 }
 
 /// Each schedule is there for a reason of its own.
@@ -51,4 +51,16 @@ fn none_is_there_twice() {
     let shows: BTreeSet<&str> = schedules.iter().map(|s| s.shows.as_str()).collect();
     assert_eq!(shows.len(), schedules.len());
     assert_eq!(store::name(7), "007");
+}
+
+/// No line of a load is of another form; the long ones end with `no space`.
+#[test]
+fn loads_with_and_without_no_space() {
+    let ends = |what: &str| {
+        let with = |text: Vec<u8>| String::from_utf8(text).unwrap().contains(what);
+        let loads = loads::schedules();
+        loads.iter().filter(|load| with(load.played())).count()
+    };
+    assert_eq!(loads::schedules().len(), 20);
+    assert_eq!((ends("bad line"), ends("no space")), (0, 4));
 }

@@ -86,6 +86,7 @@ fn main() -> ExitCode {
         }
     }
     cases.extend(schedules());
+    cases.extend(loads());
     let mut calls: BTreeMap<&str, Vec<Times>> = BTreeMap::new();
     for case in cases
         .iter()
@@ -528,6 +529,8 @@ fn schedules() -> Vec<Case> {
     for (with, seed) in [("random, seed 5", 5), ("random, seed 6", 6)] {
         case(with, schedules::random::schedule(seed, 400));
     }
+    let load = model::load::text(42, 4, GROUP, 400).expect("an allowed opening");
+    case("load 42 4 7 400", load);
     case(
         "takes alone",
         [b"N 4 7\n".to_vec(), b"T 1\n".repeat(400)].concat(),
@@ -536,5 +539,22 @@ fn schedules() -> Vec<Case> {
         "polls alone",
         [b"N 4 7\n".to_vec(), b"P\n".repeat(200)].concat(),
     );
+    cases
+}
+
+/// The generator, and the lines of a load.
+fn loads() -> Vec<Case> {
+    let mut cases = vec![Case {
+        call: "generator.step, output",
+        with: "seed 42".into(),
+        calls: 1,
+        rounds: Box::new(|side, rounds, _| on!(side, generator(42, rounds))),
+    }];
+    cases.extend([1, 4, 16].map(|n| Case {
+        call: "load.next",
+        with: format!("seed 42, n {n}"),
+        calls: 1,
+        rounds: Box::new(move |side, rounds, _| on!(side, load_lines(42, n, rounds))),
+    }));
     cases
 }

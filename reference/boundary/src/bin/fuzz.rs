@@ -1,5 +1,5 @@
-//! Random packets, packet lists and schedules through the proved library and
-//! through the reference. A difference is printed with its seed, shrunk.
+//! Random packets, packet lists, schedules and loads through the proved library
+//! and through the reference. A difference is printed with its seed, shrunk.
 
 use boundary::shrink::{plain, shrink};
 use boundary::{LINE, Member, Sequencer, list, proved, reference};
@@ -26,6 +26,7 @@ struct Options {
     packets: u64,
     lists: u64,
     schedules: u64,
+    loads: u64,
     seed: u64,
 }
 
@@ -34,6 +35,7 @@ fn options() -> Option<Options> {
         packets: 300_000,
         lists: 20_000,
         schedules: 500,
+        loads: 1_000,
         seed: 1,
     };
     let mut words = std::env::args().skip(1);
@@ -43,6 +45,7 @@ fn options() -> Option<Options> {
             "--packets" => options.packets = value,
             "--lists" => options.lists = value,
             "--schedules" => options.schedules = value,
+            "--loads" => options.loads = value,
             "--seed" => options.seed = value,
             _ => return None,
         }
@@ -52,7 +55,7 @@ fn options() -> Option<Options> {
 
 fn main() -> ExitCode {
     let Some(options) = options() else {
-        eprintln!("usage: fuzz [--packets N] [--lists N] [--schedules N] [--seed N]");
+        eprintln!("usage: fuzz [--packets N] [--lists N] [--schedules N] [--loads N] [--seed N]");
         return ExitCode::FAILURE;
     };
     let mut differences = 0u64;
@@ -84,6 +87,7 @@ fn main() -> ExitCode {
         (0, membership(seed))
     });
     run("schedules", options.schedules, |seed| (0, playing(seed)));
+    run("loads", options.loads, loading);
     println!("{differences} differences");
     if differences == 0 {
         ExitCode::SUCCESS
@@ -473,4 +477,23 @@ fn playing(seed: u64) -> Option<String> {
     Some(format!(
         "{text:?}\nprints {here:?}\nand in the reference {there:?}"
     ))
+}
+
+/// A load of any seed, byte for byte; most have 1 to 16 members, and the others are refused.
+fn loading(seed: u64) -> (u8, Option<String>) {
+    let random = &mut Random::seeded(seed);
+    let start = random.bits() as u32;
+    let n = match random.below(8) {
+        0 => random.one(&[0, 17, 255, 256, 257, LARGEST]),
+        _ => 1 + random.below(16) as u32,
+    };
+    let group = number(random);
+    let events = random.below(400) as u32;
+    let (here, there) = (
+        proved::load(start, n, group, events),
+        reference::load(start, n, group, events),
+    );
+    let refusal = if there.is_none() { 18 } else { 0 };
+    let difference = (here != there).then(|| format!("load {start} {n} {group} {events}"));
+    (refusal, difference)
 }

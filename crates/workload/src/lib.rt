@@ -144,7 +144,8 @@ fn choose_hand(generator: Generator, n: u32) -> Chosen
     requires { ⌜ 1 ≤ n ⌝ }
     ensures { λ r. ⌜ chosenIn r ≡ chosen 6 n (generator .state) ⌝ }
 {
-    let packet = draw(generator, Whole::PACKETS as u32);
+    let packets = Whole::PACKETS as u32;
+    let packet = draw(generator, packets);
     let member = draw(packet.generator, n);
     let next = member.generator;
     Chosen {

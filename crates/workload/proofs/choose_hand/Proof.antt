@@ -7,8 +7,8 @@ use borrow.Author.Needs.{needs}
 use Rattle.workload.proofs.choose_hand.Statement.{statement}
 use Rattle.workload.proofs.choose_hand.Tie as tie
 
-cast-draw : tie.Need-cast-draw
-cast-draw c = search needs
+cast-packets : tie.Need-cast-packets
+cast-packets c = search needs
 
 draw-requires : tie.Need-draw-requires
 draw-requires c κs = search needs
@@ -24,4 +24,4 @@ returns c =
     rw (e .0, e .1 .0, d .0, d .1 .0)
 
 pub choose-hand-spec : {M : Type 1} → statement M
-choose-hand-spec = tie.close (tie.spec cast-draw draw-requires draw-requires-2 returns)
+choose-hand-spec = tie.close (tie.spec cast-packets draw-requires draw-requires-2 returns)

@@ -1,4 +1,4 @@
-// Rounds of every call of both ends, and of a load, for the benchmark and the fuzz; no user links it. The states are built inside, and what the
+// Rounds of every call of both ends, and of the generator, for the benchmark and the fuzz; no user links it. The states are built inside, and what the
 // calls answer comes back as a running sum. Promised is only what is proved of every function: it is safe and ends. What it
 // calls has its own promise.
 use generator::Generator;
@@ -9,7 +9,6 @@ use history::Acknowledgement;
 use member::Member;
 use packet::Reading;
 use sequencer::Sequencer;
-use workload::Load;
 ghost use Prim.Native.Nat.{_+_, _≤_};
 ghost use lib.ListN.{length};
 
@@ -482,22 +481,6 @@ pub extern "C" fn rounds_generator(seed: u32, rounds: u32) -> u64 {
     while 0 < left {
         generator = generator.step();
         sum = mix(sum, generator.output() as u64);
-        left -= 1;
-    }
-    sum
-}
-
-// Lines of a load.
-#[no_mangle]
-pub extern "C" fn rounds_load(seed: u32, n: u8, rounds: u32, line: &mut [u8; Load::LINE]) -> u64 {
-    let generator = Generator { state: seed };
-    let mut load = Load { generator, n };
-    let mut sum: u64 = 0;
-    let mut left = rounds;
-    while 0 < left {
-        let step = load.next(line);
-        load = step.load;
-        sum = mix(sum, step.written as u64);
         left -= 1;
     }
     sum

@@ -8,6 +8,8 @@ use crate::{LOAD_LINE, Member, Sequencer};
 use model::packet::Header;
 
 mod ffi {
+    use crate::LOAD_LINE;
+
     unsafe extern "C" {
         pub fn boundary_read(packet: *const u8, size: usize, fields: *mut [u32; 6]) -> u8;
         pub fn boundary_write(
@@ -32,7 +34,6 @@ mod ffi {
         pub fn boundary_load_next(state: *mut [u32; 1], n: u8, line: *mut [u8; LOAD_LINE])
         -> usize;
         pub fn rounds_generator(seed: u32, rounds: u32) -> u64;
-        pub fn rounds_load(seed: u32, n: u8, rounds: u32, line: *mut [u8; LOAD_LINE]) -> u64;
         pub fn rounds_read_list(sum: u64, packets: *const u8, size: usize) -> u64;
         pub fn rounds_sequencer_receive(
             n: u8,
@@ -245,8 +246,13 @@ pub fn generator(seed: u32, rounds: u32) -> u64 {
 
 /// Lines of a load.
 pub fn load_lines(seed: u32, n: u8, rounds: u32) -> u64 {
-    // SAFETY: the array lives through the call.
-    unsafe { ffi::rounds_load(seed, n, rounds, &mut [0; LOAD_LINE]) }
+    let mut line = [0; LOAD_LINE];
+    let mut state = seed;
+    (0..rounds).fold(0, |sum, _| {
+        let (size, next) = load_next(state, n, &mut line);
+        state = next;
+        sum + size as u64 + u64::from(line[size / 2])
+    })
 }
 
 /// Rounds of reading a list of packets.

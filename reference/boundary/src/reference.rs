@@ -92,15 +92,21 @@ pub fn generator(seed: u32, rounds: u32) -> u64 {
     })
 }
 
-/// Lines of a load.
+/// The next line of a load, to the front of the lent one: its size.
 #[inline(never)]
+fn load_next(load: &mut Load, line: &mut [u8; LOAD_LINE]) -> usize {
+    let mut rest = &mut line[..];
+    writeln!(rest, "{}", load.event()).expect("room for a line");
+    LOAD_LINE - rest.len()
+}
+
+/// Lines of a load.
 pub fn load_lines(seed: u32, n: u8, rounds: u32) -> u64 {
-    let mut load = Load::open(seed, n.into()).unwrap();
     let mut line = [0; LOAD_LINE];
+    let mut load = Load::open(seed, n.into()).unwrap();
     (0..rounds).fold(0, |sum, _| {
-        let mut rest = &mut line[..];
-        writeln!(rest, "{}", load.event()).expect("room for a line");
-        mix(sum, (LOAD_LINE - rest.len()) as u64)
+        let size = load_next(&mut load, &mut line);
+        sum + size as u64 + u64::from(line[size / 2])
     })
 }
 

@@ -1,5 +1,5 @@
 -- The group's limits, each named once. `Group` of the code has the same, and its functions tie the two.
-use Prim.Native.Nat.{ℕ, _+_}
+use Prim.Native.Nat.{ℕ, _+_, _-_}
 
 -- the most members that a group has
 abbrev pub membersMost : ℕ
@@ -32,3 +32,11 @@ longestPacket = headerSize + payloadMost
 -- the largest number of any kind
 abbrev pub largestNumber : ℕ
 largestNumber = 4294967295
+
+-- the records of a work list
+abbrev pub jobsMost : ℕ
+jobsMost = 64
+
+-- the most bytes of a job: the payload that adds it has one byte before them
+abbrev pub jobMost : ℕ
+jobMost = payloadMost - 1

@@ -1,7 +1,7 @@
 -- The paper's number of each refusal: that of the question that said no.
 use Prim.Native.Nat.{ℕ}
 use Rattle.group.specs.declared.Refusal.{Refusal}
-use Rattle.group.specs.declared.Refusal.the-variants.{UnsoundState, ShortOutput, PacketSize, UnknownKind, PayloadLength, ForbiddenFields, OtherGroup, OtherEnd, UnknownMember, AcknowledgedAhead, CountAhead, WantedAhead, LongPayload, AlreadyWaiting, NothingWaiting, NumbersUsedUp, NotInHistory, Opening}
+use Rattle.group.specs.declared.Refusal.the-variants.{UnsoundState, ShortOutput, PacketSize, UnknownKind, PayloadLength, ForbiddenFields, OtherGroup, OtherEnd, UnknownMember, AcknowledgedAhead, CountAhead, WantedAhead, LongPayload, AlreadyWaiting, NothingWaiting, NumbersUsedUp, NotInHistory, Opening, NotForList, ListFull}
 
 abbrev pub numberOf : Refusal → ℕ
 -- Is the state sound?
@@ -40,3 +40,7 @@ numberOf NumbersUsedUp = 16
 numberOf NotInHistory = 17
 -- On opening, is n 1 to 16 and the member number below n?
 numberOf Opening = 18
+-- On a feed, is the member at most 15, and the payload of a form and at most the limit's bytes?
+numberOf NotForList = 19
+-- On an add, is a record unused?
+numberOf ListFull = 20

@@ -1,6 +1,6 @@
 // The group's own description: its limits, its two kinds of number, and what may be refused.
 ghost use mathlib.Core.Path.{_≡_};
-ghost use Rattle.group.specs.Limits.{membersMost, placesMost, payloadMost, heldMost, waitingMost, headerSize, longestPacket, largestNumber};
+ghost use Rattle.group.specs.Limits.{membersMost, placesMost, payloadMost, heldMost, waitingMost, headerSize, longestPacket, largestNumber, jobsMost, jobMost};
 ghost use Rattle.group.specs.Refusal.{numberOf};
 ghost use Rattle.group.specs.Opening.{openOf};
 ghost use Rattle.group.specs.Wording.{openedWording};
@@ -11,7 +11,7 @@ pub struct SequenceNumber(pub u32);
 // A member number: from 0, below the group's n.
 pub struct MemberNumber(pub u8);
 
-// What document 01's 18 questions refuse, in their order.
+// What the questions refuse: document 01's 18 in their order, then the work list's two.
 pub enum Refusal {
     UnsoundState,
     ShortOutput,
@@ -31,6 +31,8 @@ pub enum Refusal {
     NumbersUsedUp,
     NotInHistory,
     Opening,
+    NotForList,
+    ListFull,
 }
 
 impl Refusal {
@@ -57,6 +59,8 @@ impl Refusal {
             Refusal::NumbersUsedUp => 16,
             Refusal::NotInHistory => 17,
             Refusal::Opening => 18,
+            Refusal::NotForList => 19,
+            Refusal::ListFull => 20,
         }
     }
 }
@@ -103,6 +107,12 @@ impl Group {
 
     // The largest number of any kind.
     pub const LARGEST: u32 = 4294967295;
+
+    // The records of a work list.
+    pub const JOBS: usize = 64;
+
+    // The most bytes of a job: the payload that adds it has one byte before them.
+    pub const JOB: usize = Group::PAYLOAD - 1;
 
     // Question 18 of a group: is n 1 to 16?
     pub fn fresh(n: u8, number: u32) -> Opened
@@ -167,4 +177,16 @@ fn largest_number() -> u32
     ensures { λ r. ⌜ r ≡ largestNumber ⌝ }
 {
     Group::LARGEST
+}
+
+fn jobs_most() -> usize
+    ensures { λ r. ⌜ r ≡ jobsMost ⌝ }
+{
+    Group::JOBS
+}
+
+fn job_most() -> usize
+    ensures { λ r. ⌜ r ≡ jobMost ⌝ }
+{
+    Group::JOB
 }

@@ -1,0 +1,5 @@
+pub mod Job
+pub mod Sound
+pub mod Feed
+pub mod Wording
+pub mod Laws

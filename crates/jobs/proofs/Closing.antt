@@ -1,37 +1,19 @@
 -- The list without a record: its length, what is read at each place, and the loop that moves the records down one at a time.
 -- Assumes nothing.
 use mathlib.Core.Path.{_≡_, refl, sym, ap, _∙_}
-use mathlib.Core.Bool.{Bool, true, false}
-use mathlib.Core.List.{List, [], _∷_, _++_, append-nil}
-use Prim.Native.Nat.{ℕ, zero, suc, _+_, _-_, _≤_, _<_}
+use mathlib.Core.List.{List, [], _∷_, _++_}
+use Prim.Native.Nat.{ℕ, zero, suc, _+_, _≤_, _<_}
 use native.Mathlib.Nat.{not-suc-le-zero, le-of-suc-le-suc}
 use native.Mathlib.Numerals.{add-one}
 use native.Mathlib.Omega.{arith}
-use lib.ListN.{length, take, drop, getD, set, length-append, length-drop, take-append-drop, drop-of-length-le, List·getD-eq-default}
-use lib.Seq.{length-take-le, take-at, getD-drop, getD-append-add}
-use Rattle.message.proofs.Laying.{over, over-next, over-all}
+use lib.ListN.{length, take, drop, getD, set, length-append, take-append-drop, List·getD-eq-default}
+use lib.Seq.{length-take-le, take-at}
+use Rattle.message.proofs.Laying.{over, over-next}
 use Rattle.jobs.specs.Feed.{withoutPlace}
 use Rattle.jobs.specs.Job.{noJob}
 use Rattle.jobs.specs.declared.Job.{Job}
+use Rattle.jobs.proofs.Moving.{over-behind, over-whole}
 use Rattle.jobs.proofs.Places.{read-any}
-
-module _ {A : Type 0} where
-  -- a list laid over the front of another of its length: as long, and from there on the other's
-  pub over-length : (i : ℕ) (list below : List A) → length list ≡ length below → i ≤ length below → length (over i list below) ≡ length below
-  over-length i list below e h =
-      let t = length-take-le i list (omega arith) in
-      let d = length-drop i below in
-      length-append (take i list) (drop i below) ∙ omega (arith, t, d)
-
-  pub over-behind : (i j : ℕ) (list below : List A) (d : A) → i ≤ j → i ≤ length list → getD (over i list below) j d ≡ getD below j d
-  over-behind i j list below d h k =
-      let t = length-take-le i list k in
-      let e : j ≡ length (take i list) + (j - i) = omega (arith, t) in
-      let f : i + (j - i) ≡ j = omega arith in
-      ap (λ (n : ℕ). getD (over i list below) n d) e
-      ∙ getD-append-add (take i list) (drop i below) (j - i) d
-      ∙ getD-drop i below (j - i) d
-      ∙ ap (λ (n : ℕ). getD below n d) f
 
 -- the list without the record at k, by k
 abbrev closed : ℕ → List Job → List Job
@@ -91,7 +73,7 @@ module _ (k : ℕ) (jobs : List Job) (inside : k < length jobs) where
   moved-next i all d a h e =
       let w : List Job = withoutPlace k jobs in
       let n : length w ≡ length jobs = without-length in
-      let same : getD all (i + 1) d ≡ getD jobs (i + 1) d = ap (λ (l : List Job). getD l (i + 1) d) e ∙ over-behind i (i + 1) w jobs d (omega arith) (omega (arith, n)) in
+      let same : getD all (i + 1) d ≡ getD jobs (i + 1) d = ap (λ (l : List Job). getD l (i + 1) d) e ∙ over-behind i w jobs (i + 1) d (omega arith) (omega (arith, n)) in
       let here : getD w i noJob ≡ getD all (i + 1) d = without-behind i a ∙ read-any jobs (i + 1) noJob d h ∙ sym same in
       ap (λ (l : List Job). set l i (getD all (i + 1) d)) e
       ∙ over-next w jobs i (getD all (i + 1) d) noJob here (omega (arith, n)) (omega arith)
@@ -105,6 +87,4 @@ module _ (k : ℕ) (jobs : List Job) (inside : k < length jobs) where
       let past : getD jobs (i + 1) noJob ≡ noJob = List·getD-eq-default jobs noJob (omega arith) in
       ap (λ (l : List Job). set l i job) e
       ∙ over-next w jobs i job noJob (without-behind i a ∙ past ∙ sym n) (omega (arith, z)) (omega arith)
-      ∙ over-all w jobs (i + 1) (omega (arith, z))
-      ∙ ap (λ (l : List Job). w ++ l) (drop-of-length-le jobs {i = length w} (omega (arith, z)))
-      ∙ append-nil w
+      ∙ over-whole (i + 1) w jobs (omega (arith, z)) (sym h)

@@ -1,3 +1,9 @@
-pub mod Places
+pub mod Again
 pub mod Closing
 pub mod Forms
+pub mod Member
+pub mod Moving
+pub mod Places
+pub mod Record
+pub mod Rows
+pub mod Says

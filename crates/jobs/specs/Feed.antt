@@ -11,7 +11,6 @@ use Rattle.group.specs.declared.Refusal.{Refusal}
 use Rattle.group.specs.declared.Refusal.the-variants.{UnsoundState, NotForList, ListFull}
 use Rattle.jobs.specs.Job.{unusedState, waitingState, givenState, noJob, waitingJob, givenTo, placeOf}
 use Rattle.jobs.specs.Sound.{soundOf}
-use Rattle.jobs.specs.declared.Answer.{Answer}
 use Rattle.jobs.specs.declared.Answer.the-variants.{Refused, Added, Given, None}
 use Rattle.jobs.specs.declared.Job.{Job}
 use Rattle.jobs.specs.declared.Outcome.{Outcome}
@@ -51,11 +50,15 @@ finishOf jobs m =
     if placeOf givenState (m .0) jobs <? jobsMost then withoutPlace (placeOf givenState (m .0) jobs) jobs else
     jobs
 
+-- the job at a place, given to a member
+abbrev pub withGiven : ℕ → MemberNumber → List Job → List Job
+withGiven place m jobs = set jobs place (givenTo m (getD jobs place noJob))
+
 -- then it gives the member the oldest job not given out, if there is one
 unfoldable pub giveOf : List Job → MemberNumber → Outcome
 giveOf jobs m =
     if placeOf waitingState 0 jobs <? jobsMost
-    then record { jobs = set jobs (placeOf waitingState 0 jobs) (givenTo m (getD jobs (placeOf waitingState 0 jobs) noJob)); answer = Given (placeOf waitingState 0 jobs) }
+    then record { jobs = withGiven (placeOf waitingState 0 jobs) m jobs; answer = Given (placeOf waitingState 0 jobs) }
     else record { jobs = jobs; answer = None }
 
 -- a payload of a form

@@ -1,10 +1,10 @@
 -- What is proved of a feed. `proofs/` has a proof of each statement.
 use mathlib.Core.Path.{_≡_}
-use mathlib.Core.Bool.{Bool, true}
+use mathlib.Core.Bool.{true}
 use mathlib.Core.List.{List, [], _∷_}
-use Prim.Native.Nat.{ℕ, _+_}
+use Prim.Native.Nat.{ℕ}
 use lib.ListN.{length}
-use Rattle.group.specs.Choice.{if_then_else_, _<?_, _=?_}
+use Rattle.group.specs.Choice.{if_then_else_, _<?_}
 use Rattle.group.specs.Limits.{jobsMost}
 use Rattle.group.specs.Question.{Question, firstNo}
 use Rattle.group.specs.declared.MemberNumber.{MemberNumber}

@@ -13,6 +13,7 @@ ghost use Rattle.jobs.specs.Job.{unusedState, givenState, noJob, noJobs,
 ghost use Rattle.jobs.specs.Sound.{holderSound, jobSound, placeSound, recordSound, soundOf};
 ghost use Rattle.jobs.specs.Feed.{isAdd, isFetch, forList, addOf, withoutPlace, finishOf, giveOf, formOf, feedOf};
 ghost use Rattle.jobs.specs.Feed.{refused as refusedOf};
+ghost use Rattle.jobs.specs.Wording.{wordingOf};
 
 // A record of the list: it is unused, or its job waits, or it is given to a member.
 pub struct Job {
@@ -337,4 +338,83 @@ fn step(jobs: [Job; Group::JOBS], member: MemberNumber, payload: &[u8]) -> Outco
         return refused(jobs, Refusal::NotForList);
     }
     refused(jobs, Refusal::UnsoundState)
+}
+
+// An empty list.
+pub fn no_jobs() -> [Job; Group::JOBS]
+    ensures { λ r. ⌜ r ≡ noJobs ⌝ }
+{
+    let job = Job::empty();
+    [job; Group::JOBS]
+}
+
+// The records and the answer of an outcome.
+fn jobs_of(outcome: Outcome) -> [Job; Group::JOBS]
+    ensures { λ r. ⌜ r ≡ outcome .jobs ⌝ }
+{
+    let jobs = outcome.jobs;
+    jobs
+}
+
+fn answer_of(outcome: Outcome) -> Answer
+    ensures { λ r. ⌜ r ≡ outcome .answer ⌝ }
+{
+    let answer = outcome.answer;
+    answer
+}
+
+fn outcome_of(jobs: [Job; Group::JOBS], answer: Answer) -> Outcome
+    ensures { λ r. ⌜ (r .jobs ≡ jobs) × (r .answer ≡ answer) ⌝ }
+{
+    Outcome { jobs, answer }
+}
+
+// The record at a place of a list that is lent; past its end an unused one.
+pub fn read(jobs: &[Job], place: usize) -> Job
+    ensures { λ r. ⌜ r ≡ getD (now (jobs .entry)) place noJob ⌝ }
+{
+    if place < jobs.len() {
+        return jobs[place];
+    }
+    Job::empty()
+}
+
+// The list's records come out, and the array's go in.
+fn swap(jobs: &mut [Job], mut all: [Job; Group::JOBS]) -> [Job; Group::JOBS]
+    requires { ⌜ length (now jobs) ≡ jobsMost ⌝ }
+    ensures { λ r. ⌜ (r ≡ now (jobs .entry)) × (now (jobs .exit) ≡ all) ⌝ }
+{
+    let mut i = 0;
+    while i < Group::JOBS {
+        let job = jobs[i];
+        jobs[i] = all[i];
+        all[i] = job;
+        i += 1;
+    }
+    all
+}
+
+// Feeds a list that is lent what was taken: the message's originator and its payload.
+pub fn feed(jobs: &mut [Job], member: MemberNumber, payload: &[u8]) -> Answer
+    ensures answer { λ r. ⌜ r ≡ feedOf (now (jobs .entry)) member (now (payload .entry)) .answer ⌝ }
+    ensures lent { λ _. ⌜ now (jobs .exit) ≡ feedOf (now (jobs .entry)) member (now (payload .entry)) .jobs ⌝ }
+    ensures wording { λ r. ⌜ wordingOf r ≡ wordingOf (feedOf (now (jobs .entry)) member (now (payload .entry)) .answer) ⌝ }
+{
+    if jobs.len() != Group::JOBS {
+        return Answer::Refused(Refusal::UnsoundState);
+    }
+    let old = swap(jobs, no_jobs());
+    let outcome = step(old, member, payload);
+    swap(jobs, jobs_of(outcome));
+    answer_of(outcome)
+}
+
+// The same of a list that is held by value: it is lent to `feed`.
+pub fn feed_array(jobs: [Job; Group::JOBS], member: MemberNumber, payload: &[u8]) -> Outcome
+    ensures answer { λ r. ⌜ r ≡ feedOf jobs member (now (payload .entry)) ⌝ }
+    ensures wording { λ r. ⌜ wordingOf (r .answer) ≡ wordingOf (feedOf jobs member (now (payload .entry)) .answer) ⌝ }
+{
+    let mut all = jobs;
+    let answer = feed(&mut all, member, payload);
+    outcome_of(all, answer)
 }

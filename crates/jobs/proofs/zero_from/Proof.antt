@@ -1,7 +1,7 @@
 -- The loop's invariant: the bytes are zero exactly if those from i on are.
 -- Assumes nothing.
 use mathlib.Core.Path.{_≡_, refl}
-use Prim.Native.Nat.{ℕ, _-_, _≤_}
+use Prim.Native.Nat.{_-_}
 use native.Mathlib.Omega.{arith}
 use lib.ListN.{length, drop}
 use Rattle.group.specs.Limits.{jobMost}

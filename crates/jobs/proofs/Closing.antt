@@ -16,10 +16,10 @@ use Rattle.jobs.proofs.Moving.{over-behind, over-whole}
 use Rattle.jobs.proofs.Places.{read-any}
 
 -- the list without the record at k, by k
-abbrev closed : ℕ → List Job → List Job
+abbrev pub closed : ℕ → List Job → List Job
 closed k jobs = take k jobs ++ (drop (suc k) jobs ++ (noJob ∷ []))
 
-closed-is : (k : ℕ) (jobs : List Job) → withoutPlace k jobs ≡ closed k jobs
+pub closed-is : (k : ℕ) (jobs : List Job) → withoutPlace k jobs ≡ closed k jobs
 unfolding withoutPlace
 closed-is k jobs = rw add-one
 

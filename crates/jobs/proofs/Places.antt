@@ -48,12 +48,6 @@ module _ (state member : ℕ) (jobs : List Job) (i : ℕ) (inv : placeOf state m
   place-none h = let z : placeOf state member (drop i jobs) ≡ 0 = rw (drop-of-length-le jobs h) refl in omega (arith, inv, z)
 
 module _ (state member : ℕ) where
-  pub place-most : (jobs : List Job) → placeOf state member jobs ≤ length jobs
-  unfolding placeOf
-  place-most [] = omega arith
-  place-most (job ∷ rest) =
-      if-elim (λ (k : ℕ). k ≤ suc (length rest)) (isOf state member job) (λ t. omega arith) (λ f. let h = place-most rest in omega arith)
-
   -- the record that stands there has that state and member
   pub place-has : (d : Job) (jobs : List Job) → placeOf state member jobs < length jobs → isOf state member (getD jobs (placeOf state member jobs) d) ≡ true
   unfolding placeOf

@@ -2,7 +2,7 @@
 use mathlib.Core.Path.{_≡_}
 use mathlib.Core.Bool.{true}
 use mathlib.Core.List.{List, [], _∷_}
-use Prim.Native.Nat.{ℕ}
+use Prim.Native.Nat.{ℕ, _+_}
 use lib.ListN.{length}
 use Rattle.group.specs.Choice.{if_then_else_, _<?_}
 use Rattle.group.specs.Limits.{jobsMost}
@@ -10,6 +10,7 @@ use Rattle.group.specs.Question.{Question, firstNo}
 use Rattle.group.specs.declared.MemberNumber.{MemberNumber}
 use Rattle.group.specs.declared.Refusal.{Refusal}
 use Rattle.group.specs.declared.Verdict.{Verdict}
+use Rattle.jobs.specs.Count.{waitingIn, givenIn, addedBy, finishedBy}
 use Rattle.jobs.specs.Feed.{isAdd, forList, refused, feedOf}
 use Rattle.jobs.specs.Job.{unusedState, placeOf}
 use Rattle.jobs.specs.Sound.{soundOf}
@@ -41,3 +42,10 @@ pub record Keeps (jobs : List Job) (o : Outcome) : Type 0 where
 
 abbrev pub FeedKeeps : Type 0
 FeedKeeps = (jobs : List Job) (m : MemberNumber) (payload : List ℕ) → Keeps jobs (feedOf jobs m payload)
+
+-- what a feed adds is what waits, is given or is finished after it and was not before
+pub record Balances (jobs : List Job) (m : MemberNumber) (o : Outcome) : Type 0 where
+  pub balance : waitingIn (o .jobs) + givenIn (o .jobs) + finishedBy jobs m (o .answer) ≡ waitingIn jobs + givenIn jobs + addedBy (o .answer)
+
+abbrev pub FeedBalances : Type 0
+FeedBalances = (jobs : List Job) (m : MemberNumber) (payload : List ℕ) → Balances jobs m (feedOf jobs m payload)

@@ -5,7 +5,7 @@ use Prim.Native.Nat.{ℕ, zero, suc, _+_, _<_}
 use native.Mathlib.Nat.{not-suc-le-zero, le-of-suc-le-suc}
 use native.Mathlib.Omega.{arith}
 use borrow.Author.Tests.{lt-ltb, le-ltb, ltb-true, ltb-false}
-use lib.ListN.{length, drop, set}
+use lib.ListN.{length, drop, set, replicate}
 use Rattle.group.specs.Choice.{if_then_else_, _<?_, _=?_}
 use Rattle.group.specs.Limits.{jobsMost}
 use Rattle.group.specs.declared.MemberNumber.{MemberNumber}
@@ -13,7 +13,7 @@ use Rattle.group.proofs.Choice.{if-eq, if-ne, if-true, if-false}
 use Rattle.group.proofs.Lists.{if-elim}
 use Rattle.jobs.specs.Count.{countOf, waitingIn, givenIn, holds, addedBy, finishedBy}
 use Rattle.jobs.specs.Feed.{isFetch, forList, refused, addOf, withoutPlace, finishOf, giveOf, formOf, feedOf}
-use Rattle.jobs.specs.Job.{unusedState, waitingState, givenState, noJob, waitingJob, givenTo, placeOf}
+use Rattle.jobs.specs.Job.{unusedState, waitingState, givenState, noJob, noJobs, waitingJob, givenTo, placeOf}
 use Rattle.jobs.specs.Laws.{Balances, FeedBalances}
 use Rattle.jobs.specs.Sound.{soundOf}
 use Rattle.jobs.specs.declared.Job.{Job}
@@ -62,6 +62,11 @@ count-closed state (x ∷ jobs) (suc k) h = let z = count-closed state jobs k (l
 
 count-without : (state : ℕ) (jobs : List Job) (k : ℕ) → k < length jobs → countOf state (withoutPlace k jobs) + one state (recordAt jobs k) ≡ countOf state jobs + one state noJob
 count-without state jobs k h = rw (closed-is k jobs) (count-closed state jobs k h)
+
+count-unused : (state : ℕ) → (unusedState ≡ state → ⊥) → (k : ℕ) → countOf state (replicate k noJob) ≡ 0
+unfolding countOf
+count-unused state n zero = refl
+count-unused state n (suc k) = let a = counts-not state unusedState noJob no-job-unused n in let b = count-unused state n k in omega (arith, a, b)
 
 -- ---- the steps, of a list of 64 records
 module _ (jobs : List Job) (size : length jobs ≡ jobsMost) where
@@ -145,3 +150,7 @@ feed-balances jobs m payload =
     (λ n. add-balances jobs (s .size) m (drop 1 payload)))
     (λ f. record { balance = refl }))
     (λ t. record { balance = refl })
+
+-- in the empty list nothing waits and nothing is given
+pub count-none : (state : ℕ) → (unusedState ≡ state → ⊥) → countOf state noJobs ≡ 0
+count-none state n = count-unused state n jobsMost

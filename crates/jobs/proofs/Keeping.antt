@@ -7,7 +7,7 @@ use mathlib.Core.List.{List}
 use Prim.Native.Nat.{ℕ, zero, suc, _+_, _-_, _≤_, _<_}
 use native.Mathlib.Omega.{arith}
 use borrow.Author.Tests.{lt-ltb, le-leb, ltb-true, ltb-false}
-use lib.ListN.{length, drop, set, replicate, length-set, length-drop}
+use lib.ListN.{length, drop, set, replicate, length-set, length-drop, length-replicate, getD-replicate, List·getD-eq-default}
 use lib.Seq.{drop-at, getD-set-same, getD-set-other}
 use Rattle.group.specs.Choice.{if_then_else_, _and_, _<?_, _≤?_}
 use Rattle.group.specs.Limits.{membersMost, jobsMost, jobMost}
@@ -16,7 +16,7 @@ use Rattle.group.proofs.Choice.{if-lt, if-nlt, both-hold, both-then}
 use Rattle.group.proofs.Lists.{if-elim, eq-or, le-or}
 use Rattle.message.specs.Message.{allZero}
 use Rattle.jobs.specs.Feed.{isFetch, forList, refused, addOf, withoutPlace, finishOf, giveOf, formOf, feedOf}
-use Rattle.jobs.specs.Job.{unusedState, waitingState, givenState, noJob, waitingJob, givenTo, placeOf}
+use Rattle.jobs.specs.Job.{unusedState, waitingState, givenState, noJob, noJobs, waitingJob, givenTo, placeOf}
 use Rattle.jobs.specs.Laws.{Keeps, FeedKeeps}
 use Rattle.jobs.specs.Sound.{holderSound, jobSound, soundOf}
 use Rattle.jobs.specs.declared.Job.{Job}
@@ -24,7 +24,7 @@ use Rattle.jobs.specs.declared.Outcome.{Outcome}
 use Rattle.jobs.proofs.Closing.{without-length, without-before, without-behind}
 use Rattle.jobs.proofs.Forms.{for-list-adds, for-list-member}
 use Rattle.jobs.proofs.Places.{place-has, place-least}
-use Rattle.jobs.proofs.Soundness.{recordAt, Sound, is-of, of-is, unused-member, given-used, used-inside, sound-of, of-sound}
+use Rattle.jobs.proofs.Soundness.{recordAt, Sound, no-job-unused, no-job-sound, is-of, of-is, unused-member, given-used, used-inside, sound-of, of-sound}
 
 -- ---- a record is put
 module _ (jobs : List Job) (k : ℕ) (job : Job) (inside : k < length jobs) where
@@ -196,3 +196,19 @@ feed-keeps jobs m payload =
     record { size = k .size ∙ sym (s .size); sound = λ _. of-sound (formOf jobs m payload .jobs) k })
     (λ f. record { size = refl; sound = λ h. h }))
     (λ t. record { size = refl; sound = λ h. h })
+
+-- ---- the empty list
+pub none-sound : soundOf noJobs ≡ true
+none-sound =
+    of-sound noJobs
+    (record {
+      size = length-replicate jobsMost noJob;
+      each = λ i. ap jobSound (none-read i) ∙ no-job-sound;
+      first = λ i j h u. absurd (u (ap (λ (r : Job). r .state) (none-read i) ∙ no-job-unused));
+      alone = λ i j a b c. absurd (given-used (recordAt noJobs i) a (ap (λ (r : Job). r .state) (none-read i) ∙ no-job-unused));
+    })
+  where
+    none-read : (i : ℕ) → recordAt noJobs i ≡ noJob
+    none-read i =
+        le-or (length noJobs) i (λ h. List·getD-eq-default noJobs noJob h)
+        (λ h. getD-replicate jobsMost i noJob noJob (let n = length-replicate jobsMost noJob in omega (arith, n, h)))

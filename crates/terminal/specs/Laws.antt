@@ -1,0 +1,37 @@
+-- What is proved of the work lists, of every log, so of that of every list of events that demand 3 speaks of. `proofs/Lists.antt` has
+-- the proofs.
+use mathlib.Core.Path.{_≡_}
+use mathlib.Core.Bool.{true}
+use mathlib.Core.List.{List}
+use Prim.Native.Nat.{ℕ, _+_, _≤_, _<_}
+use Rattle.group.specs.Limits.{membersMost, largestNumber}
+use Rattle.jobs.specs.Count.{waitingIn, givenIn}
+use Rattle.jobs.specs.Sound.{soundOf}
+use Rattle.model.specs.Closing.{closing}
+use Rattle.model.specs.Log.{taken}
+use Rattle.model.specs.World.{Event, Entry, World, run, fresh}
+use Rattle.terminal.specs.Log.{listOf, Tally, freshTally, tallyFrom}
+
+-- terminals with the same taken messages hold the same list
+abbrev pub SameList : Type 0
+SameList = (i j : ℕ) (log log′ : List Entry) → taken i log ≡ taken j log′ → listOf i log ≡ listOf j log′
+
+-- jobs added = waiting + given + finished, finished being the fetches whose sender held a job
+pub record Balanced (i : ℕ) (log : List Entry) (t : Tally) : Type 0 where
+  -- (the list that is counted is the terminal's)
+  pub list : t .jobs ≡ listOf i log
+  pub added : t .added ≡ waitingIn (t .jobs) + givenIn (t .jobs) + t .finished
+
+abbrev pub Balance : Type 0
+Balance = (i : ℕ) (log : List Entry) → Balanced i log (tallyFrom freshTally (taken i log))
+
+-- every terminal's list is sound, so that question 1 refuses it nothing
+abbrev pub ListSound : Type 0
+ListSound = (i : ℕ) (log : List Entry) → soundOf (listOf i log) ≡ true
+
+-- after a closing round all terminals of the group hold the same list
+abbrev pub ClosedAlike : Type 0
+ClosedAlike =
+    (n number : ℕ) → 1 ≤ n → n ≤ membersMost → number ≤ largestNumber → (events : List Event) (i j : ℕ) → i < n → j < n
+    → let w : World = run (fresh n number) events in
+    listOf i (run w (closing w) .log) ≡ listOf j (run w (closing w) .log)

@@ -1,0 +1,4 @@
+pub mod Take
+pub mod Wording
+pub mod Log
+pub mod Laws

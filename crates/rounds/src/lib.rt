@@ -6,9 +6,11 @@ use group::Group;
 use group::MemberNumber;
 use group::SequenceNumber;
 use history::Acknowledgement;
+use jobs::Job;
 use member::Member;
 use packet::Reading;
 use sequencer::Sequencer;
+use terminal::Fed;
 ghost use Prim.Native.Nat.{_+_, _≤_};
 ghost use lib.ListN.{length};
 
@@ -484,4 +486,158 @@ pub extern "C" fn rounds_generator(seed: u32, rounds: u32) -> u64 {
         left -= 1;
     }
     sum
+}
+
+// The bytes of a record of a work list that crosses: its state, its member, four bytes with its length, the highest first, and
+// those of its job.
+const RECORD: usize = 6 + Group::JOB;
+
+// Takes what a feed answers into a running sum.
+fn feed_sum(sum: u64, answer: jobs::Answer) -> u64 {
+    let code = match answer {
+        jobs::Answer::Refused(q) => q.number() as u64,
+        jobs::Answer::Added => 64,
+        jobs::Answer::Given(place) => mix(65, place as u64),
+        jobs::Answer::None => 66,
+    };
+    mix(sum, code)
+}
+
+// Takes all of a record into a running sum.
+fn record_sum(sum: u64, job: Job) -> u64 {
+    let bytes = job.bytes;
+    let mut next = mix(
+        mix(mix(sum, job.state as u64), job.member.0 as u64),
+        job.length as u64,
+    );
+    let mut i: usize = 0;
+    while i < Group::JOB {
+        next = mix(next, wide(bytes[i]) as u64);
+        i += 1;
+    }
+    next
+}
+
+// Takes all records into a running sum.
+fn list_sum(sum: u64, jobs: [Job; Group::JOBS]) -> u64 {
+    let mut next = sum;
+    let mut i: usize = 0;
+    while i < Group::JOBS {
+        let job = jobs[i];
+        next = record_sum(next, job);
+        i += 1;
+    }
+    next
+}
+
+// The record whose bytes begin at an index.
+fn record_at(records: &[u8], at: usize) -> Job
+    requires { ⌜ at + 245 ≤ length (now records) ⌝ }
+{
+    let mut bytes = [0u8; Group::JOB];
+    let start = at + 6;
+    let end = at + RECORD;
+    message::copy(&records[start..end], &mut bytes);
+    let length = big_endian::u32_at(records, at + 2);
+    Job {
+        state: records[at],
+        member: MemberNumber(records[at + 1]),
+        length: length as usize,
+        bytes,
+    }
+}
+
+// The list whose first records are these, and the others unused.
+fn list_of(records: &[u8]) -> [Job; Group::JOBS] {
+    let mut jobs = jobs::no_jobs();
+    let mut at: usize = 0;
+    let mut i: usize = 0;
+    while i < Group::JOBS {
+        if records.len() - at < RECORD {
+            return jobs;
+        }
+        let job = record_at(records, at);
+        jobs[i] = job;
+        at += RECORD;
+        i += 1;
+    }
+    jobs
+}
+
+// A list and the running sum of its answers.
+struct Feeding {
+    jobs: [Job; Group::JOBS],
+    sum: u64,
+}
+
+// Feeds a list each of many feeds, up to one that is cut off: two bytes with the payload's size and the member stand before it.
+fn list_hears(mut jobs: [Job; Group::JOBS], mut sum: u64, feeds: &[u8]) -> Feeding {
+    let mut at: usize = 0;
+    while 3 <= feeds.len() - at {
+        let start = at + 3;
+        let size = size_at(feeds, at);
+        if feeds.len() - start < size {
+            return Feeding { jobs, sum };
+        }
+        let end = start + size;
+        let member = feeds[at + 2];
+        let outcome = jobs::feed_array(jobs, MemberNumber(member), &feeds[start..end]);
+        let answer = outcome.answer;
+        jobs = outcome.jobs;
+        sum = feed_sum(sum, answer);
+        at = end;
+    }
+    Feeding { jobs, sum }
+}
+
+// Rounds of feeding a list, each time the same: the sum of its answers, and then of what the last round left.
+#[no_mangle]
+pub extern "C" fn rounds_feeds(records: &[u8], feeds: &[u8], rounds: u32) -> u64 {
+    let start = list_of(records);
+    let mut last = start;
+    let mut sum: u64 = 0;
+    let mut left = rounds;
+    while 0 < left {
+        let run = list_hears(start, sum, feeds);
+        last = run.jobs;
+        sum = run.sum;
+        left -= 1;
+    }
+    list_sum(sum, last)
+}
+
+// Takes what a terminal's take answers into a running sum.
+fn taking_sum(sum: u64, answer: member::Answer, written: usize, fed: Fed) -> u64 {
+    let next = member_sum(sum, answer, written);
+    match fed {
+        Fed::Nothing => mix(next, 67),
+        Fed::Answered(said) => feed_sum(next, said),
+    }
+}
+
+// The takes of a fresh terminal that has heard a list of packets, each of which feeds its list: the sum of the answers, and then of
+// the list.
+#[no_mangle]
+pub extern "C" fn rounds_terminal_take(
+    n: u8,
+    number: u8,
+    group: u32,
+    heard: &[u8],
+    calls: u32,
+    out: &mut [u8],
+) -> u64 {
+    let mut member = member_after(n, number, group, heard, 0, out);
+    let mut jobs = jobs::no_jobs();
+    let mut sum: u64 = 0;
+    let mut left = calls;
+    while 0 < left {
+        let taking = terminal::take(member, jobs, out);
+        let answer = taking.answer;
+        let fed = taking.fed;
+        member = taking.member;
+        jobs = taking.jobs;
+        sum = taking_sum(sum, answer, taking.written, fed);
+        left -= 1;
+    }
+    list_sum(sum, jobs)
 }

@@ -5,6 +5,7 @@
 //! [`reference`] has a function of the same shape for each. Both sum up the
 //! answers in the same way, so equal sums mean equal answers.
 
+use model::jobs::Job;
 use model::limits::PAYLOAD;
 
 pub mod proved;
@@ -56,4 +57,29 @@ pub fn list(packets: impl IntoIterator<Item = impl AsRef<[u8]>>) -> Vec<u8> {
         list.extend(&packet[..size.into()]);
     }
     list
+}
+
+/// Records of a work list as both sides take them: state, member, four bytes
+/// with the length, and all bytes for the job.
+pub fn records<'a>(jobs: impl IntoIterator<Item = &'a Job>) -> Vec<u8> {
+    let mut records = Vec::new();
+    for job in jobs {
+        records.extend([job.state, job.member]);
+        records.extend(job.length.to_be_bytes());
+        records.extend(job.bytes);
+    }
+    records
+}
+
+/// What a work list is fed, as both sides take it: two bytes with the
+/// payload's length and the originator stand before each payload.
+pub fn feeds(messages: &[(u8, Vec<u8>)]) -> Vec<u8> {
+    let mut feeds = Vec::new();
+    for (originator, payload) in messages {
+        let size = u16::try_from(payload.len()).unwrap_or(u16::MAX);
+        feeds.extend(size.to_be_bytes());
+        feeds.push(*originator);
+        feeds.extend(&payload[..size.into()]);
+    }
+    feeds
 }

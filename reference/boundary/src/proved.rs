@@ -150,6 +150,23 @@ mod ffi {
             out: *mut u8,
             room: usize,
         ) -> u64;
+        pub fn rounds_feeds(
+            records: *const u8,
+            records_size: usize,
+            feeds: *const u8,
+            size: usize,
+            rounds: u32,
+        ) -> u64;
+        pub fn rounds_terminal_take(
+            n: u8,
+            number: u8,
+            group: u32,
+            heard: *const u8,
+            heard_size: usize,
+            calls: u32,
+            out: *mut u8,
+            room: usize,
+        ) -> u64;
     }
 }
 
@@ -450,6 +467,37 @@ pub fn member_status(end: Member<'_>, rounds: u32, out: &mut [u8]) -> u64 {
             end.heard.len(),
             end.takes,
             rounds,
+            out.as_mut_ptr(),
+            out.len(),
+        )
+    }
+}
+
+/// Rounds of feeding a work list, each time the same; then what is left.
+pub fn feed_rounds(records: &[u8], feeds: &[u8], rounds: u32) -> u64 {
+    // SAFETY: the slices live through the call.
+    unsafe {
+        ffi::rounds_feeds(
+            records.as_ptr(),
+            records.len(),
+            feeds.as_ptr(),
+            feeds.len(),
+            rounds,
+        )
+    }
+}
+
+/// Takes of a member, which feed a work list; then the list.
+pub fn terminal_take(end: Member<'_>, calls: u32, out: &mut [u8]) -> u64 {
+    // SAFETY: the slices live through the call, and the lent one is not the other.
+    unsafe {
+        ffi::rounds_terminal_take(
+            end.n,
+            end.number,
+            end.group,
+            end.heard.as_ptr(),
+            end.heard.len(),
+            calls,
             out.as_mut_ptr(),
             out.len(),
         )

@@ -2,6 +2,8 @@
 //! black box at each call, so that no work is drawn out of a loop.
 
 use crate::{LOAD_LINE, Member, Sequencer};
+use model::jobs::{Fed, Job, List};
+use model::limits::JOB;
 use model::load::{self, Generator, Load};
 use model::packet::{self, Header};
 use model::{Answer, member, sequencer};
@@ -274,4 +276,81 @@ pub fn member_take(end: Member<'_>, calls: u32, rounds: u32, out: &mut [u8]) -> 
 pub fn member_status(end: Member<'_>, rounds: u32, out: &mut [u8]) -> u64 {
     let state = member_state(end, out);
     (0..rounds).fold(0, |sum, _| summed(sum, black_box(&state).status(out)))
+}
+
+fn fed(sum: u64, answer: Fed) -> u64 {
+    let code = match answer {
+        Fed::Refused(refusal) => refusal.number().into(),
+        Fed::Added => 64,
+        Fed::Given(place) => mix(65, place as u64),
+        Fed::None => 66,
+    };
+    mix(sum, code)
+}
+
+fn list_sum(sum: u64, list: &List) -> u64 {
+    list.records.iter().fold(sum, |sum, job| {
+        let head = [job.state.into(), job.member.into(), job.length];
+        let sum = head.iter().fold(sum, |sum, &value| mix(sum, value.into()));
+        job.bytes
+            .iter()
+            .fold(sum, |sum, &byte| mix(sum, byte.into()))
+    })
+}
+
+/// The list whose first records are these.
+fn list_of(records: &[u8]) -> List {
+    let mut list = List::empty();
+    let records = records.chunks_exact(6 + JOB);
+    for (job, record) in list.records.iter_mut().zip(records) {
+        let (&[state, member, a, b, c, d], bytes) = record.split_first_chunk().unwrap();
+        *job = Job {
+            state,
+            member,
+            length: u32::from_be_bytes([a, b, c, d]),
+            bytes: bytes.try_into().unwrap(),
+        };
+    }
+    list
+}
+
+/// Feeds, up to one that is cut off.
+fn messages(mut feeds: &[u8]) -> impl Iterator<Item = (u8, &[u8])> {
+    std::iter::from_fn(move || {
+        let (&[high, low, originator], rest) = feeds.split_first_chunk()?;
+        let (payload, rest) = rest.split_at_checked(u16::from_be_bytes([high, low]).into())?;
+        feeds = rest;
+        Some((originator, payload))
+    })
+}
+
+/// Rounds of feeding a work list, each time the same; then what is left.
+#[inline(never)]
+pub fn feed_rounds(records: &[u8], feeds: &[u8], rounds: u32) -> u64 {
+    let start = list_of(records);
+    let mut list = start.clone();
+    let mut sum = 0;
+    for _ in 0..rounds {
+        list.clone_from(&start);
+        for (originator, payload) in messages(feeds) {
+            sum = fed(sum, black_box(&mut list).feed(originator, payload));
+        }
+    }
+    list_sum(sum, &list)
+}
+
+/// Takes of a member, which feed a work list; then the list.
+pub fn terminal_take(end: Member<'_>, calls: u32, out: &mut [u8]) -> u64 {
+    let mut state = member_state(end, out);
+    let mut list = List::empty();
+    let mut sum = 0;
+    for _ in 0..calls {
+        let (answer, written) = state.take(out);
+        sum = summed(sum, (answer, written));
+        sum = match answer {
+            Answer::Took { originator, .. } => fed(sum, list.feed(originator, &out[..written])),
+            _ => mix(sum, 67),
+        };
+    }
+    list_sum(sum, &list)
 }

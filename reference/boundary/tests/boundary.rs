@@ -1,6 +1,7 @@
 //! What crosses the boundary is what the other side sees.
 
-use boundary::{LOAD_LINE, Member, Sequencer, list, proved, reference};
+use boundary::{LOAD_LINE, Member, Sequencer, feeds, list, proved, records, reference};
+use model::jobs::{ADD, FETCH, List};
 use model::limits::{PACKET, PAYLOAD};
 use model::packet::Header;
 
@@ -178,9 +179,52 @@ fn rounds_of_every_call() {
     same!(member_repeat(end, b"c", 5));
     same!(member_queue(taken, b"c", 3, 4, 5));
     same!(member_take(end, 3, 5));
+    same!(terminal_take(end, 3));
     same!(member_status(end, 5));
     for kind in 0..7 {
         same!(write(&Header { kind, ..HEADER }, b"ab"));
+    }
+}
+
+/// A work list: feeds that are cut off, records that are missing, and a list
+/// with a record of each state.
+#[test]
+fn feeds_of_a_list() {
+    let messages = [
+        (1, vec![ADD, 7]),
+        (2, vec![FETCH]),
+        (16, vec![ADD]),
+        (3, vec![ADD]),
+        (3, vec![FETCH]),
+        (2, vec![FETCH]),
+        (2, vec![]),
+    ];
+    let all = feeds(&messages);
+    for size in 0..=all.len() {
+        assert_eq!(
+            proved::feed_rounds(&[], &all[..size], 2),
+            reference::feed_rounds(&[], &all[..size], 2)
+        );
+    }
+    // Added, then the first record: waiting, no member, one byte.
+    let record = records(&List::empty().records[..1]);
+    let one = feeds(&[(0, vec![ADD, 7])]);
+    let sum = [64, 1, 0, 1, 7];
+    let sum = sum.iter().fold(0u64, |sum, value| 3 * sum + value);
+    let zeros = 238 + 63 * 242;
+    let sum = (0..zeros).fold(sum, |sum, _| sum.wrapping_mul(3));
+    assert_eq!(proved::feed_rounds(&record, &one, 1), sum);
+
+    let mut list = List::empty();
+    for (originator, payload) in &messages[..5] {
+        list.feed(*originator, payload);
+    }
+    let records = records(&list.records);
+    for size in [0, 1, 244, 245, 246, 490, records.len() - 1, records.len()] {
+        assert_eq!(
+            proved::feed_rounds(&records[..size], &all, 1),
+            reference::feed_rounds(&records[..size], &all, 1)
+        );
     }
 }
 

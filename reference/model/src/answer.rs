@@ -42,10 +42,14 @@ pub enum Refusal {
     NotInHistory = 17,
     /// Opened with n not 1 to 16, or a member number not below n.
     Opening = 18,
+    /// A member over 15, or a payload that is no add and no fetch, or too long.
+    NotForList = 19,
+    /// An add to a list whose 64 records are used.
+    ListFull = 20,
 }
 
 impl Refusal {
-    /// The question's number, 1 to 18.
+    /// The question's number, 1 to 20.
     pub fn number(self) -> u8 {
         self as u8
     }

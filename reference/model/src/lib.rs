@@ -7,6 +7,7 @@
 
 pub mod answer;
 pub mod group;
+pub mod jobs;
 pub mod limits;
 pub mod load;
 pub mod longest;

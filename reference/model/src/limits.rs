@@ -16,3 +16,7 @@ pub const PAYLOAD: usize = 240;
 pub const PACKET: usize = HEADER + PAYLOAD;
 /// The largest sequence number, count and repeat count.
 pub const LARGEST: u32 = u32::MAX;
+/// Records of a work list.
+pub const JOBS: usize = 64;
+/// Bytes of a job, at most: the payload that adds it has one byte before it.
+pub const JOB: usize = PAYLOAD - 1;

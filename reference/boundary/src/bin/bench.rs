@@ -1,8 +1,9 @@
 //! Times every call of the proved library beside the same call of the
 //! reference, in turns, and prints the medians.
 
-use boundary::{LINE, Member, Sequencer, list, proved, reference};
-use model::limits::{HISTORY, PACKET, PAYLOAD, WAITING, WINDOW};
+use boundary::{LINE, Member, Sequencer, feeds, list, proved, records, reference};
+use model::jobs::{ADD, FETCH, List};
+use model::limits::{HISTORY, JOBS, PACKET, PAYLOAD, WAITING, WINDOW};
 use model::packet::{self, BROADCAST, GAP, Header, POLL, REQUEST, STATUS};
 use std::collections::BTreeMap;
 use std::hint::black_box;
@@ -85,6 +86,7 @@ fn main() -> ExitCode {
             }
         }
     }
+    cases.extend(work_lists());
     cases.extend(schedules());
     cases.extend(loads());
     let mut calls: BTreeMap<&str, Vec<Times>> = BTreeMap::new();
@@ -280,6 +282,34 @@ fn packets() -> Vec<Case> {
     writing("write", "poll", POLL, [0, 0], 0);
     writing("write refused", "4", 0, [0, 0], 0);
     writing("write refused", "13", REQUEST, [1, 0], PAYLOAD + 1);
+    cases
+}
+
+/// Feeds of a work list that has so many jobs.
+fn work_lists() -> Vec<Case> {
+    let mut cases = Vec::new();
+    for jobs in [0, JOBS / 2, JOBS] {
+        let mut start = List::empty();
+        for _ in 0..jobs {
+            start.feed(0, &[ADD; PAYLOAD]);
+        }
+        let start = records(&start.records);
+        let messages = [
+            ("feed add", vec![ADD; PAYLOAD]),
+            ("feed fetch", vec![FETCH]),
+        ];
+        for (call, payload) in messages {
+            let (start, feeds) = (start.clone(), feeds(&vec![(3, payload); SAME]));
+            cases.push(Case {
+                call,
+                with: format!("{jobs} jobs"),
+                calls: SAME,
+                rounds: Box::new(move |side, rounds, _| {
+                    on!(side, feed_rounds(&start, &feeds, rounds))
+                }),
+            });
+        }
+    }
     cases
 }
 

@@ -1,9 +1,11 @@
-//! Random packets, packet lists, schedules and loads through the proved library
-//! and through the reference. A difference is printed with its seed, shrunk.
+//! Random packets, packet lists, feeds of work lists, schedules and loads through
+//! the proved library and through the reference. A difference is printed with its
+//! seed, shrunk.
 
 use boundary::shrink::{plain, shrink};
-use boundary::{LINE, Member, Sequencer, list, proved, reference};
-use model::limits::{HEADER, LARGEST, PACKET, PAYLOAD};
+use boundary::{LINE, Member, Sequencer, feeds, list, proved, records, reference};
+use model::jobs::{ADD, FETCH, Fed, GIVEN, Job, List, WAITING};
+use model::limits::{HEADER, JOB, JOBS, LARGEST, PACKET, PAYLOAD};
 use model::packet::{self, Header};
 use model::sequencer;
 use schedules::random::Random;
@@ -85,6 +87,10 @@ fn main() -> ExitCode {
     });
     run("lists to a member", options.lists, |seed| {
         (0, membership(seed))
+    });
+    run("feeds of a work list", options.lists, feeding);
+    run("takes that feed a work list", options.lists, |seed| {
+        (0, terminal(seed))
     });
     run("schedules", options.schedules, |seed| (0, playing(seed)));
     run("loads of every n", options.loads, loading);
@@ -430,6 +436,120 @@ fn membership(seed: u64) -> Option<String> {
     let fewer = shrink(&packets, differs);
     Some(format!(
         "n {n}, member {number_of}, group {group}, {takes} taken, packets {fewer:02x?}"
+    ))
+}
+
+/// A message that a work list might be fed.
+fn message(random: &mut Random, adds: usize) -> (u8, Vec<u8>) {
+    let originator = if random.percent(5) {
+        random.bits() as u8
+    } else {
+        random.below(16) as u8
+    };
+    let kind = random.below(20);
+    let payload = match kind {
+        0 => {
+            let length = random.one(&[0, 1, 2, PAYLOAD + 1, LENGTHS]);
+            random.bytes(length)
+        }
+        1 => vec![FETCH; 2],
+        _ if kind < adds => {
+            let length = random.one(&[0, 1, 2, JOB - 1, JOB]);
+            [vec![ADD], random.bytes(length)].concat()
+        }
+        _ => vec![FETCH],
+    };
+    (originator, payload)
+}
+
+/// Breaks one sentence of soundness, where the list has what it speaks of.
+fn damage(random: &mut Random, list: &mut List) {
+    let used = list.jobs().len();
+    let at = random.below(JOBS);
+    let bit = 1 << random.below(8);
+    match random.below(8) {
+        0 => list.records.swap(at, JOBS - 1),
+        1 => list.records[at].state = random.one(&[0, WAITING, GIVEN, 3, 255]),
+        2 => list.records[at].member = random.one(&[1, 15, 16, 255]),
+        3 => list.records[at].length = random.one(&[0, 1, JOB as u32, JOB as u32 + 1, LARGEST]),
+        4 => list.records[at].bytes[random.below(JOB)] ^= bit,
+        5 => list.records[at].bytes[JOB - 1] ^= bit,
+        // A second job for the member of another, used or not.
+        6 => {
+            let Job { state, member, .. } = list.records[random.below(used.max(1))];
+            (list.records[at].state, list.records[at].member) = (state, member);
+        }
+        _ => list.records[at] = list.records[random.below(JOBS)],
+    }
+}
+
+/// Feeds of a list that others led to, of which one in three is damaged.
+fn feeding(seed: u64) -> (u8, Option<String>) {
+    let random = &mut Random::seeded(seed);
+    let mut start = List::empty();
+    let adds = random.one(&[8, 12, 19]);
+    for _ in 0..random.one(&[0, 5, 40, 150]) {
+        let (originator, payload) = message(random, adds);
+        start.feed(originator, &payload);
+    }
+    if random.below(3) == 0 {
+        damage(random, &mut start);
+    }
+    let adds = random.one(&[5, 12, 19]);
+    let many = random.one(&[1, 3, 20]);
+    let messages: Vec<_> = (0..many).map(|_| message(random, adds)).collect();
+    let list = records(&start.records);
+    let differs = |messages: &[(u8, Vec<u8>)]| {
+        let feeds = feeds(messages);
+        proved::feed_rounds(&list, &feeds, 1) != reference::feed_rounds(&list, &feeds, 1)
+    };
+    let (originator, payload) = &messages[0];
+    let refusal = match start.clone().feed(*originator, payload) {
+        Fed::Refused(refusal) => refusal.number(),
+        _ => 0,
+    };
+    if !differs(&messages) {
+        return (refusal, None);
+    }
+    let fewer = shrink(&messages, differs);
+    let jobs = start.records;
+    (refusal, Some(format!("{jobs:02x?}, fed {fewer:02x?}")))
+}
+
+/// Takes of a member that holds jobs added and fetched.
+fn terminal(seed: u64) -> Option<String> {
+    let random = &mut Random::seeded(seed);
+    let n = 1 + random.below(16) as u8;
+    let number_of = random.below(usize::from(n)) as u8;
+    let group = number(random);
+    let lent = lent(random);
+    let packets: Vec<_> = (1..9)
+        .map(|number| {
+            let (_, payload) = message(random, 12);
+            let originator = random.below(usize::from(n)) as u8;
+            laid(2, originator, group, [number, number, 0], &payload)
+        })
+        .collect();
+    let calls = random.below(10) as u32;
+    let differs = |packets: &[Vec<u8>]| {
+        let heard = &list(packets);
+        let end = Member {
+            n,
+            number: number_of,
+            group,
+            heard,
+            takes: 0,
+        };
+        let (mut here, mut there) = (lent.clone(), lent.clone());
+        let sum = proved::terminal_take(end, calls, &mut here);
+        sum != reference::terminal_take(end, calls, &mut there) || here != there
+    };
+    if !differs(&packets) {
+        return None;
+    }
+    let fewer = shrink(&packets, differs);
+    Some(format!(
+        "n {n}, member {number_of}, group {group}, {calls} takes, packets {fewer:02x?}"
     ))
 }
 

@@ -1,7 +1,7 @@
--- The paper's number of each refusal: that of the question that said no.
+-- The paper's number of each refusal: that of the question that said no, or the one that document 02 gives.
 use Prim.Native.Nat.{ℕ}
 use Rattle.group.specs.declared.Refusal.{Refusal}
-use Rattle.group.specs.declared.Refusal.the-variants.{UnsoundState, ShortOutput, PacketSize, UnknownKind, PayloadLength, ForbiddenFields, OtherGroup, OtherEnd, UnknownMember, AcknowledgedAhead, CountAhead, WantedAhead, LongPayload, AlreadyWaiting, NothingWaiting, NumbersUsedUp, NotInHistory, Opening, NotForList, ListFull}
+use Rattle.group.specs.declared.Refusal.the-variants.{UnsoundState, ShortOutput, PacketSize, UnknownKind, PayloadLength, ForbiddenFields, OtherGroup, OtherEnd, UnknownMember, AcknowledgedAhead, CountAhead, WantedAhead, LongPayload, AlreadyWaiting, NothingWaiting, NumbersUsedUp, NotInHistory, Opening, NotForList, ListFull, WrongJournal}
 
 abbrev pub numberOf : Refusal → ℕ
 -- Is the state sound?
@@ -44,3 +44,5 @@ numberOf Opening = 18
 numberOf NotForList = 19
 -- On an add, is a record unused?
 numberOf ListFull = 20
+-- Is a journal's length a multiple of a block's, and may a record with its number follow?
+numberOf WrongJournal = 21

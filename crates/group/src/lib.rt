@@ -11,7 +11,7 @@ pub struct SequenceNumber(pub u32);
 // A member number: from 0, below the group's n.
 pub struct MemberNumber(pub u8);
 
-// What the questions refuse: document 01's 18 in their order, then the work list's two.
+// What document 01's 18 questions refuse, in their order, and what document 02 adds.
 pub enum Refusal {
     UnsoundState,
     ShortOutput,
@@ -33,10 +33,11 @@ pub enum Refusal {
     Opening,
     NotForList,
     ListFull,
+    WrongJournal,
 }
 
 impl Refusal {
-    // The number of the question that said no.
+    // The number of the question that said no, or document 02's.
     pub fn number(self) -> u8
         ensures { λ r. ⌜ r ≡ numberOf self ⌝ }
     {
@@ -61,6 +62,7 @@ impl Refusal {
             Refusal::Opening => 18,
             Refusal::NotForList => 19,
             Refusal::ListFull => 20,
+            Refusal::WrongJournal => 21,
         }
     }
 }

@@ -1,0 +1,12 @@
+pub mod Lists
+pub mod Sum
+pub mod Records
+pub mod Blocks
+pub mod Only
+pub mod Whole
+pub mod Rights
+pub mod Sound
+pub mod Pending
+pub mod Laws
+pub mod Crash
+pub mod Examples

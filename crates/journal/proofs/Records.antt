@@ -1,0 +1,92 @@
+-- A record is read back from where it stands: each field by the law of its bytes. Assumes nothing.
+use mathlib.Core.Path.{_≡_, refl, sym, ap, _∙_}
+use mathlib.Core.Bool.{true}
+use mathlib.Core.List.{List, [], _∷_, _++_, append-assoc}
+use Prim.Native.Nat.{ℕ, _+_, _≤_, _<_}
+use native.Mathlib.Omega.{arith}
+use borrow.Author.Tests.{lt-ltb, le-leb}
+use lib.ListN.{length, getD, take, drop}
+use lib.Seq.{getD-drop, drop-drop, take-at}
+use Rattle.group.specs.Choice.{_<?_, _≤?_}
+use Rattle.group.specs.Limits.{membersMost, payloadMost}
+use Rattle.group.proofs.Choice.{says, both-hold}
+use Rattle.message.specs.Order.{Ordered}
+use Rattle.big_endian.specs.Laws.{Bytes}
+use Rattle.big_endian.specs.Number.{numberAt, bytesOf}
+use Rattle.big_endian.proofs.Number.{bytes-cons, bytes-append, bytesOf-bytes}
+use Rattle.journal.specs.Limits.{recordsEnd, recordHead}
+use Rattle.journal.specs.Block.{recordOf, lengthAt, behind, recordRight, messageAt}
+use Rattle.journal.specs.Write.{allowed}
+use Rattle.journal.specs.Laws.{Allowed, RecordBack}
+use Rattle.journal.proofs.Lists.{number-in}
+
+-- what `allowed` says
+pub record May (m : Ordered) : Type 0 where
+  pub originator : m .originator < membersMost
+  pub count : 1 ≤ m .count
+  pub size : length (m .payload) ≤ payloadMost
+
+pub may : (m : Ordered) → allowed m ≡ true → May m
+unfolding allowed
+may m e = record { originator = search says; count = search says; size = search says }
+
+pub record-length : (m : Ordered) → length (recordOf m) ≡ recordHead + length (m .payload)
+unfolding recordOf bytesOf
+record-length m = omega arith
+
+pub record-bytes : (m : Ordered) → Allowed m → Bytes (recordOf m)
+unfolding recordOf
+record-bytes m a =
+    let o = may m (a .may) .originator in
+    bytes-cons (m .originator) _ (omega arith)
+    (bytes-append (bytesOf 4 (m .count)) _ (bytesOf-bytes 4 (m .count))
+    (bytes-append (bytesOf 2 (length (m .payload))) (m .payload) (bytesOf-bytes 2 (length (m .payload))) (a .fits .payload)))
+
+module _ (block rest : List ℕ) (at : ℕ) (m : Ordered) (a : Allowed m) (d : drop at block ≡ recordOf m ++ rest) where
+  originator-back : getD block at 0 ≡ m .originator
+  unfolding recordOf
+  originator-back =
+      let e : at + 0 ≡ at = omega arith in
+      rw e at (sym (getD-drop at block 0 0) ∙ ap (λ (l : List ℕ). getD l 0 0) d)
+
+  count-back : numberAt 4 block (at + 1) ≡ m .count
+  unfolding recordOf
+  count-back =
+      let f = a .fits .count in
+      number-in 4 (m .count) block (m .originator ∷ []) ((bytesOf 2 (length (m .payload)) ++ m .payload) ++ rest) at 1
+      (d ∙ simp append-assoc) refl (omega arith)
+
+  length-back : lengthAt block at ≡ length (m .payload)
+  unfolding recordOf bytesOf
+  length-back =
+      let s = may m (a .may) .size in
+      number-in 2 (length (m .payload)) block (m .originator ∷ bytesOf 4 (m .count)) (m .payload ++ rest) at 5 d refl (omega arith)
+
+  payload-back : take (lengthAt block at) (drop (at + recordHead) block) ≡ m .payload
+  unfolding recordOf bytesOf
+  payload-back =
+      rw length-back
+      (ap (take (length (m .payload))) (sym (drop-drop recordHead at block) ∙ ap (drop recordHead) d)
+      ∙ take-at (m .payload) rest (length (m .payload)) refl)
+
+  behind-back : behind block at ≡ at + length (recordOf m)
+  behind-back = rw (length-back, record-length m) (omega arith)
+
+  right-back : at + length (recordOf m) ≤ recordsEnd → recordRight block at (m .number) ≡ true
+  unfolding recordRight
+  right-back h =
+      let y = may m (a .may) in
+      let n = record-length m in
+      let e = behind-back in
+      both-hold (at + recordHead ≤? recordsEnd) _ (le-leb (at + recordHead) recordsEnd (omega arith))
+      (both-hold (getD block at 0 <? membersMost) _ (rw originator-back (lt-ltb _ _ (y .originator)))
+      (both-hold (1 ≤? numberAt 4 block (at + 1)) _ (rw count-back (le-leb _ _ (y .count)))
+      (both-hold (lengthAt block at ≤? payloadMost) _ (rw length-back (le-leb _ _ (y .size)))
+      (both-hold (behind block at ≤? recordsEnd) _ (le-leb (behind block at) recordsEnd (omega arith)) (le-leb _ _ (a .fits .number))))))
+
+  message-back : messageAt block at (m .number) ≡ m
+  unfolding messageAt
+  message-back = rw (originator-back, count-back, payload-back)
+
+pub record-back : RecordBack
+record-back block rest at m a d h = (right-back block rest at m a d h, message-back block rest at m a d, behind-back block rest at m a d)

@@ -1,0 +1,123 @@
+-- A block: `KJB1`, the number of its first message (4 bytes), the count of its records (2), the records from byte 10 on,
+-- zeros up to byte 507, and the sum over bytes 0 to 507 (4). A record: originator (1), count (4), L (2), L bytes of payload.
+-- Numbers are big-endian.
+use mathlib.Core.Bool.{Bool, false}
+use mathlib.Core.List.{List, [], _∷_, _++_}
+use Prim.Native.Nat.{ℕ, zero, suc, _+_, _*_, _-_}
+use lib.ListN.{length, getD, take, drop, replicate}
+use Rattle.group.specs.Choice.{if_then_else_, _and_, _<?_, _≤?_, _=?_}
+use Rattle.group.specs.Fold.{all}
+use Rattle.group.specs.Limits.{membersMost, payloadMost, largestNumber}
+use Rattle.message.specs.Message.{allZero}
+use Rattle.message.specs.Order.{Ordered}
+use Rattle.big_endian.specs.Number.{numberAt, bytesOf}
+use Rattle.journal.specs.Limits.{blockSize, recordsAt, recordsEnd, recordHead, mark}
+use Rattle.journal.specs.declared.Tail.{Tail}
+
+-- the sum of (position + 1) × byte, where the first byte stands at `position`
+unfoldable pub sumFrom : ℕ → List ℕ → ℕ
+sumFrom position [] = 0
+sumFrom position (b ∷ rest) = (position + 1) * b + sumFrom (position + 1) rest
+
+-- the record of an originator, a count and a payload, and that of a message
+abbrev pub recordWith : ℕ → ℕ → List ℕ → List ℕ
+recordWith originator count payload = originator ∷ (bytesOf 4 count ++ (bytesOf 2 (length payload) ++ payload))
+
+unfoldable pub recordOf : Ordered → List ℕ
+recordOf m = recordWith (m .originator) (m .count) (m .payload)
+
+-- the records of messages, one behind the other
+unfoldable pub recordsOf : List Ordered → List ℕ
+recordsOf [] = []
+recordsOf (m ∷ rest) = recordOf m ++ recordsOf rest
+
+-- bytes 0 to 507 of a block
+unfoldable pub framed : ℕ → ℕ → List ℕ → List ℕ
+framed first records body =
+    mark ++ (bytesOf 4 first ++ (bytesOf 2 records ++ (body ++ replicate (recordsEnd - recordsAt - length body) 0)))
+
+-- the block: its sum behind them
+unfoldable pub blockOf : ℕ → ℕ → List ℕ → List ℕ
+blockOf first records body = framed first records body ++ bytesOf 4 (sumFrom 0 (framed first records body))
+
+-- the fields of a block
+abbrev pub firstAt : List ℕ → ℕ
+firstAt block = numberAt 4 block 4
+
+abbrev pub recordsIn : List ℕ → ℕ
+recordsIn block = numberAt 2 block 8
+
+abbrev pub sumAt : List ℕ → ℕ
+sumAt block = numberAt 4 block recordsEnd
+
+-- and of the record at an index of a block: L, where its payload begins, and where the next record may begin
+abbrev pub lengthAt : List ℕ → ℕ → ℕ
+lengthAt block at = numberAt 2 block (at + 5)
+
+abbrev pub behind : List ℕ → ℕ → ℕ
+behind block at = at + recordHead + lengthAt block at
+
+-- the journal ends with that number, and the next alone may follow
+abbrev pub endedAt : ℕ → Tail
+endedAt number = record { last = record { 0 = number }; free = false }
+
+-- whether a number may follow
+unfoldable pub follows : Tail → ℕ → Bool
+follows t number = if t .free then t .last .0 <? number else number =? t .last .0 + 1
+
+-- the record that stands at an index is right, and so is its number
+unfoldable pub recordRight : List ℕ → ℕ → ℕ → Bool
+recordRight block at number =
+    at + recordHead ≤? recordsEnd
+    and getD block at 0 <? membersMost
+    and 1 ≤? numberAt 4 block (at + 1)
+    and lengthAt block at ≤? payloadMost
+    and behind block at ≤? recordsEnd
+    and number ≤? largestNumber
+
+-- so many records from an index on are right, with the numbers above `before`, and zeros stand behind them
+unfoldable pub recordsRight : List ℕ → ℕ → ℕ → ℕ → Bool
+recordsRight block at before zero = allZero (drop at (take recordsEnd block))
+recordsRight block at before (suc k) =
+    recordRight block at (before + 1) and recordsRight block (behind block at) (before + 1) k
+
+-- the block begins with the mark
+abbrev pub marked : List ℕ → Bool
+marked block = all (λ i b. getD block i 0 =? b) 0 mark
+
+-- its sum is right
+unfoldable pub sumRight : List ℕ → Bool
+sumRight block = sumAt block =? sumFrom 0 (take recordsEnd block)
+
+-- the block is right behind that tail
+unfoldable pub blockRight : Tail → List ℕ → Bool
+blockRight t block =
+    length block =? blockSize
+    and marked block
+    and sumRight block
+    and 1 ≤? recordsIn block
+    and follows t (firstAt block)
+    and recordsRight block recordsAt (firstAt block - 1) (recordsIn block)
+
+-- the message whose record stands at an index
+unfoldable pub messageAt : List ℕ → ℕ → ℕ → Ordered
+messageAt block at number =
+    record {
+      number = number;
+      originator = getD block at 0;
+      count = numberAt 4 block (at + 1);
+      payload = take (lengthAt block at) (drop (at + recordHead) block);
+    }
+
+-- the messages of so many records from an index on, with the numbers above `before`
+unfoldable pub messagesFrom : List ℕ → ℕ → ℕ → ℕ → List Ordered
+messagesFrom block at before zero = []
+messagesFrom block at before (suc k) = messageAt block at (before + 1) ∷ messagesFrom block (behind block at) (before + 1) k
+
+-- the messages of a block
+unfoldable pub messagesOf : List ℕ → List Ordered
+messagesOf block = messagesFrom block recordsAt (firstAt block - 1) (recordsIn block)
+
+-- the tail behind a block
+unfoldable pub tailOf : List ℕ → Tail
+tailOf block = endedAt (firstAt block + recordsIn block - 1)

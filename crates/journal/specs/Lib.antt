@@ -1,0 +1,6 @@
+pub mod Limits
+pub mod Block
+pub mod Read
+pub mod Write
+pub mod Wording
+pub mod Laws

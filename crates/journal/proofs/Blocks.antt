@@ -17,10 +17,10 @@ use Rattle.big_endian.specs.Laws.{Bytes}
 use Rattle.big_endian.specs.Number.{bytesOf}
 use Rattle.big_endian.proofs.Number.{bytesOf-length, bytes-cons, bytes-append, bytesOf-bytes}
 use Rattle.journal.specs.Limits.{blockSize, recordsAt, recordsEnd, recordHead, mark}
-use Rattle.journal.specs.Block.{sumFrom, recordOf, recordsOf, framed, blockOf, firstAt, recordsIn, sumAt, behind, endedAt, follows, recordRight, recordsRight, marked, sumRight, blockRight, messageAt, messagesFrom, messagesOf, tailOf}
+use Rattle.journal.specs.Block.{sumFrom, recordOf, recordsOf, framed, blockOf, firstAt, recordsIn, sumAt, behind, endedAt, follows, recordRight, recordsRight, marked, sumRight, contentRight, blockRight, messageAt, messagesFrom, messagesOf, tailOf}
 use Rattle.journal.specs.Laws.{Numbered, BlockBack}
 use Rattle.journal.proofs.Lists.{number-in, drop-take, all-zeros, zeros-bytes}
-use Rattle.journal.proofs.Sum.{sum-most}
+use Rattle.journal.proofs.Summing.{sum-most}
 use Rattle.journal.proofs.Records.{record-length, record-bytes, record-back}
 
 pub records-bytes : (before : ℕ) (ms : List Ordered) → Numbered before ms → Bytes (recordsOf ms)
@@ -128,7 +128,7 @@ number-fits before (m ∷ ms) some n =
     omega arith
 
 pub block-back : BlockBack
-unfolding blockRight messagesOf tailOf
+unfolding contentRight blockRight messagesOf tailOf
 block-back t before ms some n follow fits =
     let block = blockOf (before + 1) (length ms) (recordsOf ms) in
     let long = records-long ms in

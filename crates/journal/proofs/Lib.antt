@@ -1,11 +1,12 @@
 pub mod Lists
-pub mod Sum
+pub mod Summing
 pub mod Records
+pub mod Sound
+pub mod Walking
 pub mod Blocks
 pub mod Only
 pub mod Whole
 pub mod Rights
-pub mod Sound
 pub mod Pending
 pub mod Laws
 pub mod Crash

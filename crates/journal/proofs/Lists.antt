@@ -1,14 +1,14 @@
 -- Numbers that stand in a list of bytes, parts of a list, and lists of zeros. Assumes nothing.
 use mathlib.Core.Path.{_≡_, refl, sym, ap, _∙_}
-use mathlib.Core.Bool.{true}
+use mathlib.Core.Bool.{Bool, true, false}
 use mathlib.Core.List.{List, [], _∷_, _++_}
 use Prim.Native.Nat.{ℕ, zero, suc, _+_, _-_, _^_, _<_}
 use native.Mathlib.Nat.{sub-zero, zero-sub, suc-sub-suc}
 use native.Mathlib.Omega.{arith}
-use borrow.Author.Tests.{eq-eqb}
+use borrow.Author.Tests.{eq-eqb, ne-eqb}
 use lib.ListN.{length, take, drop, replicate}
 use lib.Seq.{drop-drop, drop-at, take-nil}
-use Rattle.group.specs.Choice.{_=?_}
+use Rattle.group.specs.Choice.{if_then_else_, _=?_}
 use Rattle.group.proofs.Choice.{both-hold}
 use Rattle.message.specs.Message.{allZero}
 use Rattle.big_endian.specs.Laws.{Bytes}
@@ -39,3 +39,12 @@ pub zeros-bytes : (k : ℕ) → Bytes (replicate k 0)
 unfolding Bytes
 zeros-bytes zero = λ i h. absurd (omega arith)
 zeros-bytes (suc k) = bytes-cons 0 (replicate k 0) (omega arith) (zeros-bytes k)
+
+-- a byte of which each counts, as the loop over zeros sees it
+pub zero-byte : (b i : ℕ) → (b =? 0) ≡ if b =? 0 then true else (i + 1 - 0 =? 0)
+unfolding if_then_else_
+zero-byte b i = go (b =? 0)
+  where
+    go : (t : Bool) → t ≡ if t then true else (i + 1 - 0 =? 0)
+    go true = refl
+    go false = sym (ne-eqb (i + 1 - 0) 0 (λ z. omega arith))

@@ -10,18 +10,18 @@ use lib.ListN.{length, getD, take, drop, replicate, length-append, length-drop, 
 use lib.Seq.{length-take-le, drop-cons, getD-take, getD-drop, drop-drop, drop-append-le, take-at}
 use Rattle.group.specs.Choice.{_<?_, _≤?_, _=?_}
 use Rattle.group.specs.Fold.{all}
-use Rattle.group.specs.Limits.{membersMost, payloadMost, largestNumber}
+use Rattle.group.specs.Limits.{membersMost, payloadMost}
 use Rattle.group.proofs.Choice.{says, both-hold, both-first, both-then}
 use Rattle.message.specs.Message.{allZero}
 use Rattle.big_endian.specs.Laws.{Bytes}
 use Rattle.big_endian.specs.Number.{numberAt, bytesOf}
 use Rattle.big_endian.proofs.Number.{number-fits, bytes-of-number-then}
 use Rattle.journal.specs.Limits.{blockSize, recordsAt, recordsEnd, recordHead, mark}
-use Rattle.journal.specs.Block.{sumFrom, recordOf, recordsOf, framed, blockOf, firstAt, recordsIn, sumAt, lengthAt, behind, follows, recordRight, recordsRight, marked, sumRight, blockRight, messageAt, messagesFrom, messagesOf}
+use Rattle.journal.specs.Block.{sumFrom, recordOf, recordsOf, framed, blockOf, firstAt, recordsIn, sumAt, lengthAt, behind, follows, recordRight, recordsRight, marked, sumRight, contentRight, blockRight, messageAt, messagesFrom, messagesOf}
 use Rattle.journal.specs.Write.{allowed}
 use Rattle.journal.specs.Laws.{Allowed, Numbered, BlockOnly}
 use Rattle.journal.specs.declared.Tail.{Tail}
-use Rattle.journal.proofs.Records.{record-length}
+use Rattle.journal.proofs.Records.{Says, right-says, record-length}
 use Rattle.journal.proofs.Blocks.{framed-length}
 
 -- parts of bytes are bytes
@@ -39,20 +39,6 @@ zeros-only [] e = refl
 zeros-only (b ∷ l) e =
     let z : b ≡ 0 = eqb-true b 0 (both-first (b =? 0) (allZero l) e) in
     rw z (ap (λ (x : List ℕ). 0 ∷ x) (zeros-only l (both-then (b =? 0) (allZero l) e)))
-
--- what `recordRight` says
-record Says (block : List ℕ) (at number : ℕ) : Type 0 where
-  begins : at + recordHead ≤ recordsEnd
-  originator : getD block at 0 < membersMost
-  count : 1 ≤ numberAt 4 block (at + 1)
-  size : lengthAt block at ≤ payloadMost
-  ends : behind block at ≤ recordsEnd
-  most : number ≤ largestNumber
-
-right-says : (block : List ℕ) (at number : ℕ) → recordRight block at number ≡ true → Says block at number
-unfolding recordRight
-right-says block at number e =
-    record { begins = search (says) depth 9; originator = search (says) depth 9; count = search (says) depth 9; size = search (says) depth 9; ends = search (says) depth 9; most = search (says) depth 9 }
 
 module _ (block : List ℕ) (bytes : Bytes block) (long : length block ≡ blockSize) where
   -- a right record holds an allowed message, and its bytes are those of that message
@@ -160,7 +146,7 @@ record Right (block : List ℕ) : Type 0 where
   records : recordsRight block recordsAt (firstAt block - 1) (recordsIn block) ≡ true
 
 block-says : (t : Tail) (block : List ℕ) → blockRight t block ≡ true → Right block
-unfolding blockRight
+unfolding contentRight blockRight
 block-says t block e =
     let a = both-then (length block =? blockSize) _ e in
     let b = both-then (marked block) _ a in

@@ -4,20 +4,23 @@ use mathlib.Core.Bool.{true}
 use mathlib.Core.List.{List, [], _∷_, _++_, append-assoc}
 use Prim.Native.Nat.{ℕ, _+_, _≤_, _<_}
 use native.Mathlib.Omega.{arith}
-use borrow.Author.Tests.{lt-ltb, le-leb}
+use borrow.Author.Tests.{lt-ltb, le-leb, eq-eqb}
 use lib.ListN.{length, getD, take, drop}
 use lib.Seq.{getD-drop, drop-drop, take-at}
-use Rattle.group.specs.Choice.{_<?_, _≤?_}
-use Rattle.group.specs.Limits.{membersMost, payloadMost}
-use Rattle.group.proofs.Choice.{says, both-hold}
+use Rattle.group.specs.Choice.{_and_, _<?_, _≤?_, _=?_}
+use Rattle.group.specs.Limits.{membersMost, payloadMost, largestNumber}
+use Rattle.group.proofs.Choice.{says, if-true, both-hold}
+use Rattle.group.specs.declared.SequenceNumber.{SequenceNumber}
 use Rattle.message.specs.Order.{Ordered}
 use Rattle.big_endian.specs.Laws.{Bytes}
 use Rattle.big_endian.specs.Number.{numberAt, bytesOf}
 use Rattle.big_endian.proofs.Number.{bytes-cons, bytes-append, bytesOf-bytes}
-use Rattle.journal.specs.Limits.{recordsEnd, recordHead}
+use Rattle.journal.specs.Limits.{blockSize, recordsEnd, recordHead}
 use Rattle.journal.specs.Block.{recordOf, lengthAt, behind, recordRight, messageAt}
+use Rattle.journal.specs.Read.{recordAt, entryOf}
 use Rattle.journal.specs.Write.{allowed}
 use Rattle.journal.specs.Laws.{Allowed, RecordBack}
+use Rattle.journal.specs.declared.Entry.{Entry}
 use Rattle.journal.proofs.Lists.{number-in}
 
 -- what `allowed` says
@@ -29,6 +32,44 @@ pub record May (m : Ordered) : Type 0 where
 pub may : (m : Ordered) → allowed m ≡ true → May m
 unfolding allowed
 may m e = record { originator = search says; count = search says; size = search says }
+
+-- what `recordRight` says
+pub record Says (block : List ℕ) (at number : ℕ) : Type 0 where
+  pub begins : at + recordHead ≤ recordsEnd
+  pub originator : getD block at 0 < membersMost
+  pub count : 1 ≤ numberAt 4 block (at + 1)
+  pub size : lengthAt block at ≤ payloadMost
+  pub ends : behind block at ≤ recordsEnd
+  pub most : number ≤ largestNumber
+
+pub right-says : (block : List ℕ) (at number : ℕ) → recordRight block at number ≡ true → Says block at number
+unfolding recordRight
+right-says block at number e =
+    record {
+      begins = search says depth 9;
+      originator = search says depth 9;
+      count = search says depth 9;
+      size = search says depth 9;
+      ends = search says depth 9;
+      most = search says depth 9;
+    }
+
+pub says-right : (block : List ℕ) (at number : ℕ) → Says block at number → recordRight block at number ≡ true
+unfolding recordRight
+says-right block at number s =
+    both-hold (at + recordHead ≤? recordsEnd) _ (le-leb (at + recordHead) recordsEnd (s .begins))
+    (both-hold (getD block at 0 <? membersMost) _ (lt-ltb _ _ (s .originator))
+    (both-hold (1 ≤? numberAt 4 block (at + 1)) _ (le-leb _ _ (s .count))
+    (both-hold (lengthAt block at ≤? payloadMost) _ (le-leb _ _ (s .size))
+    (both-hold (behind block at ≤? recordsEnd) _ (le-leb (behind block at) recordsEnd (s .ends)) (le-leb _ _ (s .most))))))
+
+-- a right record of a block is its entry
+pub entry-right : (block : List ℕ) (at : ℕ) (number : SequenceNumber) → length block ≡ blockSize → Says block at (number .0)
+    → Entry.Right (recordAt block at number) ≡ entryOf block at number
+unfolding entryOf
+entry-right block at number n s =
+    if-true (length block =? blockSize and recordRight block at (number .0)) _ _ _
+    (both-hold (length block =? blockSize) _ (eq-eqb (length block) blockSize n) (says-right block at (number .0) s)) refl
 
 pub record-length : (m : Ordered) → length (recordOf m) ≡ recordHead + length (m .payload)
 unfolding recordOf bytesOf
@@ -73,16 +114,19 @@ module _ (block rest : List ℕ) (at : ℕ) (m : Ordered) (a : Allowed m) (d : d
   behind-back = rw (length-back, record-length m) (omega arith)
 
   right-back : at + length (recordOf m) ≤ recordsEnd → recordRight block at (m .number) ≡ true
-  unfolding recordRight
   right-back h =
       let y = may m (a .may) in
       let n = record-length m in
       let e = behind-back in
-      both-hold (at + recordHead ≤? recordsEnd) _ (le-leb (at + recordHead) recordsEnd (omega arith))
-      (both-hold (getD block at 0 <? membersMost) _ (rw originator-back (lt-ltb _ _ (y .originator)))
-      (both-hold (1 ≤? numberAt 4 block (at + 1)) _ (rw count-back (le-leb _ _ (y .count)))
-      (both-hold (lengthAt block at ≤? payloadMost) _ (rw length-back (le-leb _ _ (y .size)))
-      (both-hold (behind block at ≤? recordsEnd) _ (le-leb (behind block at) recordsEnd (omega arith)) (le-leb _ _ (a .fits .number))))))
+      says-right block at (m .number)
+      (record {
+        begins = omega arith;
+        originator = rw originator-back (y .originator);
+        count = rw count-back (y .count);
+        size = rw length-back (y .size);
+        ends = omega arith;
+        most = a .fits .number;
+      })
 
   message-back : messageAt block at (m .number) ≡ m
   unfolding messageAt

@@ -2,9 +2,9 @@
 use mathlib.Core.Path.{_≡_, refl, sym, ap, _∙_}
 use mathlib.Core.Bool.{Bool, true, false}
 use mathlib.Core.List.{List}
-use Prim.Native.Nat.{ℕ, _+_, _*_, _-_, _≤_}
+use Prim.Native.Nat.{ℕ, _+_, _*_, _-_, _≤_, _<_}
 use native.Mathlib.Omega.{arith}
-use borrow.Author.Tests.{le-leb, eq-eqb, ne-eqb, ltb-true, leb-true, eqb-true}
+use borrow.Author.Tests.{lt-ltb, le-ltb, le-leb, eq-eqb, ne-eqb, ltb-true, leb-true, eqb-true}
 use lib.ListN.{length}
 use Rattle.group.specs.Choice.{if_then_else_, ask_or_then_, _and_, _<?_, _≤?_, _=?_}
 use Rattle.group.specs.Limits.{payloadMost}
@@ -38,6 +38,28 @@ follows-positive t number e = go (t .free) e
 pub follows-next : (t : Tail) (number : ℕ) → t .free ≡ false → follows t number ≡ true → number ≡ t .last .0 + 1
 unfolding follows
 follows-next t number f e = eqb-true number (t .last .0 + 1) (if-false (t .free) _ _ _ f refl ∙ e)
+
+-- the tests of a number in the code are those of the definition
+module _ (t : Tail) (number : ℕ) where
+  pub follows-below : number ≤ t .last .0 → false ≡ follows t number
+  unfolding follows if_then_else_
+  follows-below h = go (t .free)
+    where
+      go : (b : Bool) → false ≡ (if b then t .last .0 <? number else number =? t .last .0 + 1)
+      go true = sym (le-ltb (t .last .0) number h)
+      go false = sym (ne-eqb number (t .last .0 + 1) (λ z. omega arith))
+
+  pub follows-free : t .last .0 < number → t .free ≡ true → true ≡ follows t number
+  unfolding follows
+  follows-free h f = if-true (t .free) true _ _ f (sym (lt-ltb (t .last .0) number h))
+
+  pub follows-one : t .last .0 < number → t .free ≡ false → (number - t .last .0 =? 1) ≡ follows t number
+  unfolding follows
+  follows-one h f =
+      if-false (t .free) _ _ _ f
+      (eq-or number (t .last .0 + 1)
+      (λ z. eq-eqb (number - t .last .0) 1 (omega arith) ∙ sym (eq-eqb number (t .last .0 + 1) z))
+      (λ z. ne-eqb (number - t .last .0) 1 (λ y. z (omega arith)) ∙ sym (ne-eqb number (t .last .0 + 1) z)))
 
 -- what `numbersSound` says
 pub record Numbers (w : Writer) : Type 0 where

@@ -89,15 +89,16 @@ marked block = all (λ i b. getD block i 0 =? b) 0 mark
 unfoldable pub sumRight : List ℕ → Bool
 sumRight block = sumAt block =? sumFrom 0 (take recordsEnd block)
 
--- the block is right behind that tail
-unfoldable pub blockRight : Tail → List ℕ → Bool
-blockRight t block =
-    length block =? blockSize
-    and marked block
-    and sumRight block
-    and 1 ≤? recordsIn block
+-- it has records, the number of the first may follow, and all of them are right
+unfoldable pub contentRight : Tail → List ℕ → Bool
+contentRight t block =
+    1 ≤? recordsIn block
     and follows t (firstAt block)
     and recordsRight block recordsAt (firstAt block - 1) (recordsIn block)
+
+-- the block is right behind that tail
+unfoldable pub blockRight : Tail → List ℕ → Bool
+blockRight t block = length block =? blockSize and marked block and sumRight block and contentRight t block
 
 -- the message whose record stands at an index
 unfoldable pub messageAt : List ℕ → ℕ → ℕ → Ordered

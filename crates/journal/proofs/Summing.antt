@@ -5,10 +5,10 @@ use Prim.Native.Nat.{ℕ, suc, _+_, _*_, _≤_, _<_}
 use native.Mathlib.Nat.{mul-le-mul}
 use native.Mathlib.Numerals.{add-one}
 use native.Mathlib.Omega.{arith}
-use lib.ListN.{length, getD, drop, drop-of-length-le}
-use lib.Seq.{drop-cons}
+use lib.ListN.{length, getD, take, drop, drop-of-length-le}
+use lib.Seq.{length-take-le, drop-cons, getD-take}
 use Rattle.big_endian.specs.Laws.{Bytes}
-use Rattle.journal.specs.Limits.{recordsEnd}
+use Rattle.journal.specs.Limits.{blockSize, recordsEnd}
 use Rattle.journal.specs.Block.{sumFrom}
 
 -- the sum of bytes up to position 507 is at most 508 × 255 for each
@@ -27,16 +27,22 @@ sum-most position (b ∷ l) bytes h =
 pub part-most : (weight b : ℕ) → weight ≤ recordsEnd → b < 256 → weight * b ≤ 129540
 part-most weight b h k = let q : b ≤ 255 = omega arith in mul-le-mul h q
 
--- a turn of the loop, and its end
-module _ (l : List ℕ) (i total : ℕ) (inv : total + sumFrom i (drop i l) ≡ sumFrom 0 l) where
-  pub sum-on : i < length l → total + (i + 1) * getD l i 0 + sumFrom (i + 1) (drop (i + 1) l) ≡ sumFrom 0 l
+-- a turn of the loop over the bytes of a block before its sum, and its end
+module _ (block : List ℕ) (i total : ℕ) (long : length block ≡ blockSize)
+    (inv : total + sumFrom i (drop i (take recordsEnd block)) ≡ sumFrom 0 (take recordsEnd block)) where
+  pub sum-on : i < recordsEnd → total + (i + 1) * getD block i 0 + sumFrom (i + 1) (drop (i + 1) (take recordsEnd block)) ≡ sumFrom 0 (take recordsEnd block)
   unfolding sumFrom
   sum-on h =
-      let s : sumFrom i (drop i l) ≡ (i + 1) * getD l i 0 + sumFrom (i + 1) (drop (i + 1) l) = rw (drop-cons l i 0 h, add-one) in
+      let l = take recordsEnd block in
+      let n : length l ≡ recordsEnd = length-take-le recordsEnd block (omega arith) in
+      let s : sumFrom i (drop i l) ≡ (i + 1) * getD block i 0 + sumFrom (i + 1) (drop (i + 1) l) =
+      rw (drop-cons l i 0 (omega arith), add-one, getD-take recordsEnd block i 0 h) in
       omega arith
 
-  pub sum-done : length l ≤ i → total ≡ sumFrom 0 l
+  pub sum-done : recordsEnd ≤ i → total ≡ sumFrom 0 (take recordsEnd block)
   unfolding sumFrom
   sum-done h =
-      let s : sumFrom i (drop i l) ≡ 0 = rw (drop-of-length-le l h) in
+      let l = take recordsEnd block in
+      let n : length l ≡ recordsEnd = length-take-le recordsEnd block (omega arith) in
+      let s : sumFrom i (drop i l) ≡ 0 = rw (drop-of-length-le l {i = i} (omega arith)) in
       omega arith

@@ -3,10 +3,12 @@
 use mathlib.Core.Path.{_≡_, refl, sym, ap, _∙_}
 use mathlib.Core.Bool.{Bool, true, false}
 use mathlib.Core.List.{List, [], _∷_, _++_}
-use Prim.Native.Nat.{ℕ, zero, suc, _+_, _*_, _-_, _≤_, _<_}
+use Prim.Native.Nat.{ℕ, zero, suc, _+_, _*_, _-_, _/_, _≤_, _<_}
+use native.Mathlib.Nat.{add-zero, zero-add, sub-zero}
 use native.Mathlib.Omega.{arith}
 use borrow.Author.Tests.{le-leb, lt-leb, eq-eqb, ne-eqb, leb-true}
-use lib.ListN.{length, take, drop}
+use lib.ListN.{length, take, drop, length-append}
+use lib.Seq.{drop-drop}
 use Rattle.group.specs.Choice.{if_then_else_, _and_, _≤?_, _=?_}
 use Rattle.group.specs.Limits.{largestNumber}
 use Rattle.group.proofs.Choice.{if-true, if-false, if-was, both-hold, both-first, both-then, first-fails, then-fails}
@@ -15,7 +17,7 @@ use Rattle.message.specs.Message.{allZero}
 use Rattle.message.specs.Order.{Ordered}
 use Rattle.journal.specs.Limits.{blockSize, recordsAt, recordsEnd, recordHead}
 use Rattle.journal.specs.Block.{firstAt, recordsIn, behind, endedAt, follows, recordRight, recordsRight, marked, sumRight, contentRight, blockRight, messagesFrom, messagesOf, tailOf}
-use Rattle.journal.specs.Read.{counted, nextOf, recordAt, entryOf}
+use Rattle.journal.specs.Read.{Reads, freshTail, nothing, joined, foundFrom, foundIn, counted, nextOf, recordAt, entryOf}
 use Rattle.journal.specs.declared.Block.{Block}
 use Rattle.journal.specs.declared.Entry.{Entry}
 use Rattle.journal.specs.declared.Found.{Found}
@@ -183,3 +185,79 @@ module _ (t : Tail) (block : List ℕ) where
   next-other c =
       if-false (blockRight t block) _ _ _
       (then-fails (length block =? blockSize) _ (then-fails (marked block) _ (then-fails (sumRight block) _ c))) refl
+
+-- what was found, with so many blocks and messages before it
+abbrev pub onto : ℕ → ℕ → Found → Found
+onto k m f = record { blocks = k + f .blocks; messages = m + f .messages; tail = f .tail }
+
+-- a right block's answer: what it says, and how many messages it can have
+pub right-was-found : (t : Tail) (block : List ℕ) (f : Found) → nextOf t block ≡ Block.Right f
+    → (blockRight t block ≡ true) × (counted (record { blocks = 1; messages = messagesOf block; tail = tailOf block }) ≡ f) × (f .messages ≤ 71)
+unfolding nextOf blockRight
+right-was-found t block f e =
+    let (right, same) = if-was (blockRight t block) (Block.Right (counted (record { blocks = 1; messages = messagesOf block; tail = tailOf block }))) Block.Wrong (Block.Right f) e
+    (λ z. let y : _≡_ {A = ℕ} 0 1 = cc in omega arith) in
+    let q : counted (record { blocks = 1; messages = messagesOf block; tail = tailOf block }) ≡ f = cc in
+    let content = both-then (sumRight block) _ (both-then (marked block) _ (both-then (length block =? blockSize) _ right)) in
+    let (_, _, fits) = content-says t block content in
+    let m = ap (λ (x : Found). x .messages) (block-found t block content ∙ q) in
+    (right, q, omega arith)
+
+wrong-was : (t : Tail) (block : List ℕ) → nextOf t block ≡ Block.Wrong → blockRight t block ≡ false
+unfolding nextOf if_then_else_
+wrong-was t block e = go (blockRight t block) refl e
+  where
+    go : (b : Bool) → blockRight t block ≡ b
+        → (if b then Block.Right (counted (record { blocks = 1; messages = messagesOf block; tail = tailOf block })) else Block.Wrong) ≡ Block.Wrong
+        → blockRight t block ≡ false
+    go true r e = absurd (let y : _≡_ {A = ℕ} 0 1 = cc in omega arith)
+    go false r e = r
+
+-- the loop over the blocks of a journal: its start
+pub blocks-start : (journal : List ℕ) (t : Tail) → t ≡ freshTail
+    → counted (foundIn journal) ≡ onto 0 0 (counted (foundFrom t (drop (0 * blockSize) journal) (length journal / blockSize - 0)))
+unfolding foundIn
+blocks-start journal t e = rw (e, sub-zero, zero-add, zero-add)
+
+-- a turn, and its end
+module _ (journal : List ℕ) (t : Tail) (k m total : ℕ) (whole : Found)
+    (inv : whole ≡ onto k m (counted (foundFrom t (drop (k * blockSize) journal) (total - k)))) where
+  abbrev here : List ℕ
+  here = take blockSize (drop (k * blockSize) journal)
+
+  abbrev rest : Reads
+  rest = foundFrom (tailOf here) (drop blockSize (drop (k * blockSize) journal)) (total - k - 1)
+
+  blocks-step : k < total → whole ≡ onto k m (counted (if blockRight t here then joined 1 (messagesOf here) rest else nothing t))
+  unfolding foundFrom
+  blocks-step h =
+      let e : total - k ≡ suc (total - k - 1) = omega arith in
+      inv ∙ ap (λ (x : ℕ). onto k m (counted (foundFrom t (drop (k * blockSize) journal) x))) e
+
+  pub blocks-on : k < total → (f : Found) → nextOf t here ≡ Block.Right f
+      → (whole ≡ onto (k + 1) (m + f .messages) (counted (foundFrom (f .tail) (drop ((k + 1) * blockSize) journal) (total - (k + 1))))) × (f .messages ≤ 71)
+  blocks-on h f e =
+      let (right, same, most) = right-was-found t here f e in
+      let a : k + (1 + rest .blocks) ≡ k + 1 + rest .blocks = omega arith in
+      let l = length-append (messagesOf here) (rest .messages) in
+      let b : m + length (messagesOf here ++ rest .messages) ≡ m + length (messagesOf here) + length (rest .messages) = omega arith in
+      let d : (k + 1) * blockSize ≡ k * blockSize + blockSize = omega arith in
+      let n : total - (k + 1) ≡ total - k - 1 = omega arith in
+      let p = blocks-step h ∙ ap (λ (r : Reads). onto k m (counted r)) (sym (if-true (blockRight t here) _ (joined 1 (messagesOf here) rest) _ right refl)) in
+      (p ∙ rw (a, b) (rw (← same, d, n, ← (drop-drop blockSize (k * blockSize) journal))), most)
+
+  ends-here : onto k m (counted (nothing t)) ≡ record { blocks = k; messages = m; tail = t }
+  ends-here = rw (add-zero, add-zero)
+
+  pub blocks-off : k < total → nextOf t here ≡ Block.Wrong → record { blocks = k; messages = m; tail = t } ≡ whole
+  blocks-off h e =
+      sym
+      (blocks-step h
+      ∙ ap (λ (r : Reads). onto k m (counted r)) (sym (if-false (blockRight t here) _ _ (nothing t) (wrong-was t here e) refl))
+      ∙ ends-here)
+
+  pub blocks-done : total ≤ k → record { blocks = k; messages = m; tail = t } ≡ whole
+  unfolding foundFrom
+  blocks-done h =
+      let e : total - k ≡ 0 = omega arith in
+      sym (inv ∙ ap (λ (x : ℕ). onto k m (counted (foundFrom t (drop (k * blockSize) journal) x))) e ∙ ends-here)

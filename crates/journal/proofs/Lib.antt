@@ -4,6 +4,7 @@ pub mod Records
 pub mod Sound
 pub mod Walking
 pub mod Blocks
+pub mod Laying
 pub mod Only
 pub mod Whole
 pub mod Rights

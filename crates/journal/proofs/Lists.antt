@@ -2,11 +2,11 @@
 use mathlib.Core.Path.{_≡_, refl, sym, ap, _∙_}
 use mathlib.Core.Bool.{Bool, true, false}
 use mathlib.Core.List.{List, [], _∷_, _++_}
-use Prim.Native.Nat.{ℕ, zero, suc, _+_, _-_, _^_, _<_}
+use Prim.Native.Nat.{ℕ, zero, suc, _+_, _-_, _^_, _≤_, _<_}
 use native.Mathlib.Nat.{sub-zero, zero-sub, suc-sub-suc}
 use native.Mathlib.Omega.{arith}
 use borrow.Author.Tests.{eq-eqb, ne-eqb}
-use lib.ListN.{length, take, drop, replicate}
+use lib.ListN.{length, take, drop, replicate, replicate-append-replicate}
 use lib.Seq.{drop-drop, drop-at, take-nil}
 use Rattle.group.specs.Choice.{if_then_else_, _=?_}
 use Rattle.group.proofs.Choice.{both-hold}
@@ -48,3 +48,9 @@ zero-byte b i = go (b =? 0)
     go : (t : Bool) → t ≡ if t then true else (i + 1 - 0 =? 0)
     go true = refl
     go false = sym (ne-eqb (i + 1 - 0) 0 (λ z. omega arith))
+
+-- zeros up to an index, and one more
+pub zeros-on : (at i : ℕ) → at ≤ i → _++_ {A = ℕ} (replicate (i - at) 0) (0 ∷ []) ≡ replicate (i + 1 - at) 0
+zeros-on at i h =
+    let e : i - at + 1 ≡ i + 1 - at = omega arith in
+    replicate-append-replicate (i - at) 1 0 ∙ ap (λ (k : ℕ). replicate k 0) e

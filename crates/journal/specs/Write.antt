@@ -55,9 +55,12 @@ writerSound w =
     and recordHead * w .records ≤? w .used - recordsAt
     and (if w .records =? 0 then w .used =? recordsAt else numbersSound w)
 
--- a message that a record may hold
+-- a message that a record may hold: its originator, its count, and the length of its payload
+abbrev pub allowedWith : ℕ → ℕ → ℕ → Bool
+allowedWith originator count size = originator <? membersMost and 1 ≤? count and size ≤? payloadMost
+
 unfoldable pub allowed : Ordered → Bool
-allowed m = m .originator <? membersMost and 1 ≤? m .count and length (m .payload) ≤? payloadMost
+allowed m = allowedWith (m .originator) (m .count) (length (m .payload))
 
 -- the writer with one more record in hand, and with that record alone
 abbrev pub grown : Writer → Ordered → Writer

@@ -5,6 +5,7 @@ pub mod Sound
 pub mod Walking
 pub mod Blocks
 pub mod Laying
+pub mod Keeping
 pub mod Only
 pub mod Whole
 pub mod Rights

@@ -1,9 +1,11 @@
 -- Writing a journal: records gather in the block in hand, which is handed out when the next does not fit, and at shutdown.
+use mathlib.Core.Path.{_≡_}
 use mathlib.Core.Bool.{Bool, false}
 use mathlib.Core.List.{List, [], _++_}
 use Prim.Native.Nat.{ℕ, _+_, _*_, _-_}
 use lib.ListN.{length, take, drop}
 use Rattle.group.specs.Choice.{if_then_else_, ask_or_then_, _and_, _<?_, _≤?_, _=?_}
+use Rattle.group.specs.Lent.{front}
 use Rattle.group.specs.Limits.{membersMost, payloadMost}
 use Rattle.group.specs.Question.{judged}
 use Rattle.group.specs.declared.MemberNumber.{MemberNumber}
@@ -31,6 +33,12 @@ pub record Outcome : Type 0 where
 -- what a call gives back
 abbrev pub stepOf : Outcome → Step
 stepOf o = record { writer = o .writer; answer = o .answer; written = length (o .bytes) }
+
+-- what a call gives back, and what it leaves in the block in hand and in the lent output
+pub record Done (o : Outcome) (r : Step) (hand lent after : List ℕ) : Type 0 where
+  pub step : r ≡ stepOf o
+  pub held : hand ≡ o .hand
+  pub lays : after ≡ front (o .bytes) lent
 
 -- the message that a call is given
 abbrev pub messageWith : SequenceNumber → MemberNumber → ℕ → List ℕ → Ordered
@@ -62,15 +70,19 @@ allowedWith originator count size = originator <? membersMost and 1 ≤? count a
 unfoldable pub allowed : Ordered → Bool
 allowed m = allowedWith (m .originator) (m .count) (length (m .payload))
 
--- the writer with one more record in hand, and with that record alone
-abbrev pub grown : Writer → Ordered → Writer
-grown w m =
+-- the writer with one more record in hand, which ends at that index
+abbrev pub grownTo : Writer → SequenceNumber → ℕ → Writer
+grownTo w number used =
     record {
-      tail = endedAt (m .number);
-      first = if w .records =? 0 then record { 0 = m .number } else w .first;
+      tail = endedAt (number .0);
+      first = if w .records =? 0 then number else w .first;
       records = w .records + 1;
-      used = w .used + length (recordOf m);
+      used = used;
     }
+
+-- the same of a message, and with its record alone
+abbrev pub grown : Writer → Ordered → Writer
+grown w m = grownTo w (record { 0 = m .number }) (w .used + length (recordOf m))
 
 abbrev pub begun : Ordered → Writer
 begun m =

@@ -15,7 +15,7 @@ use Rattle.journal.proofs.sum.Tie as tie
 
 abbrev Inv-loop : tie.InvT-loop
 Inv-loop block total₀ weight₀ i₀ total weight i =
-    (weight ≡ i) × (i ≤ recordsEnd) × (total ≤ 129540 * i) × (total + sumFrom i (drop i (take recordsEnd block)) ≡ sumFrom 0 (take recordsEnd block))
+    (weight ≡ i + 1) × (i ≤ recordsEnd) × (total ≤ 129540 * i) × (total + sumFrom i (drop i (take recordsEnd block)) ≡ sumFrom 0 (take recordsEnd block))
 
 abbrev μ-loop : tie.MeasureT-loop
 μ-loop block total₀ weight₀ i₀ total weight i = recordsEnd - i
@@ -59,10 +59,10 @@ sum-spec =
     Inv-loop
     μ-loop
     loop-holds
-    add-weight
     shared-slice-read-part
     part-requires
     add-total
+    add-weight
     add-i
     loop-less
     loop-again

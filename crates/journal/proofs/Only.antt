@@ -72,7 +72,8 @@ module _ (block : List ℕ) (bytes : Bytes block) (long : length block ≡ block
             };
         may =
             both-hold (getD block at 0 <? membersMost) _ (lt-ltb _ _ (s .originator))
-            (both-hold (1 ≤? numberAt 4 block (at + 1)) _ (le-leb _ _ (s .count)) (rw l (le-leb _ _ (s .size))));
+            (both-hold (length (take (lengthAt block at) (drop (at + recordHead) block)) ≤? payloadMost) _ (rw l (le-leb _ _ (s .size)))
+            (le-leb 1 (numberAt 4 block (at + 1)) (s .count)));
       }
 
   record-only : (at number : ℕ) → Says block at number → drop at block ≡ recordOf (messageAt block at number) ++ drop (behind block at) block

@@ -65,7 +65,7 @@ writerSound w =
 
 -- a message that a record may hold: its originator, its count, and the length of its payload
 abbrev pub allowedWith : ℕ → ℕ → ℕ → Bool
-allowedWith originator count size = originator <? membersMost and 1 ≤? count and size ≤? payloadMost
+allowedWith originator count size = originator <? membersMost and size ≤? payloadMost and 1 ≤? count
 
 unfoldable pub allowed : Ordered → Bool
 allowed m = allowedWith (m .originator) (m .count) (length (m .payload))

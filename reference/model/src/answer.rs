@@ -46,10 +46,13 @@ pub enum Refusal {
     NotForList = 19,
     /// An add to a list whose 64 records are used.
     ListFull = 20,
+    /// A journal whose length is no multiple of 512; a record or a number
+    /// that may not be written.
+    WrongJournal = 21,
 }
 
 impl Refusal {
-    /// The question's number, 1 to 20.
+    /// The question's number.
     pub fn number(self) -> u8 {
         self as u8
     }

@@ -3,12 +3,15 @@
 //! of what every member has acknowledged.
 //!
 //! The ends ([`sequencer`], [`member`]) never allocate; [`group`] and
-//! [`play`] drive them.
+//! [`play`] drive them. Nor does the [`journal`] of what was taken; [`listing`]
+//! is its text.
 
 pub mod answer;
 pub mod group;
 pub mod jobs;
+pub mod journal;
 pub mod limits;
+pub mod listing;
 pub mod load;
 pub mod longest;
 pub mod member;

@@ -122,13 +122,13 @@ pub fn event(line: &[u8]) -> Option<Event> {
 }
 
 /// Lines of an input, at most one of them in memory, and that cut off.
-struct Lines<R> {
+pub(crate) struct Lines<R> {
     input: BufReader<R>,
     line: Vec<u8>,
 }
 
 impl<R: Read> Lines<R> {
-    fn new(input: R) -> Self {
+    pub(crate) fn new(input: R) -> Self {
         let input = BufReader::new(input);
         let line = Vec::with_capacity(LINE + 1);
         Lines { input, line }
@@ -137,7 +137,7 @@ impl<R: Read> Lines<R> {
     /// The next line; `None` at the end of the input. A line that is too
     /// long is cut after one character too many; what follows is not read,
     /// since such a line ends the events.
-    fn next_line(&mut self) -> io::Result<Option<Line<'_>>> {
+    pub(crate) fn next_line(&mut self) -> io::Result<Option<Line<'_>>> {
         self.line.clear();
         let mut front = (&mut self.input).take(LINE as u64 + 1);
         if front.read_until(b'\n', &mut self.line)? == 0 {
@@ -151,7 +151,7 @@ impl<R: Read> Lines<R> {
 }
 
 /// A line without its line feed.
-struct Line<'a>(&'a [u8]);
+pub(crate) struct Line<'a>(&'a [u8]);
 
 impl<'a> Line<'a> {
     /// The first line: n and the group number.
@@ -183,9 +183,9 @@ impl<'a> Line<'a> {
         })
     }
 
-    /// The first four fields; a line has at most three. `None` if the line
-    /// is too long.
-    fn fields(&self) -> Option<[Option<&'a [u8]>; 4]> {
+    /// The first fields, one more than a line may have. `None` if the line is
+    /// too long.
+    pub(crate) fn fields<const N: usize>(&self) -> Option<[Option<&'a [u8]>; N]> {
         let mut fields = self.0.split(|&byte| byte == b' ');
         (self.0.len() <= LINE).then(|| std::array::from_fn(|_| fields.next()))
     }
@@ -208,7 +208,7 @@ fn index(field: &[u8]) -> Option<usize> {
 }
 
 /// Lower case hex, two digits a byte; `-` for empty.
-fn payload(field: &[u8]) -> Option<Vec<u8>> {
+pub(crate) fn payload(field: &[u8]) -> Option<Vec<u8>> {
     if field == b"-" {
         return Some(Vec::new());
     }

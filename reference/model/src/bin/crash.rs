@@ -1,0 +1,382 @@
+//! Ends a writer of journals in the midst of its writes, and tears what it
+//! wrote. `crash PROGRAM [STEP]`: the program lists and appends as `journal`
+//! does; every STEP-th byte of a block is torn, or every one. After each
+//! failure the program must list what the reference reads, and go on there.
+
+use model::journal::{self, BLOCK, Message};
+use model::listing;
+use std::ffi::OsString;
+use std::fs;
+use std::io::{self, Write};
+use std::path::PathBuf;
+use std::process::{Child, ChildStdin, Command, ExitCode, Stdio};
+use std::thread;
+use std::time::{Duration, Instant};
+
+/// How long a program may take over a block.
+const PATIENCE: Duration = Duration::from_secs(10);
+
+type Checked<T> = Result<T, String>;
+
+fn main() -> ExitCode {
+    let mut words = std::env::args_os().skip(1);
+    let program = words.next();
+    let step = words
+        .next()
+        .map_or(Some(1), |word| word.to_str()?.parse().ok())
+        .filter(|&step| step > 0);
+    let (Some(program), Some(step), None) = (program, step, words.next()) else {
+        eprintln!("usage: crash PROGRAM [STEP]");
+        return ExitCode::FAILURE;
+    };
+    match Rig::new(program).and_then(|mut rig| rig.run(step)) {
+        Ok(journals) => println!("{journals} journals listed as the reference does"),
+        Err(difference) => {
+            println!("{difference}");
+            return ExitCode::FAILURE;
+        }
+    }
+    ExitCode::SUCCESS
+}
+
+/// The program, and a file of its own for the journal.
+struct Rig {
+    program: OsString,
+    folder: PathBuf,
+    file: PathBuf,
+    listed: usize,
+    random: Random,
+}
+
+impl Drop for Rig {
+    fn drop(&mut self) {
+        // There is nobody to tell.
+        let _ = fs::remove_dir_all(&self.folder);
+    }
+}
+
+impl Rig {
+    fn new(program: OsString) -> Checked<Rig> {
+        let folder = std::env::temp_dir().join(format!("crash.{}", std::process::id()));
+        told("temporary folder", fs::create_dir(&folder))?;
+        Ok(Rig {
+            program,
+            file: folder.join("journal"),
+            folder,
+            listed: 0,
+            random: Random(0x9e37_79b9_7f4a_7c15),
+        })
+    }
+
+    /// Every failure; how many journals were listed.
+    fn run(&mut self, step: usize) -> Checked<usize> {
+        let plan = Plan::of(&mut self.random, 1, 2500);
+        self.store(&[])?;
+        self.go_on("an empty journal", &[])?;
+        self.stopped(&plan, 12)?;
+        self.overrun(&plan, 12)?;
+        let behind = plan.behind(&self.stored()?);
+        self.go_on("what the last failure left", behind)?;
+        self.must_hold("every message", &plan.journal)?;
+
+        for (first, step) in [(1, step), (u32::MAX - 40, 32 * step)] {
+            let plan = Plan::of(&mut self.random, first, 41);
+            self.torn(&plan, step)?;
+            self.flipped(&plan)?;
+        }
+        Ok(self.listed)
+    }
+
+    /// Ends the writer while it waits for more: block after block must be in
+    /// the file once the next record does not fit, and not before.
+    fn stopped(&mut self, plan: &Plan, times: usize) -> Checked<()> {
+        for _ in 0..times {
+            let blocks = self.stored()?.len() / BLOCK;
+            let goal = blocks + self.random.below(4);
+            // The last of these lines stands in the block behind the goal.
+            let lines = &plan.lines[plan.ends[blocks]..];
+            let until = plan.ends[goal] - plan.ends[blocks] + 1;
+            let (mut child, mut stdin) = self.append()?;
+            for line in &lines[..until] {
+                let (front, back) = line.as_bytes().split_at(self.random.below(line.len()));
+                told("a line", stdin.write_all(front))?;
+                if self.random.below(8) == 0 {
+                    thread::sleep(Duration::from_micros(300));
+                }
+                told("a line", stdin.write_all(back))?;
+            }
+            self.await_length(goal * BLOCK)?;
+            thread::sleep(Duration::from_millis(2));
+            told("half a line", stdin.write_all(b"4294967295 1"))?;
+            end(&mut child)?;
+            let what = format!("ended with {goal} blocks");
+            self.must_hold(&what, &plan.journal[..goal * BLOCK])?;
+            self.must_list(&what)?;
+        }
+        Ok(())
+    }
+
+    /// Ends the writer while it writes as fast as it can.
+    fn overrun(&mut self, plan: &Plan, times: usize) -> Checked<()> {
+        for _ in 0..times {
+            let before = self.stored()?;
+            let lines = plan.behind(&before).concat();
+            let least = journal::found(&before).blocks + self.random.below(12);
+            // The last block is in hand as long as more may come.
+            let least = least.min(plan.ends.len() - 2);
+            let (mut child, stdin) = self.append()?;
+            let feeder = thread::spawn(move || fed(stdin, &lines));
+            let seen = self.await_length(least * BLOCK)?;
+            end(&mut child)?;
+            drop(feeder.join());
+
+            let stored = self.stored()?;
+            let whole = journal::found(&stored).blocks;
+            let what = format!("ended at {} bytes", stored.len());
+            if stored[..whole * BLOCK] != plan.journal[..whole * BLOCK] {
+                return Err(format!("{what}: its blocks are not what was written"));
+            }
+            if whole < seen / BLOCK || stored.len() > (whole + 1) * BLOCK {
+                return Err(format!("{what}: {whole} right blocks"));
+            }
+            self.must_list(&what)?;
+        }
+        Ok(())
+    }
+
+    /// Tears the last block at its bytes: the file cut there, or junk from
+    /// there on.
+    fn torn(&mut self, plan: &Plan, step: usize) -> Checked<()> {
+        let whole = plan.ends.len() - 2;
+        let journal = &plan.journal[..whole * BLOCK];
+        let (finished, last) = journal.split_at((whole - 1) * BLOCK);
+        for at in (0..=BLOCK).step_by(step) {
+            let front = [finished, &last[..at]].concat();
+            let what = format!("cut at byte {at}");
+            self.fails(plan, &what, &front, whole - 1 + at / BLOCK)?;
+
+            let mut junk = front;
+            junk.resize_with(whole * BLOCK, || match at % 3 {
+                0 => 0,
+                1 => 255,
+                _ => self.random.next() as u8,
+            });
+            let right = whole - usize::from(junk != journal);
+            // A right block behind a wrong one is not read, and is cut off.
+            if at % 16 == 0 && right < whole {
+                junk.extend(last);
+            }
+            self.fails(plan, &format!("junk from byte {at}"), &junk, right)?;
+        }
+        Ok(())
+    }
+
+    /// Flips bits in any block.
+    fn flipped(&mut self, plan: &Plan) -> Checked<()> {
+        let length = (plan.ends.len() - 2) * BLOCK;
+        for _ in 0..40 {
+            let mut journal = plan.journal[..length].to_vec();
+            let (at, bit) = (self.random.below(length), self.random.below(8));
+            journal[at] ^= 1 << bit;
+            let what = format!("bit {bit} of byte {at} flipped");
+            self.fails(plan, &what, &journal, at / BLOCK)?;
+        }
+        Ok(())
+    }
+
+    /// Lists this journal, which has so many right blocks, and goes on.
+    fn fails(&mut self, plan: &Plan, what: &str, journal: &[u8], right: usize) -> Checked<()> {
+        let found = journal::found(journal).blocks;
+        if found != right {
+            return Err(format!("{what}: the reference finds {found} blocks"));
+        }
+        self.store(journal)?;
+        self.must_list(what)?;
+        let behind = plan.behind(journal);
+        let lines = self.random.below(4).min(behind.len());
+        self.go_on(what, &behind[..lines])
+    }
+
+    /// Appends these lines to what is stored, as the reference would.
+    fn go_on(&mut self, what: &str, lines: &[String]) -> Checked<()> {
+        let expected = appended(&self.stored()?, lines);
+        let (mut child, stdin) = self.append()?;
+        drop(told("the lines", fed(stdin, &lines.concat()))?);
+        let status = told("the program's end", child.wait())?;
+        let what = format!("{what}, then {} lines appended", lines.len());
+        if !status.success() {
+            return Err(format!("{what}: {status}"));
+        }
+        self.must_hold(&what, &expected)?;
+        self.must_list(&what)
+    }
+
+    /// The file must hold these bytes.
+    fn must_hold(&self, what: &str, expected: &[u8]) -> Checked<()> {
+        let stored = self.stored()?;
+        if stored == expected {
+            return Ok(());
+        }
+        let same = stored.iter().zip(expected).take_while(|(a, b)| a == b);
+        Err(format!(
+            "{what}: the file has {} bytes and not {}, alike up to byte {}",
+            stored.len(),
+            expected.len(),
+            same.count(),
+        ))
+    }
+
+    /// The program must list what is stored as the reference does.
+    fn must_list(&mut self, what: &str) -> Checked<()> {
+        let mut expected = Vec::new();
+        told("a listing", listing::list(&self.stored()?, &mut expected))?;
+        let mut list = Command::new(&self.program);
+        let output = told("list", list.arg("list").arg(&self.file).output())?;
+        self.listed += 1;
+        if output.stdout == expected {
+            return Ok(());
+        }
+        let (got, want) = (lossy(&output.stdout), lossy(&expected));
+        let mut lines = got.lines().zip(want.lines());
+        let (got_line, want_line) = lines.find(|(a, b)| a != b).unwrap_or(("", ""));
+        Err(format!(
+            "{what}: {} lines listed and not {}: '{got_line}' for '{want_line}', {}",
+            got.lines().count(),
+            want.lines().count(),
+            output.status,
+        ))
+    }
+
+    /// Waits until the file has so many bytes; how many it then has.
+    fn await_length(&self, length: usize) -> Checked<usize> {
+        let start = Instant::now();
+        loop {
+            let found = told("the journal", fs::metadata(&self.file))?.len() as usize;
+            if found >= length {
+                return Ok(found);
+            }
+            if start.elapsed() > PATIENCE {
+                return Err(format!("{found} bytes written and not {length}"));
+            }
+            thread::yield_now();
+        }
+    }
+
+    /// Starts the program to append what it is fed.
+    fn append(&self) -> Checked<(Child, ChildStdin)> {
+        let mut append = Command::new(&self.program);
+        append.arg("append").arg(&self.file);
+        append.stdin(Stdio::piped()).stdout(Stdio::null());
+        let mut child = told("append", append.spawn())?;
+        let stdin = child.stdin.take().ok_or("no standard input")?;
+        Ok((child, stdin))
+    }
+
+    fn stored(&self) -> Checked<Vec<u8>> {
+        told("the journal", fs::read(&self.file))
+    }
+
+    fn store(&self, journal: &[u8]) -> Checked<()> {
+        told("the journal", fs::write(&self.file, journal))
+    }
+}
+
+/// Ends a process at once, wherever it is.
+fn end(child: &mut Child) -> Checked<()> {
+    told("ending it", child.kill())?;
+    told("its end", child.wait()).map(drop)
+}
+
+/// Feeds a program all of it. One that ended early is told by what it left.
+fn fed(mut stdin: ChildStdin, lines: &str) -> io::Result<ChildStdin> {
+    match stdin.write_all(lines.as_bytes()) {
+        Err(error) if error.kind() != io::ErrorKind::BrokenPipe => Err(error),
+        _ => Ok(stdin),
+    }
+}
+
+/// What the reference makes of a journal and lines appended to it.
+fn appended(journal: &[u8], lines: &[String]) -> Vec<u8> {
+    let found = journal::found(journal);
+    let mut whole = journal[..found.blocks * BLOCK].to_vec();
+    let put = |block: &[u8]| {
+        whole.extend(block);
+        Ok(())
+    };
+    listing::write(found.tail, lines.concat().as_bytes(), put, io::sink())
+        .expect("writing to memory");
+    whole
+}
+
+/// Messages, and the journal of all of them.
+struct Plan {
+    lines: Vec<String>,
+    journal: Vec<u8>,
+    /// How many messages stand in the first blocks, for 0 blocks and so on.
+    ends: Vec<usize>,
+}
+
+impl Plan {
+    fn of(random: &mut Random, first: u32, many: u32) -> Plan {
+        let lines: Vec<String> = (0..many).map(|k| line(random, first + k)).collect();
+        let journal = appended(&[], &lines);
+        let blocks = journal.len() / BLOCK;
+        let ends = (0..=blocks)
+            .map(|blocks| journal::messages(&journal, blocks).count())
+            .collect();
+        Plan {
+            lines,
+            journal,
+            ends,
+        }
+    }
+
+    /// The lines behind the right blocks of a journal.
+    fn behind(&self, journal: &[u8]) -> &[String] {
+        &self.lines[journal::found(journal).messages..]
+    }
+}
+
+/// The line of a message with this number.
+fn line(random: &mut Random, number: u32) -> String {
+    let length = match random.below(4) {
+        0 => 0,
+        1 => random.below(8),
+        2 => random.below(241),
+        _ => 240 - random.below(4),
+    };
+    let payload: Vec<u8> = (0..length).map(|_| random.next() as u8).collect();
+    let message = Message {
+        number,
+        originator: random.below(16) as u8,
+        count: (random.next() as u32).max(1),
+        payload: &payload,
+    };
+    let mut line = Vec::new();
+    listing::message_line(&message, &mut line).expect("writing to memory");
+    lossy(&line)
+}
+
+fn lossy(bytes: &[u8]) -> String {
+    String::from_utf8_lossy(bytes).into_owned()
+}
+
+fn told<T>(what: &str, result: io::Result<T>) -> Checked<T> {
+    result.map_err(|error| format!("{what}: {error}"))
+}
+
+/// Small generator: xorshift.
+struct Random(u64);
+
+impl Random {
+    fn next(&mut self) -> u64 {
+        self.0 ^= self.0 << 13;
+        self.0 ^= self.0 >> 7;
+        self.0 ^= self.0 << 17;
+        self.0
+    }
+
+    fn below(&mut self, bound: usize) -> usize {
+        (self.next() >> 11) as usize % bound
+    }
+}

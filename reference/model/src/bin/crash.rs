@@ -10,6 +10,7 @@ use std::fs;
 use std::io::{self, Write};
 use std::path::PathBuf;
 use std::process::{Child, ChildStdin, Command, ExitCode, Stdio};
+use std::slice;
 use std::thread;
 use std::time::{Duration, Instant};
 
@@ -73,16 +74,17 @@ impl Rig {
         let plan = Plan::of(&mut self.random, 1, 2500);
         self.store(&[])?;
         self.go_on("an empty journal", &[])?;
+        self.must_list("an empty journal")?;
         self.stopped(&plan, 12)?;
         self.overrun(&plan, 12)?;
-        let behind = plan.behind(&self.stored()?);
-        self.go_on("what the last failure left", behind)?;
-        self.must_hold("every message", &plan.journal)?;
+        self.complete(&plan)?;
 
         for (first, step) in [(1, step), (u32::MAX - 40, 32 * step)] {
             let plan = Plan::of(&mut self.random, first, 41);
             self.torn(&plan, step)?;
             self.flipped(&plan)?;
+            self.store(&plan.journal[..BLOCK])?;
+            self.complete(&plan)?;
         }
         Ok(self.listed)
     }
@@ -119,11 +121,11 @@ impl Rig {
     /// Ends the writer while it writes as fast as it can.
     fn overrun(&mut self, plan: &Plan, times: usize) -> Checked<()> {
         for _ in 0..times {
-            let before = self.stored()?;
-            let lines = plan.behind(&before).concat();
-            let least = journal::found(&before).blocks + self.random.below(12);
-            // The last block is in hand as long as more may come.
-            let least = least.min(plan.ends.len() - 2);
+            let before = journal::found(&self.stored()?);
+            let goal = (before.blocks + 40).min(plan.ends.len() - 1);
+            let lines = plan.lines[before.messages..plan.ends[goal]].concat();
+            // The last block stays in hand as long as more may come.
+            let least = (before.blocks + self.random.below(12)).min(goal - 1);
             let (mut child, stdin) = self.append()?;
             let feeder = thread::spawn(move || fed(stdin, &lines));
             let seen = self.await_length(least * BLOCK)?;
@@ -136,7 +138,9 @@ impl Rig {
             if stored[..whole * BLOCK] != plan.journal[..whole * BLOCK] {
                 return Err(format!("{what}: its blocks are not what was written"));
             }
-            if whole < seen / BLOCK || stored.len() > (whole + 1) * BLOCK {
+            // The block in writing is absent, complete or 512 bytes of junk.
+            let torn = stored.len() - whole * BLOCK;
+            if whole < seen / BLOCK || (torn != 0 && torn != BLOCK) {
                 return Err(format!("{what}: {whole} right blocks"));
             }
             self.must_list(&what)?;
@@ -184,7 +188,16 @@ impl Rig {
         Ok(())
     }
 
-    /// Lists this journal, which has so many right blocks, and goes on.
+    /// Appends what is left of a plan: then all of it is there.
+    fn complete(&mut self, plan: &Plan) -> Checked<()> {
+        let behind = plan.behind(&self.stored()?);
+        self.go_on("the last failure", behind)?;
+        self.must_hold("every message appended", &plan.journal)?;
+        self.must_list("every message appended")
+    }
+
+    /// Lists this journal, which has so many right blocks, and goes on; now
+    /// and then only a message comes that may not follow.
     fn fails(&mut self, plan: &Plan, what: &str, journal: &[u8], right: usize) -> Checked<()> {
         let found = journal::found(journal).blocks;
         if found != right {
@@ -193,8 +206,14 @@ impl Rig {
         self.store(journal)?;
         self.must_list(what)?;
         let behind = plan.behind(journal);
-        let lines = self.random.below(4).min(behind.len());
-        self.go_on(what, &behind[..lines])
+        match self.random.below(5) {
+            4 => {
+                let wrong = plan.lines.len() - behind.len() + [0, 2][self.random.below(2)];
+                let wrong = wrong.checked_sub(1).and_then(|at| plan.lines.get(at));
+                self.go_on(what, wrong.map_or(&[], slice::from_ref))
+            }
+            lines => self.go_on(what, &behind[..lines.min(behind.len())]),
+        }
     }
 
     /// Appends these lines to what is stored, as the reference would.
@@ -202,13 +221,11 @@ impl Rig {
         let expected = appended(&self.stored()?, lines);
         let (mut child, stdin) = self.append()?;
         drop(told("the lines", fed(stdin, &lines.concat()))?);
-        let status = told("the program's end", child.wait())?;
-        let what = format!("{what}, then {} lines appended", lines.len());
-        if !status.success() {
-            return Err(format!("{what}: {status}"));
-        }
-        self.must_hold(&what, &expected)?;
-        self.must_list(&what)
+        told("the program's end", child.wait())?;
+        self.must_hold(
+            &format!("{what}, {} lines appended", lines.len()),
+            &expected,
+        )
     }
 
     /// The file must hold these bytes.

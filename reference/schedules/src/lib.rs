@@ -6,6 +6,7 @@
 
 pub mod coverage;
 pub mod hand;
+pub mod journals;
 pub mod loads;
 pub mod longest;
 pub mod malformed;

@@ -2,9 +2,10 @@
 //! `crates/schedules/data`, named by its number, and `crates/schedules/stdout`
 //! has what they print, one behind the other. `crates/play` has the document's
 //! own schedule, `crates/inspect` one that leaves each column something, and
-//! `crates/load` the words of a load.
+//! `crates/load` the words of a load. The stored journals are kept beside their
+//! listings.
 
-use crate::{Schedule, all, inspected, played};
+use crate::{Schedule, all, inspected, journals, played};
 use model::{load, play};
 use std::fmt::Write as _;
 use std::path::{Path, PathBuf};
@@ -13,6 +14,17 @@ use std::{fs, io};
 /// The root of the repository.
 fn root() -> PathBuf {
     Path::new(env!("CARGO_MANIFEST_DIR")).join("../..")
+}
+
+/// Where the stored journals are: with the program that lists them, or here
+/// without one.
+fn journals_folder() -> PathBuf {
+    let program = root().join("crates/journal_tool");
+    if program.exists() {
+        program.join("data")
+    } else {
+        root().join("reference/journals")
+    }
 }
 
 /// A schedule's file name: three digits.
@@ -47,6 +59,12 @@ fn files(schedules: &[Schedule]) -> io::Result<Vec<(PathBuf, Vec<u8>)>> {
     if program.exists() {
         let output = loaded(&fs::read(program.join("args"))?);
         files.push((program.join("stdout"), output));
+    }
+    let folder = journals_folder();
+    for journal in journals::all() {
+        let listing = folder.join(format!("{}.txt", journal.name));
+        files.push((listing, journal.listed()));
+        files.push((folder.join(journal.name), journal.bytes));
     }
     Ok(files)
 }
@@ -87,6 +105,7 @@ pub fn write() -> io::Result<usize> {
         fs::remove_dir_all(&data)?;
     }
     fs::create_dir_all(&data)?;
+    fs::create_dir_all(journals_folder())?;
     for (path, bytes) in files(&schedules)? {
         fs::write(path, bytes)?;
     }

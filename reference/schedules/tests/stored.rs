@@ -2,7 +2,7 @@
 //! were written by hand.
 
 use schedules::coverage::{self, Counts, REACHABLE};
-use schedules::{all, loads, store};
+use schedules::{all, journals, loads, store};
 use std::collections::BTreeSet;
 
 #[test]
@@ -63,4 +63,19 @@ fn loads_with_and_without_no_space() {
     };
     assert_eq!(loads::schedules().len(), 20);
     assert_eq!((ends("bad line"), ends("no space")), (0, 4));
+}
+
+/// How many blocks and messages each stored journal has before a wrong block.
+#[test]
+fn journals_are_what_they_show() {
+    let found = [("whole", 8, 99), ("torn", 3, 6), ("largest", 2, 80)];
+    for (journal, (name, blocks, messages)) in journals::all().iter().zip(found) {
+        assert_eq!(journal.name, name);
+        let listed = String::from_utf8(journal.listed()).unwrap();
+        let last = format!("blocks {blocks} messages {messages}");
+        assert_eq!(listed.lines().last(), Some(&last[..]), "{name}");
+        assert_eq!(listed.lines().count(), messages + 1);
+    }
+    let sizes = journals::all().map(|journal| journal.bytes.len() / 512);
+    assert_eq!(sizes, [8, 5, 3]);
 }

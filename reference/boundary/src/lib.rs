@@ -6,6 +6,7 @@
 //! answers in the same way, so equal sums mean equal answers.
 
 use model::jobs::Job;
+use model::journal::{self, Message};
 use model::limits::PAYLOAD;
 
 pub mod proved;
@@ -82,4 +83,58 @@ pub fn feeds(messages: &[(u8, Vec<u8>)]) -> Vec<u8> {
         feeds.extend(&payload[..size.into()]);
     }
     feeds
+}
+
+/// A writer of a journal, in any state: an unsound one is refused.
+#[derive(Clone, Copy, Debug)]
+pub struct Writer {
+    /// The last number before what it is given.
+    pub last: u32,
+    /// Whether any number above it may follow, or the next one alone.
+    pub free: bool,
+    /// The first number in hand.
+    pub first: u32,
+    /// Records in hand.
+    pub records: usize,
+    /// Bytes used of the block in hand, which are zeros.
+    pub used: usize,
+}
+
+impl Writer {
+    /// With nothing in hand, behind the tail of a journal.
+    pub fn after(last: u32, free: bool) -> Writer {
+        Writer {
+            last,
+            free,
+            first: 0,
+            records: 0,
+            used: journal::RECORDS,
+        }
+    }
+}
+
+/// The originator that means shutdown in a list of messages.
+pub const SHUTDOWN: u8 = 255;
+
+/// A shutdown, as an entry of a list of messages.
+pub const FINISH: Message<'static> = Message {
+    number: 0,
+    originator: SHUTDOWN,
+    count: 0,
+    payload: &[],
+};
+
+/// A list of messages as both sides take it: number, originator, count and
+/// length of the payload, big-endian, stand before each payload.
+pub fn messages<'a>(messages: impl IntoIterator<Item = Message<'a>>) -> Vec<u8> {
+    let mut list = Vec::new();
+    for message in messages {
+        let size = u16::try_from(message.payload.len()).unwrap_or(u16::MAX);
+        list.extend(message.number.to_be_bytes());
+        list.push(message.originator);
+        list.extend(message.count.to_be_bytes());
+        list.extend(size.to_be_bytes());
+        list.extend(&message.payload[..size.into()]);
+    }
+    list
 }

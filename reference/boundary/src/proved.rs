@@ -4,7 +4,7 @@
 //! No function keeps an address, and each is proved to read and write within
 //! the slices that it is lent.
 
-use crate::{LOAD_LINE, Member, Sequencer};
+use crate::{LOAD_LINE, Member, Sequencer, Writer};
 use model::packet::Header;
 
 mod ffi {
@@ -35,6 +35,26 @@ mod ffi {
         -> usize;
         pub fn rounds_generator(seed: u32, rounds: u32) -> u64;
         pub fn rounds_read_list(sum: u64, packets: *const u8, size: usize) -> u64;
+        pub fn rounds_journal_read(sum: u64, journal: *const u8, size: usize) -> u64;
+        pub fn rounds_journal_record(
+            sum: u64,
+            block: *const u8,
+            size: usize,
+            at: usize,
+            number: u32,
+        ) -> u64;
+        pub fn rounds_journal_write(
+            last: u32,
+            free: u8,
+            first: u32,
+            records: usize,
+            used: usize,
+            messages: *const u8,
+            size: usize,
+            rounds: u32,
+            out: *mut u8,
+            room: usize,
+        ) -> u64;
         pub fn rounds_sequencer_receive(
             n: u8,
             group: u32,
@@ -498,6 +518,40 @@ pub fn terminal_take(end: Member<'_>, calls: u32, out: &mut [u8]) -> u64 {
             end.heard.as_ptr(),
             end.heard.len(),
             calls,
+            out.as_mut_ptr(),
+            out.len(),
+        )
+    }
+}
+
+/// Rounds of reading a journal.
+pub fn journal_read(journal: &[u8], rounds: u32) -> u64 {
+    (0..rounds).fold(0, |sum, _| {
+        // SAFETY: the slice lives through the call.
+        unsafe { ffi::rounds_journal_read(sum, journal.as_ptr(), journal.len()) }
+    })
+}
+
+/// Reads the record at an index of a block.
+pub fn journal_record(block: &[u8], at: usize, number: u32) -> u64 {
+    // SAFETY: as above.
+    unsafe { ffi::rounds_journal_record(0, block.as_ptr(), block.len(), at, number) }
+}
+
+/// Rounds of handing a writer a list of messages, each time in the same state.
+/// The blocks go to the front of the output, as far as it has room.
+pub fn journal_write(writer: Writer, messages: &[u8], rounds: u32, out: &mut [u8]) -> u64 {
+    // SAFETY: the slices live through the call, and the lent one is not the other.
+    unsafe {
+        ffi::rounds_journal_write(
+            writer.last,
+            writer.free.into(),
+            writer.first,
+            writer.records,
+            writer.used,
+            messages.as_ptr(),
+            messages.len(),
+            rounds,
             out.as_mut_ptr(),
             out.len(),
         )

@@ -1,8 +1,10 @@
 //! The same rounds of calls on the reference. The state stands behind a
 //! black box at each call, so that no work is drawn out of a loop.
 
-use crate::{LOAD_LINE, Member, Sequencer};
+use crate::{LOAD_LINE, Member, SHUTDOWN, Sequencer, Writer};
+use model::answer::Refusal;
 use model::jobs::{Fed, Job, List};
+use model::journal::{self, BLOCK, Message, Tail};
 use model::limits::JOB;
 use model::load::{self, Generator, Load};
 use model::packet::{self, Header};
@@ -315,7 +317,7 @@ fn list_of(records: &[u8]) -> List {
 }
 
 /// Feeds, up to one that is cut off.
-fn messages(mut feeds: &[u8]) -> impl Iterator<Item = (u8, &[u8])> {
+fn fed_messages(mut feeds: &[u8]) -> impl Iterator<Item = (u8, &[u8])> {
     std::iter::from_fn(move || {
         let (&[high, low, originator], rest) = feeds.split_first_chunk()?;
         let (payload, rest) = rest.split_at_checked(u16::from_be_bytes([high, low]).into())?;
@@ -332,7 +334,7 @@ pub fn feed_rounds(records: &[u8], feeds: &[u8], rounds: u32) -> u64 {
     let mut sum = 0;
     for _ in 0..rounds {
         list.clone_from(&start);
-        for (originator, payload) in messages(feeds) {
+        for (originator, payload) in fed_messages(feeds) {
             sum = fed(sum, black_box(&mut list).feed(originator, payload));
         }
     }
@@ -353,4 +355,116 @@ pub fn terminal_take(end: Member<'_>, calls: u32, out: &mut [u8]) -> u64 {
         };
     }
     list_sum(sum, &list)
+}
+
+#[inline(never)]
+fn journal_read_into(sum: u64, journal: &[u8]) -> u64 {
+    match journal::read(journal) {
+        Ok(found) => [
+            found.blocks as u64,
+            found.messages as u64,
+            found.tail.last.into(),
+            found.tail.free.into(),
+        ]
+        .into_iter()
+        .fold(sum, mix),
+        Err(refusal) => mix(sum, refusal.number().into()),
+    }
+}
+
+/// Rounds of reading a journal.
+pub fn journal_read(journal: &[u8], rounds: u32) -> u64 {
+    (0..rounds).fold(0, |sum, _| journal_read_into(sum, black_box(journal)))
+}
+
+/// Reads the record at an index of a block.
+pub fn journal_record(block: &[u8], at: usize, number: u32) -> u64 {
+    let block: Result<&[u8; BLOCK], _> = block.try_into();
+    match block
+        .ok()
+        .and_then(|block| journal::record_at(block, at, number))
+    {
+        Some(message) => [
+            message.number.into(),
+            message.originator.into(),
+            message.count.into(),
+            (at + journal::HEAD) as u64,
+            message.payload.len() as u64,
+        ]
+        .into_iter()
+        .fold(0, mix),
+        None => 1,
+    }
+}
+
+/// The messages of a list, up to one that is cut off.
+fn messages(mut list: &[u8]) -> impl Iterator<Item = Message<'_>> {
+    std::iter::from_fn(move || {
+        let (&[n0, n1, n2, n3, originator, c0, c1, c2, c3, s0, s1], rest) =
+            list.split_first_chunk()?;
+        let (payload, rest) = rest.split_at_checked(u16::from_be_bytes([s0, s1]).into())?;
+        list = rest;
+        Some(Message {
+            number: u32::from_be_bytes([n0, n1, n2, n3]),
+            originator,
+            count: u32::from_be_bytes([c0, c1, c2, c3]),
+            payload,
+        })
+    })
+}
+
+/// Takes what a writer answered and its state into a running sum.
+fn writer_sum(
+    sum: u64,
+    writer: &journal::Writer,
+    answer: Result<usize, Refusal>,
+    word: u64,
+) -> u64 {
+    let code = answer.map_or_else(|refusal| refusal.number().into(), |_| word);
+    [
+        code,
+        writer.tail.last.into(),
+        writer.tail.free.into(),
+        writer.first.into(),
+        writer.records as u64,
+        writer.used as u64,
+        answer.unwrap_or(0) as u64,
+    ]
+    .into_iter()
+    .fold(sum, mix)
+}
+
+/// Rounds of handing a writer a list of messages, each time in the same state.
+/// The blocks go to the front of the output, as far as it has room.
+#[inline(never)]
+pub fn journal_write(writer: Writer, list: &[u8], rounds: u32, out: &mut [u8]) -> u64 {
+    let start = journal::Writer {
+        tail: Tail {
+            last: writer.last,
+            free: writer.free,
+        },
+        first: writer.first,
+        records: writer.records,
+        used: writer.used,
+    };
+    let (mut hand, mut block) = ([0; BLOCK], [0; BLOCK]);
+    let mut sum = 0;
+    for _ in 0..rounds {
+        let mut writer = start;
+        let mut place = 0;
+        for message in messages(list) {
+            let (answer, word) = if message.originator == SHUTDOWN {
+                (black_box(&mut writer).finish(&hand, &mut block), 57)
+            } else {
+                let writer = black_box(&mut writer);
+                (writer.write(&message, &mut hand, &mut block), 48)
+            };
+            if answer == Ok(BLOCK) && out.len() - place >= BLOCK {
+                out[place..place + BLOCK].copy_from_slice(&block);
+                place += BLOCK;
+            }
+            sum = writer_sum(sum, &writer, answer, word);
+        }
+    }
+    sum
 }

@@ -1,7 +1,10 @@
 //! What crosses the boundary is what the other side sees.
 
-use boundary::{LOAD_LINE, Member, Sequencer, feeds, list, proved, records, reference};
+use boundary::{
+    FINISH, LOAD_LINE, Member, Sequencer, Writer, feeds, list, messages, proved, records, reference,
+};
 use model::jobs::{ADD, FETCH, List};
+use model::journal::{BLOCK, Message};
 use model::limits::{PACKET, PAYLOAD};
 use model::packet::Header;
 
@@ -281,4 +284,92 @@ fn behind_a_line() {
     assert_eq!(&line[..size], b"M 140 0\n");
     assert_eq!(line[size..], [0xaa; LOAD_LINE - 8]);
     assert_eq!(state, 2_654_435_769u32.wrapping_mul(3));
+}
+
+/// A message of member 3 with the payload `ab`.
+fn message(number: u32) -> Message<'static> {
+    Message {
+        number,
+        originator: 3,
+        count: 9,
+        payload: b"ab",
+    }
+}
+
+/// The block of one message, laid by hand.
+fn block(number: u32) -> [u8; BLOCK] {
+    let mut block = [0; BLOCK];
+    block[..4].copy_from_slice(b"KJB1");
+    block[4..8].copy_from_slice(&number.to_be_bytes());
+    block[8..19].copy_from_slice(&[0, 1, 3, 0, 0, 0, 9, 0, 2, b'a', b'b']);
+    let weighted = (1..).zip(&block[..BLOCK - 4]);
+    let sum: u32 = weighted
+        .map(|(weight, &byte)| weight * u32::from(byte))
+        .sum();
+    block[BLOCK - 4..].copy_from_slice(&sum.to_be_bytes());
+    block
+}
+
+/// A writer hands out the block of its message at shutdown, and it is read.
+#[test]
+fn a_block_of_the_journal() {
+    let fresh = Writer::after(0, true);
+    let list = messages([message(5), FINISH, message(6), FINISH]);
+    let (mut out, mut other) = ([0xaa; 2 * BLOCK + 1], [0xaa; 2 * BLOCK + 1]);
+    let sum = proved::journal_write(fresh, &list, 1, &mut out);
+    assert_eq!(sum, reference::journal_write(fresh, &list, 1, &mut other));
+    assert_eq!(out, other);
+    assert_eq!(out[..BLOCK], block(5));
+    assert_eq!(out[BLOCK..2 * BLOCK], block(6));
+    assert_eq!(out[2 * BLOCK..], [0xaa]);
+    // Two blocks, two messages, the last number 6, and the next alone may follow.
+    let sum = ((2 * 3 + 2) * 3 + 6) * 3;
+    assert_eq!(proved::journal_read(&out[..2 * BLOCK], 1), sum);
+    // Refused by question 21.
+    assert_eq!(proved::journal_read(&out, 1), 21);
+    // An empty journal: any number above 0 may follow.
+    assert_eq!(proved::journal_read(&[], 1), 1);
+    // The number that was asked for, originator 3, count 9, and 2 bytes from index 17.
+    let sum = (((7 * 3 + 3) * 3 + 9) * 3 + 17) * 3 + 2;
+    assert_eq!(proved::journal_record(&out[..BLOCK], 10, 7), sum);
+    assert_eq!(proved::journal_record(&out, 10, 7), 1);
+}
+
+/// Messages that a journal refuses, and unsound writers.
+#[test]
+fn refused_by_the_journal() {
+    let long = [0; PAYLOAD + 1];
+    let refused = [
+        Message {
+            originator: 16,
+            ..message(8)
+        },
+        Message {
+            count: 0,
+            ..message(8)
+        },
+        Message {
+            payload: &long,
+            ..message(8)
+        },
+        message(7),
+        message(9),
+    ];
+    let after = Writer::after(7, false);
+    let code = |writer, message| {
+        let mut out = [0xaa; BLOCK];
+        let list = messages([message]);
+        let sum = proved::journal_write(writer, &list, 1, &mut out);
+        assert_eq!(out, [0xaa; BLOCK]);
+        assert_eq!(sum, reference::journal_write(writer, &list, 1, &mut out));
+        // Six values of the state and the bytes written stand behind the answer.
+        sum / 3u64.pow(6)
+    };
+    for message in refused {
+        assert_eq!(code(after, message), 21, "{message:?}");
+    }
+    assert_eq!(code(after, message(8)), 48);
+    let unsound = Writer { used: 11, ..after };
+    assert_eq!(code(unsound, message(8)), 1);
+    assert_eq!(code(unsound, FINISH), 1);
 }

@@ -1,8 +1,11 @@
 //! Times every call of the proved library beside the same call of the
 //! reference, in turns, and prints the medians.
 
-use boundary::{LINE, Member, Sequencer, feeds, list, proved, records, reference};
+use boundary::{
+    FINISH, LINE, Member, Sequencer, Writer, feeds, list, messages, proved, records, reference,
+};
 use model::jobs::{ADD, FETCH, List};
+use model::journal::{BLOCK, Message};
 use model::limits::{HISTORY, JOBS, PACKET, PAYLOAD, WAITING, WINDOW};
 use model::packet::{self, BROADCAST, GAP, Header, POLL, REQUEST, STATUS};
 use std::collections::BTreeMap;
@@ -89,6 +92,9 @@ fn main() -> ExitCode {
     cases.extend(work_lists());
     cases.extend(schedules());
     cases.extend(loads());
+    for length in LENGTHS {
+        cases.extend(journals(length));
+    }
     let mut calls: BTreeMap<&str, Vec<Times>> = BTreeMap::new();
     for case in cases
         .iter()
@@ -586,5 +592,47 @@ fn loads() -> Vec<Case> {
         calls: 1,
         rounds: Box::new(move |side, rounds, _| on!(side, load_lines(42, n, rounds))),
     }));
+    cases
+}
+
+/// Blocks of the journal that is read.
+const BLOCKS: usize = 1000;
+
+/// Reading a journal, writing one, and shutdowns; what is timed of reading is a block.
+fn journals(length: usize) -> Vec<Case> {
+    let text = payload(length);
+    let fresh = Writer::after(0, true);
+    let message = |number: u32| Message {
+        number,
+        originator: 1,
+        count: number,
+        payload: &text,
+    };
+    let many = (BLOCKS * (BLOCK / (7 + length)) + 1) as u32;
+    let mut journal = vec![0; BLOCKS * BLOCK];
+    let list = messages((1..=many).map(message));
+    reference::journal_write(fresh, &list, 1, &mut journal);
+    let with = format!("payload {length}");
+    let mut cases = vec![Case {
+        call: "journal.read, a block",
+        with: with.clone(),
+        calls: BLOCKS,
+        rounds: Box::new(move |side, rounds, _| on!(side, journal_read(&journal, rounds))),
+    }];
+    let mut writing = |call, calls: usize, list: Vec<u8>| {
+        cases.push(Case {
+            call,
+            with: with.clone(),
+            calls,
+            rounds: Box::new(move |side, rounds, out| {
+                on!(side, journal_write(fresh, &list, rounds, out))
+            }),
+        });
+    };
+    writing("journal.write", 200, messages((1..=200).map(message)));
+    let closed = (1..=50).flat_map(|number| [message(number), FINISH]);
+    writing("journal.write, finish", 50, messages(closed));
+    let refused = (0..50).map(|_| message(0));
+    writing("journal.write refused", 50, messages(refused));
     cases
 }

@@ -1,11 +1,14 @@
-//! Random packets, packet lists, feeds of work lists, schedules and loads through
-//! the proved library and through the reference. A difference is printed with its
-//! seed, shrunk.
+//! Random packets, packet lists, feeds of work lists, schedules, loads and
+//! journals through the proved library and through the reference. A difference
+//! is printed with its seed, shrunk.
 
 use boundary::shrink::{plain, shrink};
-use boundary::{LINE, Member, Sequencer, feeds, list, proved, records, reference};
+use boundary::{
+    FINISH, LINE, Member, Sequencer, Writer, feeds, list, messages, proved, records, reference,
+};
 use model::jobs::{ADD, FETCH, Fed, GIVEN, Job, List, WAITING};
-use model::limits::{HEADER, JOB, JOBS, LARGEST, PACKET, PAYLOAD};
+use model::journal::{self, BLOCK, Message, RECORDS, SUM, Tail};
+use model::limits::{HEADER, JOB, JOBS, LARGEST, MEMBERS, PACKET, PAYLOAD};
 use model::packet::{self, Header};
 use model::sequencer;
 use schedules::random::Random;
@@ -29,6 +32,7 @@ struct Options {
     lists: u64,
     schedules: u64,
     loads: u64,
+    journals: u64,
     seed: u64,
 }
 
@@ -38,6 +42,7 @@ fn options() -> Option<Options> {
         lists: 20_000,
         schedules: 500,
         loads: 1_000,
+        journals: 5_000,
         seed: 1,
     };
     let mut words = std::env::args().skip(1);
@@ -48,6 +53,7 @@ fn options() -> Option<Options> {
             "--lists" => options.lists = value,
             "--schedules" => options.schedules = value,
             "--loads" => options.loads = value,
+            "--journals" => options.journals = value,
             "--seed" => options.seed = value,
             _ => return None,
         }
@@ -57,7 +63,9 @@ fn options() -> Option<Options> {
 
 fn main() -> ExitCode {
     let Some(options) = options() else {
-        eprintln!("usage: fuzz [--packets N] [--lists N] [--schedules N] [--loads N] [--seed N]");
+        eprintln!(
+            "usage: fuzz [--packets N] [--lists N] [--schedules N] [--loads N] [--journals N] [--seed N]"
+        );
         return ExitCode::FAILURE;
     };
     let mut differences = 0u64;
@@ -94,6 +102,8 @@ fn main() -> ExitCode {
     });
     run("schedules", options.schedules, |seed| (0, playing(seed)));
     run("loads of every n", options.loads, loading);
+    run("journals written", options.journals, journal_writing);
+    run("journals read", options.journals, journal_reading);
     println!("{differences} differences");
     if differences == 0 {
         ExitCode::SUCCESS
@@ -611,4 +621,266 @@ fn loading(seed: u64) -> (u8, Option<String>) {
     });
     let difference = difference.map(|n| format!("load {start} {n} {group} {events}"));
     (0, difference)
+}
+
+/// A taken message with its payload.
+#[derive(Clone, Debug)]
+struct Taken {
+    number: u32,
+    originator: u8,
+    count: u32,
+    payload: Vec<u8>,
+}
+
+impl Taken {
+    fn message(&self) -> Message<'_> {
+        Message {
+            number: self.number,
+            originator: self.originator,
+            count: self.count,
+            payload: &self.payload,
+        }
+    }
+}
+
+/// Messages behind a tail, and shutdowns. Where `refusals`, some may not be kept.
+fn taken(random: &mut Random, tail: Tail, refusals: bool) -> Vec<Taken> {
+    let mut writer = journal::Writer::after(tail);
+    let (mut hand, mut out) = ([0; BLOCK], [0; BLOCK]);
+    let many = random.below(150);
+    // Some journals have the shortest records alone, so that 71 stand in a block.
+    let short = random.percent(20);
+    let mut all = Vec::new();
+    for _ in 0..many {
+        let payload = if short { Vec::new() } else { payload(random) };
+        let mut one = Taken {
+            number: writer.tail.last.saturating_add(1),
+            originator: random.below(MEMBERS) as u8,
+            count: number(random).max(1),
+            payload,
+        };
+        match random.below(40) {
+            0 => {
+                let Message {
+                    number,
+                    originator,
+                    count,
+                    ..
+                } = FINISH;
+                (one.number, one.originator, one.count) = (number, originator, count);
+            }
+            1 if refusals => one.originator = random.one(&[16, 17, 100, 254]),
+            2 if refusals => one.count = 0,
+            3 if refusals => one.payload = random.bytes(PAYLOAD + 1),
+            4 if refusals => one.payload = random.bytes(1000),
+            5..8 if refusals => one.number = near(random, one.number),
+            8 if refusals => one.number = writer.tail.last,
+            _ => (),
+        }
+        // What it answers is compared elsewhere; here its tail alone matters.
+        let _ = writer.write(&one.message(), &mut hand, &mut out);
+        all.push(one);
+    }
+    all
+}
+
+/// The tail of a journal: mostly of an empty one, and some near the largest number.
+fn tail(random: &mut Random) -> Tail {
+    match random.below(4) {
+        0 => Tail {
+            last: LARGEST - random.below(80) as u32,
+            free: random.percent(50),
+        },
+        1 => Tail {
+            last: number(random),
+            free: false,
+        },
+        _ => Tail::FRESH,
+    }
+}
+
+/// A writer behind a tail: some have any records in hand, so that few are sound.
+fn writer(random: &mut Random, tail: Tail) -> Writer {
+    let mut writer = Writer::after(tail.last, tail.free);
+    if random.percent(30) {
+        let records = random.one(&[0, 1, 2, 71, 72, 498, usize::MAX]);
+        writer.records = records;
+        writer.first = match random.below(4) {
+            0 => number(random),
+            _ => (u64::from(tail.last) + 1).saturating_sub(records as u64) as u32,
+        };
+        writer.used = match random.below(4) {
+            0 => random.one(&[0, 9, 10, 11, SUM - 1, SUM, SUM + 1, BLOCK, usize::MAX]),
+            1 => RECORDS.saturating_add(records.saturating_mul(7)),
+            _ => RECORDS + random.below(SUM - RECORDS + 1),
+        };
+        writer.free = random.percent(10);
+    }
+    writer
+}
+
+/// The sum of a writer's answers, and the output with the blocks at its front.
+fn written(all: &[Taken], writer: Writer, room: usize) -> [(u64, Vec<u8>); 2] {
+    let list = messages(all.iter().map(Taken::message));
+    [proved::journal_write, reference::journal_write].map(|write| {
+        let mut out = vec![0xaa; room];
+        let sum = write(writer, &list, 1, &mut out);
+        (sum, out)
+    })
+}
+
+/// A writer in any state, any messages: answers, states, and the blocks byte for byte.
+fn journal_writing(seed: u64) -> (u8, Option<String>) {
+    let random = &mut Random::seeded(seed);
+    let tail = tail(random);
+    let writer = writer(random, tail);
+    let all = taken(random, tail, true);
+    let room = if random.percent(10) {
+        random.below(3 * BLOCK)
+    } else {
+        BLOCK * (all.len() + 1)
+    };
+    let differs = |all: &[Taken]| {
+        let [here, there] = written(all, writer, room);
+        here != there
+    };
+    let start = journal::Writer {
+        tail: Tail {
+            last: writer.last,
+            free: writer.free,
+        },
+        first: writer.first,
+        records: writer.records,
+        used: writer.used,
+    };
+    let refusal = if start.is_sound() { 0 } else { 1 };
+    if !differs(&all) {
+        return (refusal, None);
+    }
+    let fewer = shrink(&all, differs);
+    let [(here, _), (there, _)] = written(&fewer, writer, room);
+    let difference = format!("{writer:?}, {fewer:02x?}: {here}, in the reference {there}");
+    (refusal, Some(difference))
+}
+
+/// The sum of a block, made right.
+fn summed(block: &mut [u8]) {
+    if let Ok(block) = <&mut [u8; BLOCK]>::try_from(block) {
+        let sum = journal::sum(block);
+        block[SUM..].copy_from_slice(&sum.to_be_bytes());
+    }
+}
+
+/// A journal that was damaged: a block torn or changed, its sum made right or not, blocks lost, changed places or
+/// bytes behind the last.
+fn damage_journal(random: &mut Random, journal: &mut Vec<u8>) {
+    let blocks = journal.len() / BLOCK;
+    if blocks == 0 {
+        let more = random.one(&[0, 1, BLOCK - 1, BLOCK, BLOCK + 1, 2 * BLOCK]);
+        journal.extend(random.bytes(more));
+        return;
+    }
+    let at = BLOCK * random.below(blocks);
+    let block = at..at + BLOCK;
+    match random.below(9) {
+        // Torn: the first bytes were written, behind them stands something else.
+        0 => {
+            let kept = at + random.below(BLOCK);
+            journal.truncate(at + BLOCK);
+            let other = random.bytes(at + BLOCK - kept);
+            journal[kept..].copy_from_slice(&other);
+        }
+        1 => journal[at + random.below(BLOCK)..].fill(0),
+        2 => journal.truncate(random.below(journal.len())),
+        3 => {
+            let more = random.one(&[1, BLOCK - 1, BLOCK, BLOCK + 1]);
+            journal.extend(random.bytes(more));
+        }
+        4 => {
+            journal.drain(block);
+        }
+        5 => journal.rotate_left(BLOCK),
+        // Changed with its sum made right: what is asked of its content decides.
+        6 => {
+            journal[at + random.below(SUM)] ^= 1 << random.below(8);
+            summed(&mut journal[block]);
+        }
+        7 => {
+            let place = random.one(&[4, 7, 8, 9, 10, 14, 15, 16, 17, SUM - 1]);
+            journal[at + place] = random.one(&[0, 1, 2, 15, 16, 240, 241, 255]);
+            summed(&mut journal[block]);
+        }
+        _ => journal[at + random.below(BLOCK)] ^= 1 << random.below(8),
+    }
+}
+
+/// Whether the two sides read a journal differently.
+fn read_differs(journal: &[u8]) -> bool {
+    proved::journal_read(journal, 1) != reference::journal_read(journal, 1)
+}
+
+/// A journal that the reference wrote: read whole, each byte of its last block changed once, with and without the sum made
+/// right; damaged; and the records at any index of it.
+fn journal_reading(seed: u64) -> (u8, Option<String>) {
+    let random = &mut Random::seeded(seed);
+    let tail = tail(random);
+    let mut all = taken(random, tail, false);
+    all.push(Taken {
+        number: FINISH.number,
+        originator: FINISH.originator,
+        count: FINISH.count,
+        payload: Vec::new(),
+    });
+    let list = messages(all.iter().map(Taken::message));
+    let mut journal = vec![0; BLOCK * (all.len() + 1)];
+    let writer = Writer::after(tail.last, tail.free);
+    reference::journal_write(writer, &list, 1, &mut journal);
+    // Behind the blocks that were written stand zeros, which are no mark.
+    let blocks = journal.chunks(BLOCK).take_while(|block| block[0] != 0);
+    journal.truncate(BLOCK * blocks.count());
+    let said = |what: &str, journal: &[u8]| {
+        let fewer = shrink(journal, read_differs);
+        (
+            0,
+            Some(format!("{what} {} bytes: {fewer:02x?}", journal.len())),
+        )
+    };
+    if read_differs(&journal) {
+        return said("whole", &journal);
+    }
+    if let Some(last) = journal.len().checked_sub(BLOCK) {
+        for at in 0..BLOCK {
+            let mut changed = journal[last..].to_vec();
+            changed[at] ^= 1 << random.below(8);
+            if read_differs(&changed) {
+                return said("changed", &changed);
+            }
+            summed(&mut changed);
+            if read_differs(&changed) {
+                return said("changed and summed", &changed);
+            }
+        }
+    }
+    for _ in 0..10 {
+        let mut damaged = journal.clone();
+        for _ in 0..1 + random.below(2) {
+            damage_journal(random, &mut damaged);
+        }
+        if read_differs(&damaged) {
+            return said("damaged", &damaged);
+        }
+        let size = random
+            .one(&[BLOCK, BLOCK, BLOCK, BLOCK - 1, 0])
+            .min(damaged.len());
+        let any = random.below(BLOCK);
+        let at = random.one(&[RECORDS, SUM - 7, SUM - 6, SUM, usize::MAX, any, any]);
+        let (block, number) = (&damaged[..size], number(random));
+        let here = proved::journal_record(block, at, number);
+        if here != reference::journal_record(block, at, number) {
+            let difference = format!("record {number} at {at} of {block:02x?}");
+            return (0, Some(difference));
+        }
+    }
+    let refusal = journal::read(&journal).map_or_else(|refusal| refusal.number(), |_| 0);
+    (refusal, None)
 }

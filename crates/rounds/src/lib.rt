@@ -1,4 +1,4 @@
-// Rounds of every call of both ends, and of the generator, for the benchmark and the fuzz; no user links it. The states are built inside, and what the
+// Rounds of every call of both ends, of the journal, and of the generator, for the benchmark and the fuzz; no user links it. The states are built inside, and what the
 // calls answer comes back as a running sum. Promised is only what is proved of every function: it is safe and ends. What it
 // calls has its own promise.
 use generator::Generator;
@@ -7,6 +7,8 @@ use group::MemberNumber;
 use group::SequenceNumber;
 use history::Acknowledgement;
 use jobs::Job;
+use journal::Tail;
+use journal::Writer;
 use member::Member;
 use packet::Reading;
 use sequencer::Sequencer;
@@ -640,4 +642,163 @@ pub extern "C" fn rounds_terminal_take(
         left -= 1;
     }
     list_sum(sum, jobs)
+}
+
+// Takes what reading a journal answers into a running sum.
+#[no_mangle]
+pub extern "C" fn rounds_journal_read(sum: u64, journal: &[u8]) -> u64 {
+    let reading = journal::read(journal);
+    match reading {
+        journal::Reading::Read(found) => {
+            let tail = found.tail;
+            let counted = mix(mix(sum, found.blocks as u64), found.messages as u64);
+            mix(mix(counted, tail.last.0 as u64), tail.free as u64)
+        }
+        journal::Reading::Refused(q) => mix(sum, q.number() as u64),
+    }
+}
+
+// Takes what reading the record at an index of a block answers into a running sum.
+#[no_mangle]
+pub extern "C" fn rounds_journal_record(sum: u64, block: &[u8], at: usize, number: u32) -> u64 {
+    let entry = journal::record_at(block, at, SequenceNumber(number));
+    match entry {
+        journal::Entry::Right(record) => {
+            let from = mix(mix(sum, record.number.0 as u64), record.originator.0 as u64);
+            let counted = mix(from, record.count as u64);
+            mix(mix(counted, record.start as u64), record.length as u64)
+        }
+        journal::Entry::Wrong => mix(sum, 1),
+    }
+}
+
+// A writer, the index behind the blocks that it laid in the output, and the running sum of its answers.
+struct Journaling {
+    writer: Writer,
+    place: usize,
+    sum: u64,
+}
+
+// Takes a writer's state and what it answered into a running sum.
+fn writer_sum(sum: u64, writer: Writer, answer: journal::Answer, written: usize) -> u64 {
+    let code = match answer {
+        journal::Answer::Refused(q) => q.number() as u64,
+        journal::Answer::Kept => 48,
+        journal::Answer::Closed => 57,
+    };
+    let tail = writer.tail;
+    let ended = mix(mix(mix(sum, code), tail.last.0 as u64), tail.free as u64);
+    let begun = mix(mix(ended, writer.first.0 as u64), writer.records as u64);
+    mix(mix(begun, writer.used as u64), written as u64)
+}
+
+// Lays a block that was handed out at an index of the output, where it has room; the index behind it.
+fn lay(block: &[u8], written: usize, out: &mut [u8], place: usize) -> usize {
+    if block.len() != written {
+        return place;
+    }
+    if out.len() < place {
+        return place;
+    }
+    if out.len() - place < block.len() {
+        return place;
+    }
+    text::put_text(block, out, place)
+}
+
+// Hands a writer the message whose payload stands between two indices of a list: the number, the originator, the count and
+// the payload's length stand before it. The originator 255 means shutdown.
+fn journal_step(
+    run: Journaling,
+    messages: &[u8],
+    start: usize,
+    end: usize,
+    hand: &mut [u8; journal::Block::SIZE],
+    block: &mut [u8; journal::Block::SIZE],
+) -> journal::Step
+    requires { ⌜ (11 ≤ start) × (start ≤ end) × (end ≤ length (now messages)) ⌝ }
+{
+    let writer = run.writer;
+    let originator = messages[start - 7];
+    if originator == 255 {
+        return writer.finish(hand, block);
+    }
+    let number = SequenceNumber(big_endian::u32_at(messages, start - 11));
+    let count = big_endian::u32_at(messages, start - 6);
+    let payload = &messages[start..end];
+    writer.write(
+        number,
+        MemberNumber(originator),
+        count,
+        payload,
+        hand,
+        block,
+    )
+}
+
+// Hands a writer each message of a list, up to one that is cut off.
+fn journal_writes(
+    mut run: Journaling,
+    messages: &[u8],
+    hand: &mut [u8; journal::Block::SIZE],
+    block: &mut [u8; journal::Block::SIZE],
+    out: &mut [u8],
+) -> Journaling {
+    let mut at: usize = 0;
+    while 11 <= messages.len() - at {
+        let start = at + 11;
+        let size = size_at(messages, at + 9);
+        if messages.len() - start < size {
+            return run;
+        }
+        let end = start + size;
+        let step = journal_step(run, messages, start, end, hand, block);
+        let writer = step.writer;
+        let answer = step.answer;
+        let place = lay(block, step.written, out, run.place);
+        let sum = writer_sum(run.sum, writer, answer, step.written);
+        run = Journaling { writer, place, sum };
+        at = end;
+    }
+    run
+}
+
+// Rounds of handing a writer a list of messages, each time in the same state, which may be an unsound one: the sum of its
+// answers and of its states. The blocks stand at the front of the output, as far as it has room.
+#[no_mangle]
+pub extern "C" fn rounds_journal_write(
+    last: u32,
+    free: u8,
+    first: u32,
+    records: usize,
+    used: usize,
+    messages: &[u8],
+    rounds: u32,
+    out: &mut [u8],
+) -> u64 {
+    let tail = Tail {
+        last: SequenceNumber(last),
+        free: free != 0,
+    };
+    let writer = Writer {
+        tail,
+        first: SequenceNumber(first),
+        records,
+        used,
+    };
+    let mut hand = [0u8; journal::Block::SIZE];
+    let mut block = [0u8; journal::Block::SIZE];
+    let mut sum: u64 = 0;
+    let mut left = rounds;
+    while 0 < left {
+        let fresh = Journaling {
+            writer,
+            place: 0,
+            sum,
+        };
+        let run = journal_writes(fresh, messages, &mut hand, &mut block, out);
+        sum = run.sum;
+        left -= 1;
+    }
+    sum
 }

@@ -1,14 +1,19 @@
 -- An answer that is not Took hands out nothing, and what a take handed out lies at the front of its output. Assumes nothing.
 use mathlib.Core.Path.{_≡_, refl, sym, ap, _∙_}
 use mathlib.Core.Logic.{inl, inr}
-use mathlib.Core.Bool.{Bool}
+use mathlib.Core.Bool.{Bool, true}
 use mathlib.Core.List.{List, [], _∷_}
 use Prim.Native.Nat.{ℕ, _≤_, _<_}
 use native.Mathlib.Omega.{arith}
+use borrow.Author.Tests.{leb-true}
 use lib.ListN.{length, take, drop, length-append}
 use lib.Seq.{take-at}
 use types.Run.{OneOf}
+use Rattle.group.specs.Choice.{_and_, _≤?_, _=?_}
 use Rattle.group.specs.Lent.{front}
+use Rattle.group.proofs.Choice.{both-then}
+use Rattle.packet.specs.Packet.{broadcastKind}
+use Rattle.packet.specs.declared.Header.{Header}
 use Rattle.group.specs.declared.MemberNumber.{MemberNumber}
 use Rattle.group.specs.declared.SequenceNumber.{SequenceNumber}
 use Rattle.jobs.specs.declared.Job.{Job}
@@ -17,6 +22,7 @@ use Rattle.member.specs.Order.{tookBy}
 use Rattle.member.specs.declared.Step.{Step}
 use Rattle.member.specs.declared.Answer.{Answer}
 use Rattle.member.specs.declared.Answer.the-variants.{Refused, Sent, Queued, Old, Kept, KeptGap, Beyond, BeyondGap, Gap, Status, None, Took}
+use Rattle.terminal.specs.Left.{isNext}
 use Rattle.terminal.specs.Take.{fedBy, answeredBy, takingOf}
 use Rattle.terminal.specs.declared.Feeding.{Feeding}
 
@@ -88,3 +94,9 @@ module _ (o : Outcome) (r : Step) (before after : List ℕ) (step : r ≡ stepOf
         jobs = (e .0 ∙ ap (fedBy jobs) took) i;
         fed = (e .1 ∙ ap (answeredBy jobs) took) i;
       }
+
+-- a number that comes next was taken
+pub next-most : (t number : ℕ) (h : Header) → isNext t number h ≡ true → number ≤ t
+unfolding isNext
+next-most t number h e =
+    leb-true number t (both-then (h .a =? number) (number ≤? t) (both-then (h .kind =? broadcastKind) (h .a =? number and number ≤? t) e))

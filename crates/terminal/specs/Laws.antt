@@ -1,5 +1,5 @@
--- What is proved of the work lists, of every log, so of that of every list of events that demand 3 speaks of. `proofs/Lists.antt` has
--- the proofs.
+-- What is proved of the work lists, of every log, so of that of every list of events that demand 3 speaks of. `proofs/Lists.antt`
+-- and `proofs/Order.antt` have the proofs.
 use mathlib.Core.Path.{_≡_}
 use mathlib.Core.Bool.{true}
 use mathlib.Core.List.{List}
@@ -10,6 +10,7 @@ use Rattle.jobs.specs.Sound.{soundOf}
 use Rattle.model.specs.Closing.{closing}
 use Rattle.model.specs.Log.{taken}
 use Rattle.model.specs.World.{Event, Entry, World, run, fresh}
+use Rattle.terminal.specs.Left.{listIn}
 use Rattle.terminal.specs.Log.{listOf, Tally, freshTally, tallyFrom}
 
 -- terminals with the same taken messages hold the same list
@@ -35,3 +36,9 @@ ClosedAlike =
     (n number : ℕ) → 1 ≤ n → n ≤ membersMost → number ≤ largestNumber → (events : List Event) (i j : ℕ) → i < n → j < n
     → let w : World = run (fresh n number) events in
     listOf i (run w (closing w) .log) ≡ listOf j (run w (closing w) .log)
+
+-- what is read off a group that was run is each terminal's list
+abbrev pub ListLeft : Type 0
+ListLeft =
+    (n number : ℕ) → 1 ≤ n → n ≤ membersMost → number ≤ largestNumber → (events : List Event) (i : ℕ) → i < n
+    → listIn (run (fresh n number) events .group) i ≡ listOf i (run (fresh n number) events .log)

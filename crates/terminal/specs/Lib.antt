@@ -1,4 +1,5 @@
 pub mod Take
 pub mod Wording
 pub mod Log
+pub mod Left
 pub mod Laws

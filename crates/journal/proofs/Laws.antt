@@ -9,18 +9,17 @@ use lib.ListN.{length}
 use Rattle.group.specs.Choice.{if_then_else_, ask_or_then_, _and_, _≤?_, _=?_}
 use Rattle.group.specs.declared.Refusal.the-variants.{UnsoundState, WrongJournal}
 use Rattle.group.specs.declared.Verdict.{Verdict}
-use Rattle.group.proofs.Choice.{if-true, if-was}
+use Rattle.group.proofs.Choice.{if-true}
 use Rattle.group.specs.Question.{firstNo, judged}
 use Rattle.group.proofs.Lists.{if-elim}
 use Rattle.group.proofs.Question.{judged-ask}
 use Rattle.message.specs.Order.{Ordered}
 use Rattle.text.specs.LaidAt.{writtenAt}
 use Rattle.journal.specs.Limits.{blockSize, recordsAt, recordsEnd}
-use Rattle.journal.specs.Block.{recordOf, recordsOf, follows, recordRight, messageAt}
-use Rattle.journal.specs.Read.{foundIn, counted, readOf, recordAt, entryOf, heldBy}
+use Rattle.journal.specs.Block.{recordOf, recordsOf, follows}
+use Rattle.journal.specs.Read.{foundIn, counted, readOf}
 use Rattle.journal.specs.Write.{Outcome, writerAfter, writerSound, allowed, begun, inHand, refused, keptOf, writeVerdict, closedOf, writeOf, finishOf}
-use Rattle.journal.specs.Laws.{Fits, Allowed, handed, joint, messagesIn, Writes, starts, keeps, closes, RoundTrip, InOrder, ReadFirstNo, WriteFirstNo, FinishFirstNo, WriterSound, EntryHolds}
-use Rattle.journal.specs.declared.Entry.{Entry}
+use Rattle.journal.specs.Laws.{Fits, Allowed, handed, joint, messagesIn, Writes, starts, keeps, closes, RoundTrip, InOrder, ReadFirstNo, WriteFirstNo, FinishFirstNo, WriterSound}
 use Rattle.journal.specs.declared.Reading.{Reading}
 use Rattle.journal.specs.declared.Tail.{Tail}
 use Rattle.journal.specs.declared.Writer.{Writer}
@@ -162,11 +161,3 @@ write-first-no w m hand = refl
 pub finish-first-no : FinishFirstNo
 unfolding finishOf firstNo judged
 finish-first-no w hand = judged-ask (refused w hand) (closedOf w hand) (writerSound w) UnsoundState []
-
-pub entry-holds : EntryHolds
-unfolding entryOf heldBy messageAt
-entry-holds block at number r e =
-    let (_, same) = if-was (length block =? blockSize and recordRight block at (number .0)) (Entry.Right (recordAt block at number)) Entry.Wrong (Entry.Right r) e
-    (λ z. let y : _≡_ {A = ℕ} 0 1 = cc in omega arith) in
-    let q : recordAt block at number ≡ r = cc in
-    rw (← q)

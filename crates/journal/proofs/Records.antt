@@ -4,12 +4,12 @@ use mathlib.Core.Bool.{true}
 use mathlib.Core.List.{List, [], _∷_, _++_, append-assoc}
 use Prim.Native.Nat.{ℕ, _+_, _≤_, _<_}
 use native.Mathlib.Omega.{arith}
-use borrow.Author.Tests.{lt-ltb, le-leb, eq-eqb}
+use borrow.Author.Tests.{lt-ltb, le-leb, eq-eqb, eqb-true}
 use lib.ListN.{length, getD, take, drop}
 use lib.Seq.{getD-drop, drop-drop, take-at}
 use Rattle.group.specs.Choice.{_and_, _<?_, _≤?_, _=?_}
 use Rattle.group.specs.Limits.{membersMost, payloadMost, largestNumber}
-use Rattle.group.proofs.Choice.{says, if-true, both-hold}
+use Rattle.group.proofs.Choice.{says, if-true, if-was, both-hold, both-first, both-then}
 use Rattle.group.specs.declared.SequenceNumber.{SequenceNumber}
 use Rattle.message.specs.Order.{Ordered}
 use Rattle.big_endian.specs.Laws.{Bytes}
@@ -17,10 +17,11 @@ use Rattle.big_endian.specs.Number.{numberAt, bytesOf}
 use Rattle.big_endian.proofs.Number.{bytes-cons, bytes-append, bytesOf-bytes}
 use Rattle.journal.specs.Limits.{blockSize, recordsEnd, recordHead}
 use Rattle.journal.specs.Block.{recordOf, lengthAt, behind, recordRight, messageAt}
-use Rattle.journal.specs.Read.{recordAt, entryOf}
+use Rattle.journal.specs.Read.{recordAt, entryOf, heldBy}
 use Rattle.journal.specs.Write.{allowed}
-use Rattle.journal.specs.Laws.{Allowed, RecordBack}
+use Rattle.journal.specs.Laws.{Allowed, RecordBack, EntryHolds, EntryWithin}
 use Rattle.journal.specs.declared.Entry.{Entry}
+use Rattle.journal.specs.declared.Record.{Record}
 use Rattle.journal.proofs.Lists.{number-in}
 
 -- what `allowed` says
@@ -70,6 +71,25 @@ unfolding entryOf
 entry-right block at number n s =
     if-true (length block =? blockSize and recordRight block at (number .0)) _ _ _
     (both-hold (length block =? blockSize) _ (eq-eqb (length block) blockSize n) (says-right block at (number .0) s)) refl
+
+-- and an entry was a right record of a block
+pub entry-was : (block : List ℕ) (at : ℕ) (number : SequenceNumber) (r : Record) → entryOf block at number ≡ Entry.Right r
+    → (length block ≡ blockSize) × (recordRight block at (number .0) ≡ true) × (recordAt block at number ≡ r)
+unfolding entryOf
+entry-was block at number r e =
+    let (right, same) = if-was (length block =? blockSize and recordRight block at (number .0)) (Entry.Right (recordAt block at number)) Entry.Wrong (Entry.Right r) e
+    (λ z. let y : _≡_ {A = ℕ} 0 1 = cc in omega arith) in
+    (eqb-true (length block) blockSize (both-first (length block =? blockSize) _ right), both-then (length block =? blockSize) _ right, (cc))
+
+pub entry-holds : EntryHolds
+unfolding heldBy messageAt
+entry-holds block at number r e = let (_, _, same) = entry-was block at number r e in rw (← same)
+
+pub entry-within : EntryWithin
+entry-within block at number r e =
+    let (long, right, same) = entry-was block at number r e in
+    let s = right-says block at (number .0) right in
+    rw (← same) (long, refl, s .size, s .ends)
 
 pub record-length : (m : Ordered) → length (recordOf m) ≡ recordHead + length (m .payload)
 unfolding recordOf bytesOf

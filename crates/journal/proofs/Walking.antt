@@ -17,14 +17,14 @@ use Rattle.message.specs.Message.{allZero}
 use Rattle.message.specs.Order.{Ordered}
 use Rattle.journal.specs.Limits.{blockSize, recordsAt, recordsEnd, recordHead}
 use Rattle.journal.specs.Block.{firstAt, recordsIn, behind, endedAt, follows, recordRight, recordsRight, marked, sumRight, contentRight, blockRight, messagesFrom, messagesOf, tailOf}
-use Rattle.journal.specs.Read.{Reads, freshTail, nothing, joined, foundFrom, foundIn, counted, nextOf, recordAt, entryOf}
+use Rattle.journal.specs.Read.{Reads, freshTail, nothing, joined, foundFrom, foundIn, counted, nextOf, entryOf}
 use Rattle.journal.specs.declared.Block.{Block}
 use Rattle.journal.specs.declared.Entry.{Entry}
 use Rattle.journal.specs.declared.Found.{Found}
 use Rattle.journal.specs.declared.Record.{Record}
 use Rattle.journal.specs.declared.Tail.{Tail}
 use Rattle.journal.proofs.Lists.{drop-take}
-use Rattle.journal.proofs.Records.{Says, right-says, entry-right}
+use Rattle.journal.proofs.Records.{Says, right-says, entry-right, entry-was}
 use Rattle.journal.proofs.Sound.{follows-positive}
 
 -- where the record at an index ends, or 0
@@ -52,24 +52,11 @@ module _ (block : List ℕ) (at before : ℕ) where
       if-elim (λ (x : ℕ). 0 ≡ x) (recordRight block at (before + 1))
       (λ t. let m = right-says block at (before + 1) t .most in absurd (omega arith)) (λ t. refl)
 
-  right-was : (r : Record) → entryOf block at (record { 0 = before + 1 }) ≡ Entry.Right r
-      → (recordRight block at (before + 1) ≡ true) × (recordAt block at (record { 0 = before + 1 }) ≡ r)
-  unfolding entryOf
-  right-was r e =
-      let (right, same) = if-was (length block =? blockSize and recordRight block at (before + 1)) _ Entry.Wrong (Entry.Right r) e
-      (λ z. let y : _≡_ {A = ℕ} 0 1 = cc in omega arith) in
-      (both-then (length block =? blockSize) _ right, (cc))
-
   pub end-right : (r : Record) → entryOf block at (record { 0 = before + 1 }) ≡ Entry.Right r
       → r .start + r .length ≡ (if recordRight block at (before + 1) then behind block at else 0)
   end-right r e =
-      let (right, same) = right-was r e in
+      let (_, right, same) = entry-was block at (record { 0 = before + 1 }) r e in
       if-true (recordRight block at (before + 1)) _ _ _ right (sym (ap (λ (x : Record). x .start + x .length) same))
-
-  pub end-within : (r : Record) → entryOf block at (record { 0 = before + 1 }) ≡ Entry.Right r → r .start + r .length ≤ recordsEnd
-  end-within r e =
-      let (right, same) = right-was r e in
-      rw (← same) (right-says block at (before + 1) right .ends)
 
   pub end-wrong : length block ≡ blockSize → entryOf block at (record { 0 = before + 1 }) ≡ Entry.Wrong
       → 0 ≡ (if recordRight block at (before + 1) then behind block at else 0)

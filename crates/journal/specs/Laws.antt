@@ -5,13 +5,13 @@ use mathlib.Core.List.{List, [], _∷_, _++_}
 use Prim.Native.Nat.{ℕ, _+_, _*_, _-_, _/_, _%_, _≤_, _<_}
 use lib.ListN.{length, getD, take, drop}
 use Rattle.group.specs.Choice.{_and_, _=?_}
-use Rattle.group.specs.Limits.{largestNumber}
+use Rattle.group.specs.Limits.{payloadMost, largestNumber}
 use Rattle.group.specs.Question.{Question, firstNo, judged}
 use Rattle.group.specs.declared.Refusal.the-variants.{UnsoundState, WrongJournal}
 use Rattle.group.specs.declared.SequenceNumber.{SequenceNumber}
 use Rattle.message.specs.Order.{Ordered}
 use Rattle.big_endian.specs.Laws.{Bytes}
-use Rattle.journal.specs.Limits.{blockSize, recordsAt, recordsEnd}
+use Rattle.journal.specs.Limits.{blockSize, recordsAt, recordsEnd, recordHead}
 use Rattle.journal.specs.Block.{recordOf, recordsOf, blockOf, firstAt, recordsIn, behind, endedAt, follows, recordRight, sumRight, blockRight, messageAt, messagesOf, tailOf}
 use Rattle.journal.specs.Read.{joined, foundFrom, foundIn, counted, readOf, entryOf, heldBy}
 use Rattle.journal.specs.Write.{writerAfter, writerSound, allowed, refused, keptOf, closedOf, writeOf, finishOf}
@@ -196,3 +196,9 @@ abbrev pub EntryHolds : Type 0
 EntryHolds =
     (block : List ℕ) (at : ℕ) (number : SequenceNumber) (r : Record) → entryOf block at number ≡ Entry.Right r
     → heldBy block r ≡ messageAt block at (number .0)
+
+-- and it lies within the block
+abbrev pub EntryWithin : Type 0
+EntryWithin =
+    (block : List ℕ) (at : ℕ) (number : SequenceNumber) (r : Record) → entryOf block at number ≡ Entry.Right r
+    → (length block ≡ blockSize) × (r .start ≡ at + recordHead) × (r .length ≤ payloadMost) × (r .start + r .length ≤ recordsEnd)

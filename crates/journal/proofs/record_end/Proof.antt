@@ -2,7 +2,8 @@
 -- Assumes nothing.
 use mathlib.Core.Path.{_≡_, sym, _∙_}
 use denote.Ref.{now}
-use Rattle.journal.proofs.Walking.{end-above, end-right, end-within, end-wrong}
+use Rattle.journal.proofs.Walking.{end-above, end-right, end-wrong}
+use Rattle.journal.proofs.Records.{entry-within}
 use borrow.Author.Needs.{needs}
 use Rattle.journal.proofs.record_end.Statement.{statement}
 use Rattle.journal.proofs.record_end.Tie as tie
@@ -25,7 +26,7 @@ add-result : tie.Need-add-result
 add-result c =
     let a = c .before .before .before .before .before .before .before .args in
     let r = c .before .before .before .before in
-    let most = end-within (now (a .block)) (a .at) (a .last) _ (sym (r .record-at .ensures .0) ∙ c .before .before .entry .given .1) in
+    let (_, _, _, most) = entry-within (now (a .block)) (a .at) _ _ (sym (r .record-at .ensures .0) ∙ c .before .before .entry .given .1) in
     search needs
 
 enum-told : tie.Need-enum-told

@@ -1,0 +1,652 @@
+// Lists journals, and appends to one: `journal_tool list FILE..`, `journal_tool append FILE`. A message is a line, `number
+// originator count payload`, the payload in hex or `-`; the last line is `blocks B messages M`. Input and output are C's, so
+// nothing is promised here; what is read and written is worked out by `journal` and `text`.
+use group::Group;
+use group::MemberNumber;
+use group::Refusal;
+use group::SequenceNumber;
+use journal::Answer;
+use journal::Block;
+use journal::Entry;
+use journal::Tail;
+use journal::Writer;
+use libc::STDIN_FILENO;
+use libc::STDOUT_FILENO;
+use text::Found;
+use text::Numeral;
+ghost use mathlib.Core.Path.{_≡_};
+ghost use Prim.Native.Nat.{_+_, _*_, _≤_, _<_};
+ghost use lib.ListN.{length};
+ghost use Rattle.group.specs.Limits.{payloadMost};
+ghost use Rattle.journal.specs.Limits.{blockSize, recordsEnd};
+
+// A line of more characters is of another form; the longest that is printed has 514.
+const LINE_MOST: usize = 1000;
+
+// The bytes that a line has room for, two digits a byte.
+const PAYLOAD_ROOM: usize = LINE_MOST / 2;
+
+// Prints a line whose fields, each behind a space, end at an index.
+fn print_line(line: &mut [u8], end: usize)
+    requires { ⌜ end < length (now line) ⌝ }
+{
+    let next = text::put(b'\n', line, end);
+    io::write_all(STDOUT_FILENO, &line[1..next]);
+}
+
+fn print_text(text: &[u8]) {
+    io::write_all(STDOUT_FILENO, text);
+    io::write_all(STDOUT_FILENO, b"\n");
+}
+
+fn print_refused(refusal: Refusal) {
+    let mut line = [0u8; LINE_MOST];
+    let next = text::put_word(b"refused", &mut line, 0);
+    let number = refusal.number();
+    let next = text::put_number(number as u32, &mut line, next);
+    print_line(&mut line, next);
+}
+
+fn print_totals(blocks: usize, messages: usize) {
+    let mut line = [0u8; LINE_MOST];
+    let next = text::put_word(b"blocks", &mut line, 0);
+    let next = text::put_index(blocks, &mut line, next);
+    let next = text::put_word(b"messages", &mut line, next);
+    let next = text::put_index(messages, &mut line, next);
+    print_line(&mut line, next);
+}
+
+fn print_message(number: u32, originator: u8, count: u32, payload: &[u8])
+    requires { ⌜ length (now payload) ≤ payloadMost ⌝ }
+{
+    let mut line = [0u8; LINE_MOST];
+    let next = text::put_number(number, &mut line, 0);
+    let next = text::put_number(originator as u32, &mut line, next);
+    let next = text::put_number(count, &mut line, next);
+    let next = text::put_payload(payload, &mut line, next);
+    print_line(&mut line, next);
+}
+
+// Prints the messages of a right block.
+fn print_records(block: &[u8], records: usize) {
+    if block.len() != Block::SIZE {
+        return;
+    }
+    let mut number = big_endian::u32_at(block, 4);
+    let mut at = Block::RECORDS;
+    let mut left = records;
+    while 0 < left {
+        let entry = journal::record_at(block, at, SequenceNumber(number));
+        match entry {
+            Entry::Right(record) => {
+                let start = record.start;
+                let end = start + record.length;
+                print_message(
+                    number,
+                    record.originator.0,
+                    record.count,
+                    &block[start..end],
+                );
+                at = end;
+            }
+            Entry::Wrong => {
+                return;
+            }
+        }
+        number = std::num::wrapping_add_u32(number, 1);
+        left -= 1;
+    }
+}
+
+// What is known of a journal after some blocks, and whether reading goes on. No file has so many blocks that a count wraps.
+struct Known {
+    tail: Tail,
+    blocks: usize,
+    messages: usize,
+    goes_on: bool,
+}
+
+fn nothing() -> Known {
+    let tail = Tail::fresh();
+    Known {
+        tail,
+        blocks: 0,
+        messages: 0,
+        goes_on: true,
+    }
+}
+
+fn stopped(known: Known) -> Known {
+    let tail = known.tail;
+    Known {
+        tail,
+        blocks: known.blocks,
+        messages: known.messages,
+        goes_on: false,
+    }
+}
+
+// Reads a block, and prints its messages where that is asked.
+fn read_block(known: Known, block: &[u8], prints: bool) -> Known {
+    let tail = known.tail;
+    let next = tail.next(block);
+    match next {
+        Block::Right(one) => {
+            if prints {
+                print_records(block, one.messages);
+            }
+            let tail = one.tail;
+            Known {
+                tail,
+                blocks: std::num::wrapping_add_usize(known.blocks, 1),
+                messages: std::num::wrapping_add_usize(known.messages, one.messages),
+                goes_on: true,
+            }
+        }
+        Block::Wrong => stopped(known),
+    }
+}
+
+fn read_whole(known: Known, block: [u8; Block::SIZE], size: usize, prints: bool) -> Known {
+    if size < Block::SIZE {
+        return stopped(known);
+    }
+    read_block(known, &block, prints)
+}
+
+// Reads so many blocks of a file, up to the first that is wrong.
+fn read_blocks(file: i32, total: u64, prints: bool) -> Known {
+    let mut known = nothing();
+    let mut left = total;
+    while 0 < left {
+        if known.goes_on {
+            let mut block = [0u8; Block::SIZE];
+            let size = io::read_full(file, &mut block);
+            known = read_whole(known, block, size, prints);
+            left -= 1;
+        } else {
+            return known;
+        }
+    }
+    known
+}
+
+// How many blocks a file has. Its length may be no multiple of a block's, or not to be had.
+enum Size {
+    Blocks(u64),
+    Uneven,
+    Unknown,
+}
+
+fn positive(n: i64) -> u64 {
+    if n > 0 { n as u64 } else { 0 }
+}
+
+fn size_of(file: i32) -> Size {
+    let end = libc::lseek(file, 0, libc::SEEK_END);
+    if end < 0 {
+        return Size::Unknown;
+    }
+    if libc::lseek(file, 0, libc::SEEK_SET) < 0 {
+        return Size::Unknown;
+    }
+    let size = positive(end);
+    if size % 512 == 0 {
+        Size::Blocks(size / 512)
+    } else {
+        Size::Uneven
+    }
+}
+
+fn list(file: i32) {
+    let size = size_of(file);
+    match size {
+        Size::Blocks(total) => {
+            let known = read_blocks(file, total, true);
+            print_totals(known.blocks, known.messages);
+        }
+        Size::Uneven => print_refused(Refusal::WrongJournal),
+        Size::Unknown => os::fail(b"journal_tool"),
+    }
+}
+
+// Where a block begins in a file; -1, which C refuses, for one that no file has.
+fn offset_of(blocks: usize) -> i64 {
+    if blocks < 1000000000000 {
+        (blocks * Block::SIZE) as i64
+    } else {
+        -1
+    }
+}
+
+// Puts a block behind those of a file. The file grows first, so that wherever this is ended its length is a multiple of a
+// block's; and the next block waits until this one has reached the card.
+fn put_block(file: i32, blocks: usize, block: [u8; Block::SIZE]) -> bool {
+    let at = offset_of(blocks);
+    let next = offset_of(std::num::wrapping_add_usize(blocks, 1));
+    if libc::ftruncate(file, next) != 0 {
+        return false;
+    }
+    if libc::pwrite(file, &block, at) != 512 {
+        return false;
+    }
+    libc::fsync(file) == 0
+}
+
+// A writer with its block in hand, and the blocks and messages of its file. It is stopped by a line of another form, and by a
+// card that does not take a block.
+struct Session {
+    writer: Writer,
+    hand: [u8; Block::SIZE],
+    blocks: usize,
+    messages: usize,
+    stopped: bool,
+}
+
+// The session after a block was put on the card, if there was one.
+fn handed_out(
+    mut session: Session,
+    file: i32,
+    written: usize,
+    block: [u8; Block::SIZE],
+) -> Session {
+    if written == 0 {
+        return session;
+    }
+    if put_block(file, session.blocks, block) {
+        session.blocks = std::num::wrapping_add_usize(session.blocks, 1);
+        return session;
+    }
+    os::fail(b"journal_tool");
+    session.stopped = true;
+    session
+}
+
+fn write_message(
+    mut session: Session,
+    file: i32,
+    number: u32,
+    originator: u8,
+    count: u32,
+    payload: &[u8],
+) -> Session {
+    let mut hand = session.hand;
+    let mut out = [0u8; Block::SIZE];
+    let writer = session.writer;
+    let step = writer.write(
+        SequenceNumber(number),
+        MemberNumber(originator),
+        count,
+        payload,
+        &mut hand,
+        &mut out,
+    );
+    let answer = step.answer;
+    match answer {
+        Answer::Kept => {
+            session.messages = std::num::wrapping_add_usize(session.messages, 1);
+        }
+        Answer::Closed => {}
+        Answer::Refused(refusal) => print_refused(refusal),
+    }
+    let next = step.writer;
+    session.writer = next;
+    session.hand = hand;
+    handed_out(session, file, step.written, out)
+}
+
+// Where a field ends that begins at an index: at the next space, or with the line.
+fn field_end(line: &[u8], from: usize) -> usize
+    requires { ⌜ from ≤ length (now line) ⌝ }
+    ensures { λ r. ⌜ (from ≤ r) × (r ≤ length (now (line .entry))) ⌝ }
+{
+    let found = text::first(line, from, b' ');
+    match found {
+        Found::At(i) => i,
+        Found::Nothing => line.len(),
+    }
+}
+
+// A message of three numbers and so many bytes of payload, or a line of another form.
+enum Line {
+    Message {
+        number: u32,
+        originator: u32,
+        count: u32,
+        length: usize,
+    },
+    Other,
+}
+
+// Three fields that are numbers, and one that is a payload, which is laid at the front of the bytes that were lent.
+fn read_fields(a: &[u8], b: &[u8], c: &[u8], d: &[u8], payload: &mut [u8]) -> Line
+    requires { ⌜ length (now d) ≤ 2 * length (now payload) ⌝ }
+{
+    let Numeral::Of(number) = text::number(a) else {
+        return Line::Other;
+    };
+    let Numeral::Of(originator) = text::number(b) else {
+        return Line::Other;
+    };
+    let Numeral::Of(count) = text::number(c) else {
+        return Line::Other;
+    };
+    if text::is_hex(d) {
+        let length = text::lay_hex(d, payload);
+        return Line::Message {
+            number,
+            originator,
+            count,
+            length,
+        };
+    }
+    Line::Other
+}
+
+fn read_line(line: &[u8], payload: &mut [u8]) -> Line
+    requires { ⌜ length (now line) ≤ 2 * length (now payload) ⌝ }
+{
+    let size = line.len();
+    let a = field_end(line, 0);
+    if size <= a {
+        return Line::Other;
+    }
+    let b = field_end(line, a + 1);
+    if size <= b {
+        return Line::Other;
+    }
+    let c = field_end(line, b + 1);
+    if size <= c {
+        return Line::Other;
+    }
+    read_fields(
+        &line[..a],
+        &line[a + 1..b],
+        &line[b + 1..c],
+        &line[c + 1..],
+        payload,
+    )
+}
+
+// A member that no byte holds is none either.
+fn member(number: u32) -> u8 {
+    if number < 256 { number as u8 } else { 255 }
+}
+
+// The same of a payload that lies at the front of an array.
+fn write_laid(
+    session: Session,
+    file: i32,
+    number: u32,
+    originator: u8,
+    count: u32,
+    payload: [u8; PAYLOAD_ROOM],
+    length: usize,
+) -> Session {
+    if length < PAYLOAD_ROOM {
+        return write_message(session, file, number, originator, count, &payload[..length]);
+    }
+    write_message(session, file, number, originator, count, &payload)
+}
+
+fn write_line(mut session: Session, file: i32, line: &[u8]) -> Session
+    requires { ⌜ length (now line) ≤ 1000 ⌝ }
+{
+    let mut payload = [0u8; PAYLOAD_ROOM];
+    let read = read_line(line, &mut payload);
+    match read {
+        Line::Message {
+            number,
+            originator,
+            count,
+            length,
+        } => write_laid(
+            session,
+            file,
+            number,
+            member(originator),
+            count,
+            payload,
+            length,
+        ),
+        Line::Other => {
+            print_text(b"bad line");
+            session.stopped = true;
+            session
+        }
+    }
+}
+
+// Whether there is a byte, and which.
+struct Typed {
+    got: bool,
+    byte: u8,
+}
+
+// Reads one byte. Each block waits for the card, so a call for each byte of the input is no loss.
+fn type_byte() -> Typed {
+    let mut byte = [0u8; 1];
+    let size = io::read_full(STDIN_FILENO, &mut byte);
+    Typed {
+        got: size == 1,
+        byte: byte[0],
+    }
+}
+
+// The line that was typed so far, and whether the input goes on behind it. One that fills the array is of another form.
+struct Input {
+    line: [u8; LINE_MOST],
+    length: usize,
+    goes_on: bool,
+}
+
+fn put_byte(line: &mut [u8; LINE_MOST], length: usize, byte: u8) {
+    if length < LINE_MOST {
+        line[length] = byte;
+    }
+}
+
+fn longer(length: usize) -> usize {
+    if length < LINE_MOST {
+        length + 1
+    } else {
+        length
+    }
+}
+
+// Reads a line, up to its line feed or the end of the input. A proved loop has to end, and nothing says that an input does: so
+// the loop counts its turns down, from a number that no run uses up.
+fn type_line() -> Input {
+    let mut line = [0u8; LINE_MOST];
+    let mut length: usize = 0;
+    let mut turns = u64::MAX;
+    while 0 < turns {
+        let typed = type_byte();
+        if typed.got {
+            if typed.byte == b'\n' {
+                return Input {
+                    line,
+                    length,
+                    goes_on: true,
+                };
+            }
+            put_byte(&mut line, length, typed.byte);
+            length = longer(length);
+        } else {
+            return Input {
+                line,
+                length,
+                goes_on: false,
+            };
+        }
+        turns -= 1;
+    }
+    Input {
+        line,
+        length,
+        goes_on: false,
+    }
+}
+
+fn write_input(session: Session, file: i32, line: [u8; LINE_MOST], length: usize) -> Session {
+    if length < LINE_MOST {
+        return write_line(session, file, &line[..length]);
+    }
+    write_line(session, file, &line)
+}
+
+// Writes each line of the input. What stands behind the last line feed is a line too, unless it is empty.
+fn write_lines(mut session: Session, file: i32) -> Session {
+    let mut turns = u64::MAX;
+    while 0 < turns {
+        if session.stopped {
+            return session;
+        }
+        let input = type_line();
+        let line = input.line;
+        let length = input.length;
+        if input.goes_on {
+            session = write_input(session, file, line, length);
+        } else {
+            if 0 < length {
+                return write_input(session, file, line, length);
+            }
+            return session;
+        }
+        turns -= 1;
+    }
+    session
+}
+
+// Shuts down: what is in hand goes on the card.
+fn close(session: Session, file: i32) -> Session {
+    let hand = session.hand;
+    let mut out = [0u8; Block::SIZE];
+    let writer = session.writer;
+    let step = writer.finish(&hand, &mut out);
+    handed_out(session, file, step.written, out)
+}
+
+// Cuts off what stands behind the blocks found, and writes on there.
+fn write_on(file: i32, known: Known) {
+    let tail = known.tail;
+    let writer = Writer::after(tail);
+    let hand = [0u8; Block::SIZE];
+    let session = Session {
+        writer,
+        hand,
+        blocks: known.blocks,
+        messages: known.messages,
+        stopped: false,
+    };
+    if libc::ftruncate(file, offset_of(known.blocks)) == 0 {
+        let written = write_lines(session, file);
+        let closed = close(written, file);
+        print_totals(closed.blocks, closed.messages);
+        return;
+    }
+    os::fail(b"journal_tool");
+}
+
+fn append(file: i32) {
+    let size = size_of(file);
+    match size {
+        Size::Blocks(total) => {
+            let known = read_blocks(file, total, false);
+            write_on(file, known);
+        }
+        Size::Uneven => print_refused(Refusal::WrongJournal),
+        Size::Unknown => os::fail(b"journal_tool"),
+    }
+}
+
+// Opens a file for reading and writing; one that is not there is made.
+fn open_or_make(name: &[u8]) -> i32 {
+    let file = os::open_update(name);
+    if 0 <= file {
+        return file;
+    }
+    let made = os::create(name);
+    if 0 <= made {
+        libc::close(made);
+    }
+    os::open_update(name)
+}
+
+fn list_named(name: &[u8]) {
+    let file = os::open_read(name);
+    if file < 0 {
+        os::fail(b"journal_tool");
+        return;
+    }
+    list(file);
+    libc::close(file);
+}
+
+fn append_named(name: &[u8]) {
+    let file = open_or_make(name);
+    if file < 0 {
+        os::fail(b"journal_tool");
+        return;
+    }
+    append(file);
+    libc::close(file);
+}
+
+// Lists the file that an argument names.
+fn list_argument(i: usize) {
+    let mut name = io::buffer();
+    let size = os::arg(i, &mut name);
+    list_named(&name[..size]);
+}
+
+fn append_argument(i: usize) {
+    let mut name = io::buffer();
+    let size = os::arg(i, &mut name);
+    append_named(&name[..size]);
+}
+
+// Whether a word is that one.
+fn is_word(word: &[u8], other: &[u8]) -> bool {
+    if word.len() != other.len() {
+        return false;
+    }
+    let mut i: usize = 0;
+    while i < word.len() {
+        if word[i] == other[i] {
+            i += 1;
+        } else {
+            return false;
+        }
+    }
+    true
+}
+
+fn is_argument(i: usize, other: &[u8]) -> bool {
+    let mut word = io::buffer();
+    let size = os::arg(i, &mut word);
+    is_word(&word[..size], other)
+}
+
+fn list_arguments(count: usize) {
+    let mut i: usize = 2;
+    while i < count {
+        list_argument(i);
+        i += 1;
+    }
+}
+
+fn main() {
+    let count = os::arg_count();
+    if is_argument(1, b"list") {
+        list_arguments(count);
+        return;
+    }
+    if count == 3 {
+        if is_argument(1, b"append") {
+            append_argument(2);
+            return;
+        }
+    }
+    print_text(b"usage: journal_tool list FILE.. | journal_tool append FILE");
+}

@@ -1,4 +1,4 @@
-//! Stored journals, and what `journal list` prints of each.
+//! Stored journals, and what `journal_tool list` prints of each.
 
 use crate::random::Random;
 use model::journal::{BLOCK, Message, found};
@@ -23,9 +23,15 @@ impl Journal {
 }
 
 /// Every stored journal.
-pub fn all() -> [Journal; 3] {
-    [("whole", whole()), ("torn", torn()), ("largest", largest())]
-        .map(|(name, bytes)| Journal { name, bytes })
+pub fn all() -> [Journal; 5] {
+    [
+        ("whole", whole()),
+        ("torn", torn()),
+        ("largest", largest()),
+        ("uneven", vec![0; BLOCK - 1]),
+        ("empty", Vec::new()),
+    ]
+    .map(|(name, bytes)| Journal { name, bytes })
 }
 
 /// Payloads of all sizes: none 72 times, one more than a block holds; the

@@ -2,8 +2,8 @@
 //! `crates/schedules/data`, named by its number, and `crates/schedules/stdout`
 //! has what they print, one behind the other. `crates/play` has the document's
 //! own schedule, `crates/inspect` one that leaves each column something, and
-//! `crates/load` the words of a load. The stored journals are kept beside their
-//! listings.
+//! `crates/load` the words of a load. `crates/journal_tool` has the stored
+//! journals, and lists them.
 
 use crate::{Schedule, all, inspected, journals, played};
 use model::{load, play};
@@ -14,17 +14,6 @@ use std::{fs, io};
 /// The root of the repository.
 fn root() -> PathBuf {
     Path::new(env!("CARGO_MANIFEST_DIR")).join("../..")
-}
-
-/// Where the stored journals are: with the program that lists them, or here
-/// without one.
-fn journals_folder() -> PathBuf {
-    let program = root().join("crates/journal_tool");
-    if program.exists() {
-        program.join("data")
-    } else {
-        root().join("reference/journals")
-    }
 }
 
 /// A schedule's file name: three digits.
@@ -60,12 +49,15 @@ fn files(schedules: &[Schedule]) -> io::Result<Vec<(PathBuf, Vec<u8>)>> {
         let output = loaded(&fs::read(program.join("args"))?);
         files.push((program.join("stdout"), output));
     }
-    let folder = journals_folder();
+    let program = crates.join("journal_tool");
+    let (mut words, mut listed) = (b"list\n".to_vec(), Vec::new());
     for journal in journals::all() {
-        let listing = folder.join(format!("{}.txt", journal.name));
-        files.push((listing, journal.listed()));
-        files.push((folder.join(journal.name), journal.bytes));
+        words.extend(format!("{}\n", journal.name).bytes());
+        listed.extend(journal.listed());
+        files.push((program.join("data").join(journal.name), journal.bytes));
     }
+    files.push((program.join("args"), words));
+    files.push((program.join("stdout"), listed));
     Ok(files)
 }
 
@@ -105,7 +97,7 @@ pub fn write() -> io::Result<usize> {
         fs::remove_dir_all(&data)?;
     }
     fs::create_dir_all(&data)?;
-    fs::create_dir_all(journals_folder())?;
+    fs::create_dir_all(root().join("crates/journal_tool/data"))?;
     for (path, bytes) in files(&schedules)? {
         fs::write(path, bytes)?;
     }

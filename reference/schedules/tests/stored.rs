@@ -68,14 +68,23 @@ fn loads_with_and_without_no_space() {
 /// How many blocks and messages each stored journal has before a wrong block.
 #[test]
 fn journals_are_what_they_show() {
-    let found = [("whole", 8, 99), ("torn", 3, 6), ("largest", 2, 80)];
-    for (journal, (name, blocks, messages)) in journals::all().iter().zip(found) {
-        assert_eq!(journal.name, name);
+    let found = [
+        "whole 8 99",
+        "torn 3 6",
+        "largest 2 80",
+        "uneven",
+        "empty 0 0",
+    ];
+    for (journal, shows) in journals::all().iter().zip(found) {
+        let words: Vec<&str> = shows.split(' ').collect();
+        let last = match words[1..] {
+            [blocks, messages] => format!("blocks {blocks} messages {messages}"),
+            _ => "refused 21".into(),
+        };
+        assert_eq!(journal.name, words[0]);
         let listed = String::from_utf8(journal.listed()).unwrap();
-        let last = format!("blocks {blocks} messages {messages}");
-        assert_eq!(listed.lines().last(), Some(&last[..]), "{name}");
-        assert_eq!(listed.lines().count(), messages + 1);
+        assert_eq!(listed.lines().last(), Some(&last[..]), "{shows}");
     }
-    let sizes = journals::all().map(|journal| journal.bytes.len() / 512);
-    assert_eq!(sizes, [8, 5, 3]);
+    let sizes = journals::all().map(|journal| journal.bytes.len());
+    assert_eq!(sizes, [8 * 512, 5 * 512, 3 * 512, 511, 0]);
 }

@@ -171,10 +171,10 @@ fn read_blocks(file: i32, total: u64, prints: bool) -> Known {
     known
 }
 
-// How many blocks a file has. Its length may be no multiple of a block's, or not to be had.
+// How many blocks a file has. Its length may be no multiple of a block's, with so many before the rest, or not to be had.
 enum Size {
     Blocks(u64),
-    Uneven,
+    Uneven(u64),
     Unknown,
 }
 
@@ -194,7 +194,7 @@ fn size_of(file: i32) -> Size {
     if size % 512 == 0 {
         Size::Blocks(size / 512)
     } else {
-        Size::Uneven
+        Size::Uneven(size / 512)
     }
 }
 
@@ -205,7 +205,7 @@ fn list(file: i32) {
             let known = read_blocks(file, total, true);
             print_totals(known.blocks, known.messages);
         }
-        Size::Uneven => print_refused(Refusal::WrongJournal),
+        Size::Uneven(_) => print_refused(Refusal::WrongJournal),
         Size::Unknown => os::fail(b"journal_tool"),
     }
 }
@@ -548,14 +548,18 @@ fn write_on(file: i32, known: Known) {
     os::fail(b"journal_tool");
 }
 
+// Reads the blocks of a file, and writes on behind them.
+fn append_behind(file: i32, total: u64) {
+    let known = read_blocks(file, total, false);
+    write_on(file, known);
+}
+
+// A rest that is no block is cut off too, as what stands behind the blocks found is.
 fn append(file: i32) {
     let size = size_of(file);
     match size {
-        Size::Blocks(total) => {
-            let known = read_blocks(file, total, false);
-            write_on(file, known);
-        }
-        Size::Uneven => print_refused(Refusal::WrongJournal),
+        Size::Blocks(total) => append_behind(file, total),
+        Size::Uneven(total) => append_behind(file, total),
         Size::Unknown => os::fail(b"journal_tool"),
     }
 }

@@ -245,7 +245,9 @@ impl Writer {
     /// Shutdown: what is in hand goes to the output; how many bytes.
     pub fn finish(&mut self, hand: &[u8; BLOCK], out: &mut [u8; BLOCK]) -> Result<usize, Refusal> {
         Refusal::Unsound.unless(self.is_sound())?;
-        Ok(self.hand_out(hand, out))
+        let written = self.hand_out(hand, out);
+        *self = Writer::after(self.tail);
+        Ok(written)
     }
 
     fn hand_out(&mut self, hand: &[u8; BLOCK], out: &mut [u8; BLOCK]) -> usize {

@@ -1,4 +1,4 @@
--- The one product of the sum, and its bound.
+-- A product of the sum, and its bound.
 -- Assumes nothing.
 use mathlib.Core.Path.{refl}
 use Rattle.journal.proofs.Summing.{part-most}

@@ -356,20 +356,20 @@ fn refused_by_the_journal() {
         message(9),
     ];
     let after = Writer::after(7, false);
-    let code = |writer, message| {
+    // The answer, the state behind it and the bytes written.
+    let check = |writer, message, values: [u64; 7]| {
         let mut out = [0xaa; BLOCK];
         let list = messages([message]);
         let sum = proved::journal_write(writer, &list, 1, &mut out);
+        assert_eq!(sum, values.iter().fold(0, |sum, value| 3 * sum + value));
         assert_eq!(out, [0xaa; BLOCK]);
         assert_eq!(sum, reference::journal_write(writer, &list, 1, &mut out));
-        // Six values of the state and the bytes written stand behind the answer.
-        sum / 3u64.pow(6)
     };
     for message in refused {
-        assert_eq!(code(after, message), 21, "{message:?}");
+        check(after, message, [21, 7, 0, 0, 0, 10, 0]);
     }
-    assert_eq!(code(after, message(8)), 48);
+    check(after, message(8), [48, 8, 0, 8, 1, 19, 0]);
     let unsound = Writer { used: 11, ..after };
-    assert_eq!(code(unsound, message(8)), 1);
-    assert_eq!(code(unsound, FINISH), 1);
+    check(unsound, message(8), [1, 7, 0, 0, 0, 11, 0]);
+    check(unsound, FINISH, [1, 7, 0, 0, 0, 11, 0]);
 }

@@ -1,4 +1,4 @@
--- What `inspect` prints: what a schedule leaves at the end, a heading and then a line a terminal.
+-- What `inspect` prints: what a schedule leaves at the end, a heading and then a line a terminal, and behind them the work lists.
 use mathlib.Core.List.{List, [], _∷_, _++_, map}
 use Prim.Native.Nat.{ℕ, zero, suc, _+_, _*_}
 use lib.ListN.{length, getD}
@@ -12,6 +12,7 @@ use Rattle.player.specs.Play.{Stage, opening, running, ended, closed, Program, 
 use Rattle.report.specs.Print.{badOpening}
 use Rattle.text.specs.Text.{textOf}
 use Rattle.text.specs.Written.{decimalOf, line, numberDigits}
+use Rattle.inspection.specs.Lists.{listsOf}
 
 -- the columns
 abbrev pub columns : List (List ℕ)
@@ -34,11 +35,21 @@ abbrev pub tableOf : Group → List ℕ
 tableOf g = line columns ++ rowLines (rowIn (g .members) (g .sequencer .acknowledgements)) (length (g .members))
 
 -- a first line missing prints `bad line`
-unfoldable pub leftOf : Stage → List ℕ
-leftOf opening = badOpening
-leftOf (running g number) = tableOf g
-leftOf (ended g) = tableOf g
-leftOf closed = []
+unfoldable pub tableLeft : Stage → List ℕ
+tableLeft opening = badOpening
+tableLeft (running g number) = tableOf g
+tableLeft (ended g) = tableOf g
+tableLeft closed = []
+
+-- where there is a group, its terminals' lists
+unfoldable pub listsLeft : Stage → List ℕ
+listsLeft opening = []
+listsLeft (running g number) = listsOf g
+listsLeft (ended g) = listsOf g
+listsLeft closed = []
+
+abbrev pub leftOf : Stage → List ℕ
+leftOf stage = tableLeft stage ++ listsLeft stage
 
 -- nothing is said of an event; a first line that opens no group prints what `play` prints of it
 unfoldable pub unopened : Stage → List ℕ → List ℕ

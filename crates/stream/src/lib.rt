@@ -2,19 +2,32 @@
 // says of it is handed on at once.
 use descriptor::Sink;
 use descriptor::Source;
+use group::Group;
+use inspection::JOB_ROOM;
 use inspection::TABLE_ROOM;
+use inspection::list_left;
+use inspection::write_job;
 use inspection::write_left;
+use jobs::Job;
+use member::Member;
 use player::Phase;
 use player::Player;
 use player::phase_of;
+use simulator::Stored;
+use simulator::Whole;
 ghost use mathlib.Core.Path.{_≡_};
-ghost use mathlib.Core.List.{[], _++_};
-ghost use lib.ListN.{take};
+ghost use mathlib.Core.List.{[], _++_, map};
+ghost use Prim.Native.Nat.{_≤_};
+ghost use lib.ListN.{length, take};
 ghost use Rattle.descriptor.specs.Descriptor.{Takes};
-ghost use Rattle.inspection.specs.Table.{inspectProgram};
+ghost use Rattle.group.specs.Limits.{membersMost};
+ghost use Rattle.inspection.specs.Lists.{jobLines, listLines, listOn, listsOf};
+ghost use Rattle.inspection.specs.Table.{listsLeft, inspectProgram};
 ghost use Rattle.player.specs.Feed.{saidOf, endOf};
 ghost use Rattle.player.specs.Play.{playProgram};
 ghost use Rattle.player.specs.Player.{phaseWith, stageOf, stateOf};
+ghost use Rattle.player.specs.Steps.{Fits};
+ghost use Rattle.simulator.specs.Whole.{packetsMost, packetIn, groupOf};
 ghost use Rattle.stream.specs.Played.{Plays};
 ghost use Rattle.stream.specs.Steps.{programOf, saidSize, Puts, Turns};
 
@@ -48,7 +61,7 @@ fn put(sink: Sink, text: &[u8], size: usize) -> Sink
     sink.write(text)
 }
 
-// The same of a text and of a table.
+// The same of a text, of a table and of a job's line.
 fn put_text(sink: Sink, text: [u8; Player::OUTPUT], size: usize) -> Sink
     ensures { λ r. ⌜ Takes sink (take size text) r ⌝ }
 {
@@ -59,6 +72,12 @@ fn put_table(sink: Sink, table: [u8; TABLE_ROOM], size: usize) -> Sink
     ensures { λ r. ⌜ Takes sink (take size table) r ⌝ }
 {
     put(sink, &table, size)
+}
+
+fn put_job(sink: Sink, text: [u8; JOB_ROOM], size: usize) -> Sink
+    ensures { λ r. ⌜ Takes sink (take size text) r ⌝ }
+{
+    put(sink, &text, size)
 }
 
 // How many bytes are said of a line's text: all, or, where the program is quiet, those of a line that opened no group.
@@ -137,14 +156,78 @@ fn play_all(quiet: bool, player: Player, source: Source, sink: Sink) -> Turn
     turn
 }
 
-// What is printed at the end: a table where the program is quiet, else the last line.
+// The lines of terminal i's work list.
+fn put_jobs(i: u32, jobs: [Job; Group::JOBS], mut sink: Sink) -> Sink
+    ensures { λ r. ⌜ Takes sink (jobLines i jobs (length jobs)) r ⌝ }
+{
+    let mut place: usize = 0;
+    while place < Group::JOBS {
+        let job = jobs[place];
+        let mut text = [0u8; JOB_ROOM];
+        let size = write_job(i, place as u32, job, &mut text);
+        sink = put_job(sink, text, size);
+        place += 1;
+    }
+    sink
+}
+
+// Those of the first n terminals.
+fn put_lists(
+    members: [Member; Group::MEMBERS],
+    packets: [Stored; Whole::PACKETS],
+    count: usize,
+    n: usize,
+    mut sink: Sink,
+) -> Sink
+    requires { ⌜ (n ≤ membersMost) × (count ≤ packetsMost) ⌝ }
+    ensures { λ r. ⌜ Takes sink (listLines (listOn members (map packetIn (take count packets))) n) r ⌝ }
+{
+    let mut i: usize = 0;
+    while i < n {
+        let member = members[i];
+        let jobs = list_left(packets, count, member.taken);
+        sink = put_jobs(i as u32, jobs, sink);
+        i += 1;
+    }
+    sink
+}
+
+// The heading and the lists of a group.
+fn put_group(whole: Whole, sink: Sink) -> Sink
+    requires { ⌜ Fits whole ⌝ }
+    ensures { λ r. ⌜ Takes sink (listsOf (groupOf whole)) r ⌝ }
+{
+    let members = whole.members;
+    let packets = whole.packets;
+    let n = whole.sequencer.group.n as usize;
+    let next = sink.write(b"terminal place holder job\n");
+    put_lists(members, packets, whole.count, n, next)
+}
+
+// Where there is a group at the end of the input, its lists.
+fn put_left(player: Player, sink: Sink) -> Sink
+    ensures { λ r. ⌜ Takes sink (listsLeft (stageOf player)) r ⌝ }
+{
+    let whole = player.whole;
+    let phase = player.phase;
+    let stands = phase_of(whole.sequencer.group.n, whole.count, phase);
+    match stands {
+        Phase::Opening => sink,
+        Phase::Running => put_group(whole, sink),
+        Phase::Ended => put_group(whole, sink),
+        Phase::Closed => sink,
+    }
+}
+
+// What is printed at the end: a table and lists where the program is quiet, else the last line.
 fn put_last(quiet: bool, player: Player, sink: Sink) -> Sink
     ensures { λ r. ⌜ Takes sink (programOf quiet .last (stageOf player)) r ⌝ }
 {
     if quiet {
         let mut table = [0u8; TABLE_ROOM];
         let size = write_left(player, &mut table);
-        return put_table(sink, table, size);
+        let next = put_table(sink, table, size);
+        return put_left(player, next);
     }
     let mut text = [0u8; Player::OUTPUT];
     let size = player.last(&mut text);

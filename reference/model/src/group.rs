@@ -3,6 +3,7 @@
 //! over, and when.
 
 use crate::answer::{Answer, Refusal};
+use crate::jobs::{Fed, List};
 use crate::limits::PACKET;
 use crate::member::Member;
 use crate::packet;
@@ -143,28 +144,62 @@ impl Group {
     }
 }
 
+/// The work list of each terminal, beside its member.
+#[derive(Clone, Debug, PartialEq, Eq)]
+pub struct Lists(Vec<List>);
+
+impl Lists {
+    /// Empty lists of n terminals.
+    pub fn empty(n: usize) -> Lists {
+        Lists(vec![List::empty(); n])
+    }
+
+    /// A terminal's list is fed the message that its take handed out, once
+    /// the take is done; what it answers changes nothing of the take. `None`
+    /// if the event handed out no message.
+    pub fn follow(&mut self, event: &Event, outcome: Option<&Outcome>) -> Option<Fed> {
+        let (Event::Take { member }, Some(outcome)) = (event, outcome) else {
+            return None;
+        };
+        let Answer::Took { originator, .. } = outcome.answer else {
+            return None;
+        };
+        Some(self.0[*member].feed(originator, &outcome.payload))
+    }
+
+    /// The lists of terminals 0 to n-1.
+    pub fn iter(&self) -> impl Iterator<Item = &List> {
+        self.0.iter()
+    }
+}
+
 /// A group together with everything that happened to it since it was fresh.
 #[derive(Clone, Debug, PartialEq, Eq)]
 pub struct Run {
     /// The group.
     pub group: Group,
+    /// The work lists of its terminals.
+    pub lists: Lists,
     /// Every event and what came of it.
     pub log: Vec<(Event, Option<Outcome>)>,
 }
 
 impl Run {
-    /// A fresh group with an empty log.
+    /// A fresh group with empty lists and an empty log.
     pub fn fresh(n: u32, group: u32) -> Result<Run, Refusal> {
         let group = Group::fresh(n, group)?;
+        let lists = Lists::empty(group.members.len());
         Ok(Run {
             group,
+            lists,
             log: Vec::new(),
         })
     }
 
-    /// Lets an event happen and logs it.
+    /// Lets an event happen, feeds what it handed out and logs it.
     pub fn step(&mut self, event: Event) -> Option<Outcome> {
         let outcome = self.group.step(&event);
+        self.lists.follow(&event, outcome.as_ref());
         self.log.push((event, outcome.clone()));
         outcome
     }

@@ -1,7 +1,8 @@
 //! Plays a schedule: one event a line in, one answer a line out.
 
 use crate::answer::Answer;
-use crate::group::{Event, Group, Outcome};
+use crate::group::{Event, Group, Lists, Outcome};
+use crate::jobs::GIVEN;
 use std::io::{self, BufRead, BufReader, BufWriter, Read, Write};
 
 /// Packets written, at most.
@@ -15,7 +16,7 @@ pub fn play(input: impl Read, output: impl Write) -> io::Result<()> {
     let mut lines = Lines::new(input);
     let mut output = BufWriter::new(output);
     if let Some(mut group) = open(&mut lines, &mut output)? {
-        events(&mut group, &mut lines, &mut output)?;
+        events(&mut group, &mut lines, &mut output, |_, _| ())?;
         closing_line(&group, &mut output)?;
     }
     output.flush()
@@ -26,8 +27,13 @@ pub fn inspect(input: impl Read, output: impl Write) -> io::Result<()> {
     let mut lines = Lines::new(input);
     let mut output = BufWriter::new(output);
     if let Some(mut group) = open(&mut lines, &mut output)? {
-        events(&mut group, &mut lines, &mut io::sink())?;
+        let mut lists = Lists::empty(group.members.len());
+        let feed = |event: &Event, outcome: &Outcome| {
+            lists.follow(event, Some(outcome));
+        };
+        events(&mut group, &mut lines, &mut io::sink(), feed)?;
         table(&group, &mut output)?;
+        work_lists(&lists, &mut output)?;
     }
     output.flush()
 }
@@ -44,10 +50,13 @@ fn open(lines: &mut Lines<impl Read>, output: &mut impl Write) -> io::Result<Opt
     Ok(None)
 }
 
+/// Lets the events of the lines happen and prints their answers; `done` is
+/// told each event that was not of something absent.
 fn events(
     group: &mut Group,
     lines: &mut Lines<impl Read>,
     output: &mut impl Write,
+    mut done: impl FnMut(&Event, &Outcome),
 ) -> io::Result<()> {
     let mut number = 0u64;
     while let Some(line) = lines.next_line()? {
@@ -61,7 +70,10 @@ fn events(
         }
         match group.step(&event) {
             None => writeln!(output, "absent")?,
-            Some(outcome) => answer_line(&outcome, output)?,
+            Some(outcome) => {
+                done(&event, &outcome);
+                answer_line(&outcome, output)?;
+            }
         }
     }
     Ok(())
@@ -70,20 +82,24 @@ fn events(
 fn answer_line(outcome: &Outcome, output: &mut impl Write) -> io::Result<()> {
     write!(output, "{}", outcome.answer)?;
     if let Answer::Took { more, .. } = outcome.answer {
-        output.write_all(if outcome.payload.is_empty() {
-            b" -"
-        } else {
-            b" "
-        })?;
-        for byte in &outcome.payload {
-            write!(output, "{byte:02x}")?;
-        }
+        output.write_all(b" ")?;
+        hex(&outcome.payload, output)?;
         output.write_all(if more { b" more" } else { b" last" })?;
     }
     if let Some(index) = outcome.packet {
         write!(output, " {index}")?;
     }
     writeln!(output)
+}
+
+/// Two digits a byte; `-` for none.
+fn hex(bytes: &[u8], output: &mut impl Write) -> io::Result<()> {
+    if bytes.is_empty() {
+        output.write_all(b"-")?;
+    }
+    bytes
+        .iter()
+        .try_for_each(|byte| write!(output, "{byte:02x}"))
 }
 
 fn closing_line(group: &Group, output: &mut impl Write) -> io::Result<()> {
@@ -107,6 +123,24 @@ fn table(group: &Group, output: &mut impl Write) -> io::Result<()> {
             output,
             "{terminal} {taken} {row} {submitted} {waiting} {repeats}"
         )?;
+    }
+    Ok(())
+}
+
+/// A heading, and then a line a job, terminal by terminal.
+fn work_lists(lists: &Lists, output: &mut impl Write) -> io::Result<()> {
+    writeln!(output, "terminal place holder job")?;
+    for (terminal, list) in lists.iter().enumerate() {
+        for (place, job) in list.jobs().iter().enumerate() {
+            write!(output, "{terminal} {place} ")?;
+            if job.state == GIVEN {
+                write!(output, "{} ", job.member)?;
+            } else {
+                output.write_all(b"waiting ")?;
+            }
+            hex(job.as_slice(), output)?;
+            writeln!(output)?;
+        }
     }
     Ok(())
 }

@@ -1,12 +1,13 @@
 //! Demand 3: whatever happens to a group, what a member took and what it is
 //! owed, its row and the history above it, is the whole order, and a closing
-//! round hands it all out.
+//! round hands it all out. Beside it the work lists, which takes feed.
 
 mod common;
 
 use common::{GROUP, Random};
 use model::answer::{Answer, Refusal};
-use model::group::{Event, Outcome, Run};
+use model::group::{Event, Lists, Message, Outcome, Run};
+use model::jobs::{Fed, GIVEN, Job, List};
 use model::limits::PAYLOAD;
 use model::longest::longest_closing;
 use model::member::Member;
@@ -68,6 +69,65 @@ fn closing_length(run: &Run) -> usize {
     run.group.members.iter().map(member).sum::<u32>() as usize
 }
 
+/// The list of the messages that a terminal took, fed one by one from the
+/// empty list, and how many jobs were added and finished on the way.
+fn fed(taken: &[Message]) -> (List, usize, usize) {
+    let (mut list, mut added, mut finished) = (List::empty(), 0, 0);
+    for message in taken {
+        let held = |job: &Job| job.state == GIVEN && job.member == message.originator;
+        let held = list.records.iter().any(held);
+        match list.feed(message.originator, &message.payload) {
+            Fed::Refused(_) => (),
+            Fed::Added => added += 1,
+            Fed::Given(_) | Fed::None => finished += usize::from(held),
+        }
+    }
+    (list, added, finished)
+}
+
+/// A terminal's list is that of the messages that it took, whatever else
+/// happened; terminals with the same taken messages hold the same list; and
+/// jobs added = waiting + given + finished.
+fn check_lists(run: &Run) {
+    let lists: Vec<&List> = run.lists.iter().collect();
+    assert_eq!(lists.len(), run.group.members.len());
+    let taken: Vec<Vec<Message>> = (0..lists.len()).map(|at| run.taken(at)).collect();
+    for (at, list) in lists.iter().enumerate() {
+        assert!(list.is_sound());
+        let (left, added, finished) = fed(&taken[at]);
+        assert_eq!(**list, left);
+        assert_eq!(added, list.jobs().len() + finished);
+        for (other, same) in taken[..at].iter().zip(&lists) {
+            assert!(*other != taken[at] || same == list);
+        }
+    }
+}
+
+/// An event feeds a list exactly if it handed out a message, and only its own
+/// terminal's. A refused feed leaves the list, and the take stands.
+fn check_feed(
+    run: &Run,
+    lists: &mut Lists,
+    event: &Event,
+    outcome: Option<&Outcome>,
+) -> Option<Fed> {
+    let took = outcome.is_some_and(|outcome| matches!(outcome.answer, Answer::Took { .. }));
+    let Event::Take { member } = *event else {
+        assert!(!took);
+        assert_eq!(lists.follow(event, outcome), None);
+        return None;
+    };
+    let before = lists.iter().nth(member).cloned();
+    let told = lists.follow(event, outcome);
+    assert_eq!(told.is_some(), took);
+    let after = lists.iter().nth(member);
+    assert_eq!(run.lists.iter().nth(member), after);
+    if matches!(told, None | Some(Fed::Refused(_))) {
+        assert_eq!(after, before.as_ref());
+    }
+    told
+}
+
 /// The claim after any list of events.
 fn check(run: &Run) {
     let n = run.group.members.len();
@@ -113,6 +173,8 @@ fn close(run: &mut Run) {
         assert!(run.owed(member).is_empty());
         assert_eq!(run.submissions(member), *submissions);
     }
+    let alike = run.lists.iter().zip(run.lists.iter().skip(1));
+    alike.for_each(|(list, next)| assert_eq!(list, next));
     check(run);
 }
 
@@ -161,7 +223,13 @@ impl Scheduler {
                     0 => PAYLOAD - 1 + self.random.below(3),
                     _ => self.random.below(12),
                 };
-                let payload = (0..length).map(|_| self.random.next() as u8).collect();
+                let mut payload: Vec<u8> = (0..length).map(|_| self.random.next() as u8).collect();
+                // Half of them are for the work list.
+                match self.random.below(6) {
+                    0..2 => payload.first_mut().into_iter().for_each(|first| *first = 1),
+                    2 => payload = vec![2],
+                    _ => (),
+                }
                 Event::Submit { member, payload }
             }
             18..36 => Event::Repeat { member },
@@ -228,13 +296,26 @@ fn name(answer: Option<Answer>) -> String {
     }
 }
 
+/// The answer of a list without its place; a refusal with its question.
+fn list_name(answer: Fed) -> String {
+    match answer {
+        Fed::Refused(refusal) => format!("refused {} by a list", refusal.number()),
+        Fed::Added => "added".into(),
+        Fed::Given(_) => "given".into(),
+        Fed::None => "none by a list".into(),
+    }
+}
+
 /// What every group meets in a long schedule.
-const COMMON: [&str; 18] = [
+const COMMON: [&str; 22] = [
     "absent",
+    "added",
     "again",
     "gap",
+    "given",
     "kept",
     "none",
+    "none by a list",
     "noted",
     "numbered",
     "old",
@@ -243,6 +324,7 @@ const COMMON: [&str; 18] = [
     "refused 14",
     "refused 15",
     "refused 17",
+    "refused 19 by a list",
     "refused 8",
     "sent",
     "status",
@@ -268,11 +350,15 @@ fn random_runs(
     for seed in seeds {
         let mut scheduler = Scheduler::seeded(seed * 31 + u64::from(n));
         let mut run = Run::fresh(n, GROUP).unwrap();
+        let mut lists = run.lists.clone();
         for at in 0..events {
             let event = scheduler.next(&run);
             let ends = (run.group.sequencer.clone(), run.group.members.clone());
             let written = run.group.packets.len();
-            let outcome = run.step(event);
+            let outcome = run.step(event.clone());
+            if let Some(told) = check_feed(&run, &mut lists, &event, outcome.as_ref()) {
+                seen.insert(list_name(told));
+            }
             let answer = outcome.as_ref().map(|outcome| outcome.answer);
             if matches!(answer, None | Some(Answer::Refused(_))) {
                 assert_eq!(run.group.sequencer, ends.0);
@@ -295,6 +381,8 @@ fn random_runs(
             }
         }
         check(&run);
+        check_lists(&run);
+        assert_eq!(run.lists, lists);
         longest = longest.max(run.group.sequencer.top);
         close(&mut run);
         // A second round finds everything in place.
@@ -572,4 +660,78 @@ fn held_behind_a_hole() {
     check(&run);
     assert_eq!(closing_length(&run), 2 + (4 + 3 + 2));
     close(&mut run);
+}
+
+/// Member 0's next message, taken by members 0 and 1; what their lists answer.
+fn both_take(run: &mut Run, payload: &[u8]) -> Vec<Fed> {
+    let payload = payload.to_vec();
+    let sent = run.step(Event::Submit { member: 0, payload }).unwrap();
+    let packet = sent.packet.unwrap();
+    let numbered = run.step(Event::ToSequencer { packet }).unwrap();
+    let packet = numbered.packet.unwrap();
+    let mut lists = run.lists.clone();
+    let mut answers = Vec::new();
+    for member in 0..2 {
+        run.step(Event::ToMember { packet, member });
+        let event = Event::Take { member };
+        let outcome = run.step(event.clone());
+        answers.extend(check_feed(run, &mut lists, &event, outcome.as_ref()));
+        acknowledge(run, member);
+    }
+    assert_eq!(answers.len(), 2);
+    answers
+}
+
+/// What a list refuses is taken all the same: the 65th job, and what is not
+/// for the list. A fetch of the full list goes.
+#[test]
+fn a_take_stands_though_the_list_refuses() {
+    let refused = Fed::Refused;
+    let mut run = Run::fresh(2, GROUP).unwrap();
+    for job in 0..64 {
+        assert_eq!(both_take(&mut run, &[1, job]), [Fed::Added; 2]);
+    }
+    let full = run.lists.clone();
+    for payload in [&[1][..], &[1, 64], &[1; PAYLOAD]] {
+        let told = both_take(&mut run, payload);
+        assert_eq!(told, [refused(Refusal::ListFull); 2]);
+    }
+    for payload in [&[][..], &[0], &[2, 2], &[3, 0, 1], &[7; PAYLOAD]] {
+        let told = both_take(&mut run, payload);
+        assert_eq!(told, [refused(Refusal::NotForList); 2]);
+    }
+    assert_eq!(run.lists, full);
+    assert!(run.group.members.iter().all(|member| member.taken == 72));
+    assert_eq!(both_take(&mut run, &[2]), [Fed::Given(0); 2]);
+    assert_eq!(
+        both_take(&mut run, &[1, 65]),
+        [refused(Refusal::ListFull); 2]
+    );
+    assert_eq!(both_take(&mut run, &[2]), [Fed::Given(0); 2]);
+    assert_eq!(both_take(&mut run, &[1, 66]), [Fed::Added; 2]);
+    check_lists(&run);
+    check(&run);
+    close(&mut run);
+}
+
+/// The closing round gives every terminal the same list.
+#[test]
+fn a_closing_round_makes_the_lists_alike() {
+    let mut run = Run::fresh(3, GROUP).unwrap();
+    for payload in [&[1, 7][..], &[1], &[2], &[9], &[1, 8]] {
+        let payload = payload.to_vec();
+        let sent = run.step(Event::Submit { member: 0, payload }).unwrap();
+        let packet = sent.packet.unwrap();
+        let numbered = run.step(Event::ToSequencer { packet }).unwrap();
+        let packet = numbered.packet.unwrap();
+        run.step(Event::ToMember { packet, member: 0 });
+        run.step(Event::Take { member: 0 });
+    }
+    let lists: Vec<List> = run.lists.iter().cloned().collect();
+    assert_ne!(lists[0], List::empty());
+    assert_eq!(lists[1..], [List::empty(), List::empty()]);
+    check_lists(&run);
+    close(&mut run);
+    check_lists(&run);
+    assert!(run.lists.iter().all(|list| *list == lists[0]));
 }

@@ -313,7 +313,14 @@ impl Network {
             3..8 => 0,
             _ => 1 + self.random.below(4),
         };
-        self.random.bytes(length)
+        let mut payload = self.random.bytes(length);
+        // Half of them are for the work list: a job is added, or one fetched.
+        match (self.random.below(6), payload.first_mut()) {
+            (0..2, Some(first)) => *first = 1,
+            (2, _) => payload = vec![2],
+            _ => (),
+        }
+        payload
     }
 
     /// Whether an event would write a packet.

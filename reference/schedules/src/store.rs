@@ -1,9 +1,9 @@
 //! The files of the stored schedules: each schedule is a file of
 //! `crates/schedules/data`, named by its number, and `crates/schedules/stdout`
 //! has what they print, one behind the other. `crates/play` has the document's
-//! own schedule, `crates/inspect` one that leaves each column something, and
-//! `crates/load` the words of a load. `crates/journal_tool` has the stored
-//! journals, and lists them.
+//! own schedule, `crates/inspect` one that leaves each column something and
+//! work lists of several jobs, and `crates/load` the words of a load.
+//! `crates/journal_tool` has the stored journals, and lists them.
 
 use crate::{Schedule, all, inspected, journals, played};
 use model::{load, play};

@@ -12,7 +12,7 @@ use Rattle.simulator.specs.Whole.{groupOf}
 use Rattle.player.specs.Player.{stageIn, phaseOf}
 use Rattle.player.specs.declared.Phase.{Phase}
 use Rattle.player.specs.declared.Phase.the-variants.{Running, Ended}
-use Rattle.inspection.specs.Table.{leftOf, tableRoom}
+use Rattle.inspection.specs.Table.{tableLeft, tableRoom}
 use Rattle.player.proofs.Telling.{phase-was, running≢, ended≢, fits-in}
 use borrow.Author.Needs.{needs}
 use Rattle.inspection.proofs.write_left.Statement.{statement}
@@ -47,40 +47,40 @@ enum-told-4 : tie.Need-enum-told-4
 enum-told-4 c = search needs
 
 returns : tie.Need-returns
-unfolding leftOf stageIn phaseOf
+unfolding tableLeft stageIn phaseOf
 returns c =
     let p = c .before .before .before .before .before .before .args .player in
     let lent = now (c .before .before .before .before .before .before .args .out) in
-    let text : Phase → List ℕ = λ x. leftOf (stageIn x (groupOf (p .whole)) (p .number)) in
+    let text : Phase → List ℕ = λ x. tableLeft (stageIn x (groupOf (p .whole)) (p .number)) in
     let e = sym (c .before .before .enum-told .given .1) ∙ c .before .before .before .before .phase-of .ensures in
     let room : length lent ≡ tableRoom = search needs in
     let f = fits-in lineRoom (length lent) badOpening (omega arith) ∙ ap text e in
     (c .write-bad-opening .ensures .0 ∙ ap length f, c .write-bad-opening .ensures .1 ∙ ap (λ (bytes : List ℕ). front bytes lent) f)
 
 returns-2 : tie.Need-returns-2
-unfolding leftOf stageIn phaseOf
+unfolding tableLeft stageIn phaseOf
 returns-2 c =
     let p = c .before .before .before .before .before .before .args .player in
     let lent = now (c .before .before .before .before .before .before .args .out) in
-    let text : Phase → List ℕ = λ x. leftOf (stageIn x (groupOf (p .whole)) (p .number)) in
+    let text : Phase → List ℕ = λ x. tableLeft (stageIn x (groupOf (p .whole)) (p .number)) in
     let e = sym (c .before .before .enum-told2 .given .1) ∙ c .before .before .before .before .phase-of .ensures in
     (c .write-group .ensures .0 ∙ ap (λ (x : Phase). length (text x)) e, c .write-group .ensures .1 ∙ ap (λ (x : Phase). front (text x) lent) e)
 
 returns-3 : tie.Need-returns-3
-unfolding leftOf stageIn phaseOf
+unfolding tableLeft stageIn phaseOf
 returns-3 c =
     let p = c .before .before .before .before .before .before .args .player in
     let lent = now (c .before .before .before .before .before .before .args .out) in
-    let text : Phase → List ℕ = λ x. leftOf (stageIn x (groupOf (p .whole)) (p .number)) in
+    let text : Phase → List ℕ = λ x. tableLeft (stageIn x (groupOf (p .whole)) (p .number)) in
     let e = sym (c .before .before .enum-told3 .given .1) ∙ c .before .before .before .before .phase-of .ensures in
     (c .write-group2 .ensures .0 ∙ ap (λ (x : Phase). length (text x)) e, c .write-group2 .ensures .1 ∙ ap (λ (x : Phase). front (text x) lent) e)
 
 returns-4 : tie.Need-returns-4
-unfolding leftOf stageIn phaseOf
+unfolding tableLeft stageIn phaseOf
 returns-4 c =
     let p = c .before .before .before .before .args .player in
     let lent = now (c .before .before .before .before .args .out) in
-    let text : Phase → List ℕ = λ x. leftOf (stageIn x (groupOf (p .whole)) (p .number)) in
+    let text : Phase → List ℕ = λ x. tableLeft (stageIn x (groupOf (p .whole)) (p .number)) in
     let e = sym (c .enum-told4 .given .1) ∙ c .before .before .phase-of .ensures in
     (ap (λ (x : Phase). length (text x)) e, ap (λ (x : Phase). front (text x) lent) e)
 

@@ -2,8 +2,8 @@
 -- Assumes nothing.
 use mathlib.Core.Path.{sym, ap, _∙_}
 use mathlib.Core.Bool.{Bool}
-use Rattle.descriptor.proofs.Laws.{takes-as}
-use Rattle.inspection.specs.Table.{leftOf}
+use Rattle.descriptor.proofs.Laws.{takes-both, takes-as}
+use Rattle.inspection.specs.Table.{tableLeft}
 use Rattle.player.proofs.Laws.{laid-front}
 use Rattle.player.specs.Play.{lastOf}
 use Rattle.player.specs.Player.{stageOf}
@@ -18,9 +18,16 @@ write-left-requires c κs = search needs
 put-table-requires : tie.Need-put-table-requires
 put-table-requires c κs = search needs
 
+put-left-requires : tie.Need-put-left-requires
+put-left-requires c κs = search needs
+
 returns : tie.Need-returns
 unfolding programOf
-returns c = let stage = stageOf (c .before .before .before .before .args .player) in let f = c .before .write-left .ensures in takes-as (laid-front (leftOf stage) _ _ _ (f .1) (f .0) ∙ ap (λ (b : Bool). programOf b .last stage) (sym (c .before .before .before .if1 .taken))) (c .put-table .ensures)
+returns c =
+    let stage = stageOf (c .before .before .before .before .before .args .player) in
+    let f = c .before .before .write-left .ensures in
+    let t = takes-as (laid-front (tableLeft stage) _ _ _ (f .1) (f .0)) (c .before .put-table .ensures) in
+    takes-as (ap (λ (b : Bool). programOf b .last stage) (sym (c .before .before .before .before .if1 .taken))) (takes-both t (c .put-left .ensures))
 
 last-requires : tie.Need-last-requires
 last-requires c κs = search needs
@@ -30,7 +37,10 @@ put-text-requires c κs = search needs
 
 returns-2 : tie.Need-returns-2
 unfolding programOf
-returns-2 c = let stage = stageOf (c .before .before .before .before .args .player) in let f = c .before .last .ensures in takes-as (laid-front (lastOf stage) _ _ _ (f .1) (f .0) ∙ ap (λ (b : Bool). programOf b .last stage) (sym (c .before .before .before .if1 .left))) (c .put-text .ensures)
+returns-2 c =
+    let stage = stageOf (c .before .before .before .before .args .player) in
+    let f = c .before .last .ensures in
+    takes-as (laid-front (lastOf stage) _ _ _ (f .1) (f .0) ∙ ap (λ (b : Bool). programOf b .last stage) (sym (c .before .before .before .if1 .left))) (c .put-text .ensures)
 
 pub put-last-spec : {M : Type 1} → statement M
-put-last-spec = tie.close (tie.spec write-left-requires put-table-requires returns last-requires put-text-requires returns-2)
+put-last-spec = tie.close (tie.spec write-left-requires put-table-requires put-left-requires returns last-requires put-text-requires returns-2)

@@ -1,7 +1,7 @@
 -- The paper's number of each refusal: that of the question that said no, or the one that document 02 gives.
 use Prim.Native.Nat.{ℕ}
 use Rattle.group.specs.declared.Refusal.{Refusal}
-use Rattle.group.specs.declared.Refusal.the-variants.{UnsoundState, ShortOutput, PacketSize, UnknownKind, PayloadLength, ForbiddenFields, OtherGroup, OtherEnd, UnknownMember, AcknowledgedAhead, CountAhead, WantedAhead, LongPayload, AlreadyWaiting, NothingWaiting, NumbersUsedUp, NotInHistory, Opening, NotForList, ListFull, WrongJournal}
+use Rattle.group.specs.declared.Refusal.the-variants.{UnsoundState, ShortOutput, PacketSize, UnknownKind, PayloadLength, ForbiddenFields, OtherGroup, OtherEnd, UnknownMember, AcknowledgedAhead, CountAhead, WantedAhead, LongPayload, AlreadyWaiting, NothingWaiting, NumbersUsedUp, NotInHistory, Opening, NotForList, ListFull, WrongJournal, ManyUnits, NoRoom}
 
 abbrev pub numberOf : Refusal → ℕ
 -- Is the state sound?
@@ -46,3 +46,7 @@ numberOf NotForList = 19
 numberOf ListFull = 20
 -- Is a journal's length a multiple of a block's, and may a record with its number follow?
 numberOf WrongJournal = 21
+-- Has a journal's plan at most 512 units?
+numberOf ManyUnits = 22
+-- Has the lent output room for the plan, or for the rewritten blocks?
+numberOf NoRoom = 23

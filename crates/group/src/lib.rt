@@ -34,6 +34,8 @@ pub enum Refusal {
     NotForList,
     ListFull,
     WrongJournal,
+    ManyUnits,
+    NoRoom,
 }
 
 impl Refusal {
@@ -63,6 +65,8 @@ impl Refusal {
             Refusal::NotForList => 19,
             Refusal::ListFull => 20,
             Refusal::WrongJournal => 21,
+            Refusal::ManyUnits => 22,
+            Refusal::NoRoom => 23,
         }
     }
 }

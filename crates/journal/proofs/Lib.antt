@@ -3,6 +3,10 @@ pub mod Summing
 pub mod Records
 pub mod Sound
 pub mod Walking
+pub mod Cursors
+pub mod Given
+pub mod Again
+pub mod Rising
 pub mod Blocks
 pub mod Laying
 pub mod Keeping

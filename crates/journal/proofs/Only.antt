@@ -1,35 +1,38 @@
 -- A right block of bytes is the block of its messages: record by record, then its other parts. Assumes nothing.
 use mathlib.Core.Path.{_≡_, refl, sym, ap, _∙_}
-use mathlib.Core.Bool.{true}
+use mathlib.Core.Bool.{Bool, true, false}
 use mathlib.Core.List.{List, [], _∷_, _++_, append-assoc, append-nil}
 use Prim.Native.Nat.{ℕ, zero, suc, _+_, _-_, _≤_, _<_}
 use native.Mathlib.Numerals.{add-one}
 use native.Mathlib.Omega.{arith}
-use borrow.Author.Tests.{lt-ltb, le-leb, eqb-true}
+use borrow.Author.Tests.{lt-ltb, le-leb, leb-true, eqb-true}
 use lib.ListN.{length, getD, take, drop, replicate, length-append, length-drop, take-append-drop, drop-of-length-le}
 use lib.Seq.{length-take-le, drop-cons, getD-take, getD-drop, drop-drop, drop-append-le, take-at}
-use Rattle.group.specs.Choice.{_<?_, _≤?_, _=?_}
+use Rattle.group.specs.Choice.{if_then_else_, _<?_, _≤?_, _=?_}
 use Rattle.group.specs.Fold.{all}
 use Rattle.group.specs.Limits.{membersMost, payloadMost}
 use Rattle.group.proofs.Choice.{says, both-hold, both-first, both-then}
 use Rattle.message.specs.Message.{allZero}
 use Rattle.big_endian.specs.Laws.{Bytes}
 use Rattle.big_endian.specs.Number.{numberAt, bytesOf}
-use Rattle.big_endian.proofs.Number.{number-fits, bytes-of-number-then}
-use Rattle.journal.specs.Limits.{blockSize, recordsAt, recordsEnd, recordHead, mark}
-use Rattle.journal.specs.Block.{sumFrom, recordOf, recordsOf, framed, blockOf, firstAt, recordsIn, sumAt, lengthAt, behind, follows, recordRight, recordsRight, marked, sumRight, contentRight, blockRight, messageAt, messagesFrom, messagesOf}
+use Rattle.big_endian.proofs.Number.{bytesOf-length, number-fits, bytes-of-number-then}
+use Rattle.message.specs.Order.{Ordered}
+use Rattle.journal.specs.Limits.{blockSize, recordsAt, recordsEnd, recordHead, numberSize, mark, compactMark}
+use Rattle.journal.specs.Block.{sumFrom, recordOf, framedBy, framed, blockOf, compactFramed, compactOf, firstAt, recordsIn, sumAt, lengthAt, behind, follows, recordStart, behindIn, recordNumber, stepRight, recordsRight, marked, formOf, formRight, sumRight, contentRight, blockRight, messageAt, messagesFrom, messagesOf}
 use Rattle.journal.specs.Write.{allowed}
-use Rattle.journal.specs.Laws.{Allowed, Numbered, BlockOnly}
+use Rattle.journal.specs.Laws.{Allowed, NextNumber, NumberedIn, recordsWith, blockWith, BlockOnly}
+use Rattle.journal.specs.declared.Form.{Form}
+use Rattle.journal.specs.declared.Form.the-variants.{Log, Compact}
 use Rattle.journal.specs.declared.Tail.{Tail}
-use Rattle.journal.proofs.Records.{Says, right-says, record-length}
-use Rattle.journal.proofs.Blocks.{framed-length}
+use Rattle.journal.proofs.Records.{Says, step-says, record-length}
+use Rattle.journal.proofs.Blocks.{recordWithin, records-nil, records-cons, frame-length}
 
 -- parts of bytes are bytes
-bytes-take : (n : ℕ) (l : List ℕ) → Bytes l → n ≤ length l → Bytes (take n l)
+pub bytes-take : (n : ℕ) (l : List ℕ) → Bytes l → n ≤ length l → Bytes (take n l)
 unfolding Bytes
 bytes-take n l b h = λ i k. let e = length-take-le n l h in rw (getD-take n l i 0 (omega arith)) (b i (omega arith))
 
-bytes-drop : (n : ℕ) (l : List ℕ) → Bytes l → Bytes (drop n l)
+pub bytes-drop : (n : ℕ) (l : List ℕ) → Bytes l → Bytes (drop n l)
 unfolding Bytes
 bytes-drop n l b = λ i k. let e = length-drop n l in rw (getD-drop n l i 0) (b (n + i) (omega arith))
 
@@ -52,7 +55,7 @@ module _ (block : List ℕ) (bytes : Bytes block) (long : length block ≡ block
   unfolding messageAt
   message-length at number s = payload-length at number s
 
-  message-number : (at number : ℕ) → messageAt block at number .number ≡ number
+  pub message-number : (at number : ℕ) → messageAt block at number .number ≡ number
   unfolding messageAt
   message-number at number = refl
 
@@ -96,93 +99,178 @@ module _ (block : List ℕ) (bytes : Bytes block) (long : length block ≡ block
       (append-assoc (bytesOf 2 (lengthAt block at)) payload (drop (behind block at) block) ∙ ap (λ (x : List ℕ). bytesOf 2 (lengthAt block at) ++ x) p ∙ q)
       ∙ r)))
 
+  -- the record at an index of a block of a form, its number, and what stands behind it
+  next-number : (form : Form) (at before : ℕ) → before < recordNumber form block at before → NextNumber form before (recordNumber form block at before)
+  next-number Log at before h = refl
+  next-number Compact at before h = h
+
+  abbrev messageIn : Form → ℕ → ℕ → Ordered
+  messageIn form at before = messageAt block (recordStart form at) (recordNumber form block at before)
+
+  step-only : (form : Form) (at before : ℕ) → Says block (recordStart form at) (recordNumber form block at before)
+      → drop at block ≡ recordWithin form (messageIn form at before) ++ drop (behindIn form block at) block
+  step-only Log at before s = record-only at (before + 1) s
+  step-only Compact at before s =
+      let h = s .ends in
+      let number = numberAt numberSize block at in
+      let m = messageAt block (at + numberSize) number in
+      sym (bytes-of-number-then block bytes numberSize at (omega arith))
+      ∙ ap (λ (x : List ℕ). bytesOf numberSize number ++ x) (record-only (at + numberSize) number s)
+      ∙ sym (append-assoc (bytesOf numberSize number) (recordOf m) (drop (behind block (at + numberSize)) block))
+      ∙ ap (λ (x : ℕ). (bytesOf numberSize x ++ recordOf m) ++ drop (behind block (at + numberSize)) block) (sym (message-number (at + numberSize) number))
+
+  step-ends : (form : Form) (at before : ℕ) → Says block (recordStart form at) (recordNumber form block at before)
+      → behindIn form block at ≡ at + length (recordWithin form (messageIn form at before))
+  step-ends Log at before s =
+      let l = record-length (messageAt block at (before + 1)) in
+      let n = message-length at (before + 1) s in
+      omega arith
+  step-ends Compact at before s =
+      let m = messageAt block (at + numberSize) (numberAt numberSize block at) in
+      let l = record-length m in
+      let n = message-length (at + numberSize) (numberAt numberSize block at) s in
+      let a = length-append (bytesOf numberSize (m .number)) (recordOf m) in
+      let b = bytesOf-length numberSize (m .number) in
+      omega arith
+
   -- so many right records from an index on, and the zeros behind them
-  records-only : (at before k : ℕ) → at ≤ recordsEnd → recordsRight block at before k ≡ true
-      → let ms = messagesFrom block at before k in
-      Numbered before ms × (at + length (recordsOf ms) ≤ recordsEnd)
-      × (drop at block ≡ recordsOf ms ++ (replicate (recordsEnd - at - length (recordsOf ms)) 0 ++ drop recordsEnd block))
-  unfolding recordsRight messagesFrom recordsOf Numbered
-  records-only at before zero h e =
+  pub records-only : (form : Form) (at before k : ℕ) → at ≤ recordsEnd → recordsRight form block at before k ≡ true
+      → let ms = messagesFrom form block at before k in
+      NumberedIn form before ms × (at + length (recordsWith form ms) ≤ recordsEnd)
+      × (drop at block ≡ recordsWith form ms ++ (replicate (recordsEnd - at - length (recordsWith form ms)) 0 ++ drop recordsEnd block))
+  unfolding recordsRight messagesFrom NumberedIn
+  records-only form at before zero h e =
+      let nil = records-nil form in
       let front = take recordsEnd block in
       let l : length front ≡ recordsEnd = length-take-le recordsEnd block (omega arith) in
       let d = length-drop at front in
       let n : length (drop at front) ≡ recordsEnd - at - 0 = omega arith in
       let z : drop at front ≡ replicate (recordsEnd - at - 0) 0 = zeros-only (drop at front) e ∙ rw n in (
         tt,
-        omega arith,
-        ap (drop at) (sym (take-append-drop recordsEnd block))
+        rw nil (omega arith),
+        rw nil
+            (ap (drop at) (sym (take-append-drop recordsEnd block))
             ∙ drop-append-le at front (drop recordsEnd block) (omega arith)
-            ∙ ap (λ (x : List ℕ). x ++ drop recordsEnd block) z,
+            ∙ ap (λ (x : List ℕ). x ++ drop recordsEnd block) z),
       )
-  records-only at before (suc k) h e =
-      let s = right-says block at (before + 1) (both-first (recordRight block at (before + 1)) _ e) in
-      let m = messageAt block at (before + 1) in
+  records-only form at before (suc k) h e =
+      let (above, s) = step-says block form at before (both-first (stepRight form block at before) _ e) in
+      let number = recordNumber form block at before in
+      let m = messageIn form at before in
       let b = s .ends in
-      let (numbered, fits, rest) = records-only (behind block at) (before + 1) k b (both-then (recordRight block at (before + 1)) _ e) in
-      let ms = messagesFrom block (behind block at) (before + 1) k in
-      let a = length-append (recordOf m) (recordsOf ms) in
-      let l : length (recordOf m) ≡ recordHead + lengthAt block at = record-length m ∙ ap (λ (x : ℕ). recordHead + x) (message-length at (before + 1) s) in
-      let z : recordsEnd - behind block at - length (recordsOf ms) ≡ recordsEnd - at - length (recordOf m ++ recordsOf ms) = omega arith in (
-        (record-allowed at (before + 1) s, message-number at (before + 1), numbered),
-        omega arith,
-        record-only at (before + 1) s ∙ ap (λ (x : List ℕ). recordOf m ++ x) (rw z at rest) ∙ sym (append-assoc (recordOf m) (recordsOf ms) _),
+      let (numbered, fits, rest) = records-only form (behindIn form block at) number k b (both-then (stepRight form block at before) _ e) in
+      let ms = messagesFrom form block (behindIn form block at) number k in
+      let one = recordWithin form m in
+      let cons = records-cons form m ms in
+      let a = length-append one (recordsWith form ms) in
+      let l = step-ends form at before s in
+      let v = message-number (recordStart form at) number in
+      let z : recordsEnd - behindIn form block at - length (recordsWith form ms) ≡ recordsEnd - at - length (one ++ recordsWith form ms) = omega arith in (
+        (record-allowed (recordStart form at) number s, rw v (next-number form at before above), rw v numbered),
+        rw cons (omega arith),
+        rw cons
+            (step-only form at before s ∙ ap (λ (x : List ℕ). one ++ x) (rw z at rest) ∙ sym (append-assoc one (recordsWith form ms) _)),
       )
 
   -- the mark
-  mark-only : marked block ≡ true → block ≡ mark ++ drop 4 block
+  begins-only : (last : ℕ) → marked (75 ∷ 74 ∷ 66 ∷ last ∷ []) block ≡ true → block ≡ (75 ∷ 74 ∷ 66 ∷ last ∷ []) ++ drop 4 block
   unfolding all
-  mark-only e =
+  begins-only last e =
       let k : getD block 0 0 ≡ 75 = search says depth 9 in
       let j : getD block 1 0 ≡ 74 = search says depth 9 in
       let b : getD block 2 0 ≡ 66 = search says depth 9 in
-      let o : getD block 3 0 ≡ 49 = search says depth 9 in
+      let o : getD block 3 0 ≡ last = search says depth 9 in
       drop-cons block 0 0 (omega arith)
       ∙ rw (drop-cons block 1 0 (omega arith), drop-cons block 2 0 (omega arith), drop-cons block 3 0 (omega arith), k, j, b, o)
 
--- what `blockRight` says of a block's parts
-record Right (block : List ℕ) : Type 0 where
-  long : length block ≡ blockSize
-  mark : marked block ≡ true
-  sum : sumRight block ≡ true
-  records : recordsRight block recordsAt (firstAt block - 1) (recordsIn block) ≡ true
+abbrev markOf : Form → List ℕ
+markOf Log = mark
+markOf Compact = compactMark
 
-block-says : (t : Tail) (block : List ℕ) → blockRight t block ≡ true → Right block
+-- a block of a form begins with its mark
+pub compact-marked : (block : List ℕ) → formOf block ≡ Compact → marked compactMark block ≡ true
+unfolding formOf if_then_else_
+compact-marked block e = go (marked compactMark block) refl e
+  where
+    go : (b : Bool) → marked compactMark block ≡ b → (if b then Compact else Log) ≡ Compact → marked compactMark block ≡ true
+    go true r e = r
+    go false r e = let z : _≡_ {A = ℕ} 0 1 = cc in absurd (omega arith)
+
+mark-only : (form : Form) (t : Tail) (block : List ℕ) → Bytes block → length block ≡ blockSize → formOf block ≡ form → formRight form t block ≡ true
+    → block ≡ markOf form ++ drop 4 block
+unfolding formRight
+mark-only Log t block bytes long e r = begins-only block bytes long 49 r
+mark-only Compact t block bytes long e r = begins-only block bytes long 50 (compact-marked block e)
+
+-- what `blockRight` says of a block's parts
+pub record Right (t : Tail) (block : List ℕ) : Type 0 where
+  pub long : length block ≡ blockSize
+  pub marks : formRight (formOf block) t block ≡ true
+  pub sum : sumRight block ≡ true
+  pub some : 1 ≤ recordsIn block
+  pub follow : follows t (firstAt block) ≡ true
+  pub records : recordsRight (formOf block) block recordsAt (firstAt block - 1) (recordsIn block) ≡ true
+
+pub block-says : (t : Tail) (block : List ℕ) → blockRight t block ≡ true → Right t block
 unfolding contentRight blockRight
 block-says t block e =
     let a = both-then (length block =? blockSize) _ e in
-    let b = both-then (marked block) _ a in
+    let b = both-then (formRight (formOf block) t block) _ a in
     let c = both-then (sumRight block) _ b in
     let d = both-then (1 ≤? recordsIn block) _ c in
     record {
       long = eqb-true (length block) blockSize (both-first (length block =? blockSize) _ e);
-      mark = both-first (marked block) _ a;
+      marks = both-first (formRight (formOf block) t block) _ a;
       sum = both-first (sumRight block) _ b;
+      some = leb-true 1 (recordsIn block) (both-first (1 ≤? recordsIn block) _ c);
+      follow = both-first (follows t (firstAt block)) _ d;
       records = both-then (follows t (firstAt block)) _ d;
     }
 
+-- the bytes of a block of which the mark, the sum and the bytes behind the head are known
+module _ (block : List ℕ) (bytes : Bytes block) (long : length block ≡ blockSize) (sum : sumRight block ≡ true) where
+  whole-only : (begin body : List ℕ) → length begin ≡ 4 → block ≡ begin ++ drop 4 block → recordsAt + length body ≤ recordsEnd
+      → drop recordsAt block ≡ body ++ (replicate (recordsEnd - recordsAt - length body) 0 ++ drop recordsEnd block)
+      → let frame = framedBy begin (firstAt block) (recordsIn block) body in
+      block ≡ frame ++ bytesOf 4 (sumFrom 0 frame)
+  unfolding sumRight
+  whole-only begin body four marks fits rest =
+      let first = firstAt block in
+      let records = recordsIn block in
+      let frame = framedBy begin first records body in
+      let zeros : List ℕ = replicate (recordsEnd - recordsAt - length body) 0 in
+      let f : bytesOf 4 first ++ drop 8 block ≡ drop 4 block = bytes-of-number-then block bytes 4 4 (omega arith) in
+      let n : bytesOf 2 records ++ drop 10 block ≡ drop 8 block = bytes-of-number-then block bytes 2 8 (omega arith) in
+      let c : bytesOf 4 (sumAt block) ++ drop 512 block ≡ drop 508 block = bytes-of-number-then block bytes 4 508 (omega arith) in
+      let last : bytesOf 4 (sumAt block) ≡ drop 508 block =
+      sym (append-nil (bytesOf 4 (sumAt block))) ∙ ap (λ (x : List ℕ). bytesOf 4 (sumAt block) ++ x) (sym (drop-of-length-le block {i = 512} (omega arith))) ∙ c in
+      let whole : block ≡ frame ++ drop 508 block =
+      marks
+      ∙ ap (λ (x : List ℕ). begin ++ x)
+      (sym f
+      ∙ ap (λ (x : List ℕ). bytesOf 4 first ++ x) (sym n ∙ ap (λ (x : List ℕ). bytesOf 2 records ++ x) (rest ∙ sym (append-assoc body zeros (drop 508 block))))
+      ∙ ap (λ (x : List ℕ). bytesOf 4 first ++ x) (sym (append-assoc (bytesOf 2 records) (body ++ zeros) (drop 508 block)))
+      ∙ sym (append-assoc (bytesOf 4 first) (bytesOf 2 records ++ (body ++ zeros)) (drop 508 block)))
+      ∙ sym (append-assoc begin (bytesOf 4 first ++ (bytesOf 2 records ++ (body ++ zeros))) (drop 508 block)) in
+      let front : take 508 block ≡ frame =
+      ap (take 508) whole ∙ take-at frame (drop 508 block) 508 (frame-length begin four first records body fits) in
+      let s : sumAt block ≡ sumFrom 0 frame = eqb-true _ _ sum ∙ ap (sumFrom 0) front in
+      whole ∙ ap (λ (x : List ℕ). frame ++ x) (sym last ∙ ap (bytesOf 4) s)
+
+with-form : (form : Form) (t : Tail) (block : List ℕ) → Bytes block → length block ≡ blockSize → sumRight block ≡ true → formOf block ≡ form
+    → formRight form t block ≡ true → (body : List ℕ) → recordsAt + length body ≤ recordsEnd
+    → drop recordsAt block ≡ body ++ (replicate (recordsEnd - recordsAt - length body) 0 ++ drop recordsEnd block)
+    → block ≡ blockWith form (firstAt block) (recordsIn block) body
+unfolding framed blockOf compactFramed compactOf
+with-form Log t block bytes long sum e r body fits rest =
+    whole-only block bytes long sum mark body refl (mark-only Log t block bytes long e r) fits rest
+with-form Compact t block bytes long sum e r body fits rest =
+    whole-only block bytes long sum compactMark body refl (mark-only Compact t block bytes long e r) fits rest
+
 pub block-only : BlockOnly
-unfolding messagesOf framed blockOf sumRight
+unfolding messagesOf
 block-only t block bytes e =
     let r = block-says t block e in
-    let long = r .long in
-    let first = firstAt block in
-    let records = recordsIn block in
-    let (numbered, fits, rest) = records-only block bytes long recordsAt (first - 1) records (omega arith) (r .records) in
-    let body = recordsOf (messagesFrom block recordsAt (first - 1) records) in
-    let zeros : List ℕ = replicate (recordsEnd - recordsAt - length body) 0 in
-    let f : bytesOf 4 first ++ drop 8 block ≡ drop 4 block = bytes-of-number-then block bytes 4 4 (omega arith) in
-    let n : bytesOf 2 records ++ drop 10 block ≡ drop 8 block = bytes-of-number-then block bytes 2 8 (omega arith) in
-    let c : bytesOf 4 (sumAt block) ++ drop 512 block ≡ drop 508 block = bytes-of-number-then block bytes 4 508 (omega arith) in
-    let last : bytesOf 4 (sumAt block) ≡ drop 508 block =
-    sym (append-nil (bytesOf 4 (sumAt block))) ∙ ap (λ (x : List ℕ). bytesOf 4 (sumAt block) ++ x) (sym (drop-of-length-le block {i = 512} (omega arith))) ∙ c in
-    let whole : block ≡ framed first records body ++ drop 508 block =
-    mark-only block bytes long (r .mark)
-    ∙ ap (λ (x : List ℕ). mark ++ x)
-    (sym f
-    ∙ ap (λ (x : List ℕ). bytesOf 4 first ++ x) (sym n ∙ ap (λ (x : List ℕ). bytesOf 2 records ++ x) (rest ∙ sym (append-assoc body zeros (drop 508 block))))
-    ∙ ap (λ (x : List ℕ). bytesOf 4 first ++ x) (sym (append-assoc (bytesOf 2 records) (body ++ zeros) (drop 508 block)))
-    ∙ sym (append-assoc (bytesOf 4 first) (bytesOf 2 records ++ (body ++ zeros)) (drop 508 block))) in
-    let front : take 508 block ≡ framed first records body =
-    ap (take 508) whole ∙ take-at (framed first records body) (drop 508 block) 508 (framed-length first records body fits) in
-    let sum : sumAt block ≡ sumFrom 0 (framed first records body) = eqb-true _ _ (r .sum) ∙ ap (sumFrom 0) front in
-    (numbered, whole ∙ ap (λ (x : List ℕ). framed first records body ++ x) (sym last ∙ ap (bytesOf 4) sum))
+    let form = formOf block in
+    let (numbered, fits, rest) = records-only block bytes (r .long) form recordsAt (firstAt block - 1) (recordsIn block) (omega arith) (r .records) in
+    (numbered, with-form form t block bytes (r .long) (r .sum) refl (r .marks) _ fits rest)

@@ -4,7 +4,7 @@ use mathlib.Core.Bool.{true}
 use mathlib.Core.List.{List, [], _∷_, _++_, append-assoc}
 use Prim.Native.Nat.{ℕ, _+_, _≤_, _<_}
 use native.Mathlib.Omega.{arith}
-use borrow.Author.Tests.{lt-ltb, le-leb, eq-eqb, eqb-true}
+use borrow.Author.Tests.{lt-ltb, le-leb, eq-eqb, eqb-true, ltb-true}
 use lib.ListN.{length, getD, take, drop}
 use lib.Seq.{getD-drop, drop-drop, take-at}
 use Rattle.group.specs.Choice.{_and_, _<?_, _≤?_, _=?_}
@@ -16,12 +16,13 @@ use Rattle.big_endian.specs.Laws.{Bytes}
 use Rattle.big_endian.specs.Number.{numberAt, bytesOf}
 use Rattle.big_endian.proofs.Number.{bytes-cons, bytes-append, bytesOf-bytes}
 use Rattle.journal.specs.Limits.{blockSize, recordsEnd, recordHead}
-use Rattle.journal.specs.Block.{recordOf, lengthAt, behind, recordRight, messageAt}
+use Rattle.journal.specs.Block.{recordOf, lengthAt, behind, recordRight, messageAt, recordStart, recordNumber, stepRight}
 use Rattle.journal.specs.Read.{recordAt, entryOf, heldBy}
 use Rattle.journal.specs.Write.{allowed}
 use Rattle.journal.specs.Laws.{Allowed, RecordBack, EntryHolds, EntryWithin}
 use Rattle.journal.specs.declared.Entry.{Entry}
 use Rattle.journal.specs.declared.Record.{Record}
+use Rattle.journal.specs.declared.Form.{Form}
 use Rattle.journal.proofs.Lists.{number-in}
 
 -- what `allowed` says
@@ -63,6 +64,21 @@ says-right block at number s =
     (both-hold (1 ≤? numberAt 4 block (at + 1)) _ (le-leb _ _ (s .count))
     (both-hold (lengthAt block at ≤? payloadMost) _ (le-leb _ _ (s .size))
     (both-hold (behind block at ≤? recordsEnd) _ (le-leb (behind block at) recordsEnd (s .ends)) (le-leb _ _ (s .most))))))
+
+-- what `stepRight` says: the number is above the one before, and the record is right
+pub step-says : (block : List ℕ) (form : Form) (at before : ℕ) → stepRight form block at before ≡ true
+    → (before < recordNumber form block at before) × Says block (recordStart form at) (recordNumber form block at before)
+unfolding stepRight
+step-says block form at before e =
+    let number = recordNumber form block at before in
+    (ltb-true before number (both-first (before <? number) _ e), right-says block (recordStart form at) number (both-then (before <? number) _ e))
+
+pub says-step : (block : List ℕ) (form : Form) (at before : ℕ) → before < recordNumber form block at before
+    → recordRight block (recordStart form at) (recordNumber form block at before) ≡ stepRight form block at before
+unfolding stepRight
+says-step block form at before h =
+    let number = recordNumber form block at before in
+    if-true (before <? number) _ _ _ (lt-ltb before number h) refl
 
 -- a right record of a block is its entry
 pub entry-right : (block : List ℕ) (at : ℕ) (number : SequenceNumber) → length block ≡ blockSize → Says block at (number .0)

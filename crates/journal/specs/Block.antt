@@ -1,7 +1,7 @@
--- A block: `KJB1`, the number of its first message (4 bytes), the count of its records (2), the records from byte 10 on,
+-- A block: `KJB1` or `KJB2`, the number of its first message (4 bytes), the count of its records (2), the records from byte 10 on,
 -- zeros up to byte 507, and the sum over bytes 0 to 507 (4). A record: originator (1), count (4), L (2), L bytes of payload.
--- Numbers are big-endian.
-use mathlib.Core.Bool.{Bool, false}
+-- Numbers are big-endian. In a block with `KJB2`, a compacted one, the sequence number (4) stands before each record.
+use mathlib.Core.Bool.{Bool, true, false}
 use mathlib.Core.List.{List, [], _∷_, _++_}
 use Prim.Native.Nat.{ℕ, zero, suc, _+_, _*_, _-_}
 use lib.ListN.{length, getD, take, drop, replicate}
@@ -11,7 +11,9 @@ use Rattle.group.specs.Limits.{membersMost, payloadMost, largestNumber}
 use Rattle.message.specs.Message.{allZero}
 use Rattle.message.specs.Order.{Ordered}
 use Rattle.big_endian.specs.Number.{numberAt, bytesOf}
-use Rattle.journal.specs.Limits.{blockSize, recordsAt, recordsEnd, recordHead, mark}
+use Rattle.journal.specs.Limits.{blockSize, recordsAt, recordsEnd, recordHead, numberSize, mark, compactMark}
+use Rattle.journal.specs.declared.Form.{Form}
+use Rattle.journal.specs.declared.Form.the-variants.{Log, Compact}
 use Rattle.journal.specs.declared.Tail.{Tail}
 
 -- the sum of (position + 1) × byte, where the first byte stands at `position`
@@ -32,13 +34,30 @@ recordsOf [] = []
 recordsOf (m ∷ rest) = recordOf m ++ recordsOf rest
 
 -- bytes 0 to 507 of a block
-unfoldable pub framed : ℕ → ℕ → List ℕ → List ℕ
-framed first records body =
-    mark ++ (bytesOf 4 first ++ (bytesOf 2 records ++ (body ++ replicate (recordsEnd - recordsAt - length body) 0)))
+abbrev pub framedBy : List ℕ → ℕ → ℕ → List ℕ → List ℕ
+framedBy begin first records body =
+    begin ++ (bytesOf 4 first ++ (bytesOf 2 records ++ (body ++ replicate (recordsEnd - recordsAt - length body) 0)))
 
--- the block: its sum behind them
+unfoldable pub framed : ℕ → ℕ → List ℕ → List ℕ
+framed first records body = framedBy mark first records body
+
+-- the block: their sum behind them
+abbrev pub sealed : List ℕ → List ℕ
+sealed frame = frame ++ bytesOf 4 (sumFrom 0 frame)
+
 unfoldable pub blockOf : ℕ → ℕ → List ℕ → List ℕ
-blockOf first records body = framed first records body ++ bytesOf 4 (sumFrom 0 (framed first records body))
+blockOf first records body = sealed (framed first records body)
+
+-- the same of a compacted one, whose number is its first record's
+unfoldable pub compactRecords : List Ordered → List ℕ
+compactRecords [] = []
+compactRecords (m ∷ rest) = bytesOf numberSize (m .number) ++ (recordOf m ++ compactRecords rest)
+
+unfoldable pub compactFramed : ℕ → ℕ → List ℕ → List ℕ
+compactFramed first records body = framedBy compactMark first records body
+
+unfoldable pub compactOf : ℕ → ℕ → List ℕ → List ℕ
+compactOf first records body = sealed (compactFramed first records body)
 
 -- the fields of a block
 abbrev pub firstAt : List ℕ → ℕ
@@ -75,15 +94,44 @@ recordRight block at number =
     and behind block at ≤? recordsEnd
     and number ≤? largestNumber
 
--- so many records from an index on are right, with the numbers above `before`, and zeros stand behind them
-unfoldable pub recordsRight : List ℕ → ℕ → ℕ → ℕ → Bool
-recordsRight block at before zero = allZero (drop at (take recordsEnd block))
-recordsRight block at before (suc k) =
-    recordRight block at (before + 1) and recordsRight block (behind block at) (before + 1) k
+-- where the bytes of the record at an index begin, behind its number if that stands before it, and where the next may begin
+abbrev pub recordStart : Form → ℕ → ℕ
+recordStart Log at = at
+recordStart Compact at = at + numberSize
 
--- the block begins with the mark
-abbrev pub marked : List ℕ → Bool
-marked block = all (λ i b. getD block i 0 =? b) 0 mark
+abbrev pub behindIn : Form → List ℕ → ℕ → ℕ
+behindIn form block at = behind block (recordStart form at)
+
+-- the number of the record at an index, where `before` is the number before it
+abbrev pub recordNumber : Form → List ℕ → ℕ → ℕ → ℕ
+recordNumber Log block at before = before + 1
+recordNumber Compact block at before = numberAt numberSize block at
+
+-- the record at an index is right, with a number above the one before
+unfoldable pub stepRight : Form → List ℕ → ℕ → ℕ → Bool
+stepRight form block at before =
+    before <? recordNumber form block at before
+    and recordRight block (recordStart form at) (recordNumber form block at before)
+
+-- so many records from an index on are right, with numbers above `before`, and zeros stand behind them
+unfoldable pub recordsRight : Form → List ℕ → ℕ → ℕ → ℕ → Bool
+recordsRight form block at before zero = allZero (drop at (take recordsEnd block))
+recordsRight form block at before (suc k) =
+    stepRight form block at before
+    and recordsRight form block (behindIn form block at) (recordNumber form block at before) k
+
+-- the block begins with these bytes
+abbrev pub marked : List ℕ → List ℕ → Bool
+marked begin block = all (λ i b. getD block i 0 =? b) 0 begin
+
+-- what its mark makes it
+unfoldable pub formOf : List ℕ → Form
+formOf block = if marked compactMark block then Compact else Log
+
+-- the mark is right: a compacted block stands where any number may follow, and its number is its first record's
+unfoldable pub formRight : Form → Tail → List ℕ → Bool
+formRight Log t block = marked mark block
+formRight Compact t block = t .free and firstAt block =? numberAt numberSize block recordsAt
 
 -- its sum is right
 unfoldable pub sumRight : List ℕ → Bool
@@ -94,11 +142,11 @@ unfoldable pub contentRight : Tail → List ℕ → Bool
 contentRight t block =
     1 ≤? recordsIn block
     and follows t (firstAt block)
-    and recordsRight block recordsAt (firstAt block - 1) (recordsIn block)
+    and recordsRight (formOf block) block recordsAt (firstAt block - 1) (recordsIn block)
 
 -- the block is right behind that tail
 unfoldable pub blockRight : Tail → List ℕ → Bool
-blockRight t block = length block =? blockSize and marked block and sumRight block and contentRight t block
+blockRight t block = length block =? blockSize and formRight (formOf block) t block and sumRight block and contentRight t block
 
 -- the message whose record stands at an index
 unfoldable pub messageAt : List ℕ → ℕ → ℕ → Ordered
@@ -110,15 +158,26 @@ messageAt block at number =
       payload = take (lengthAt block at) (drop (at + recordHead) block);
     }
 
--- the messages of so many records from an index on, with the numbers above `before`
-unfoldable pub messagesFrom : List ℕ → ℕ → ℕ → ℕ → List Ordered
-messagesFrom block at before zero = []
-messagesFrom block at before (suc k) = messageAt block at (before + 1) ∷ messagesFrom block (behind block at) (before + 1) k
+-- the messages of so many records from an index on, with numbers above `before`, and the number of the last
+unfoldable pub messagesFrom : Form → List ℕ → ℕ → ℕ → ℕ → List Ordered
+messagesFrom form block at before zero = []
+messagesFrom form block at before (suc k) =
+    messageAt block (recordStart form at) (recordNumber form block at before)
+    ∷ messagesFrom form block (behindIn form block at) (recordNumber form block at before) k
+
+unfoldable pub lastFrom : Form → List ℕ → ℕ → ℕ → ℕ → ℕ
+lastFrom form block at before zero = before
+lastFrom form block at before (suc k) = lastFrom form block (behindIn form block at) (recordNumber form block at before) k
 
 -- the messages of a block
 unfoldable pub messagesOf : List ℕ → List Ordered
-messagesOf block = messagesFrom block recordsAt (firstAt block - 1) (recordsIn block)
+messagesOf block = messagesFrom (formOf block) block recordsAt (firstAt block - 1) (recordsIn block)
+
+-- the tail behind a number: behind a compacted block any number above it may follow
+abbrev pub tailWith : Form → ℕ → Tail
+tailWith Log number = endedAt number
+tailWith Compact number = record { last = record { 0 = number }; free = true }
 
 -- the tail behind a block
 unfoldable pub tailOf : List ℕ → Tail
-tailOf block = endedAt (firstAt block + recordsIn block - 1)
+tailOf block = tailWith (formOf block) (lastFrom (formOf block) block recordsAt (firstAt block - 1) (recordsIn block))

@@ -1,7 +1,7 @@
 -- What is proved of the journal, besides the promises of reading and writing. `proofs/` has a proof of each statement.
 use mathlib.Core.Path.{_≡_}
 use mathlib.Core.Bool.{true, false}
-use mathlib.Core.List.{List, [], _∷_, _++_}
+use mathlib.Core.List.{List, [], _∷_, _++_, List·Memᴰ, map}
 use Prim.Native.Nat.{ℕ, _+_, _*_, _-_, _/_, _%_, _≤_, _<_}
 use lib.ListN.{length, getD, take, drop}
 use Rattle.group.specs.Choice.{_and_, _=?_}
@@ -12,13 +12,19 @@ use Rattle.group.specs.declared.SequenceNumber.{SequenceNumber}
 use Rattle.message.specs.Order.{Ordered}
 use Rattle.big_endian.specs.Laws.{Bytes}
 use Rattle.journal.specs.Limits.{blockSize, recordsAt, recordsEnd, recordHead}
-use Rattle.journal.specs.Block.{recordOf, recordsOf, blockOf, firstAt, recordsIn, behind, endedAt, follows, recordRight, sumRight, blockRight, messageAt, messagesOf, tailOf}
+use Rattle.journal.specs.Block.{recordOf, recordsOf, blockOf, firstAt, recordsIn, behind, endedAt, follows, recordRight, sumRight, blockRight, messageAt, messagesOf, tailOf, compactRecords, compactOf, lengthAt, formOf, tailWith}
 use Rattle.journal.specs.Read.{joined, foundFrom, foundIn, counted, readOf, entryOf, heldBy}
+use Rattle.journal.specs.Walk.{cursorOf, walkOf, givenBy, spotAt, messageOn}
 use Rattle.journal.specs.Write.{writerAfter, writerSound, allowed, refused, keptOf, closedOf, writeOf, finishOf}
+use Rattle.journal.specs.declared.Cursor.{Cursor}
 use Rattle.journal.specs.declared.Entry.{Entry}
+use Rattle.journal.specs.declared.Form.{Form}
+use Rattle.journal.specs.declared.Form.the-variants.{Log, Compact}
 use Rattle.journal.specs.declared.Reading.{Reading}
 use Rattle.journal.specs.declared.Record.{Record}
+use Rattle.journal.specs.declared.Spot.{Spot}
 use Rattle.journal.specs.declared.Tail.{Tail}
+use Rattle.journal.specs.declared.Walk.{Walk}
 use Rattle.journal.specs.declared.Writer.{Writer}
 use Rattle.journal.specs.declared.Answer.the-variants.{Kept, Closed}
 
@@ -44,6 +50,28 @@ unfoldable pub Numbered : ℕ → List Ordered → Type 0
 Numbered before [] = Unit {0}
 Numbered before (m ∷ rest) = Allowed m × (m .number ≡ before + 1) × Numbered (before + 1) rest
 
+-- the same of the records of a block of either form: the next number each, or any above the one before
+abbrev pub NextNumber : Form → ℕ → ℕ → Type 0
+NextNumber Log before number = number ≡ before + 1
+NextNumber Compact before number = before < number
+
+unfoldable pub NumberedIn : Form → ℕ → List Ordered → Type 0
+NumberedIn form before [] = Unit {0}
+NumberedIn form before (m ∷ rest) = Allowed m × NextNumber form before (m .number) × NumberedIn form (m .number) rest
+
+-- their records, their block, and the last of their numbers
+abbrev pub recordsWith : Form → List Ordered → List ℕ
+recordsWith Log ms = recordsOf ms
+recordsWith Compact ms = compactRecords ms
+
+abbrev pub blockWith : Form → ℕ → ℕ → List ℕ → List ℕ
+blockWith Log first records body = blockOf first records body
+blockWith Compact first records body = compactOf first records body
+
+unfoldable pub lastNumber : ℕ → List Ordered → ℕ
+lastNumber before [] = before
+lastNumber before (m ∷ rest) = lastNumber (m .number) rest
+
 -- a block is right behind a tail that its first message may follow, and is read back to its messages
 abbrev pub BlockBack : Type 0
 BlockBack =
@@ -52,11 +80,20 @@ BlockBack =
     → let block = blockOf (before + 1) (length ms) (recordsOf ms) in
     (blockRight t block ≡ true) × (messagesOf block ≡ ms) × (tailOf block ≡ endedAt (before + length ms))
 
+-- and so is a compacted one, where any number may follow
+abbrev pub CompactBack : Type 0
+CompactBack =
+    (t : Tail) (m : Ordered) (ms : List Ordered) → NumberedIn Compact (t .last .0) (m ∷ ms) → t .free ≡ true
+    → recordsAt + length (compactRecords (m ∷ ms)) ≤ recordsEnd
+    → let block = compactOf (m .number) (length (m ∷ ms)) (compactRecords (m ∷ ms)) in
+    (blockRight t block ≡ true) × (messagesOf block ≡ m ∷ ms) × (tailOf block ≡ tailWith Compact (lastNumber (m .number) ms))
+
 -- a right block of bytes is the block of its messages, which may stand in it
 abbrev pub BlockOnly : Type 0
 BlockOnly =
     (t : Tail) (block : List ℕ) → Bytes block → blockRight t block ≡ true
-    → Numbered (firstAt block - 1) (messagesOf block) × (block ≡ blockOf (firstAt block) (recordsIn block) (recordsOf (messagesOf block)))
+    → NumberedIn (formOf block) (firstAt block - 1) (messagesOf block)
+    × (block ≡ blockWith (formOf block) (firstAt block) (recordsIn block) (recordsWith (formOf block) (messagesOf block)))
 
 -- k blocks and no more, all of them right behind a tail, with these messages and this tail behind them
 pub record Whole (t : Tail) (journal : List ℕ) (k : ℕ) (ms : List Ordered) (u : Tail) : Type 0 where
@@ -202,3 +239,37 @@ abbrev pub EntryWithin : Type 0
 EntryWithin =
     (block : List ℕ) (at : ℕ) (number : SequenceNumber) (r : Record) → entryOf block at number ≡ Entry.Right r
     → (length block ≡ blockSize) × (r .start ≡ at + recordHead) × (r .length ≤ payloadMost) × (r .start + r .length ≤ recordsEnd)
+
+-- what a cursor over the right blocks of a journal gives are the records of the messages that reading finds
+abbrev pub GivesAll : Type 0
+GivesAll =
+    (journal : List ℕ)
+    → map (messageOn journal) (givenBy (length (foundIn journal .messages)) (cursorOf journal (foundIn journal .blocks)) journal) ≡ foundIn journal .messages
+
+-- a record that stands in a journal: its payload ends where it ends, and is no longer than a payload may be
+pub record StandsIn (journal : List ℕ) (s : Spot) : Type 0 where
+  pub ends : s .start + recordHead + lengthAt journal (s .start) ≡ s .end
+  pub within : s .end ≤ length journal
+  pub short : lengthAt journal (s .start) ≤ payloadMost
+
+-- so stands what a cursor within the journal gives, and the cursor stays within it
+abbrev pub GivesStanding : Type 0
+GivesStanding =
+    (journal : List ℕ) (c next : Cursor) (s : Spot) → c .base + c .blocks * blockSize ≤ length journal → walkOf c journal ≡ Walk.Next s next
+    → StandsIn journal s × (next .base + next .blocks * blockSize ≤ length journal)
+
+-- a cursor goes forward: the record stands behind it, and the next cursor behind that record's head
+abbrev pub GivesForward : Type 0
+GivesForward =
+    (journal : List ℕ) (c next : Cursor) (s : Spot) → c .at ≤ recordsEnd → walkOf c journal ≡ Walk.Next s next
+    → (c .base + c .at ≤ s .start) × (s .start + recordHead ≤ next .base + next .at) × (next .at ≤ recordsEnd)
+
+-- each record that a cursor over the right blocks gives is found again by where its payload stands, in a block of the journal
+abbrev pub GivesAgain : Type 0
+GivesAgain =
+    (journal : List ℕ) (blocks n : ℕ) (s : Spot) → blocks * blockSize ≤ length journal → List·Memᴰ s (givenBy n (cursorOf journal blocks) journal)
+    → StandsIn journal s × (spotAt journal (s .start + recordHead) ≡ s) × ((s .start + recordHead) / blockSize * blockSize + blockSize ≤ length journal)
+
+-- the messages of a journal of bytes may stand in records, and their numbers rise
+abbrev pub RisesIn : Type 0
+RisesIn = (journal : List ℕ) → Bytes journal → NumberedIn Compact 0 (foundIn journal .messages)

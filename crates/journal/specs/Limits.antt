@@ -19,6 +19,13 @@ recordsEnd = 508
 abbrev pub recordHead : ℕ
 recordHead = 7
 
--- the bytes with which a block begins
+-- the bytes of a sequence number before a record of a compacted block
+abbrev pub numberSize : ℕ
+numberSize = 4
+
+-- the bytes with which a block begins, and those with which a compacted one does
 abbrev pub mark : List ℕ
 mark = code "K" ∷ code "J" ∷ code "B" ∷ code "1" ∷ []
+
+abbrev pub compactMark : List ℕ
+compactMark = code "K" ∷ code "J" ∷ code "B" ∷ code "2" ∷ []

@@ -1,14 +1,19 @@
-// Lists journals, and appends to one: `journal_tool list FILE..`, `journal_tool append FILE`. A message is a line, `number
-// originator count payload`, the payload in hex or `-`; the last line is `blocks B messages M`. Input and output are C's, so
-// nothing is promised here; what is read and written is worked out by `journal` and `text`.
+// Lists journals, appends to one, prints the plan of one, and rewrites one: `journal_tool list FILE..`, `append FILE`, `plan FILE`,
+// `rewrite FILE NEW`; commands are parted by `then`. A message is a line, `number originator count payload`, the payload in hex or
+// `-`, and the last line is `blocks B messages M`; of a plan each line is `unit description`. Input and output are C's, so nothing
+// is promised here; what is read and written is worked out by `journal`, `plan` and `text`.
 use group::Group;
 use group::MemberNumber;
 use group::Refusal;
 use group::SequenceNumber;
 use journal::Answer;
 use journal::Block;
-use journal::Entry;
+use journal::Cursor;
+use journal::Reading;
+use journal::Record;
+use journal::Spot;
 use journal::Tail;
+use journal::Walk;
 use journal::Writer;
 use libc::STDIN_FILENO;
 use libc::STDOUT_FILENO;
@@ -18,13 +23,19 @@ ghost use mathlib.Core.Path.{_≡_};
 ghost use Prim.Native.Nat.{_+_, _*_, _≤_, _<_};
 ghost use lib.ListN.{length};
 ghost use Rattle.group.specs.Limits.{payloadMost};
-ghost use Rattle.journal.specs.Limits.{blockSize, recordsEnd};
+ghost use Rattle.journal.specs.Laws.{StandsIn};
 
 // A line of more characters is of another form; the longest that is printed has 514.
 const LINE_MOST: usize = 1000;
 
 // The bytes that a line has room for, two digits a byte.
 const PAYLOAD_ROOM: usize = LINE_MOST / 2;
+
+// The bytes of a file that is planned or rewritten, at most.
+const FILE_MOST: usize = 1048576;
+
+// The bytes of a rewritten journal at most: a block for each of 512 records. A plan has less than half of that.
+const OUTPUT_MOST: usize = 512 * Block::SIZE;
 
 // Prints a line whose fields, each behind a space, end at an index.
 fn print_line(line: &mut [u8], end: usize)
@@ -67,34 +78,36 @@ fn print_message(number: u32, originator: u8, count: u32, payload: &[u8])
     print_line(&mut line, next);
 }
 
+// Prints the message of a record that stands in a block.
+fn print_record(block: &[u8], spot: Spot)
+    requires { ⌜ StandsIn (now block) spot ⌝ }
+{
+    let at = spot.start;
+    let start = at + Record::HEAD;
+    let end = spot.end;
+    let count = big_endian::u32_at(block, at + 1);
+    print_message(spot.number.0, block[at], count, &block[start..end]);
+}
+
 // Prints the messages of a right block.
 fn print_records(block: &[u8], records: usize) {
-    if block.len() != Block::SIZE {
+    if block.len() < Block::SIZE {
         return;
     }
-    let mut number = big_endian::u32_at(block, 4);
-    let mut at = Block::RECORDS;
+    let mut cursor = Cursor::of(block, 1);
     let mut left = records;
     while 0 < left {
-        let entry = journal::record_at(block, at, SequenceNumber(number));
-        match entry {
-            Entry::Right(record) => {
-                let start = record.start;
-                let end = start + record.length;
-                print_message(
-                    number,
-                    record.originator.0,
-                    record.count,
-                    &block[start..end],
-                );
-                at = end;
+        let walk = cursor.next(block);
+        match walk {
+            Walk::Next(spot, next) => {
+                print_record(block, spot);
+                cursor = next;
+                left -= 1;
             }
-            Entry::Wrong => {
+            Walk::End => {
                 return;
             }
         }
-        number = std::num::wrapping_add_u32(number, 1);
-        left -= 1;
     }
 }
 
@@ -597,6 +610,157 @@ fn append_named(name: &[u8]) {
     libc::close(file);
 }
 
+fn print_unit(unit: u16, description: &[u8])
+    requires { ⌜ length (now description) ≤ payloadMost ⌝ }
+{
+    let mut line = [0u8; LINE_MOST];
+    let next = text::put_number(unit as u32, &mut line, 0);
+    let next = text::put_payload(description, &mut line, next);
+    print_line(&mut line, next);
+}
+
+// Prints the rows of a plan: each is a unit's number, a length, and a description of that length.
+fn print_rows(rows: &[u8]) {
+    let mut at: usize = 0;
+    while 4 <= rows.len() - at {
+        let start = at + 4;
+        let size = big_endian::u16_at(rows, at + 2) as usize;
+        if Group::PAYLOAD < size {
+            return;
+        }
+        if rows.len() - start < size {
+            return;
+        }
+        let end = start + size;
+        print_unit(big_endian::u16_at(rows, at), &rows[start..end]);
+        at = end;
+    }
+}
+
+fn print_plan(journal: &[u8], out: &mut [u8]) {
+    let answer = plan::plan(journal, out);
+    match answer {
+        plan::Answer::Bytes(size) => print_rows(&out[..size]),
+        plan::Answer::Refused(refusal) => print_refused(refusal),
+    }
+}
+
+// Puts bytes in a file, and waits until they have reached the card.
+fn store(file: i32, bytes: &[u8]) -> bool {
+    if libc::fchmod(file, 0o644) != 0 {
+        return false;
+    }
+    if io::write_all(file, bytes) {
+        return libc::fsync(file) == 0;
+    }
+    false
+}
+
+// Puts bytes in a new file, whose name is completed, and then gives it the other name: a failure leaves what has that name.
+fn put_beside(beside: &mut [u8], name: &[u8], bytes: &[u8]) -> bool {
+    let file = os::create_temp(beside);
+    if file < 0 {
+        os::fail(b"journal_tool");
+        return false;
+    }
+    let stored = store(file, bytes);
+    libc::close(file);
+    if stored {
+        if os::rename(beside, name) == 0 {
+            return true;
+        }
+    }
+    os::fail(b"journal_tool");
+    os::unlink(beside);
+    false
+}
+
+// Puts bytes in a file of that name, by way of another beside it.
+fn replace(name: &[u8], bytes: &[u8]) -> bool {
+    let suffix = *b".XXXXXX";
+    let mut beside = io::buffer();
+    if beside.len() - suffix.len() < name.len() {
+        print_text(b"too long a name");
+        return false;
+    }
+    let next = text::put_text(name, &mut beside, 0);
+    let size = text::put_text(&suffix, &mut beside, next);
+    put_beside(&mut beside[..size], name, bytes)
+}
+
+// Writes a rewritten journal to a file, and prints what is there then.
+fn write_blocks(blocks: &[u8], name: &[u8]) {
+    if replace(name, blocks) {
+        let reading = journal::read(blocks);
+        match reading {
+            Reading::Read(found) => print_totals(found.blocks, found.messages),
+            Reading::Refused(refusal) => print_refused(refusal),
+        }
+    }
+}
+
+fn rewrite(journal: &[u8], name: &[u8], out: &mut [u8]) {
+    let answer = plan::rewrite(journal, out);
+    match answer {
+        plan::Answer::Bytes(size) => write_blocks(&out[..size], name),
+        plan::Answer::Refused(refusal) => print_refused(refusal),
+    }
+}
+
+// What is asked.
+enum Command {
+    List,
+    Append,
+    Plan,
+    Rewrite,
+    Other,
+}
+
+// Plans the journal in a file, or rewrites it to another. What is lent for it has a byte more than may be used, by which a longer
+// file is told.
+fn work(command: Command, file: i32, new: &[u8], journal: &mut [u8], out: &mut [u8]) {
+    let size = io::read_full(file, journal);
+    if FILE_MOST < size {
+        print_text(b"longer than 1048576 bytes");
+        return;
+    }
+    match command {
+        Command::Plan => print_plan(&journal[..size], out),
+        _ => rewrite(&journal[..size], new, out),
+    }
+}
+
+// The same, of arrays, whose lengths are those of their types.
+fn work_lent(
+    command: Command,
+    file: i32,
+    new: &[u8],
+    journal: &mut [u8; FILE_MOST + 1],
+    out: &mut [u8; OUTPUT_MOST],
+) {
+    work(command, file, new, journal, out);
+}
+
+fn work_named(command: Command, name: &[u8], new: &[u8]) {
+    let file = os::open_read(name);
+    if file < 0 {
+        os::fail(b"journal_tool");
+        return;
+    }
+    let mut journal = [0u8; FILE_MOST + 1];
+    let mut out = [0u8; OUTPUT_MOST];
+    work_lent(command, file, new, &mut journal, &mut out);
+    libc::close(file);
+}
+
+fn work_arguments(command: Command, i: usize, k: usize) {
+    let mut name = io::buffer();
+    let size = os::arg(i, &mut name);
+    let mut new = io::buffer();
+    let new_size = os::arg(k, &mut new);
+    work_named(command, &name[..size], &new[..new_size]);
+}
+
 // Lists the file that an argument names.
 fn list_argument(i: usize) {
     let mut name = io::buffer();
@@ -632,25 +796,87 @@ fn is_argument(i: usize, other: &[u8]) -> bool {
     is_word(&word[..size], other)
 }
 
-fn list_arguments(count: usize) {
-    let mut i: usize = 2;
-    while i < count {
+// The command that an argument is, with so many behind it.
+fn asked(i: usize, files: usize) -> Command {
+    if is_argument(i, b"list") {
+        return Command::List;
+    }
+    if files == 1 {
+        if is_argument(i, b"append") {
+            return Command::Append;
+        }
+        if is_argument(i, b"plan") {
+            return Command::Plan;
+        }
+        return Command::Other;
+    }
+    if files == 2 {
+        if is_argument(i, b"rewrite") {
+            return Command::Rewrite;
+        }
+    }
+    Command::Other
+}
+
+fn list_arguments(first: usize, end: usize) {
+    let mut i = first;
+    while i < end {
         list_argument(i);
         i += 1;
     }
 }
 
-fn main() {
-    let count = os::arg_count();
-    if is_argument(1, b"list") {
-        list_arguments(count);
+fn usage() {
+    print_text(
+        b"usage: journal_tool list FILE.. | append FILE | plan FILE | rewrite FILE NEW [then ..]",
+    );
+}
+
+// Runs the command that begins at an argument and ends before another.
+fn run(from: usize, end: usize) {
+    if end <= from {
+        usage();
         return;
     }
-    if count == 3 {
-        if is_argument(1, b"append") {
-            append_argument(2);
+    let first = from + 1;
+    let command = asked(from, end - first);
+    match command {
+        Command::List => list_arguments(first, end),
+        Command::Append => append_argument(first),
+        Command::Plan => work_arguments(command, first, first),
+        Command::Rewrite => work_arguments(command, first, end - 1),
+        Command::Other => usage(),
+    }
+}
+
+fn parts(i: usize) -> bool {
+    is_argument(i, b"then")
+}
+
+// Where the command that begins at an argument ends.
+fn command_end(from: usize, count: usize) -> usize
+    requires { ⌜ from ≤ count ⌝ }
+    ensures { λ r. ⌜ (from ≤ r) × (r ≤ count) ⌝ }
+{
+    let mut i = from;
+    while i < count {
+        if parts(i) {
+            return i;
+        }
+        i += 1;
+    }
+    i
+}
+
+fn main() {
+    let count = os::arg_count();
+    let mut from: usize = 1;
+    while from <= count {
+        let end = command_end(from, count);
+        run(from, end);
+        if count <= end {
             return;
         }
+        from = end + 1;
     }
-    print_text(b"usage: journal_tool list FILE.. | journal_tool append FILE");
 }

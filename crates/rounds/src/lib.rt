@@ -1,6 +1,6 @@
-// Rounds of every call of both ends, of the journal, and of the generator, for the benchmark and the fuzz; no user links it. The states are built inside, and what the
-// calls answer comes back as a running sum. Promised is only what is proved of every function: it is safe and ends. What it
-// calls has its own promise.
+// Rounds of every call of both ends, of the journal and its plan, and of the generator, for the benchmark and the fuzz; no user
+// links it. The states are built inside, and what the calls answer comes back as a running sum. Promised is only what is proved of
+// every function: it is safe and ends. What it calls has its own promise.
 use generator::Generator;
 use group::Group;
 use group::MemberNumber;
@@ -801,4 +801,26 @@ pub extern "C" fn rounds_journal_write(
         left -= 1;
     }
     sum
+}
+
+// Takes what planning or rewriting a journal answers into a running sum.
+fn laid_sum(sum: u64, answer: plan::Answer) -> u64 {
+    match answer {
+        plan::Answer::Bytes(size) => mix(mix(sum, 68), size as u64),
+        plan::Answer::Refused(q) => mix(sum, q.number() as u64),
+    }
+}
+
+// Lays the plan of a journal in the output, and takes the answer into a running sum.
+#[no_mangle]
+pub extern "C" fn rounds_plan(sum: u64, journal: &[u8], out: &mut [u8]) -> u64 {
+    let answer = plan::plan(journal, out);
+    laid_sum(sum, answer)
+}
+
+// The same of the rewritten journal.
+#[no_mangle]
+pub extern "C" fn rounds_rewrite(sum: u64, journal: &[u8], out: &mut [u8]) -> u64 {
+    let answer = plan::rewrite(journal, out);
+    laid_sum(sum, answer)
 }

@@ -55,6 +55,20 @@ mod ffi {
             out: *mut u8,
             room: usize,
         ) -> u64;
+        pub fn rounds_plan(
+            sum: u64,
+            journal: *const u8,
+            size: usize,
+            out: *mut u8,
+            room: usize,
+        ) -> u64;
+        pub fn rounds_rewrite(
+            sum: u64,
+            journal: *const u8,
+            size: usize,
+            out: *mut u8,
+            room: usize,
+        ) -> u64;
         pub fn rounds_sequencer_receive(
             n: u8,
             group: u32,
@@ -556,4 +570,22 @@ pub fn journal_write(writer: Writer, messages: &[u8], rounds: u32, out: &mut [u8
             out.len(),
         )
     }
+}
+
+/// Rounds of laying the plan of a journal in the output.
+pub fn plan(journal: &[u8], rounds: u32, out: &mut [u8]) -> u64 {
+    (0..rounds).fold(0, |sum, _| {
+        let (lent, room) = (out.as_mut_ptr(), out.len());
+        // SAFETY: the slices live through the call, and the lent one is not the other.
+        unsafe { ffi::rounds_plan(sum, journal.as_ptr(), journal.len(), lent, room) }
+    })
+}
+
+/// Rounds of laying the rewritten journal in the output.
+pub fn rewrite(journal: &[u8], rounds: u32, out: &mut [u8]) -> u64 {
+    (0..rounds).fold(0, |sum, _| {
+        let (lent, room) = (out.as_mut_ptr(), out.len());
+        // SAFETY: as above.
+        unsafe { ffi::rounds_rewrite(sum, journal.as_ptr(), journal.len(), lent, room) }
+    })
 }

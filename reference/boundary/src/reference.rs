@@ -8,7 +8,7 @@ use model::journal::{self, BLOCK, Message, Tail};
 use model::limits::JOB;
 use model::load::{self, Generator, Load};
 use model::packet::{self, Header};
-use model::{Answer, member, sequencer};
+use model::{Answer, member, plan, sequencer};
 use std::hint::black_box;
 use std::io::Write;
 
@@ -467,4 +467,26 @@ pub fn journal_write(writer: Writer, list: &[u8], rounds: u32, out: &mut [u8]) -
         }
     }
     sum
+}
+
+/// Takes what planning or rewriting a journal answers into a running sum.
+fn laid(sum: u64, answer: Result<usize, Refusal>) -> u64 {
+    match answer {
+        Ok(size) => mix(mix(sum, 68), size as u64),
+        Err(refusal) => mix(sum, refusal.number().into()),
+    }
+}
+
+/// Rounds of laying the plan of a journal in the output.
+#[inline(never)]
+pub fn plan(journal: &[u8], rounds: u32, out: &mut [u8]) -> u64 {
+    (0..rounds).fold(0, |sum, _| laid(sum, plan::plan(black_box(journal), out)))
+}
+
+/// Rounds of laying the rewritten journal in the output.
+#[inline(never)]
+pub fn rewrite(journal: &[u8], rounds: u32, out: &mut [u8]) -> u64 {
+    (0..rounds).fold(0, |sum, _| {
+        laid(sum, plan::rewrite(black_box(journal), out))
+    })
 }

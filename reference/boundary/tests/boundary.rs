@@ -373,3 +373,83 @@ fn refused_by_the_journal() {
     check(unsound, message(8), [1, 7, 0, 0, 0, 11, 0]);
     check(unsound, FINISH, [1, 7, 0, 0, 0, 11, 0]);
 }
+
+/// The plan and the rewritten journal of three messages, and outputs a byte short.
+#[test]
+fn a_plan() {
+    let one = |number, payload| Message {
+        payload,
+        ..message(number)
+    };
+    let list = messages([
+        one(5, &[3, 0, 9, b'x']),
+        one(6, &[3, 0, 2]),
+        one(7, &[3, 0, 9, b'y', b'z']),
+        FINISH,
+    ]);
+    let mut journal = [0; BLOCK];
+    proved::journal_write(Writer::after(0, true), &list, 1, &mut journal);
+
+    let rows = [0, 2, 0, 0, 0, 9, 0, 2, b'y', b'z'];
+    let mut out = [0xaa; 12];
+    assert_eq!(proved::plan(&journal, 1, &mut out), 3 * 68 + 10);
+    assert_eq!(out[..10], rows);
+    assert_eq!(out[10..], [0xaa; 2]);
+    let mut short = [0xaa; 9];
+    assert_eq!(proved::plan(&journal, 1, &mut short), 23);
+    assert_eq!(short, [0xaa; 9]);
+
+    // Numbers 6 and 7 with their originator, count and payload.
+    let front = [
+        &b"KJB2\0\0\0\x06\0\x02"[..],
+        &[0, 0, 0, 6, 3, 0, 0, 0, 9, 0, 3, 3, 0, 2],
+        &[0, 0, 0, 7, 3, 0, 0, 0, 9, 0, 5, 3, 0, 9, b'y', b'z', 0],
+    ];
+    let front = front.concat();
+    let mut out = [0xaa; BLOCK + 1];
+    let laid = 3 * 68 + BLOCK as u64;
+    assert_eq!(proved::rewrite(&journal, 1, &mut out), laid);
+    assert_eq!(out[..front.len()], front);
+    assert_eq!(out[BLOCK..], [0xaa]);
+    let mut short = [0xaa; BLOCK - 1];
+    assert_eq!(proved::rewrite(&journal, 1, &mut short), 23);
+    assert_eq!(short, [0xaa; BLOCK - 1]);
+
+    // The rewritten journal has the same plan; one block, two messages, and any number above 7 may follow.
+    let new = &out[..BLOCK];
+    assert_eq!(proved::journal_read(new, 1), ((3 + 2) * 3 + 7) * 3 + 1);
+    let mut again = [0; 10];
+    assert_eq!(proved::plan(new, 1, &mut again), 3 * 68 + 10);
+    assert_eq!(again, rows);
+    assert_eq!(proved::plan(&journal[1..], 1, &mut again), 21);
+    assert_eq!(proved::rewrite(&journal[1..], 1, &mut again), 21);
+}
+
+/// 512 units are planned and rewritten, 513 are not.
+#[test]
+fn units_of_a_plan() {
+    for units in [511, 512, 513u16] {
+        let payloads: Vec<[u8; 3]> = (0..units)
+            .map(|unit| {
+                let [high, low] = unit.to_be_bytes();
+                [3, high, low]
+            })
+            .collect();
+        let all = (1..).zip(&payloads).map(|(number, payload)| Message {
+            payload,
+            ..message(number)
+        });
+        let list = messages(all.chain([FINISH]));
+        let mut journal = [0; 11 * BLOCK];
+        proved::journal_write(Writer::after(0, true), &list, 1, &mut journal);
+        let (mut here, mut there) = ([0xaa; 16 * BLOCK], [0xaa; 16 * BLOCK]);
+        let answer = proved::plan(&journal, 1, &mut here);
+        assert_eq!(answer, reference::plan(&journal, 1, &mut there));
+        assert_eq!(answer == 22, units == 513);
+        assert_eq!(here, there);
+        let answer = proved::rewrite(&journal, 1, &mut here);
+        assert_eq!(answer, reference::rewrite(&journal, 1, &mut there));
+        assert_eq!(answer == 22, units == 513);
+        assert_eq!(here, there);
+    }
+}

@@ -49,6 +49,10 @@ pub enum Refusal {
     /// A journal whose length is no multiple of 512; a record or a number
     /// that may not be written.
     WrongJournal = 21,
+    /// A journal that sets more than 512 units.
+    ManyUnits = 22,
+    /// An output shorter than the plan or the rewritten journal.
+    NoRoom = 23,
 }
 
 impl Refusal {

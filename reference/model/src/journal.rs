@@ -6,6 +6,10 @@
 //! A record is originator (1), count (4), length (2) and payload. Numbers are
 //! big-endian. Each block is written once; reading stops at the first that is
 //! wrong.
+//!
+//! The writer's blocks have consecutive numbers. In a compacted block, which
+//! has another mark, each record has its own number (4) before it, and numbers
+//! only rise; it may stand behind other compacted blocks alone.
 
 use crate::answer::Refusal;
 use crate::limits::{MEMBERS, PAYLOAD};
@@ -14,12 +18,16 @@ use crate::limits::{MEMBERS, PAYLOAD};
 pub const BLOCK: usize = 512;
 /// What a block begins with.
 pub const MARK: [u8; 4] = *b"KJB1";
+/// What a compacted block begins with.
+pub const COMPACT: [u8; 4] = *b"KJB2";
 /// Where a block's records begin.
 pub const RECORDS: usize = 10;
 /// Where a block's sum stands, behind the records and the zeros.
 pub const SUM: usize = 508;
 /// Bytes of a record before its payload.
 pub const HEAD: usize = 7;
+/// Bytes of the number before a record of a compacted block.
+pub const NUMBER: usize = 4;
 
 /// Where the number of a block's first message and its count of records stand.
 const FIRST: usize = 4;
@@ -66,7 +74,7 @@ impl Tail {
         free: true,
     };
 
-    /// The end behind a message.
+    /// The end behind a message of the writer's.
     fn behind(number: u32) -> Tail {
         Tail {
             last: number,
@@ -87,26 +95,27 @@ impl Tail {
     pub fn next(self, block: &[u8]) -> Option<Found> {
         let block: &[u8; BLOCK] = block.try_into().ok()?;
         let first = u32_at(block, FIRST);
+        let compact = match block.first_chunk() {
+            Some(&MARK) => false,
+            Some(&COMPACT) if self.free && first == u32_at(block, RECORDS) => true,
+            _ => return None,
+        };
         let records = u16_at(block, COUNT);
-        if !block.starts_with(&MARK)
-            || u32_at(block, SUM) != sum(block)
-            || records == 0
-            || !self.allows(first)
-        {
+        if u32_at(block, SUM) != sum(block) || records == 0 || !self.allows(first) {
             return None;
         }
-        let mut at = RECORDS;
-        // An allowed number is at least 1.
-        let mut last = first - 1;
+        let mut walk = Walk::of(block);
         for _ in 0..records {
-            let message = record_at(block, at, last.checked_add(1)?)?;
-            at += message.size();
-            last = message.number;
+            walk.next()?;
         }
-        block[at..SUM].iter().all(|&byte| byte == 0).then(|| Found {
+        let zeros = block[walk.at..SUM].iter().all(|&byte| byte == 0);
+        zeros.then(|| Found {
             blocks: 1,
             messages: usize::from(records),
-            tail: Tail::behind(last),
+            tail: Tail {
+                last: walk.last,
+                free: compact,
+            },
         })
     }
 }
@@ -159,13 +168,44 @@ pub fn messages(journal: &[u8], blocks: usize) -> impl Iterator<Item = Message<'
 
 /// The messages of a right block.
 fn messages_of(block: &[u8; BLOCK]) -> impl Iterator<Item = Message<'_>> {
-    let first = u32_at(block, FIRST);
-    let mut at = RECORDS;
-    (0..u32::from(u16_at(block, COUNT))).map_while(move |before| {
-        let message = record_at(block, at, first + before)?;
-        at += message.size();
+    let mut walk = Walk::of(block);
+    (0..u16_at(block, COUNT)).map_while(move |_| walk.next())
+}
+
+/// A place in a block, before a record or behind the last.
+struct Walk<'a> {
+    block: &'a [u8; BLOCK],
+    compact: bool,
+    at: usize,
+    /// The number of the record before.
+    last: u32,
+}
+
+impl<'a> Walk<'a> {
+    /// Before the first record.
+    fn of(block: &'a [u8; BLOCK]) -> Walk<'a> {
+        Walk {
+            block,
+            compact: block.starts_with(&COMPACT),
+            at: RECORDS,
+            last: u32_at(block, FIRST).saturating_sub(1),
+        }
+    }
+
+    /// The next record; `None` if it is wrong.
+    fn next(&mut self) -> Option<Message<'a>> {
+        let number = if self.compact {
+            let number = self.block[self.at..SUM].first_chunk()?;
+            self.at += NUMBER;
+            Some(u32::from_be_bytes(*number)).filter(|&number| number > self.last)?
+        } else {
+            self.last.checked_add(1)?
+        };
+        let message = record_at(self.block, self.at, number)?;
+        self.at += message.size();
+        self.last = number;
         Some(message)
-    })
+    }
 }
 
 /// The record at an index of a block; `None` if it is wrong.
@@ -254,21 +294,27 @@ impl Writer {
         if self.records == 0 {
             return 0;
         }
-        out[..FIRST].copy_from_slice(&MARK);
-        out[FIRST..COUNT].copy_from_slice(&self.first.to_be_bytes());
-        // 7 bytes a record at least: there are at most 71.
-        out[COUNT..RECORDS].copy_from_slice(&(self.records as u16).to_be_bytes());
         out[RECORDS..self.used].copy_from_slice(&hand[RECORDS..self.used]);
-        out[self.used..SUM].fill(0);
-        let sum = sum(out);
-        out[SUM..].copy_from_slice(&sum.to_be_bytes());
+        seal(MARK, self.first, self.records, self.used, out);
         *self = Writer::after(self.tail);
         BLOCK
     }
 }
 
+/// Makes a block of records that end at an index: mark, first number and count
+/// before them, zeros and the sum behind.
+pub(crate) fn seal(mark: [u8; 4], first: u32, records: usize, end: usize, block: &mut [u8; BLOCK]) {
+    block[..FIRST].copy_from_slice(&mark);
+    block[FIRST..COUNT].copy_from_slice(&first.to_be_bytes());
+    // 7 bytes a record at least: there are at most 71.
+    block[COUNT..RECORDS].copy_from_slice(&(records as u16).to_be_bytes());
+    block[end..SUM].fill(0);
+    let sum = sum(block);
+    block[SUM..].copy_from_slice(&sum.to_be_bytes());
+}
+
 /// Lays a message's record into a place of its size.
-fn put_record(message: &Message, place: &mut [u8]) {
+pub(crate) fn put_record(message: &Message, place: &mut [u8]) {
     let (head, payload) = place.split_at_mut(HEAD);
     head[0] = message.originator;
     head[1..5].copy_from_slice(&message.count.to_be_bytes());

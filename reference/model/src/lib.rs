@@ -17,6 +17,7 @@ pub mod longest;
 pub mod member;
 pub mod packet;
 pub mod place;
+pub mod plan;
 pub mod play;
 pub mod sequencer;
 

@@ -20,3 +20,8 @@ pub const LARGEST: u32 = u32::MAX;
 pub const JOBS: usize = 64;
 /// Bytes of a job, at most: the payload that adds it has one byte before it.
 pub const JOB: usize = PAYLOAD - 1;
+/// Units of a plan, at most.
+pub const UNITS: usize = 512;
+/// Bytes of a plan, at most: unit and length before each description, which
+/// has a payload's bytes but for the three that set the unit.
+pub const PLAN: usize = UNITS * (4 + PAYLOAD - 3);

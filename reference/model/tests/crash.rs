@@ -38,5 +38,10 @@ fn the_reference_passes_and_wrong_programs_fail() {
 
     let forgets = format!("[ $1 = list ] || : > \"$2\"\nexec {JOURNAL} \"$@\"");
     let told = wrong("forgetful", &forgets);
-    assert!(told.contains("the file has"), "{told}");
+    let short = told.contains("the file has") || told.contains("bytes written and not");
+    assert!(short, "{told}");
+
+    let in_place = format!("[ $1 = rewrite ] || exec {JOURNAL} \"$@\"\ncat \"$2\" > \"$3\"");
+    let told = wrong("in place", &in_place);
+    assert!(told.contains("blocks rewritten: the file has"), "{told}");
 }

@@ -3,7 +3,8 @@
 //! has what they print, one behind the other. `crates/play` has the document's
 //! own schedule, `crates/inspect` one that leaves each column something and
 //! work lists of several jobs, and `crates/load` the words of a load.
-//! `crates/journal_tool` has the stored journals, and lists them.
+//! `crates/journal_tool` has the stored journals and what it is asked to do with
+//! them.
 
 use crate::{Schedule, all, inspected, journals, played};
 use model::{load, play};
@@ -50,14 +51,14 @@ fn files(schedules: &[Schedule]) -> io::Result<Vec<(PathBuf, Vec<u8>)>> {
         files.push((program.join("stdout"), output));
     }
     let program = crates.join("journal_tool");
-    let (mut words, mut listed) = (b"list\n".to_vec(), Vec::new());
     for journal in journals::all() {
-        words.extend(format!("{}\n", journal.name).bytes());
-        listed.extend(journal.listed());
         files.push((program.join("data").join(journal.name), journal.bytes));
     }
-    files.push((program.join("args"), words));
-    files.push((program.join("stdout"), listed));
+    let commands = journals::COMMANDS.map(|words| words.join("\n"));
+    let words = commands.join("\nthen\n") + "\n";
+    files.push((program.join("args"), words.into_bytes()));
+    files.push((program.join("stdin"), journals::APPENDED.into()));
+    files.push((program.join("stdout"), journals::printed()));
     Ok(files)
 }
 

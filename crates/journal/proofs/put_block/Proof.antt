@@ -21,7 +21,7 @@ slice-aggregate-put-text c = search needs
 put-text-requires : tie.Need-put-text-requires
 put-text-requires c κs =
     let a = c .before .before .before .before .before .before .before .before .before .before .before .args in
-    let e = frame-ends (a .first) (a .records) (now (a .body)) (c .before .before .before .before .before .before .before .put-frame .ensures) (search needs) (search needs) in
+    let e = frame-ends (a .mark) (search needs) (a .first) (a .records) (now (a .body)) (c .before .before .before .before .before .before .before .put-frame .ensures) (search needs) (search needs) in
     search needs
 
 same-length : tie.Need-same-length
@@ -30,7 +30,7 @@ same-length c = search needs
 returns : tie.Need-returns
 returns c =
     let a = c .before .before .before .before .before .before .before .before .before .before .before .before .before .before .args in
-    block-laid (a .first) (a .records) (now (a .body)) (c .before .before .before .before .before .before .before .before .before .before .put-frame .ensures) (search needs) (search needs) (c .before .before .before .before .before .before .sum .ensures)
+    block-laid (a .mark) (search needs) (a .first) (a .records) (now (a .body)) (c .before .before .before .before .before .before .before .before .before .before .put-frame .ensures) (search needs) (search needs) (c .before .before .before .before .before .before .sum .ensures)
     (rw (c .before .before .before .before .before .u32-bytes .ensures) at (c .before .before .put-text .ensures))
 
 pub put-block-spec : {M : Type 1} → statement M

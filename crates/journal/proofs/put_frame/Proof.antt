@@ -45,7 +45,7 @@ same-length c = search needs
 returns : tie.Need-returns
 returns c =
     let a = c .before .before .before .before .before .before .before .before .before .before .before .before .before .before .before .before .before .before .before .before .before .before .before .before .before .before .before .args in
-    frame-laid (a .first) (a .records) (now (a .body)) (c .before .before .before .before .before .before .before .before .before .before .before .before .before .before .before .before .before .before .before .before .put-text .ensures) (rw (c .before .before .before .before .before .before .before .before .before .before .before .before .before .before .before .before .before .before .before .before .before .before .before .before .u32-bytes .ensures) at (c .before .before .before .before .before .before .before .before .before .before .before .before .before .before .before .put-text2 .ensures))
+    frame-laid (a .t1) (c .before .before .before .before .before .before .before .before .before .before .before .before .before .before .before .before .before .before .before .before .before .before .before .before .before .before .before .good .0 .1 .0 .1) (a .first) (a .records) (now (a .body)) (c .before .before .before .before .before .before .before .before .before .before .before .before .before .before .before .before .before .before .before .before .put-text .ensures) (rw (c .before .before .before .before .before .before .before .before .before .before .before .before .before .before .before .before .before .before .before .before .before .before .before .before .u32-bytes .ensures) at (c .before .before .before .before .before .before .before .before .before .before .before .before .before .before .before .put-text2 .ensures))
     (rw (c .before .before .before .before .before .before .before .before .before .before .before .before .before .before .before .before .before .before .before .before .before .before .before .u16-bytes .ensures) at (c .before .before .before .before .before .before .before .before .before .before .put-text3 .ensures)) (c .before .before .before .before .before .before .put-text4 .ensures) (c .before .before .put-zeros .ensures)
 
 pub put-frame-spec : {M : Type 1} → statement M

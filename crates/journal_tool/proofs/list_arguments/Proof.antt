@@ -6,10 +6,10 @@ use Rattle.journal_tool.proofs.list_arguments.Statement.{statement}
 use Rattle.journal_tool.proofs.list_arguments.Tie as tie
 
 abbrev Inv-loop : tie.InvT-loop
-Inv-loop count i₀ i = Unit {0}
+Inv-loop first end i₀ i = Unit {0}
 
 abbrev μ-loop : tie.MeasureT-loop
-μ-loop count i₀ i = count - i
+μ-loop first end i₀ i = end - i
 
 loop-holds : tie.Need-loop-holds Inv-loop μ-loop
 loop-holds c = search needs

@@ -1,71 +1,41 @@
--- The loop counts the records that are left down; each lies within the block.
+-- The loop counts the records that are left down; the cursor stays within the block.
 -- Assumes nothing.
-use mathlib.Core.Path.{_≡_, sym, _∙_}
-use Prim.Native.Nat.{_≤_}
-use native.Mathlib.Omega.{arith}
+use mathlib.Core.Path.{sym, _∙_}
+use Prim.Native.Nat.{_+_, _*_, _≤_}
 use denote.Ref.{now}
-use lib.Seq.{length-take-le}
-use lib.ListN.{length-drop}
-use Rattle.journal.specs.Limits.{recordsEnd}
-use Rattle.journal.proofs.Records.{entry-within}
+use lib.ListN.{length}
+use Rattle.journal.specs.Limits.{blockSize}
+use Rattle.journal.proofs.Given.{gives-standing}
+use Rattle.plan.proofs.Gathering.{cursor-within}
 use borrow.Author.Needs.{needs}
 use Rattle.journal_tool.proofs.print_records.Statement.{statement}
 use Rattle.journal_tool.proofs.print_records.Tie as tie
 
 abbrev Inv-loop : tie.InvT-loop
-Inv-loop block records number₀ at₀ left₀ number at left = Unit {0}
+Inv-loop block records cursor₀ left₀ cursor left = cursor .base + cursor .blocks * blockSize ≤ length block
 
 abbrev μ-loop : tie.MeasureT-loop
-μ-loop block records number₀ at₀ left₀ number at left = left
+μ-loop block records cursor₀ left₀ cursor left = left
 
 returns : tie.Need-returns Inv-loop μ-loop
 returns c = search needs
 
-u32-at-requires : tie.Need-u32-at-requires Inv-loop μ-loop
-u32-at-requires c κs = search needs
+of-requires : tie.Need-of-requires Inv-loop μ-loop
+of-requires c κs = search needs
 
 loop-holds : tie.Need-loop-holds Inv-loop μ-loop
-loop-holds c = search needs
+loop-holds c = cursor-within (now (c .before .before .before .args .block)) 1 _ (c .of .ensures) (search needs)
 
-record-at-requires : tie.Need-record-at-requires Inv-loop μ-loop
-record-at-requires c κs = search needs
+next-requires : tie.Need-next-requires Inv-loop μ-loop
+next-requires c κs = c .before .loop .inv
 
-enum-known-entry : tie.Need-enum-known-entry Inv-loop μ-loop
-enum-known-entry c = search needs
+enum-known-walk : tie.Need-enum-known-walk Inv-loop μ-loop
+enum-known-walk c = search needs
 
-add-end : tie.Need-add-end Inv-loop μ-loop
-add-end c =
-    let (_, _, _, ends) = entry-within (now (c .before .before .before .before .before .before .before .before .before .before .args .block)) (c .before .before .before .before .before .before .loop .at) _ _ (sym (c .before .before .before .before .record-at .ensures .0) ∙ c .before .before .entry .given .1) in
-    search needs
-
-sub-print-message : tie.Need-sub-print-message Inv-loop μ-loop
-sub-print-message c =
-    let (_, _, _, ends) = entry-within (now (c .before .before .before .before .before .before .before .before .before .before .args .block)) (c .before .before .before .before .before .before .loop .at) _ _ (sym (c .before .before .before .before .record-at .ensures .0) ∙ c .before .before .entry .given .1) in
-    search needs
-
-part-print-message-start : tie.Need-part-print-message-start Inv-loop μ-loop
-part-print-message-start c =
-    let (_, _, _, ends) = entry-within (now (c .before .before .before .before .before .before .before .before .before .before .args .block)) (c .before .before .before .before .before .before .loop .at) _ _ (sym (c .before .before .before .before .record-at .ensures .0) ∙ c .before .before .entry .given .1) in
-    search needs
-
-part-print-message-end : tie.Need-part-print-message-end Inv-loop μ-loop
-part-print-message-end c =
-    let (_, _, _, ends) = entry-within (now (c .before .before .before .before .before .before .before .before .before .before .args .block)) (c .before .before .before .before .before .before .loop .at) _ _ (sym (c .before .before .before .before .record-at .ensures .0) ∙ c .before .before .entry .given .1) in
-    search needs
-
-print-message-requires : tie.Need-print-message-requires Inv-loop μ-loop
-print-message-requires c κs =
-    let (_, _, size, ends) = entry-within (now (c .before .before .before .before .before .before .before .before .before .before .before .args .block)) (c .before .before .before .before .before .before .before .loop .at) _ _ (sym (c .before .before .before .before .before .record-at .ensures .0) ∙ c .before .before .before .entry .given .1) in
-    search needs
-
-enum-told : tie.Need-enum-told Inv-loop μ-loop
-enum-told c = search needs
-
-returns-2 : tie.Need-returns-2 Inv-loop μ-loop
-returns-2 c = search needs
-
-wrapping-add-u32-requires : tie.Need-wrapping-add-u32-requires Inv-loop μ-loop
-wrapping-add-u32-requires c κs = search needs
+print-record-requires : tie.Need-print-record-requires Inv-loop μ-loop
+print-record-requires c κs =
+    let l = c .before .before .before .before .before .loop in
+    gives-standing (now (c .before .before .before .before .before .before .before .before .before .args .block)) (l .cursor) _ _ (l .inv) (sym (c .before .before .before .next .ensures) ∙ c .before .walk .given .1) .0
 
 sub-left : tie.Need-sub-left Inv-loop μ-loop
 sub-left c = search needs
@@ -74,7 +44,15 @@ loop-less : tie.Need-loop-less Inv-loop μ-loop
 loop-less c = search needs
 
 loop-again : tie.Need-loop-again Inv-loop μ-loop
-loop-again c = search needs
+loop-again c =
+    let l = c .before .before .before .before .before .before .loop in
+    gives-standing (now (c .before .before .before .before .before .before .before .before .before .before .args .block)) (l .cursor) _ _ (l .inv) (sym (c .before .before .before .before .next .ensures) ∙ c .before .before .walk .given .1) .1
+
+enum-told : tie.Need-enum-told Inv-loop μ-loop
+enum-told c = search needs
+
+returns-2 : tie.Need-returns-2 Inv-loop μ-loop
+returns-2 c = search needs
 
 returns-3 : tie.Need-returns-3 Inv-loop μ-loop
 returns-3 c = search needs
@@ -86,19 +64,14 @@ print-records-spec =
     Inv-loop
     μ-loop
     returns
-    u32-at-requires
+    of-requires
     loop-holds
-    record-at-requires
-    enum-known-entry
-    add-end
-    sub-print-message
-    part-print-message-start
-    part-print-message-end
-    print-message-requires
-    enum-told
-    returns-2
-    wrapping-add-u32-requires
+    next-requires
+    enum-known-walk
+    print-record-requires
     sub-left
     loop-less
     loop-again
+    enum-told
+    returns-2
     returns-3)

@@ -6,8 +6,9 @@ use boundary::{
 };
 use model::jobs::{ADD, FETCH, List};
 use model::journal::{BLOCK, Message};
-use model::limits::{HISTORY, JOBS, PACKET, PAYLOAD, WAITING, WINDOW};
+use model::limits::{HISTORY, JOBS, PACKET, PAYLOAD, UNITS, WAITING, WINDOW};
 use model::packet::{self, BROADCAST, GAP, Header, POLL, REQUEST, STATUS};
+use model::plan::SET;
 use std::collections::BTreeMap;
 use std::hint::black_box;
 use std::process::ExitCode;
@@ -94,6 +95,9 @@ fn main() -> ExitCode {
     cases.extend(loads());
     for length in LENGTHS {
         cases.extend(journals(length));
+    }
+    for units in [64, UNITS] {
+        cases.extend(plans(units));
     }
     let mut calls: BTreeMap<&str, Vec<Times>> = BTreeMap::new();
     for case in cases
@@ -634,5 +638,55 @@ fn journals(length: usize) -> Vec<Case> {
     writing("journal.write, finish", 50, messages(closed));
     let refused = (0..50).map(|_| message(0));
     writing("journal.write refused", 50, messages(refused));
+    cases
+}
+
+/// The plan of a journal that sets so many units again and again, and its
+/// rewriting; beside them reading it. What is timed is a block of it.
+fn plans(units: usize) -> Vec<Case> {
+    let mut payloads = Vec::new();
+    for number in 0..BLOCKS * (BLOCK / 40) {
+        // The units come in no order.
+        let unit = (number * 37 % units) as u16;
+        let mut payload = vec![SET];
+        payload.extend(unit.to_be_bytes());
+        payload.extend([number as u8; 30]);
+        payloads.push(payload);
+    }
+    let message = |(number, payload)| Message {
+        number,
+        originator: 1,
+        count: number,
+        payload,
+    };
+    let mut journal = vec![0; BLOCKS * BLOCK];
+    let list = messages((1..).zip(payloads.iter().map(Vec::as_slice)).map(message));
+    reference::journal_write(Writer::after(0, true), &list, 1, &mut journal);
+    let with = format!("{units} units");
+    let mut cases = Vec::new();
+    let mut case = |call, rounds: Rounds| {
+        cases.push(Case {
+            call,
+            with: with.clone(),
+            calls: BLOCKS,
+            rounds,
+        });
+    };
+    // Room for every result: a block for each unit.
+    let room = UNITS * BLOCK;
+    let read = journal.clone();
+    case(
+        "journal.read, a block",
+        Box::new(move |side, rounds, _| on!(side, journal_read(&read, rounds))),
+    );
+    let planned = journal.clone();
+    case(
+        "plan, a block",
+        Box::new(move |side, rounds, _| on!(side, plan(&planned, rounds, &mut vec![0; room]))),
+    );
+    case(
+        "rewrite, a block",
+        Box::new(move |side, rounds, _| on!(side, rewrite(&journal, rounds, &mut vec![0; room]))),
+    );
     cases
 }

@@ -7,9 +7,10 @@ use boundary::{
     FINISH, LINE, Member, Sequencer, Writer, feeds, list, messages, proved, records, reference,
 };
 use model::jobs::{ADD, FETCH, Fed, GIVEN, Job, List, WAITING};
-use model::journal::{self, BLOCK, Message, RECORDS, SUM, Tail};
-use model::limits::{HEADER, JOB, JOBS, LARGEST, MEMBERS, PACKET, PAYLOAD};
+use model::journal::{self, BLOCK, COMPACT, MARK, Message, NUMBER, RECORDS, SUM, Tail};
+use model::limits::{HEADER, JOB, JOBS, LARGEST, MEMBERS, PACKET, PAYLOAD, UNITS};
 use model::packet::{self, Header};
+use model::plan::SET;
 use model::sequencer;
 use schedules::random::Random;
 use std::collections::BTreeMap;
@@ -104,6 +105,7 @@ fn main() -> ExitCode {
     run("loads of every n", options.loads, loading);
     run("journals written", options.journals, journal_writing);
     run("journals read", options.journals, journal_reading);
+    run("journals planned and rewritten", options.journals, planning);
     println!("{differences} differences");
     if differences == 0 {
         ExitCode::SUCCESS
@@ -782,7 +784,7 @@ fn damage_journal(random: &mut Random, journal: &mut Vec<u8>) {
     }
     let at = BLOCK * random.below(blocks);
     let block = at..at + BLOCK;
-    match random.below(9) {
+    match random.below(10) {
         // Torn: the first bytes were written, behind them stands something else.
         0 => {
             let kept = at + random.below(BLOCK);
@@ -806,8 +808,13 @@ fn damage_journal(random: &mut Random, journal: &mut Vec<u8>) {
             summed(&mut journal[block]);
         }
         7 => {
-            let place = random.one(&[4, 7, 8, 9, 10, 14, 15, 16, 17, SUM - 1]);
+            let place = random.one(&[4, 7, 8, 9, 10, 13, 14, 15, 16, 17, 18, SUM - 1]);
             journal[at + place] = random.one(&[0, 1, 2, 15, 16, 240, 241, 255]);
+            summed(&mut journal[block]);
+        }
+        // The other mark.
+        8 => {
+            journal[at + 3] ^= MARK[3] ^ COMPACT[3];
             summed(&mut journal[block]);
         }
         _ => journal[at + random.below(BLOCK)] ^= 1 << random.below(8),
@@ -819,10 +826,8 @@ fn read_differs(journal: &[u8]) -> bool {
     proved::journal_read(journal, 1) != reference::journal_read(journal, 1)
 }
 
-/// A journal that the reference wrote: read whole, each byte of its last block changed once, with and without the sum made
-/// right; damaged; and the records at any index of it.
-fn journal_reading(seed: u64) -> (u8, Option<String>) {
-    let random = &mut Random::seeded(seed);
+/// A journal that the reference's writer wrote.
+fn written_journal(random: &mut Random) -> Vec<u8> {
     let tail = tail(random);
     let mut all = taken(random, tail, false);
     all.push(Taken {
@@ -838,6 +843,18 @@ fn journal_reading(seed: u64) -> (u8, Option<String>) {
     // Behind the blocks that were written stand zeros, which are no mark.
     let blocks = journal.chunks(BLOCK).take_while(|block| block[0] != 0);
     journal.truncate(BLOCK * blocks.count());
+    journal
+}
+
+/// A journal that the reference wrote, or one with compacted blocks: read whole, each byte of its last block changed once, with
+/// and without the sum made right; damaged; and the records at any index of it.
+fn journal_reading(seed: u64) -> (u8, Option<String>) {
+    let random = &mut Random::seeded(seed);
+    let journal = if random.percent(30) {
+        units_journal(random)
+    } else {
+        written_journal(random)
+    };
     let said = |what: &str, journal: &[u8]| {
         let fewer = shrink(journal, read_differs);
         (
@@ -882,5 +899,150 @@ fn journal_reading(seed: u64) -> (u8, Option<String>) {
         }
     }
     let refusal = journal::read(&journal).map_or_else(|refusal| refusal.number(), |_| 0);
+    (refusal, None)
+}
+
+/// A payload that mostly sets one of so many units, whose numbers lie apart.
+fn setting(random: &mut Random, units: usize) -> Vec<u8> {
+    let mut text = payload(random);
+    match random.below(10) {
+        0 => text,
+        1 => vec![SET; random.below(3)],
+        _ => {
+            text.truncate(PAYLOAD - 3);
+            set((random.below(units) * 7) as u16, &text)
+        }
+    }
+}
+
+/// The payload that sets a unit.
+fn set(unit: u16, text: &[u8]) -> Vec<u8> {
+    [&[SET][..], &unit.to_be_bytes(), text].concat()
+}
+
+/// Messages with these payloads, whose numbers rise from one on, by 1 or by more.
+fn rising(random: &mut Random, last: u32, most: usize, payloads: Vec<Vec<u8>>) -> Vec<Taken> {
+    let mut last = last;
+    let mut all = Vec::new();
+    for payload in payloads {
+        let step = 1 + random.below(most) as u32;
+        let Some(next) = last.checked_add(step) else {
+            break;
+        };
+        last = next;
+        all.push(Taken {
+            number: last,
+            originator: random.below(MEMBERS) as u8,
+            count: number(random).max(1),
+            payload,
+        });
+    }
+    all
+}
+
+/// Blocks of messages, laid by hand: as many to a block as fit, and now and then fewer.
+fn blocks(random: &mut Random, mark: [u8; 4], all: &[Taken]) -> Vec<u8> {
+    let mut journal = Vec::new();
+    let mut rest = all;
+    while !rest.is_empty() {
+        let (mut body, mut many) = (Vec::new(), 0);
+        for one in rest {
+            let before = if mark == COMPACT { NUMBER } else { 0 };
+            let end = RECORDS + body.len() + before + one.message().size();
+            if end > SUM || (many > 0 && random.below(50) == 0) {
+                break;
+            }
+            body.extend(&one.number.to_be_bytes()[..before]);
+            body.push(one.originator);
+            body.extend(one.count.to_be_bytes());
+            body.extend((one.payload.len() as u16).to_be_bytes());
+            body.extend(&one.payload);
+            many += 1;
+        }
+        let mut block = mark.to_vec();
+        block.extend(rest[0].number.to_be_bytes());
+        block.extend((many as u16).to_be_bytes());
+        block.extend(body);
+        block.resize(BLOCK, 0);
+        summed(&mut block);
+        journal.extend(block);
+        rest = &rest[many..];
+    }
+    journal
+}
+
+/// A journal of compacted blocks, of the writer's, or of both, whose messages set units; some have about as many as a plan may
+/// have, each set once at least.
+fn units_journal(random: &mut Random) -> Vec<u8> {
+    let mut payloads: Vec<Vec<u8>> = Vec::new();
+    if random.percent(15) {
+        let units = UNITS - 2 + random.below(5);
+        payloads.extend((0..units).map(|unit| set((unit * 7) as u16, &[])));
+        payloads.reverse();
+        for unit in 0..units {
+            payloads.swap(unit, random.below(units));
+        }
+    }
+    let units = random.one(&[1, 5, 60, 510, 9000]);
+    let most = random.one(&[3, 30, 300]);
+    let many = random.below(most);
+    payloads.extend((0..many).map(|_| setting(random, units)));
+    let behind = payloads.split_off(random.below(payloads.len() + 1));
+    let start = tail(random).last;
+    let old = rising(random, start, 3, payloads);
+    // The first number of the writer's is any above the last.
+    let last = old.last().map_or(start, |one| one.number);
+    let jump = last.saturating_add(random.below(3) as u32);
+    let new = rising(random, jump, 1, behind);
+    let journal = blocks(random, COMPACT, &old);
+    [journal, blocks(random, MARK, &new)].concat()
+}
+
+/// Rounds of a call that lays bytes of a journal in an output.
+type Lays = fn(&[u8], u32, &mut [u8]) -> u64;
+
+/// The answer of a call, and the output with what was laid at its front.
+fn result(call: Lays, journal: &[u8], room: usize) -> (u64, Vec<u8>) {
+    let mut out = vec![0xaa; room];
+    let answer = call(journal, 1, &mut out);
+    (answer, out)
+}
+
+/// A journal, damaged or not: its plan and its rewriting in outputs just long enough, a byte shorter, and longer.
+fn planning(seed: u64) -> (u8, Option<String>) {
+    let random = &mut Random::seeded(seed);
+    let mut journal = units_journal(random);
+    if random.percent(30) {
+        damage_journal(random, &mut journal);
+    }
+    let parts: Vec<&[u8]> = journal.chunks(BLOCK).collect();
+    let calls: [(&str, Lays, Lays); 2] = [
+        ("plan", proved::plan, reference::plan),
+        ("rewrite", proved::rewrite, reference::rewrite),
+    ];
+    let mut refusal = 0;
+    for (name, proved, reference) in calls {
+        let (answer, _) = result(reference, &journal, UNITS * BLOCK);
+        // The answer of so many bytes is 204 and that.
+        let (size, refused) = (answer.saturating_sub(204) as usize, answer < 204);
+        if refused {
+            refusal = answer as u8;
+        }
+        for room in [size, size.saturating_sub(1), size + random.below(700)] {
+            let differs = |parts: &[&[u8]]| {
+                let journal = parts.concat();
+                result(proved, &journal, room) != result(reference, &journal, room)
+            };
+            if differs(&parts) {
+                let fewer = shrink(&parts, differs);
+                let [here, there] =
+                    [proved, reference].map(|call| result(call, &fewer.concat(), room).0);
+                let difference = format!(
+                    "{name} to {room} bytes of {fewer:02x?}: {here}, in the reference {there}"
+                );
+                return (refusal, Some(difference));
+            }
+        }
+    }
     (refusal, None)
 }

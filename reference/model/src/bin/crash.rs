@@ -1,14 +1,15 @@
 //! Ends a writer of journals in the midst of its writes, and tears what it
-//! wrote. `crash PROGRAM [STEP]`: the program lists and appends as `journal`
-//! does; every STEP-th byte of a block is torn, or every one. After each
-//! failure the program must list what the reference reads, and go on there.
+//! wrote. `crash PROGRAM [STEP]`: the program lists, appends, plans and rewrites
+//! as `journal` does; every STEP-th byte of a block is torn, or every one. After
+//! each failure the program must list what the reference reads, and go on there;
+//! a rewriting that fails must leave what it was to replace.
 
 use model::journal::{self, BLOCK, Message};
-use model::listing;
+use model::{listing, plan};
 use std::ffi::OsString;
 use std::fs;
 use std::io::{self, Write};
-use std::path::PathBuf;
+use std::path::{Path, PathBuf};
 use std::process::{Child, ChildStdin, Command, ExitCode, Stdio};
 use std::slice;
 use std::thread;
@@ -86,7 +87,94 @@ impl Rig {
             self.store(&plan.journal[..BLOCK])?;
             self.complete(&plan)?;
         }
+        // Behind a compacted block any higher number may come.
+        let start = rewritten(&units(&mut self.random, 3, 9, 20))?;
+        let plan = Plan::behind_of(&mut self.random, &start[..BLOCK], 1000, 41);
+        self.torn(&plan, 16 * step)?;
+        self.flipped(&plan)?;
+        self.store(&plan.journal[..BLOCK])?;
+        self.complete(&plan)?;
+
+        self.rewriting()?;
+        self.sizes()?;
         Ok(self.listed)
+    }
+
+    /// A rewriting that is ended in the midst of its writes, that cannot
+    /// write, and that is ended at any moment: the file that it was to replace
+    /// holds what it held, or all of the rewritten journal.
+    fn rewriting(&mut self) -> Checked<()> {
+        let journal = units(&mut self.random, 40, 237, 150);
+        let (old, new) = (vec![7; 3 * BLOCK + 1], rewritten(&journal)?);
+        self.store(&journal)?;
+        let (from, to) = (self.file.clone(), self.folder.join("new"));
+        let restored = || told("the old file", fs::write(&to, &old));
+        let blocks = new.len() / BLOCK;
+
+        for limit in 0..blocks {
+            for ends in [true, false] {
+                restored()?;
+                // A file may grow to so many blocks: the signal ends the program, or the write fails.
+                let trap = if ends { ":" } else { "trap '' XFSZ" };
+                let script = format!("{trap}; ulimit -f {limit}; exec \"$@\" 2> /dev/null");
+                let mut shell = Command::new("sh");
+                shell.args(["-c", &script, "sh"]).arg(&self.program);
+                shell.arg("rewrite").args([&from, &to]);
+                told("rewrite", shell.output())?;
+                let what = format!("{limit} of {blocks} blocks rewritten");
+                self.must_be(&what, &to, &old)?;
+                self.must_be(&what, &from, &journal)?;
+                let left = self.beside()?;
+                if !ends && left > 0 {
+                    return Err(format!("{what}: {left} files are left"));
+                }
+            }
+        }
+        for _ in 0..60 {
+            restored()?;
+            let mut rewrite = Command::new(&self.program);
+            rewrite.arg("rewrite").args([&from, &to]);
+            let mut child = told("rewrite", rewrite.stdout(Stdio::null()).spawn())?;
+            thread::sleep(Duration::from_micros(self.random.below(3000) as u64));
+            end(&mut child)?;
+            self.beside()?;
+            if told("the new file", fs::read(&to))? != new {
+                self.must_be("ended while rewriting", &to, &old)?;
+            }
+        }
+        restored()?;
+        let expected = format!("{}\n", listing::totals(&journal::found(&new)));
+        self.must_print(&["rewrite".as_ref(), &from, &to], &expected)?;
+        self.must_be("rewritten", &to, &new)?;
+        for file in [&from, &to] {
+            self.must_print(&["plan".as_ref(), file], &planned(&journal))?;
+        }
+        // In its own place, with a torn block behind it.
+        self.store(&[&journal[..], &[1; BLOCK]].concat())?;
+        self.must_print(&["rewrite".as_ref(), &from, &from], &expected)?;
+        self.must_be("rewritten in its place", &from, &new)?;
+        if self.beside()? > 0 {
+            return Err("rewritten: other files are left".into());
+        }
+        told("the new file", fs::remove_file(&to))
+    }
+
+    /// Files of the longest size that is planned and rewritten, and longer.
+    fn sizes(&mut self) -> Checked<()> {
+        let (from, to) = (self.file.clone(), self.folder.join("new"));
+        let mut journal = units(&mut self.random, 500, 100, 3000);
+        for size in [listing::FILE, listing::FILE + 1, listing::FILE + BLOCK] {
+            journal.resize(size, 0);
+            self.store(&journal)?;
+            told("the new file", fs::write(&to, b"old"))?;
+            self.must_print(&["plan".as_ref(), &from], &planned(&journal))?;
+            let mut expected = Vec::new();
+            let new = listing::rewritten(&journal, &mut expected);
+            let new = told("rewriting", new)?.unwrap_or(b"old".to_vec());
+            self.must_print(&["rewrite".as_ref(), &from, &to], &lossy(&expected))?;
+            self.must_be(&format!("{size} bytes rewritten"), &to, &new)?;
+        }
+        told("the new file", fs::remove_file(&to))
     }
 
     /// Ends the writer while it waits for more: block after block must be in
@@ -228,9 +316,46 @@ impl Rig {
         )
     }
 
-    /// The file must hold these bytes.
+    /// Removes the files beside the journal and the rewritten one; how many.
+    fn beside(&self) -> Checked<usize> {
+        let mut removed = 0;
+        for entry in told("the folder", fs::read_dir(&self.folder))? {
+            let path = told("the folder", entry)?.path();
+            if !path.ends_with("journal") && !path.ends_with("new") {
+                told("a file beside", fs::remove_file(path))?;
+                removed += 1;
+            }
+        }
+        Ok(removed)
+    }
+
+    /// The program must print this.
+    fn must_print(&self, words: &[&Path], expected: &str) -> Checked<()> {
+        let output = told(
+            "the program",
+            Command::new(&self.program).args(words).output(),
+        )?;
+        let printed = lossy(&output.stdout);
+        if printed == expected {
+            return Ok(());
+        }
+        let what = words[0].display();
+        let mut lines = printed.lines().zip(expected.lines());
+        let (got, want) = lines.find(|(a, b)| a != b).unwrap_or(("", ""));
+        Err(format!(
+            "{what} prints '{got}' for '{want}', {}",
+            output.status
+        ))
+    }
+
+    /// The journal must hold these bytes.
     fn must_hold(&self, what: &str, expected: &[u8]) -> Checked<()> {
-        let stored = self.stored()?;
+        self.must_be(what, &self.file, expected)
+    }
+
+    /// A file must hold these bytes.
+    fn must_be(&self, what: &str, file: &Path, expected: &[u8]) -> Checked<()> {
+        let stored = told("a file", fs::read(file))?;
         if stored == expected {
             return Ok(());
         }
@@ -325,18 +450,54 @@ fn appended(journal: &[u8], lines: &[String]) -> Vec<u8> {
     whole
 }
 
+/// What the reference rewrites a journal to.
+fn rewritten(journal: &[u8]) -> Checked<Vec<u8>> {
+    let bytes = told("rewriting", listing::rewritten(journal, &mut io::sink()))?;
+    bytes.ok_or_else(|| "too many units".into())
+}
+
+/// What the reference prints of a journal's plan.
+fn planned(journal: &[u8]) -> String {
+    let mut output = Vec::new();
+    listing::plan(journal, &mut output).expect("writing to memory");
+    lossy(&output)
+}
+
+/// A journal whose messages set so many units, with descriptions of up to so
+/// many bytes.
+fn units(random: &mut Random, units: usize, most: usize, many: u32) -> Vec<u8> {
+    let lines: Vec<String> = (1..=many)
+        .map(|number| {
+            let unit = random.below(units) as u16;
+            let mut payload = vec![plan::SET];
+            payload.extend(unit.to_be_bytes());
+            let length = random.below(most + 1);
+            payload.extend((0..length).map(|_| random.next() as u8));
+            message_line(number, 0, number, &payload)
+        })
+        .collect();
+    appended(&[], &lines)
+}
+
 /// Messages, and the journal of all of them.
 struct Plan {
     lines: Vec<String>,
     journal: Vec<u8>,
     /// How many messages stand in the first blocks, for 0 blocks and so on.
     ends: Vec<usize>,
+    /// How many stand before those of the lines.
+    before: usize,
 }
 
 impl Plan {
     fn of(random: &mut Random, first: u32, many: u32) -> Plan {
+        Plan::behind_of(random, &[], first, many)
+    }
+
+    /// Messages behind those of a journal.
+    fn behind_of(random: &mut Random, start: &[u8], first: u32, many: u32) -> Plan {
         let lines: Vec<String> = (0..many).map(|k| line(random, first + k)).collect();
-        let journal = appended(&[], &lines);
+        let journal = appended(start, &lines);
         let blocks = journal.len() / BLOCK;
         let ends = (0..=blocks)
             .map(|blocks| journal::messages(&journal, blocks).count())
@@ -345,12 +506,14 @@ impl Plan {
             lines,
             journal,
             ends,
+            before: journal::found(start).messages,
         }
     }
 
     /// The lines behind the right blocks of a journal.
     fn behind(&self, journal: &[u8]) -> &[String] {
-        &self.lines[journal::found(journal).messages..]
+        let messages = journal::found(journal).messages;
+        &self.lines[messages.saturating_sub(self.before)..]
     }
 }
 
@@ -363,11 +526,16 @@ fn line(random: &mut Random, number: u32) -> String {
         _ => 240 - random.below(4),
     };
     let payload: Vec<u8> = (0..length).map(|_| random.next() as u8).collect();
+    let (originator, count) = (random.below(16) as u8, random.next() as u32);
+    message_line(number, originator, count.max(1), &payload)
+}
+
+fn message_line(number: u32, originator: u8, count: u32, payload: &[u8]) -> String {
     let message = Message {
         number,
-        originator: random.below(16) as u8,
-        count: (random.next() as u32).max(1),
-        payload: &payload,
+        originator,
+        count,
+        payload,
     };
     let mut line = Vec::new();
     listing::message_line(&message, &mut line).expect("writing to memory");

@@ -1,5 +1,5 @@
-//! Lists the journal in a file, or appends the messages on standard input to
-//! it.
+//! Lists the journal in a file, appends the messages on standard input to it,
+//! prints its plan, or rewrites it to another file.
 
 use model::listing;
 use std::fs::{self, File};
@@ -17,8 +17,12 @@ fn main() -> io::Result<ExitCode> {
             let mut file = options.truncate(false).open(path)?;
             listing::append(&mut file, io::stdin().lock(), io::stdout().lock())?;
         }
+        ["plan", path] => listing::plan(&fs::read(path)?, io::stdout().lock())?,
+        ["rewrite", path, new] => {
+            listing::rewrite(&fs::read(path)?, new.as_ref(), io::stdout().lock())?;
+        }
         _ => {
-            eprintln!("usage: journal list FILE | append FILE");
+            eprintln!("usage: journal list FILE | append FILE | plan FILE | rewrite FILE NEW");
             return Ok(ExitCode::FAILURE);
         }
     }

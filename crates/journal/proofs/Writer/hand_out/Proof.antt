@@ -5,7 +5,7 @@ use mathlib.Core.List.{List}
 use Prim.Native.Nat.{ℕ}
 use denote.Ref.{now}
 use Rattle.journal.specs.Limits.{recordsAt}
-use Rattle.journal.specs.Block.{blockOf}
+use Rattle.journal.specs.Block.{framed, blockOf}
 use Rattle.journal.proofs.Lists.{drop-take}
 use borrow.Author.Needs.{needs}
 use Rattle.journal.proofs.Writer.hand_out.Statement.{statement}
@@ -27,6 +27,7 @@ same-length : tie.Need-same-length
 same-length c = search needs
 
 returns : tie.Need-returns
+unfolding blockOf framed
 returns c =
     let a = c .before .before .before .before .before .before .before .args in
     let w = a .self in

@@ -1,0 +1,17 @@
+pub mod Placing
+pub mod Keeping
+pub mod Counting
+pub mod Rows
+pub mod Bytes
+pub mod Packing
+pub mod Tables
+pub mod Noting
+pub mod Printing
+pub mod Gathering
+pub mod Planning
+pub mod Rewriting
+pub mod Filling
+pub mod Stepping
+pub mod Sorting
+pub mod Latest
+pub mod Examples

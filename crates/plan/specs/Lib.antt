@@ -1,0 +1,9 @@
+pub mod Units
+pub mod Kept
+pub mod Laws
+pub mod Table
+pub mod Pack
+pub mod Calls
+pub mod Wording
+pub mod Claims
+pub mod Examples

@@ -524,7 +524,11 @@ fn what_is_not_there_changes_nothing() {
 /// Member 0's next message is numbered, and it takes it at once; the
 /// broadcast.
 fn own(run: &mut Run) -> usize {
-    let payload = vec![7; 3];
+    own_with(run, vec![7; 3])
+}
+
+/// The same of that payload.
+fn own_with(run: &mut Run, payload: Vec<u8>) -> usize {
     let sent = run.step(Event::Submit { member: 0, payload }).unwrap();
     let packet = sent.packet.unwrap();
     let numbered = run.step(Event::ToSequencer { packet }).unwrap();
@@ -719,13 +723,7 @@ fn a_take_stands_though_the_list_refuses() {
 fn a_closing_round_makes_the_lists_alike() {
     let mut run = Run::fresh(3, GROUP).unwrap();
     for payload in [&[1, 7][..], &[1], &[2], &[9], &[1, 8]] {
-        let payload = payload.to_vec();
-        let sent = run.step(Event::Submit { member: 0, payload }).unwrap();
-        let packet = sent.packet.unwrap();
-        let numbered = run.step(Event::ToSequencer { packet }).unwrap();
-        let packet = numbered.packet.unwrap();
-        run.step(Event::ToMember { packet, member: 0 });
-        run.step(Event::Take { member: 0 });
+        own_with(&mut run, payload.to_vec());
     }
     let lists: Vec<List> = run.lists.iter().cloned().collect();
     assert_ne!(lists[0], List::empty());

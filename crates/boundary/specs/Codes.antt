@@ -1,25 +1,13 @@
--- How answers cross the boundary: as numbers, by their wording.
+-- How the answers of reading and writing cross the boundary: as numbers, by their wording.
 use mathlib.Core.List.{List, [], _∷_}
 use Prim.Native.Nat.{ℕ}
 use lib.ListN.{getD}
-use Rattle.group.specs.Wording.{Value, Wording}
+use Rattle.group.specs.Codes.{codeOf, numbersIn}
+use Rattle.group.specs.Wording.{Wording}
 use Rattle.packet.specs.Wording.{readingWording, writingWording}
 use Rattle.packet.specs.declared.Header.{Header}
 use Rattle.packet.specs.declared.Reading.{Reading}
 use Rattle.packet.specs.declared.Writing.{Writing}
-
--- the numbers among the values of an answer
-unfoldable pub numbersIn : List Value → List ℕ
-numbersIn [] = []
-numbersIn (Value.number n ∷ rest) = n ∷ numbersIn rest
-numbersIn (Value.payload ∷ rest) = numbersIn rest
-numbersIn (Value.more m ∷ rest) = numbersIn rest
-numbersIn (Value.packet ∷ rest) = numbersIn rest
-
--- 0 for a word, else the number of the refusal
-unfoldable pub codeOf : Wording → ℕ
-codeOf (Wording.refusal k) = k
-codeOf (Wording.word w values) = 0
 
 -- the lent numbers after the answer: its own; where it is a refusal they keep their values
 unfoldable pub numbersAfter : Wording → List ℕ → List ℕ

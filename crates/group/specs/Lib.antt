@@ -6,3 +6,4 @@ pub mod Question
 pub mod Lent
 pub mod Fold
 pub mod Wording
+pub mod Codes

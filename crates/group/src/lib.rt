@@ -6,9 +6,11 @@ ghost use Rattle.group.specs.Opening.{openOf};
 ghost use Rattle.group.specs.Wording.{openedWording};
 
 // A sequence number: the place of a message in the order, from 1. 0 means none yet.
+#[repr(C)]
 pub struct SequenceNumber(pub u32);
 
 // A member number: from 0, below the group's n.
+#[repr(C)]
 pub struct MemberNumber(pub u8);
 
 // What document 01's 18 questions refuse, in their order, and what document 02 adds.
@@ -78,6 +80,7 @@ pub enum Verdict {
 }
 
 // A group of n members under its number.
+#[repr(C)]
 pub struct Group {
     pub n: u8,
     pub number: u32,
@@ -96,14 +99,23 @@ impl Group {
     // The places of the sequencer's history.
     pub const PLACES: usize = 32;
 
+    // The bytes of those places' payloads, side by side.
+    pub const HISTORY_BYTES: usize = Group::PLACES * Group::PAYLOAD;
+
     // The most bytes of a payload.
     pub const PAYLOAD: usize = 240;
 
     // The places of a member for what it has not taken yet.
     pub const HELD: usize = 8;
 
+    // The bytes of those places' payloads, side by side.
+    pub const HELD_BYTES: usize = Group::HELD * Group::PAYLOAD;
+
     // The most messages of a member that wait.
     pub const WAITING: usize = 5;
+
+    // The bytes of their payloads, side by side.
+    pub const WAITING_BYTES: usize = Group::WAITING * Group::PAYLOAD;
 
     // The bytes of a packet before its payload.
     pub const HEADER: usize = 20;

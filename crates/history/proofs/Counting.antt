@@ -10,8 +10,7 @@ use lib.Seq.{getD-set-same}
 use Rattle.group.proofs.Lists.{set-each}
 use Rattle.group.specs.declared.MemberNumber.{MemberNumber}
 use Rattle.history.specs.Note.{withCounts}
-use Rattle.history.specs.State.{noAcknowledgement, acknowledgementOf}
-use Rattle.history.specs.declared.Acknowledgement.{Acknowledgement}
+use Rattle.history.specs.State.{Acknowledgement, noAcknowledgement, acknowledgementOf}
 use Rattle.history.proofs.Soundness.{takenIn, countIn}
 
 module _ (table : List Acknowledgement) (m : MemberNumber) (count repeats : ℕ) (inside : m .0 < length table) where

@@ -8,7 +8,7 @@ use native.Mathlib.Omega.{arith}
 use Rattle.group.specs.Choice.{if_then_else_}
 use Rattle.group.specs.declared.MemberNumber.{MemberNumber}
 use Rattle.group.proofs.Choice.{if-true-of, if-false-of}
-use Rattle.message.specs.declared.Message.{Message}
+use Rattle.message.specs.Message.{Message}
 use mathlib.Core.Logic.{_≢_}
 use Rattle.group.proofs.Lists.{if-elim}
 use Rattle.history.specs.Repeat.{isOf, findOf}

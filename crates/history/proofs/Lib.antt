@@ -1,4 +1,6 @@
 pub mod Soundness
+pub mod View
+pub mod Laying
 pub mod Noting
 pub mod Counting
 pub mod Repeating

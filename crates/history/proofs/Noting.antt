@@ -11,8 +11,7 @@ use lib.Seq.{getD-set-same, getD-set-other}
 use Rattle.group.proofs.Lists.{if-elim, eq-or, le-or}
 use Rattle.group.specs.Choice.{_<?_}
 use Rattle.group.specs.Limits.{placesMost}
-use Rattle.message.specs.Message.{emptyMessage, blank}
-use Rattle.message.specs.declared.Message.{Message}
+use Rattle.message.specs.Message.{Message, emptyMessage, blank}
 use Rattle.history.specs.Note.{largerOf, clearedOf}
 use Rattle.history.specs.State.{placeOf, messageAt}
 

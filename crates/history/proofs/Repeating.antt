@@ -14,8 +14,7 @@ use Rattle.group.proofs.Lists.{le-or}
 use Rattle.group.specs.Choice.{_<?_}
 use Rattle.group.specs.Limits.{largestNumber}
 use Rattle.history.specs.Repeat.{oneMore, repeatsSum, repeatsOf}
-use Rattle.history.specs.State.{noAcknowledgement}
-use Rattle.history.specs.declared.Acknowledgement.{Acknowledgement}
+use Rattle.history.specs.State.{Acknowledgement, noAcknowledgement}
 use Rattle.history.proofs.Soundness.{repeatsIn}
 
 module _ (table : List Acknowledgement) (i : ℕ) where

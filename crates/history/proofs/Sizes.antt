@@ -7,8 +7,7 @@ use lib.ListN.{getD, set}
 use Rattle.group.specs.Limits.{membersMost}
 use Rattle.group.proofs.Choice.{says}
 use Rattle.history.specs.Sound.{frameSound}
-use Rattle.history.specs.State.{noAcknowledgement}
-use Rattle.history.specs.declared.Acknowledgement.{Acknowledgement}
+use Rattle.history.specs.State.{Acknowledgement, noAcknowledgement}
 
 pub frame-members : (n : ℕ) (table : List Acknowledgement) (floor top : ℕ) → frameSound n table floor top ≡ true → n ≤ membersMost
 unfolding frameSound

@@ -13,11 +13,9 @@ use Rattle.group.proofs.Fold.{least-first, least-most, least-least}
 use Rattle.group.proofs.Lists.{if-elim}
 use Rattle.group.specs.Choice.{if_then_else_, _and_, _<?_, _=?_}
 use Rattle.group.specs.Limits.{payloadMost, largestNumber}
-use Rattle.message.specs.Message.{zeroBehind}
-use Rattle.message.specs.declared.Message.{Message}
+use Rattle.message.specs.Message.{Message, zeroBehind}
 use Rattle.history.specs.Sound.{entrySound, keptSound}
-use Rattle.history.specs.State.{noAcknowledgement, floorOf}
-use Rattle.history.specs.declared.Acknowledgement.{Acknowledgement}
+use Rattle.history.specs.State.{Acknowledgement, noAcknowledgement, floorOf}
 
 -- member i's entry in a table: the last number known taken, the last count numbered, the repeats
 abbrev pub takenIn : List Acknowledgement → ℕ → ℕ

@@ -3,3 +3,4 @@ pub mod Sound
 pub mod Note
 pub mod Repeat
 pub mod Ask
+pub mod View

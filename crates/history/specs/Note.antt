@@ -6,10 +6,8 @@ use lib.ListN.{set}
 use Rattle.group.specs.Choice.{if_then_else_, _<?_}
 use Rattle.group.specs.declared.MemberNumber.{MemberNumber}
 use Rattle.group.specs.declared.SequenceNumber.{SequenceNumber}
-use Rattle.message.specs.Message.{emptyMessage}
-use Rattle.message.specs.declared.Message.{Message}
-use Rattle.history.specs.State.{acknowledgementOf, placeOf}
-use Rattle.history.specs.declared.Acknowledgement.{Acknowledgement}
+use Rattle.message.specs.Message.{Message, emptyMessage}
+use Rattle.history.specs.State.{Acknowledgement, acknowledgementOf, placeOf}
 
 -- the larger of two numbers
 unfoldable pub largerOf : ℕ → ℕ → ℕ

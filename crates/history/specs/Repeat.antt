@@ -5,9 +5,8 @@ use Prim.Native.Nat.{ℕ, zero, suc, _+_}
 use Rattle.group.specs.Choice.{if_then_else_, _and_, _<?_, _=?_}
 use Rattle.group.specs.Limits.{largestNumber}
 use Rattle.group.specs.declared.MemberNumber.{MemberNumber}
-use Rattle.message.specs.declared.Message.{Message}
-use Rattle.history.specs.State.{messageAt}
-use Rattle.history.specs.declared.Acknowledgement.{Acknowledgement}
+use Rattle.message.specs.Message.{Message}
+use Rattle.history.specs.State.{Acknowledgement, messageAt}
 
 -- a message of that originator and count
 unfoldable pub isOf : MemberNumber → ℕ → Message → Bool

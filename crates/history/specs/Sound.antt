@@ -4,10 +4,8 @@ use mathlib.Core.List.{List}
 use Prim.Native.Nat.{ℕ, _-_}
 use Rattle.group.specs.Choice.{if_then_else_, _and_, _<?_, _≤?_, _=?_}
 use Rattle.group.specs.Limits.{membersMost, placesMost, payloadMost}
-use Rattle.message.specs.Message.{zeroBehind, isEmpty}
-use Rattle.message.specs.declared.Message.{Message}
-use Rattle.history.specs.State.{acknowledgementOf, messageAt, floorOf}
-use Rattle.history.specs.declared.Acknowledgement.{Acknowledgement}
+use Rattle.message.specs.Message.{Message, zeroBehind, isEmpty}
+use Rattle.history.specs.State.{Acknowledgement, acknowledgementOf, messageAt, floorOf}
 
 -- every acknowledgement is at most top, and every unused entry is zero
 unfoldable pub entrySound : ℕ → ℕ → ℕ → Acknowledgement → Bool

@@ -5,9 +5,15 @@ use lib.ListN.{getD, take}
 use Rattle.group.specs.Fold.{least}
 use Rattle.group.specs.Limits.{placesMost, largestNumber}
 use Rattle.group.specs.declared.MemberNumber.{MemberNumber}
-use Rattle.message.specs.Message.{blank}
-use Rattle.message.specs.declared.Message.{Message}
-use Rattle.history.specs.declared.Acknowledgement.{Acknowledgement}
+use Rattle.group.specs.declared.SequenceNumber.{SequenceNumber}
+use Rattle.message.specs.Message.{Message, blank}
+
+-- what is known of a member: the last number that it is known to have taken, its last own count that was numbered, and how often it
+-- repeated itself
+pub record Acknowledgement : Type 0 where
+  pub taken : SequenceNumber
+  pub count : ℕ
+  pub repeats : ℕ
 
 -- of a member of whom nothing is known yet
 abbrev pub noAcknowledgement : Acknowledgement

@@ -4,29 +4,23 @@ use group::MemberNumber;
 use group::Refusal;
 use group::SequenceNumber;
 use group::Verdict;
-use message::Message;
 use packet::Packet;
 ghost use mathlib.Core.Bool.{true};
+ghost use mathlib.Core.List.{[]};
 ghost use mathlib.Core.Path.{_≡_};
 ghost use Prim.Native.Nat.{_-_, _<_, _≤_};
 ghost use Rattle.group.specs.Choice.{if_then_else_, _<?_, _≤?_};
 ghost use Rattle.group.specs.Fold.{all, allAbove};
-ghost use lib.ListN.{length};
+ghost use lib.ListN.{length, getD, set};
 ghost use Rattle.group.specs.Limits.{membersMost, placesMost, payloadMost, largestNumber};
 ghost use Rattle.message.specs.Message.{messageOf, isEmpty};
-ghost use Rattle.history.specs.State.{placeOf, floorOf};
+ghost use Rattle.store.specs.Places.{messageIn, messagesIn, partOf, maskOf, Lies};
+ghost use Rattle.history.specs.State.{placeOf, messageAt, floorOf};
 ghost use Rattle.history.specs.Sound.{entrySound, keptSound, placeSound, frameSound};
-ghost use Rattle.history.specs.Note.{largerOf, tableNoted};
+ghost use Rattle.history.specs.Note.{largerOf, clearedOf};
 ghost use Rattle.history.specs.Repeat.{oneMore, repeatsOf, isOf, findOf};
 ghost use Rattle.history.specs.Ask.{senderVerdict, countVerdict, wantedVerdict, requestVerdict, gapVerdict, packetVerdict, senderOf};
-
-// What is known of a member: the last number that it is known to have taken, its last own count that was numbered, and how often it
-// repeated itself.
-pub struct Acknowledgement {
-    pub taken: SequenceNumber,
-    pub count: u32,
-    pub repeats: u32,
-}
+ghost use Rattle.history.specs.View.{Entries, Places, entryIn, tableIn, takenOnly, countsOnly, repeatsOnly, listed};
 
 // Who sent a packet, and the number that it acknowledges.
 pub struct Sender {
@@ -48,42 +42,48 @@ fn smaller(a: u32, b: u32) -> u32
 }
 
 // Floor is the smallest of the n acknowledgements.
-pub fn smallest(n: u8, table: [Acknowledgement; Group::MEMBERS]) -> SequenceNumber
+pub fn smallest(n: u8, taken: [u32; Group::MEMBERS]) -> SequenceNumber
     requires { ⌜ n ≤ membersMost ⌝ }
-    ensures { λ r. ⌜ r .0 ≡ floorOf n table ⌝ }
+    ensures { λ r. ⌜ r .0 ≡ floorOf n (takenOnly taken) ⌝ }
 {
     let mut low = Group::LARGEST;
     let mut i: usize = 0;
     while i < (n as usize) {
-        let entry = table[i];
-        low = smaller(entry.taken.0, low);
+        low = smaller(taken[i], low);
         i += 1;
     }
     SequenceNumber(low)
 }
 
 // Whether an entry is at most top, or zero where no member has it.
-fn entry_sound(n: u8, top: SequenceNumber, i: usize, entry: Acknowledgement) -> bool
-    ensures { λ r. ⌜ r ≡ entrySound n (top .0) i entry ⌝ }
+fn entry_sound(n: u8, top: SequenceNumber, i: usize, taken: u32, count: u32, repeats: u32) -> bool
+    ensures { λ r. ⌜ r ≡ entrySound n (top .0) i (entryIn taken count repeats) ⌝ }
 {
     if i < (n as usize) {
-        return entry.taken.0 <= top.0;
+        return taken <= top.0;
     }
-    if entry.taken.0 != 0 {
+    if taken != 0 {
         return false;
     }
-    if entry.count != 0 {
+    if count != 0 {
         return false;
     }
-    entry.repeats == 0
+    repeats == 0
 }
 
-pub fn entries_sound(n: u8, table: [Acknowledgement; Group::MEMBERS], top: SequenceNumber) -> bool
-    ensures { λ r. ⌜ r ≡ all (entrySound n (top .0)) 0 table ⌝ }
+pub fn entries_sound(
+    n: u8,
+    top: SequenceNumber,
+    taken: &[u32],
+    counts: &[u32],
+    repeats: &[u32],
+) -> bool
+    requires { ⌜ Entries (now taken) (now counts) (now repeats) ⌝ }
+    ensures { λ r. ⌜ r ≡ all (entrySound n (top .0)) 0 (tableIn (now (taken .entry)) (now (counts .entry)) (now (repeats .entry))) ⌝ }
 {
     let mut i: usize = 0;
     while i < Group::MEMBERS {
-        if entry_sound(n, top, i, table[i]) {
+        if entry_sound(n, top, i, taken[i], counts[i], repeats[i]) {
             i += 1;
         } else {
             return false;
@@ -92,60 +92,113 @@ pub fn entries_sound(n: u8, table: [Acknowledgement; Group::MEMBERS], top: Seque
     true
 }
 
-fn kept_sound(n: u8, table: [Acknowledgement; Group::MEMBERS], m: Message) -> bool
-    requires { ⌜ n ≤ membersMost ⌝ }
-    ensures { λ r. ⌜ r ≡ keptSound n table m ⌝ }
+// Whether a place holds a message: its numbers are those of one, and every byte behind its payload is zero.
+fn kept_sound(
+    n: u8,
+    counts: &[u32],
+    count: u32,
+    originator: u8,
+    size: u8,
+    payloads: &[u8],
+    mask: &[u8],
+    at: usize,
+) -> bool
+    requires { ⌜ (n ≤ membersMost) × Lies at (now payloads) × (now mask ≡ maskOf) × (length (now counts) ≡ membersMost) ⌝ }
+    ensures { λ r. ⌜ r ≡ keptSound n (countsOnly (now (counts .entry))) (messageIn count originator size (partOf (now (payloads .entry)) at)) ⌝ }
 {
-    if n <= m.originator.0 {
+    if n <= originator {
         return false;
     }
-    if m.count < 1 {
+    if count < 1 {
         return false;
     }
-    let at = m.originator.0 as usize;
-    let entry = table[at];
-    if entry.count < m.count {
+    let member = originator as usize;
+    if counts[member] < count {
         return false;
     }
-    if Group::PAYLOAD < m.length {
+    if Group::PAYLOAD < (size as usize) {
         return false;
     }
-    m.zero_behind()
+    store::zero_from(payloads, mask, at, size)
+}
+
+// Whether a place is empty.
+fn empty_sound(
+    count: u32,
+    originator: u8,
+    size: u8,
+    payloads: &[u8],
+    mask: &[u8],
+    at: usize,
+) -> bool
+    requires { ⌜ Lies at (now payloads) × (now mask ≡ maskOf) ⌝ }
+    ensures { λ r. ⌜ r ≡ isEmpty (messageIn count originator size (partOf (now (payloads .entry)) at)) ⌝ }
+{
+    if originator != 0 {
+        return false;
+    }
+    if count != 0 {
+        return false;
+    }
+    if size != 0 {
+        return false;
+    }
+    store::zero_from(payloads, mask, at, size)
 }
 
 // Whether what lies in a number's place is a message where the number is at most top, and else is empty.
 fn place_sound(
     n: u8,
-    table: [Acknowledgement; Group::MEMBERS],
+    counts: &[u32],
     top: SequenceNumber,
     number: u64,
-    m: Message,
+    count: u32,
+    originator: u8,
+    size: u8,
+    payloads: &[u8],
+    mask: &[u8],
+    at: usize,
 ) -> bool
-    requires { ⌜ n ≤ membersMost ⌝ }
-    ensures { λ r. ⌜ r ≡ (if number ≤? top .0 then keptSound n table m else isEmpty m) ⌝ }
+    requires { ⌜ (n ≤ membersMost) × Lies at (now payloads) × (now mask ≡ maskOf) × (length (now counts) ≡ membersMost) ⌝ }
+    ensures { λ r. ⌜ r ≡ (if number ≤? top .0 then keptSound n (countsOnly (now (counts .entry))) (messageIn count originator size (partOf (now (payloads .entry)) at)) else isEmpty (messageIn count originator size (partOf (now (payloads .entry)) at))) ⌝ }
 {
     if number <= (top.0 as u64) {
-        return kept_sound(n, table, m);
+        return kept_sound(n, counts, count, originator, size, payloads, mask, at);
     }
-    m.is_empty()
+    empty_sound(count, originator, size, payloads, mask, at)
 }
 
 // Whether the history is exactly floor + 1 to top.
 pub fn history_sound(
     n: u8,
-    table: [Acknowledgement; Group::MEMBERS],
-    history: [Message; Group::PLACES],
     floor: SequenceNumber,
     top: SequenceNumber,
+    counts: &[u32],
+    kept: &[u32],
+    originators: &[u8],
+    lengths: &[u8],
+    payloads: &[u8],
 ) -> bool
-    requires { ⌜ n ≤ membersMost ⌝ }
-    ensures { λ r. ⌜ r ≡ allAbove (placeSound n table history (top .0)) (floor .0) placesMost ⌝ }
+    requires { ⌜ (n ≤ membersMost) × (length (now counts) ≡ membersMost) × Places (now kept) (now originators) (now lengths) (now payloads) ⌝ }
+    ensures { λ r. ⌜ r ≡ allAbove (placeSound n (countsOnly (now (counts .entry))) (messagesIn (now (kept .entry)) (now (originators .entry)) (now (lengths .entry)) (now (payloads .entry))) (top .0)) (floor .0) placesMost ⌝ }
 {
+    let mask = store::mask();
     let mut i: usize = 0;
     while i < Group::PLACES {
         let number = (floor.0 as u64) + (i as u64) + 1;
         let at = place(number);
-        if place_sound(n, table, top, number, history[at]) {
+        if place_sound(
+            n,
+            counts,
+            top,
+            number,
+            kept[at],
+            originators[at],
+            lengths[at],
+            payloads,
+            &mask,
+            at,
+        ) {
             i += 1;
         } else {
             return false;
@@ -156,11 +209,11 @@ pub fn history_sound(
 
 pub fn frame_sound(
     n: u8,
-    table: [Acknowledgement; Group::MEMBERS],
     floor: SequenceNumber,
     top: SequenceNumber,
+    taken: &[u32; Group::MEMBERS],
 ) -> bool
-    ensures { λ r. ⌜ r ≡ frameSound n table (floor .0) (top .0) ⌝ }
+    ensures { λ r. ⌜ r ≡ frameSound n (takenOnly (now (taken .entry))) (floor .0) (top .0) ⌝ }
 {
     if n < 1 {
         return false;
@@ -168,7 +221,7 @@ pub fn frame_sound(
     if Group::MEMBERS < (n as usize) {
         return false;
     }
-    if smallest(n, table).0 != floor.0 {
+    if smallest(n, *taken).0 != floor.0 {
         return false;
     }
     if top.0 < floor.0 {
@@ -183,49 +236,96 @@ pub fn larger(a: u32, b: u32) -> u32
     if a < b { b } else { a }
 }
 
-// The table with the sender's entry at the larger of old and new.
-pub fn table_noted(
-    mut table: [Acknowledgement; Group::MEMBERS],
+// Notes an acknowledgement: the sender's number becomes the larger of old and new. The result is the new floor.
+pub fn note(
+    n: u8,
+    taken: &mut [u32; Group::MEMBERS],
     sender: MemberNumber,
-    taken: SequenceNumber,
-) -> [Acknowledgement; Group::MEMBERS]
-    requires { ⌜ sender .0 < membersMost ⌝ }
-    ensures { λ r. ⌜ r ≡ tableNoted table sender taken ⌝ }
+    number: SequenceNumber,
+) -> SequenceNumber
+    requires { ⌜ (n ≤ membersMost) × (sender .0 < membersMost) ⌝ }
+    ensures noted { λ _. ⌜ now (taken .exit) ≡ set (now (taken .entry)) (sender .0) (largerOf (getD (now (taken .entry)) (sender .0) 0) (number .0)) ⌝ }
+    ensures floor { λ r. ⌜ r .0 ≡ floorOf n (takenOnly (now (taken .exit))) ⌝ }
 {
     let at = sender.0 as usize;
-    let entry = table[at];
-    let most = SequenceNumber(larger(entry.taken.0, taken.0));
-    table[at] = Acknowledgement {
-        taken: most,
-        count: entry.count,
-        repeats: entry.repeats,
-    };
-    table
+    taken[at] = larger(taken[at], number.0);
+    smallest(n, *taken)
 }
 
-fn is_of(sender: MemberNumber, count: u32, m: Message) -> bool
-    ensures { λ r. ⌜ r ≡ isOf sender count m ⌝ }
+// Clears the places of the numbers that the floor passes.
+pub fn clear(
+    was: SequenceNumber,
+    floor: SequenceNumber,
+    kept: &mut [u32],
+    originators: &mut [u8],
+    lengths: &mut [u8],
+    payloads: &mut [u8],
+)
+    requires { ⌜ Places (now kept) (now originators) (now lengths) (now payloads) ⌝ }
+    ensures { λ _. ⌜ messagesIn (now (kept .exit)) (now (originators .exit)) (now (lengths .exit)) (now (payloads .exit)) ≡ clearedOf (messagesIn (now (kept .entry)) (now (originators .entry)) (now (lengths .entry)) (now (payloads .entry))) (was .0) (floor .0 - was .0) ⌝ }
 {
-    if m.originator.0 != sender.0 {
+    let mut passed = was.0;
+    while passed < floor.0 {
+        passed += 1;
+        let at = place(passed as u64);
+        kept[at] = 0;
+        originators[at] = 0;
+        lengths[at] = 0;
+        store::clear(payloads, at);
+    }
+}
+
+// Lays the message that gets a number above top into its place; a number up to top has its own there.
+pub fn lay(
+    number: SequenceNumber,
+    top: SequenceNumber,
+    kept: &mut [u32],
+    originators: &mut [u8],
+    lengths: &mut [u8],
+    payloads: &mut [u8],
+    sender: MemberNumber,
+    count: u32,
+    payload: &[u8],
+)
+    requires { ⌜ (length (now payload) ≤ payloadMost) × Places (now kept) (now originators) (now lengths) (now payloads) ⌝ }
+    ensures { λ _. ⌜ messagesIn (now (kept .exit)) (now (originators .exit)) (now (lengths .exit)) (now (payloads .exit)) ≡ set (messagesIn (now (kept .entry)) (now (originators .entry)) (now (lengths .entry)) (now (payloads .entry))) (placeOf (number .0)) (if number .0 ≤? top .0 then messageAt (messagesIn (now (kept .entry)) (now (originators .entry)) (now (lengths .entry)) (now (payloads .entry))) (number .0) else messageOf sender count (now (payload .entry))) ⌝ }
+{
+    if number.0 <= top.0 {
+        return;
+    }
+    let at = place(number.0 as u64);
+    kept[at] = count;
+    originators[at] = sender.0;
+    lengths[at] = payload.len() as u8;
+    store::keep(payloads, at, payload);
+}
+
+// Whether the message of a place has that originator and count.
+fn is_of(sender: MemberNumber, count: u32, kept: u32, originator: u8) -> bool
+    ensures { λ r. ⌜ r ≡ isOf sender count (messageIn kept originator 0 []) ⌝ }
+{
+    if originator != sender.0 {
         return false;
     }
-    m.count == count
+    kept == count
 }
 
 // The highest number above floor whose message has that originator and count; 0: there is none.
 pub fn find(
-    history: [Message; Group::PLACES],
+    kept: &[u32],
+    originators: &[u8],
     sender: MemberNumber,
     count: u32,
     floor: SequenceNumber,
     top: SequenceNumber,
 ) -> SequenceNumber
-    ensures { λ r. ⌜ r .0 ≡ findOf history sender count (floor .0) (top .0 - floor .0) ⌝ }
+    requires { ⌜ (length (now kept) ≡ placesMost) × (length (now originators) ≡ placesMost) ⌝ }
+    ensures { λ r. ⌜ r .0 ≡ findOf (listed (now (kept .entry)) (now (originators .entry))) sender count (floor .0) (top .0 - floor .0) ⌝ }
 {
     let mut number = top.0;
     while floor.0 < number {
         let at = place(number as u64);
-        if is_of(sender, count, history[at]) {
+        if is_of(sender, count, kept[at], originators[at]) {
             return SequenceNumber(number);
         }
         number -= 1;
@@ -254,14 +354,14 @@ pub fn one_more(repeats: u32) -> u32
 }
 
 // The repeats of all members, held at the largest number.
-pub fn repeats(table: [Acknowledgement; Group::MEMBERS]) -> u32
-    ensures { λ r. ⌜ r ≡ repeatsOf table ⌝ }
+pub fn repeats(repeats: &[u32]) -> u32
+    requires { ⌜ length (now repeats) ≡ membersMost ⌝ }
+    ensures { λ r. ⌜ r ≡ repeatsOf (repeatsOnly (now (repeats .entry))) ⌝ }
 {
     let mut sum: u64 = 0;
     let mut i: usize = 0;
     while i < Group::MEMBERS {
-        let entry = table[i];
-        sum += entry.repeats as u64;
+        sum += repeats[i] as u64;
         i += 1;
     }
     if sum < (Group::LARGEST as u64) {
@@ -320,21 +420,20 @@ fn ask_wanted(top: SequenceNumber, last: SequenceNumber) -> Verdict
 // Questions 9 to 11, and 16, of a request.
 fn ask_request(
     n: u8,
-    table: [Acknowledgement; Group::MEMBERS],
+    counts: &[u32],
     top: SequenceNumber,
     sender: MemberNumber,
     taken: SequenceNumber,
     count: u32,
 ) -> Verdict
-    requires { ⌜ n ≤ membersMost ⌝ }
-    ensures { λ r. ⌜ r ≡ requestVerdict n table (top .0) sender taken count ⌝ }
+    requires { ⌜ (n ≤ membersMost) × (length (now counts) ≡ membersMost) ⌝ }
+    ensures { λ r. ⌜ r ≡ requestVerdict n (countsOnly (now (counts .entry))) (top .0) sender taken count ⌝ }
 {
     let v = ask_sender(n, top, sender, taken);
     match v {
         Verdict::Accepted => {
             let at = sender.0 as usize;
-            let entry = table[at];
-            ask_count(entry.count, top, count)
+            ask_count(counts[at], top, count)
         }
         Verdict::Refused(q) => Verdict::Refused(q),
     }
@@ -360,13 +459,13 @@ fn ask_gap(
 // Questions 7 to 12, and 16, of a packet from the group of a number: kinds 1, 3 and 4 are for this end.
 pub fn ask_packet(
     group: Group,
-    table: [Acknowledgement; Group::MEMBERS],
+    counts: &[u32],
     top: SequenceNumber,
     number: u32,
     packet: Packet,
 ) -> Verdict
-    requires { ⌜ group .n ≤ membersMost ⌝ }
-    ensures { λ r. ⌜ r ≡ packetVerdict group table (top .0) number packet ⌝ }
+    requires { ⌜ (group .n ≤ membersMost) × (length (now counts) ≡ membersMost) ⌝ }
+    ensures { λ r. ⌜ r ≡ packetVerdict group (countsOnly (now (counts .entry))) (top .0) number packet ⌝ }
 {
     if number != group.number {
         return Verdict::Refused(Refusal::OtherGroup);
@@ -377,7 +476,7 @@ pub fn ask_packet(
             sender,
             taken,
             count,
-        } => ask_request(n, table, top, sender, taken, count),
+        } => ask_request(n, counts, top, sender, taken, count),
         Packet::Broadcast {
             originator: _,
             number: _,
@@ -435,22 +534,4 @@ pub fn sender_of(packet: Packet) -> Sender
             taken: SequenceNumber(0),
         },
     }
-}
-
-// What is laid in the place of a number: what lies there, or the message that gets the number.
-pub fn laid(
-    old: Message,
-    sender: MemberNumber,
-    number: SequenceNumber,
-    top: SequenceNumber,
-    count: u32,
-    payload: &[u8],
-) -> Message
-    requires { ⌜ length (now payload) ≤ payloadMost ⌝ }
-    ensures { λ r. ⌜ r ≡ (if number .0 ≤? top .0 then old else messageOf sender count (now (payload .entry))) ⌝ }
-{
-    if number.0 <= top.0 {
-        return old;
-    }
-    Message::keep(sender, count, payload)
 }

@@ -5,17 +5,18 @@ use mathlib.Core.List.{List, [], _∷_, _++_, map}
 use Prim.Native.Nat.{ℕ, zero, suc, _+_, _≤_, _<_}
 use native.Mathlib.Numerals.{add-one}
 use native.Mathlib.Omega.{arith}
-use lib.ListN.{length, getD, take, drop, drop-of-length-le}
+use lib.ListN.{length, getD, take, drop, drop-of-length-le, length-map}
 use lib.Seq.{length-take-le, getD-take, drop-cons}
 use Rattle.group.proofs.Choice.{if-eq, if-ne}
 use Rattle.group.specs.declared.MemberNumber.{MemberNumber}
 use Rattle.jobs.specs.Job.{unusedState, waitingState, noJob}
 use Rattle.jobs.specs.declared.Job.{Job}
-use Rattle.member.specs.declared.Member.{Member}
+use Rattle.member.specs.State.{Member}
+use Rattle.member.specs.View.{viewOf}
 use Rattle.model.specs.World.{noMember}
 use Rattle.packet.specs.Packet.{readOf, payloadAt}
-use Rattle.simulator.proofs.Reading.{member-read}
-use Rattle.simulator.specs.Whole.{packetIn, groupOf}
+use Rattle.simulator.proofs.Reading.{member-seen}
+use Rattle.simulator.specs.Whole.{packetIn, groupOf, sizeOf}
 use Rattle.simulator.specs.declared.Stored.{Stored}
 use Rattle.simulator.specs.declared.Whole.{Whole}
 use Rattle.terminal.specs.Left.{heardOf, heardAll, freshLeft, listIn}
@@ -87,14 +88,14 @@ lists-same list other (suc k) e =
     ap (λ (l : List ℕ). l ++ jobLines k (list k) (length (list k))) (lists-same list other k (λ i b. e i (omega arith)))
     ∙ ap (λ (l : List Job). listLines other k ++ jobLines k l (length l)) (e k (omega arith))
 
-pub lists-of : (w : Whole) → w .sequencer .group .n ≤ length (w .members)
-    → listLines (listOn (w .members) (map packetIn (take (w .count) (w .packets)))) (w .sequencer .group .n)
+pub lists-of : (w : Whole) → sizeOf w ≤ length (w .members)
+    → listLines (listOn (w .members) (map packetIn (take (w .count) (w .packets)))) (sizeOf w)
     ≡ listLines (listIn (groupOf w)) (length (groupOf w .members))
 unfolding groupOf
 lists-of w h =
-    let n = w .sequencer .group .n in
-    let e : length (groupOf w .members) ≡ n = length-take-le n (w .members) h in
+    let n = sizeOf w in
+    let e : length (groupOf w .members) ≡ n = length-map (take n (w .members)) viewOf ∙ length-take-le n (w .members) h in
     let packets = map packetIn (take (w .count) (w .packets)) in
     lists-same (listOn (w .members) packets) (listIn (groupOf w)) n
-    (λ i b. ap (λ (m : Member). heardAll (m .taken .0) freshLeft packets .jobs) (member-read w i noMember (omega arith)))
+    (λ i b. ap (λ (m : Member). heardAll (m .taken .0) freshLeft packets .jobs) (member-seen w i (omega arith)))
     ∙ ap (listLines (listIn (groupOf w))) (sym e)

@@ -5,20 +5,21 @@ use mathlib.Core.List.{List, [], _∷_, _++_, map}
 use Prim.Native.Nat.{ℕ, zero, suc, _+_, _≤_, _<_}
 use native.Mathlib.Numerals.{add-one}
 use native.Mathlib.Omega.{arith}
-use lib.ListN.{length, getD}
+use lib.ListN.{length, take, length-map}
 use lib.Seq.{length-take-le}
 use Rattle.group.specs.Lent.{front}
-use Rattle.history.specs.State.{noAcknowledgement}
-use Rattle.member.specs.declared.Member.{Member}
-use Rattle.model.specs.World.{noMember}
-use Rattle.simulator.proofs.Reading.{member-read}
-use Rattle.simulator.specs.Whole.{groupOf}
+use Rattle.history.proofs.View.{entry-in}
+use Rattle.history.specs.View.{tableIn}
+use Rattle.member.specs.View as member
+use Rattle.sequencer.specs.View as sequencer
+use Rattle.simulator.proofs.Reading.{member-seen}
+use Rattle.simulator.specs.Whole.{sizeOf, groupOf}
 use Rattle.simulator.specs.declared.Whole.{Whole}
 use Rattle.text.proofs.Pieces.{laid-then}
 use Rattle.text.specs.LaidAt.{LaidAt}
 use Rattle.text.specs.Text.{lineFeed}
 use Rattle.text.specs.Written.{decimalOf, spaced, line}
-use Rattle.inspection.specs.Table.{rowOf, rowIn, rowLines}
+use Rattle.inspection.specs.Table.{rowOf, rowIn, rowAt, rowLines}
 
 -- the first number, the others, and the line feed
 pub laid-row : {at x y z : ℕ} {lent between behind after : List ℕ} (first : List ℕ) (rest : List (List ℕ)) → LaidAt at first lent between x
@@ -37,16 +38,17 @@ rows-same row other (suc k) e =
     ap (λ (l : List ℕ). l ++ line (decimalOf k ∷ map decimalOf (row k))) (rows-same row other k (λ i b. e i (omega arith)))
     ∙ ap (λ (l : List ℕ). rowLines other k ++ line (decimalOf k ∷ map decimalOf l)) (e k (omega arith))
 
-pub rows-of : (w : Whole) → w .sequencer .group .n ≤ length (w .members)
-    → rowLines (rowIn (w .members) (w .sequencer .acknowledgements)) (w .sequencer .group .n)
+pub rows-of : (w : Whole) → sizeOf w ≤ length (w .members) → sizeOf w ≤ length (w .sequencer .taken)
+    → rowLines (rowAt (w .members) (w .sequencer .repeats)) (sizeOf w)
     ≡ rowLines (rowIn (groupOf w .members) (groupOf w .sequencer .acknowledgements)) (length (groupOf w .members))
-unfolding groupOf
-rows-of w h =
-    let n = w .sequencer .group .n in
-    let e : length (groupOf w .members) ≡ n = length-take-le n (w .members) h in
-    let table = w .sequencer .acknowledgements in
-    rows-same (rowIn (w .members) table) (rowIn (groupOf w .members) table) n
-    (λ i b. ap (λ (m : Member). rowOf m (getD table i noAcknowledgement .repeats)) (member-read w i noMember (omega arith)))
+unfolding groupOf sequencer.viewOf
+rows-of w h k =
+    let n = sizeOf w in
+    let s = w .sequencer in
+    let e : length (groupOf w .members) ≡ n = length-map (take n (w .members)) member.viewOf ∙ length-take-le n (w .members) h in
+    let table = tableIn (s .taken) (s .counts) (s .repeats) in
+    rows-same (rowAt (w .members) (s .repeats)) (rowIn (groupOf w .members) table) n
+    (λ i b. λ j. rowOf (member-seen w i (omega arith) j) (sym (entry-in (s .taken) (s .counts) (s .repeats) i (omega arith)) j .repeats))
     ∙ ap (rowLines (rowIn (groupOf w .members) table)) (sym e)
 
 -- what was laid from the front on

@@ -1,5 +1,5 @@
 -- What `inspect` prints of the work lists: a heading, and then a line a job, terminals and places in turn.
-use mathlib.Core.List.{List, [], _∷_, _++_}
+use mathlib.Core.List.{List, [], _∷_, _++_, map}
 use Prim.Native.Nat.{ℕ, zero, suc, _+_, _*_}
 use lib.ListN.{length, take, getD}
 use Rattle.group.specs.Choice.{if_then_else_, _=?_}
@@ -7,6 +7,7 @@ use Rattle.group.specs.Limits.{jobMost}
 use Rattle.group.specs.declared.MemberNumber.{MemberNumber}
 use Rattle.jobs.specs.Job.{unusedState, waitingState, noJob}
 use Rattle.jobs.specs.declared.Job.{Job}
+use Rattle.member.specs.View.{viewOf}
 use Rattle.member.specs.declared.Member.{Member}
 use Rattle.model.specs.World.{Group, noMember}
 use Rattle.terminal.specs.Left.{heardAll, freshLeft, listIn}
@@ -40,9 +41,9 @@ unfoldable pub listLines : (ℕ → List Job) → ℕ → List ℕ
 listLines list zero = []
 listLines list (suc k) = listLines list k ++ jobLines k (list k) (length (list k))
 
--- terminal i's list from members and packets; that of a group is `listIn`
+-- terminal i's list from the code's members and packets; that of a group is `listIn`
 abbrev pub listOn : List Member → List (List ℕ) → ℕ → List Job
-listOn members packets i = heardAll (getD members i noMember .taken .0) freshLeft packets .jobs
+listOn members packets i = heardAll (getD (map viewOf members) i noMember .taken .0) freshLeft packets .jobs
 
 abbrev pub listsOf : Group → List ℕ
 listsOf g = line jobColumns ++ listLines (listIn g) (length (g .members))

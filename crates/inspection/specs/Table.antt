@@ -3,10 +3,10 @@ use mathlib.Core.List.{List, [], _∷_, _++_, map}
 use Prim.Native.Nat.{ℕ, zero, suc, _+_, _*_}
 use lib.ListN.{length, getD}
 use Rattle.group.specs.Limits.{membersMost}
-use Rattle.history.specs.State.{noAcknowledgement}
-use Rattle.history.specs.declared.Acknowledgement.{Acknowledgement}
-use Rattle.member.specs.State.{rowEndOf}
-use Rattle.member.specs.declared.Member.{Member}
+use Rattle.history.specs.State.{Acknowledgement, noAcknowledgement}
+use Rattle.member.specs.State.{Member, rowEndOf}
+use Rattle.member.specs.View.{viewOf}
+use Rattle.member.specs.declared.Member.{Member as Stored}
 use Rattle.model.specs.World.{Group, noMember}
 use Rattle.player.specs.Play.{Stage, opening, running, ended, closed, Program, outputOf}
 use Rattle.report.specs.Print.{badOpening}
@@ -25,6 +25,10 @@ rowOf m repeats = m .taken .0 ∷ rowEndOf m ∷ m .submitted ∷ m .waiting ∷
 
 abbrev pub rowIn : List Member → List Acknowledgement → ℕ → List ℕ
 rowIn members table i = rowOf (getD members i noMember) (getD table i noAcknowledgement .repeats)
+
+-- the same of the code's members and repeat counts
+abbrev pub rowAt : List Stored → List ℕ → ℕ → List ℕ
+rowAt members repeats i = rowOf (getD (map viewOf members) i noMember) (getD repeats i 0)
 
 -- the lines of the first k terminals
 unfoldable pub rowLines : (ℕ → List ℕ) → ℕ → List ℕ

@@ -1,8 +1,8 @@
 // What a schedule leaves at the end: a heading, and then a line a terminal; a work list, and a line a job.
+use by_value::row_end_member;
 use group::Group;
 use group::MemberNumber;
 use group::SequenceNumber;
-use history::Acknowledgement;
 use jobs::Job;
 use member::Member;
 use player::Phase;
@@ -26,6 +26,7 @@ ghost use Prim.Native.Nat.{_+_, _*_, _≤_};
 ghost use lib.ListN.{length, take};
 ghost use Rattle.group.specs.Lent.{front};
 ghost use Rattle.group.specs.Limits.{membersMost, jobMost};
+ghost use Rattle.member.specs.View.{viewOf};
 ghost use Rattle.packet.specs.Packet.{readOf, payloadAt};
 ghost use Rattle.player.specs.Player.{stageOf};
 ghost use Rattle.player.specs.Steps.{Fits};
@@ -34,7 +35,7 @@ ghost use Rattle.terminal.specs.Left.{heardOf, heardAll, freshLeft};
 ghost use Rattle.text.specs.LaidAt.{LaidAt};
 ghost use Rattle.text.specs.Written.{decimalOf, payloadText, spaced, line, numberDigits};
 ghost use Rattle.inspection.specs.Lists.{holderText, usedLine, jobLine, jobRoom};
-ghost use Rattle.inspection.specs.Table.{columns, rowOf, rowIn, rowLines, tableOf, tableLeft, rowRoom, tableRoom};
+ghost use Rattle.inspection.specs.Table.{columns, rowOf, rowAt, rowLines, tableOf, tableLeft, rowRoom, tableRoom};
 
 // The columns of the table, and the numbers of a terminal behind its own.
 pub const COLUMNS: usize = 1 + NUMBERS;
@@ -68,12 +69,12 @@ fn job_room() -> usize
 
 // A terminal's numbers behind its own.
 fn row(member: Member, repeats: u32) -> [u32; NUMBERS]
-    ensures { λ r. ⌜ r ≡ rowOf member repeats ⌝ }
+    ensures { λ r. ⌜ r ≡ rowOf (viewOf member) repeats ⌝ }
 {
-    let taken = member.taken.0;
-    let end = member.row_end().0;
-    let submitted = member.submitted;
-    let waiting = member.waiting;
+    let taken = member.head.taken.0;
+    let end = row_end_member(member).0;
+    let submitted = member.head.submitted;
+    let waiting = member.head.waiting;
     [taken, end, submitted, waiting, repeats]
 }
 
@@ -91,20 +92,19 @@ fn put_row(i: u32, numbers: &[u32], out: &mut [u8], at: usize) -> usize
 // The rows of the first n terminals.
 fn put_rows(
     members: [Member; Group::MEMBERS],
-    table: [Acknowledgement; Group::MEMBERS],
+    repeats: [u32; Group::MEMBERS],
     n: usize,
     out: &mut [u8],
     at: usize,
 ) -> usize
     requires { ⌜ (n ≤ membersMost) × (at + rowRoom * n ≤ length (now out)) ⌝ }
-    ensures { λ r. ⌜ LaidAt at (rowLines (rowIn members table) n) (now (out .entry)) (now (out .exit)) r ⌝ }
+    ensures { λ r. ⌜ LaidAt at (rowLines (rowAt members repeats) n) (now (out .entry)) (now (out .exit)) r ⌝ }
 {
     let mut next = at;
     let mut i: usize = 0;
     while i < n {
         let member = members[i];
-        let entry = table[i];
-        let numbers = row(member, entry.repeats);
+        let numbers = row(member, repeats[i]);
         next = put_row(i as u32, &numbers, out, next);
         i += 1;
     }
@@ -114,15 +114,15 @@ fn put_rows(
 // The heading and the rows.
 fn put_table(
     members: [Member; Group::MEMBERS],
-    table: [Acknowledgement; Group::MEMBERS],
+    repeats: [u32; Group::MEMBERS],
     n: usize,
     out: &mut [u8],
 ) -> usize
     requires { ⌜ (n ≤ membersMost) × (tableRoom ≤ length (now out)) ⌝ }
-    ensures { λ r. ⌜ LaidAt 0 (line columns ++ rowLines (rowIn members table) n) (now (out .entry)) (now (out .exit)) r ⌝ }
+    ensures { λ r. ⌜ LaidAt 0 (line columns ++ rowLines (rowAt members repeats) n) (now (out .entry)) (now (out .exit)) r ⌝ }
 {
     let next = put_text(b"terminal taken row submitted waiting repeats\n", out, 0);
-    put_rows(members, table, n, out, next)
+    put_rows(members, repeats, n, out, next)
 }
 
 // The table of a group.
@@ -132,9 +132,9 @@ fn write_group(whole: Whole, out: &mut [u8; TABLE_ROOM]) -> usize
     ensures lent { λ _. ⌜ now (out .exit) ≡ front (tableOf (groupOf whole)) (now (out .entry)) ⌝ }
 {
     let members = whole.members;
-    let table = whole.sequencer.acknowledgements;
-    let n = whole.sequencer.group.n as usize;
-    put_table(members, table, n, out)
+    let repeats = whole.sequencer.repeats;
+    let n = whole.sequencer.head.group.n as usize;
+    put_table(members, repeats, n, out)
 }
 
 // What is left at the end of the input, but for the work lists. Gives its length.
@@ -144,7 +144,7 @@ pub fn write_left(player: Player, out: &mut [u8; TABLE_ROOM]) -> usize
 {
     let whole = player.whole;
     let phase = player.phase;
-    let stands = phase_of(whole.sequencer.group.n, whole.count, phase);
+    let stands = phase_of(whole.sequencer.head.group.n, whole.count, phase);
     match stands {
         Phase::Opening => write_bad_opening(out),
         Phase::Running => write_group(whole, out),

@@ -17,7 +17,7 @@ use Rattle.member.proofs.Closing.{call-accepted}
 use Rattle.member.specs.Calls as member
 use Rattle.member.specs.Sound as memberSound
 use Rattle.member.specs.declared.Answer as memberAnswer
-use Rattle.member.specs.declared.Member.{Member}
+use Rattle.member.specs.State.{Member}
 use Rattle.model.proofs.Invariant.{WorldInv}
 use Rattle.model.proofs.Step.{next-keeps}
 use Rattle.model.specs.World.{Event, submit, repeat, status, poll, copy, handMember, handSequencer, Group, Happened, missing, withMember, withSequencer, noMember, atMember, handToMember, handToSequencer, happen, World, step, run}
@@ -25,7 +25,7 @@ use Rattle.model.specs.World as world
 use Rattle.packet.specs.Packet.{payloadAt, readOf, written}
 use Rattle.sequencer.specs.Calls as sequencer
 use Rattle.sequencer.specs.Sound as sequencerSound
-use Rattle.sequencer.specs.declared.Sequencer.{Sequencer}
+use Rattle.sequencer.specs.State.{Sequencer}
 use Rattle.window.specs.Places.{isHeld, messageAt}
 
 -- the calls of a sound member that is lent the longest packet's room

@@ -1,7 +1,6 @@
 -- What a member acknowledges in its packets: the end of the row that it took or holds. It lies between what it took and the
 -- order's length, below every missing number, and no call lowers it. Other proofs know of it only what these laws say. Assumes nothing.
 use mathlib.Core.Path.{_≡_, _∙_}
-use mathlib.Core.Logic.{_≢_}
 use mathlib.Core.Bool.{false}
 use mathlib.Core.List.{List}
 use Prim.Native.Nat.{ℕ, _+_, _-_, _≤_, _<_}
@@ -14,24 +13,27 @@ use Rattle.group.specs.declared.Group.{Group}
 use Rattle.group.specs.declared.SequenceNumber.{SequenceNumber}
 use Rattle.group.proofs.Lists.{at-le, le-or}
 use Rattle.message.specs.Order.{Ordered}
-use Rattle.message.specs.declared.Message.{Message}
+use Rattle.message.specs.Message.{Message}
 use Rattle.member.specs.Calls.{withWaiting, withHeld, withTaken}
 use Rattle.member.specs.Laws.{Typed}
-use Rattle.member.specs.State.{rowEndOf, acknowledgedOf}
-use Rattle.member.specs.declared.Member.{Member}
-use Rattle.window.specs.Places.{messageAt, isHeld, lowestMissing, smallerOf}
-use Rattle.window.specs.Steps.{countsOf, rowCounted}
-use Rattle.window.proofs.Missing.{Lowest, lowest-is}
-use Rattle.window.proofs.Row.{Row, row-is, row-one, row-reach, row-below, row-up, row-same, row-take, row-counted, smaller-le, le-smaller}
+use Rattle.member.specs.State.{Member, rowEndOf, acknowledgedOf}
+use Rattle.window.specs.Places.{messageAt, isHeld, smallerOf}
+use Rattle.window.specs.Steps.{Counted, rowCounted}
+use Rattle.window.proofs.Missing.{Lowest}
+use Rattle.window.proofs.Row.{Row, row-is, row-one, row-reach, row-below, row-up, row-take, row-counted, smaller-le, le-smaller}
 use Rattle.member.proofs.Invariant.{Terminal}
 use Rattle.member.proofs.Soundness.{Sound}
 
 -- how many numbers above t there are, of eight
-abbrev left : ℕ → ℕ
+abbrev pub left : ℕ → ℕ
 left t = smallerOf largestNumber (t + heldMost) - t
 
 left-most : (t : ℕ) → left t ≤ heldMost
 left-most t = let z = smaller-le largestNumber (t + heldMost) .1 in omega arith
+
+-- what is at most each of the two numbers lies among them
+pub in-left : (t last : ℕ) → last ≤ t + heldMost → last ≤ largestNumber → last ≤ t + left t
+in-left t last near fits = let z = le-smaller largestNumber (t + heldMost) last fits near in omega arith
 
 module _ (m : Member) where
   -- it is the end of the row above t
@@ -65,19 +67,11 @@ module _ (m : Member) where
   unfolding acknowledgedOf rowEndOf withWaiting
   acknowledged-waiting payload = le-refl _
 
-  -- a message is kept under a number that was not held; where one below is missing, that changes nothing
+  -- a message is kept under a number that was not held
   module _ (k : ℕ) (x : Message) (lo : m .taken .0 < k) (hi : k ≤ m .taken .0 + heldMost) where
     pub acknowledged-held : isHeld (m .held) k ≡ false → acknowledgedOf m .0 ≤ acknowledgedOf (withHeld m k x) .0
     unfolding acknowledgedOf rowEndOf withHeld
     acknowledged-held e = row-up acknowledged-row k x (let z = ltb-false 0 (messageAt (m .held) k .count) e in omega arith)
-
-    pub acknowledged-gapped : lowestMissing (m .held) (m .taken .0) (k - 1 - m .taken .0) ≢ 0 → acknowledgedOf (withHeld m k x) ≡ acknowledgedOf m
-    unfolding acknowledgedOf rowEndOf withHeld
-    acknowledged-gapped n =
-        let l = lowest-is (m .held) (m .taken .0) (k - 1 - m .taken .0) n in
-        let low = lowestMissing (m .held) (m .taken .0) (k - 1 - m .taken .0) in
-        let e = row-one (row-same acknowledged-row k x low (l .above) (let z = l .up-to in omega arith) hi (l .missing)) in
-        λ i. record { 0 = e i }
 
   -- the next number, which is held, is taken
   pub acknowledged-took : (x : Message) → Typed m → Sound m → 1 ≤ messageAt (m .held) (m .taken .0 + 1) .count → acknowledgedOf (withTaken m x) .0 ≡ acknowledgedOf m .0
@@ -98,10 +92,11 @@ module _ (m : Member) where
       (λ z. let y = a largestNumber (le-refl _) (omega arith) in let q = next .0 in absurd (omega arith))))
 
   -- what the scan of the counts finds
-  pub end-counted : (r : ℕ) → m .taken .0 ≤ largestNumber → r ≡ rowCounted (countsOf (m .held)) (m .taken .0) (smallerOf largestNumber (m .taken .0 + heldMost)) → r ≡ rowEndOf m
+  pub end-counted : (counts : List ℕ) → Counted counts (m .held) → (r : ℕ) → m .taken .0 ≤ largestNumber
+      → r ≡ rowCounted counts (m .taken .0) (smallerOf largestNumber (m .taken .0 + heldMost)) → r ≡ rowEndOf m
   unfolding rowEndOf
-  end-counted r most e =
-      e ∙ row-counted (m .held) (m .taken .0) _ (le-smaller largestNumber (m .taken .0 + heldMost) (m .taken .0) most (omega arith))
+  end-counted counts c r most e =
+      e ∙ row-counted counts (m .held) c (m .taken .0) _ (le-smaller largestNumber (m .taken .0 + heldMost) (m .taken .0) most (omega arith))
 
   -- what is acknowledged is the row's end
   pub acknowledged-end : (r : SequenceNumber) → r .0 ≡ rowEndOf m → r ≡ acknowledgedOf m

@@ -26,7 +26,7 @@ use Rattle.member.specs.Laws.{callQuestions, fieldsQuestions, submitQues
 use Rattle.window.specs.Places.{isHeld, lowestMissing}
 use Rattle.member.specs.declared.Answer.{Answer}
 use Rattle.member.specs.declared.Answer.the-variants.{Refused, Sent, Queued, Old, Kept, KeptGap, Beyond, BeyondGap, Gap, Status, None, Took}
-use Rattle.member.specs.declared.Member.{Member}
+use Rattle.member.specs.State.{Member}
 use Rattle.member.proofs.Laws.{call-sound}
 use Rattle.member.proofs.Soundness.{Sound, sound-of}
 

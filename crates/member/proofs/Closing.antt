@@ -16,9 +16,8 @@ use Rattle.group.specs.declared.SequenceNumber.{SequenceNumber}
 use Rattle.group.specs.declared.Verdict.{Verdict}
 use Rattle.group.proofs.Choice.{says}
 use Rattle.group.proofs.Lists.{if-elim, at-nil}
-use Rattle.message.specs.Message.{messageOf}
+use Rattle.message.specs.Message.{Message, messageOf}
 use Rattle.message.specs.Order.{Ordered, ownOf, countedFrom}
-use Rattle.message.specs.declared.Message.{Message}
 use Rattle.packet.specs.Laws.{Allowed}
 use Rattle.packet.specs.Packet.{obeys, fieldsOf, packetOf}
 use Rattle.packet.specs.declared.Packet.{Packet}
@@ -28,9 +27,8 @@ use Rattle.packet.proofs.Verdicts.{askable, writable}
 use Rattle.member.specs.Calls.{Outcome, answered, statusPacket, callVerdict, statusOf, withHeld, gapUpTo, keptOf, broadcastOf, contentStep, readStep, receiveOf, withTaken, tookOf, takeOf}
 use Rattle.member.specs.Sound.{soundOf}
 use Rattle.window.specs.Places.{messageAt, isHeld, lowestMissing}
-use Rattle.member.specs.State.{acknowledgedOf, freshMember}
+use Rattle.member.specs.State.{Member, acknowledgedOf, freshMember}
 use Rattle.member.specs.declared.Answer.{Answer}
-use Rattle.member.specs.declared.Member.{Member}
 use Rattle.member.proofs.Acknowledged.{acknowledged-took}
 use Rattle.member.proofs.Invariant.{Terminal}
 use Rattle.window.proofs.Keeping.{empty-none}

@@ -18,9 +18,8 @@ use Rattle.packet.proofs.Facts.{KnownBy}
 use Rattle.member.specs.Calls.{Outcome, firstWaiting}
 use Rattle.member.specs.Laws.{Typed}
 use Rattle.member.specs.Sound.{soundOf}
-use Rattle.member.specs.State.{acknowledgedOf, firstCount}
+use Rattle.member.specs.State.{Member, acknowledgedOf, firstCount}
 use Rattle.window.specs.Places.{messageAt, queuedAt}
-use Rattle.member.specs.declared.Member.{Member}
 use Rattle.member.proofs.Soundness.{sound-of}
 
 -- the submissions that were requested: up to the first that waits

@@ -12,14 +12,12 @@ use Rattle.group.specs.declared.Group.{Group}
 use Rattle.group.specs.declared.MemberNumber.{MemberNumber}
 use Rattle.group.proofs.Choice.{says}
 use Rattle.group.proofs.Lists.{if-elim}
-use Rattle.message.specs.Message.{messageOf, emptyMessage, blank}
-use Rattle.message.specs.declared.Message.{Message}
+use Rattle.message.specs.Message.{Message, messageOf, emptyMessage, blank}
 use Rattle.message.proofs.Kept.{kept-zero, empty-zero}
 use Rattle.member.specs.Calls.{withWaiting, withHeld, withTaken, isOwn}
 use Rattle.member.specs.Laws.{Typed}
 use Rattle.window.specs.Places.{placeOf, messageAt, queuePlace, queuedAt}
-use Rattle.member.specs.State.{firstCount, freshMember}
-use Rattle.member.specs.declared.Member.{Member}
+use Rattle.member.specs.State.{Member, firstCount, freshMember}
 use Rattle.window.proofs.Keeping.{empty-none, held-places, taken-places, queue-length, queued-each, waiting-more, waiting-less}
 use Rattle.window.proofs.Missing.{set-length}
 use Rattle.window.proofs.Soundness.{HeldSound, WaitingSound}
@@ -29,15 +27,6 @@ use Rattle.member.proofs.Soundness.{Sound}
 pub own-first : (m : Member) (message : Message) → isOwn m message ≡ true → (1 ≤ m .waiting) × (message .originator .0 ≡ m .number .0) × (message .count ≡ firstCount m)
 unfolding isOwn
 own-first m message e = (search says, search says, search says)
-
--- a message that waits first may be requested
-pub waiting-first : (m : Member) (payload : List ℕ) → length (m .queue) ≡ waitingMost → length payload ≤ payloadMost → m .waiting ≡ 0
-    → (1 ≤ m .waiting + 1) × (m .waiting + 1 ≤ m .submitted + 1)
-    × (queuedAt (set (m .queue) (queuePlace (m .submitted + 1)) (messageOf (m .number) (m .submitted + 1) payload)) (m .submitted + 1 - (m .waiting + 1) + 1) .length ≤ payloadMost)
-unfolding messageOf
-waiting-first m payload long short none =
-    let e : m .submitted + 1 - (m .waiting + 1) + 1 ≡ m .submitted + 1 = omega arith in
-    (omega arith, omega arith, queued-each (m .queue) long (m .submitted + 1) _ (λ (x : Message). x .length ≤ payloadMost) _ (λ _. short) (λ z. absurd (z (ap queuePlace e))))
 
 module _ (m : Member) (typed : Typed m) where
   -- a message waits

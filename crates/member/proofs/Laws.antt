@@ -30,9 +30,8 @@ use Rattle.member.specs.Calls.{Outcome, answered, firstWaiting, requestP
 use Rattle.member.specs.Laws.{Typed, Keeps, WritesPacket, SubmitKeeps, RepeatKeeps, StatusKeeps, ReceiveKeeps, TakeKeeps}
 use Rattle.member.specs.Sound.{soundOf}
 use Rattle.window.specs.Places.{messageAt, isHeld}
-use Rattle.member.specs.State.{acknowledgedOf, firstCount}
+use Rattle.member.specs.State.{Member, acknowledgedOf, firstCount}
 use Rattle.member.specs.declared.Answer.{Answer}
-use Rattle.member.specs.declared.Member.{Member}
 use Rattle.member.proofs.Keeping.{waiting-typed, waiting-sound, held-typed, held-sound, taken-typed, taken-sound}
 use Rattle.member.proofs.Receiving.{Keepable, read-heard}
 use Rattle.member.proofs.Soundness.{Sound, sound-of, of-sound}

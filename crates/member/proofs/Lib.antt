@@ -6,7 +6,12 @@ pub mod Writes
 pub mod Receiving
 pub mod Laws
 pub mod Asking
+pub mod Leaving
 pub mod Ordering
 pub mod Taking
 pub mod Closing
+pub mod View
+pub mod Opening
+pub mod Lends
 pub mod Outcomes
+pub mod Submitting

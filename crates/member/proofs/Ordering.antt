@@ -18,9 +18,8 @@ use Rattle.group.specs.declared.Group.{Group}
 use Rattle.group.specs.declared.MemberNumber.{MemberNumber}
 use Rattle.group.specs.declared.Refusal.{Refusal}
 use Rattle.group.proofs.Lists.{eq-or, if-elim, judged-elim, at, All, at-append, at-last, at-snoc}
-use Rattle.message.specs.Message.{messageOf}
+use Rattle.message.specs.Message.{Message, messageOf}
 use Rattle.message.specs.Order.{Ordered, ownOf, countedFrom}
-use Rattle.message.specs.declared.Message.{Message}
 use Rattle.message.proofs.Owning.{own-most}
 use Rattle.packet.specs.Packet.{headerOf, contentOf, fieldsOf, payloadAt, readOf, written}
 use Rattle.packet.specs.declared.Header.{Header}
@@ -32,9 +31,8 @@ use Rattle.packet.proofs.Laws.{read-written, content-fields}
 use Rattle.packet.proofs.RoundTrip.{header-back}
 use Rattle.member.specs.Calls.{Outcome, answered, requestPacket, callVerdict, submitVerdict, withWaiting, submitOf, repeatOf, statusOf, withHeld, readStep, receiveOf}
 use Rattle.member.specs.Order.{acceptedBy}
-use Rattle.member.specs.State.{acknowledgedOf}
+use Rattle.member.specs.State.{Member, acknowledgedOf}
 use Rattle.member.specs.declared.Answer.{Answer}
-use Rattle.member.specs.declared.Member.{Member}
 use Rattle.member.proofs.Invariant.{requestedBy, Terminal, MemberGood, first-requested, requested-grows}
 use Rattle.member.proofs.Keeping.{waiting-typed, waiting-sound}
 use Rattle.member.proofs.Laws.{Right, submittable, read-keepable}

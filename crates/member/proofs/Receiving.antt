@@ -22,9 +22,8 @@ use Rattle.packet.specs.declared.Reading.{Reading}
 use Rattle.window.specs.Places.{smallerOf, isHeld, lowestMissing}
 use Rattle.member.specs.Calls.{Outcome, answered, withHeld, gapUpTo, keptOf, broadcastOf, pollOf, contentStep, readStep}
 use Rattle.member.specs.Laws.{Typed}
-use Rattle.member.specs.State.{acknowledgedOf}
+use Rattle.member.specs.State.{Member, acknowledgedOf}
 use Rattle.member.specs.declared.Answer.{Answer}
-use Rattle.member.specs.declared.Member.{Member}
 use Rattle.window.proofs.Missing.{lowest-is}
 use Rattle.member.proofs.Acknowledged.{acknowledged-missing, acknowledged-held}
 use Rattle.member.proofs.Soundness.{Sound}

@@ -9,7 +9,7 @@ use Rattle.group.specs.Limits.{membersMost, heldMost}
 use Rattle.group.proofs.Choice.{both-hold, says}
 use Rattle.window.specs.Sound.{placeSound, waitingSound, frameSound}
 use Rattle.member.specs.Sound.{soundOf}
-use Rattle.member.specs.declared.Member.{Member}
+use Rattle.member.specs.State.{Member}
 use Rattle.window.proofs.Soundness.{WaitingSound, PlacesSound, waiting-of, of-waiting, places-of, of-places}
 
 pub record Sound (m : Member) : Type 0 where

@@ -15,18 +15,16 @@ use Rattle.group.specs.Limits.{longestPacket}
 use Rattle.group.proofs.Choice.{both-hold}
 use Rattle.group.proofs.Lists.{if-elim, judged-elim, at, at-le, take-at-suc}
 use Rattle.group.specs.declared.Group.{Group}
-use Rattle.message.specs.Message.{messageOf, emptyMessage, payloadOf}
+use Rattle.message.specs.Message.{Message, messageOf, emptyMessage, payloadOf}
 use Rattle.message.specs.Order.{Ordered, ownOf}
-use Rattle.message.specs.declared.Message.{Message}
 use Rattle.message.proofs.Kept.{kept-payload}
 use Rattle.message.proofs.Owning.{own-grows, own-more, own-other, own-most, own-count}
 use Rattle.packet.proofs.Facts.{ordered}
 use Rattle.member.specs.Calls.{Outcome, answered, callVerdict, isOwn, withTaken, tookOf, takeOf}
 use Rattle.member.specs.Order.{tookBy}
-use Rattle.member.specs.State.{firstCount}
+use Rattle.member.specs.State.{Member, firstCount}
 use Rattle.window.specs.Places.{messageAt, isHeld, queuePlace, queuedAt}
 use Rattle.member.specs.declared.Answer.{Answer}
-use Rattle.member.specs.declared.Member.{Member}
 use Rattle.member.proofs.Invariant.{Terminal, MemberGood, requested-grows}
 use Rattle.member.proofs.Acknowledged.{acknowledged-took}
 use Rattle.window.proofs.Keeping.{empty-none, queue-one, queued-each}

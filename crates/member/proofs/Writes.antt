@@ -20,9 +20,8 @@ use Rattle.packet.proofs.Permitted.{request-fields, gap-fields, status-fields}
 use Rattle.packet.proofs.Verdicts.{accepted}
 use Rattle.member.specs.Calls.{Outcome, firstWaiting, requestPacket, gapPacket, statusPacket}
 use Rattle.member.specs.Laws.{Typed}
-use Rattle.member.specs.State.{acknowledgedOf, firstCount}
+use Rattle.member.specs.State.{Member, acknowledgedOf, firstCount}
 use Rattle.member.specs.declared.Answer.{Answer}
-use Rattle.member.specs.declared.Member.{Member}
 use Rattle.member.proofs.Acknowledged.{acknowledged-fits}
 use Rattle.member.proofs.Soundness.{Sound}
 

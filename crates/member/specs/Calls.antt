@@ -13,29 +13,21 @@ use Rattle.group.specs.declared.Opened.{Opened}
 use Rattle.group.specs.declared.Opened.the-variants.{Open}
 use Rattle.group.specs.declared.Refusal.{Refusal}
 use Rattle.group.specs.declared.Verdict.{Verdict}
-use Rattle.message.specs.Message.{messageOf, emptyMessage, payloadOf}
-use Rattle.message.specs.declared.Message.{Message}
+use Rattle.message.specs.Message.{Message, messageOf, emptyMessage, payloadOf}
 use Rattle.packet.specs.Packet.{contentOf, fieldsOf, packetOf, payloadAt, readOf}
 use Rattle.packet.specs.declared.Packet.{Packet}
 use Rattle.packet.specs.declared.Reading.{Reading}
 use Rattle.packet.specs.declared.Reading.the-variants.{Fields}
 use Rattle.member.specs.Sound.{soundOf}
 use Rattle.window.specs.Places.{smallerOf, placeOf, messageAt, isHeld, queuePlace, queuedAt, lowestMissing}
-use Rattle.member.specs.State.{acknowledgedOf, firstCount, freshMember}
+use Rattle.member.specs.State.{Member, acknowledgedOf, firstCount, freshMember}
 use Rattle.member.specs.declared.Answer.{Answer}
-use Rattle.member.specs.declared.Member.{Member}
-use Rattle.member.specs.declared.Opening.{Opening}
-use Rattle.member.specs.declared.Step.{Step}
 
 -- what a call comes to: the state that it leaves, its answer, and the bytes that it lays at the front of the lent output
 pub record Outcome : Type 0 where
   pub member : Member
   pub answer : Answer
   pub bytes : List ℕ
-
--- what the call gives back of it
-abbrev pub stepOf : Outcome → Step
-stepOf o = record { member = o .member; answer = o .answer; written = length (o .bytes) }
 
 -- an answer that writes nothing
 unfoldable pub answered : Member → Answer → Outcome
@@ -207,6 +199,11 @@ takeOf m room =
     judged (callVerdict m room) (refused m)
     (if isHeld (m .held) (m .taken .0 + 1) then tookOf m (messageAt (m .held) (m .taken .0 + 1)) else
     answered m Answer.None)
+
+-- what opening comes to: the state that it leaves, and its verdict
+pub record Opening : Type 0 where
+  pub member : Member
+  pub verdict : Verdict
 
 -- opening: question 18, n 1 to 16 and the member number below n. Where it is refused, the state is all zero
 unfoldable pub openedOf : Opened → MemberNumber → Opening

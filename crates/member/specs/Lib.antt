@@ -3,5 +3,7 @@ pub mod Sound
 pub mod Calls
 pub mod Order
 pub mod Wording
+pub mod View
+pub mod Promise
 pub mod Laws
 pub mod Steps

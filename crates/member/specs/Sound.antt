@@ -4,7 +4,7 @@ use Rattle.group.specs.Choice.{_and_}
 use Rattle.group.specs.Fold.{allAbove}
 use Rattle.group.specs.Limits.{heldMost}
 use Rattle.window.specs.Sound.{placeSound, waitingSound, frameSound}
-use Rattle.member.specs.declared.Member.{Member}
+use Rattle.member.specs.State.{Member}
 
 -- its numbers, its waiting messages and its 8 places are sound
 unfoldable pub soundOf : Member → Bool

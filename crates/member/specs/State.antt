@@ -1,14 +1,23 @@
 -- What a member holds: n, its number, group, t (last taken), u (submissions so far), at most five waiting messages (their counts
 -- are the last up to u), and 8 places for numbers t + 1 to t + 8.
+use mathlib.Core.List.{List}
 use Prim.Native.Nat.{ℕ, _+_, _-_}
 use lib.ListN.{replicate}
 use Rattle.group.specs.Limits.{heldMost, waitingMost, largestNumber}
 use Rattle.group.specs.declared.Group.{Group}
 use Rattle.group.specs.declared.MemberNumber.{MemberNumber}
 use Rattle.group.specs.declared.SequenceNumber.{SequenceNumber}
-use Rattle.message.specs.Message.{emptyMessage}
+use Rattle.message.specs.Message.{Message, emptyMessage}
 use Rattle.window.specs.Places.{rowEnd, smallerOf}
-use Rattle.member.specs.declared.Member.{Member}
+
+pub record Member : Type 0 where
+  pub group : Group
+  pub number : MemberNumber
+  pub taken : SequenceNumber
+  pub submitted : ℕ
+  pub waiting : ℕ
+  pub queue : List Message
+  pub held : List Message
 
 -- the last number through which it has everything, taken or held; no number is over the largest
 unfoldable pub rowEndOf : Member → ℕ

@@ -1,15 +1,21 @@
 -- What the steps inside the code promise, in terms of the meaning. No call's promise speaks of these.
 use mathlib.Core.Path.{_≡_}
-use mathlib.Core.List.{List}
-use Prim.Native.Nat.{ℕ, _<_}
-use lib.ListN.{length, set}
+use mathlib.Core.List.{List, []}
+use Prim.Native.Nat.{ℕ, _+_}
+use lib.ListN.{length}
 use Rattle.group.specs.Lent.{front}
-use Rattle.group.specs.Limits.{heldMost}
-use Rattle.message.specs.declared.Message.{Message}
-use Rattle.member.specs.Calls.{Outcome}
+use Rattle.group.specs.Limits.{heldMost, largestNumber}
+use Rattle.group.specs.declared.Verdict.{Verdict}
+use Rattle.message.specs.Message.{Message}
+use Rattle.packet.specs.Packet.{fieldsOf, packetOf}
+use Rattle.packet.specs.declared.Packet.{Packet}
+use Rattle.window.specs.Places.{messageAt, smallerOf}
+use Rattle.window.specs.Steps.{Counted, rowCounted}
+use Rattle.member.specs.Calls.{Outcome, callVerdict, submitVerdict, submitOf, tookOf}
+use Rattle.member.specs.State.{Member}
 use Rattle.member.specs.declared.Answer.{Answer}
-use Rattle.member.specs.declared.Heard.{Heard}
-use Rattle.member.specs.declared.Member.{Member}
+use Rattle.member.specs.declared.Done.{Done}
+use Rattle.member.specs.declared.Head.{Head}
 use Rattle.member.specs.declared.Reply.{Reply}
 
 -- an answer with bytes that were laid at the front of the lent output
@@ -18,26 +24,53 @@ pub record Spoken (answer : Answer) (bytes : List ℕ) (r : Reply) (before after
   pub written-is : r .written ≡ length bytes
   pub lent : after ≡ front bytes before
 
--- a reply, and the lent bytes before and after it, are what an outcome says that leaves the state as it is
+-- a reply, the state that is left and the lent bytes before and after it are what an outcome says
 pub record Replied (m : Member) (o : Outcome) (r : Reply) (before after : List ℕ) : Type 0 where
   pub same : o .member ≡ m
   pub spoken : Spoken (o .answer) (o .bytes) r before after
 
--- the state with a message in a place
-unfoldable pub withPlace : Member → ℕ → Message → Member
-withPlace m at message =
+-- the member of a head, its waiting messages and those that it holds
+abbrev pub memberOf : Head → List Message → List Message → Member
+memberOf head queue held =
     record {
-      group = m .group;
-      number = m .number;
-      taken = m .taken;
-      submitted = m .submitted;
-      waiting = m .waiting;
-      queue = m .queue;
-      held = set (m .held) at message;
+      group = head .group;
+      number = head .number;
+      taken = head .taken;
+      submitted = head .submitted;
+      waiting = head .waiting;
+      queue = queue;
+      held = held;
     }
 
--- what a packet comes to is what an outcome says that leaves the state but for one place
-pub record Hears (m : Member) (o : Outcome) (r : Heard) (before after : List ℕ) : Type 0 where
-  pub inside : r .at < heldMost
-  pub kept : o .member ≡ withPlace m (r .at) (r .message)
-  pub spoken : Spoken (o .answer) (o .bytes) (record { answer = r .answer; written = r .written }) before after
+abbrev pub emptyHanded : Head → Member
+emptyHanded head = memberOf head [] []
+
+-- the request of a count and a payload, by a head and the counts of the places
+unfoldable pub requestIn : Head → List ℕ → ℕ → List ℕ → List ℕ
+requestIn head counts count payload =
+    packetOf
+    (fieldsOf (head .group .number) (Packet.Request (head .number) (record { 0 = rowCounted counts (head .taken .0) (smallerOf largestNumber (head .taken .0 + heldMost)) }) count))
+    payload
+
+-- a step that looks at the head and at the counts of the places alone, and leaves the state as it is
+abbrev pub Tells : Head → List ℕ → (Member → Outcome) → Reply → List ℕ → List ℕ → Type 0
+Tells head counts step r before after =
+    (queue held : List Message) → Counted counts held → Replied (memberOf head queue held) (step (memberOf head queue held)) r before after
+
+-- a step that leaves the state but for the messages that are held, whatever waits
+abbrev pub Hears : Head → List Message → List Message → (Member → Outcome) → Reply → List ℕ → List ℕ → Type 0
+Hears head held held′ step r before after =
+    (queue : List Message) → Replied (memberOf head queue held′) (step (memberOf head queue held)) r before after
+
+-- a submission that no question refuses, whatever is held with those counts
+abbrev pub Submits : Head → List ℕ → List Message → List Message → List ℕ → Done → List ℕ → List ℕ → Type 0
+Submits head counts queue queue′ payload r before after =
+    (held : List Message) → Counted counts held
+    → callVerdict (memberOf head queue held) (length before) ≡ Verdict.Accepted
+    → submitVerdict (memberOf head queue held) (length payload) ≡ Verdict.Accepted
+    → Replied (memberOf (r .head) queue′ held) (submitOf (memberOf head queue held) payload (length before)) (r .reply) before after
+
+-- a take of the following number, which is held
+abbrev pub Hands : Head → List Message → List Message → Head → List Message → List Message → Reply → List ℕ → List ℕ → Type 0
+Hands head queue held head′ queue′ held′ reply before after =
+    Replied (memberOf head′ queue′ held′) (tookOf (memberOf head queue held) (messageAt held (head .taken .0 + 1))) reply before after

@@ -1,38 +1,53 @@
-// The member: it submits messages, holds what comes until it can be taken in order, and acknowledges what it has.
+// The member: it submits messages, holds what comes until it can be taken in order, and acknowledges what it has. Its state lies behind
+// a reference: each call lends a function the head's numbers and all arrays.
 use group::Group;
 use group::MemberNumber;
 use group::Opened;
 use group::Refusal;
 use group::SequenceNumber;
 use group::Verdict;
-use message::Message;
-use packet::Header;
 use packet::Packet;
 use packet::Reading;
 ghost use mathlib.Core.Path.{_≡_};
 ghost use mathlib.Core.List.{[]};
-ghost use Prim.Native.Nat.{_+_, _≤_, _<_};
-ghost use lib.ListN.{length, getD};
-ghost use Rattle.group.specs.Lent.{front, Laid};
-ghost use Rattle.group.specs.Limits.{heldMost, payloadMost, longestPacket, largestNumber};
+ghost use Prim.Native.Nat.{_+_, _-_, _*_, _≤_, _<_};
+ghost use lib.ListN.{length, take, getD};
+ghost use Rattle.group.specs.Lent.{Laid};
+ghost use Rattle.group.specs.Limits.{heldMost, waitingMost, payloadMost, longestPacket, largestNumber};
 ghost use Rattle.group.specs.Opening.{descriptionOf};
-ghost use Rattle.message.specs.Message.{payloadOf, blank};
 ghost use Rattle.packet.specs.Packet.{fieldsVerdict, fieldsOf, packetOf};
-ghost use Rattle.member.specs.State.{rowEndOf, acknowledgedOf, freshMember};
+ghost use Rattle.store.specs.Places.{partOf, messagesIn};
+ghost use Rattle.window.specs.Places.{placeOf, queuePlace};
+ghost use Rattle.member.specs.State.{freshMember};
 ghost use Rattle.member.specs.Sound.{soundOf};
-ghost use Rattle.member.specs.Calls.{stepOf, answered, firstWaiting, requestPacket, statusPacket, callVerdict, submitVerdict, submitOf, repeatOf, statusOf, gapUpTo, keptOf, broadcastOf, pollOf, contentStep, receiveOf, takeOf, freshOf};
-ghost use Rattle.group.specs.Wording.{verdictWording};
-ghost use Rattle.member.specs.Wording.{wordingOf};
-ghost use Rattle.member.specs.Steps.{Spoken, Replied, Hears};
+ghost use Rattle.member.specs.Calls.{answered, callVerdict, submitVerdict, gapUpTo, keptOf, broadcastOf, pollOf, contentStep};
+ghost use Rattle.member.specs.View.{Sized, whole, viewOf};
+ghost use Rattle.member.specs.Promise.{Begins, Submitted, Received, Taken, Repeated, Reported, Ended};
+ghost use Rattle.member.specs.Steps.{emptyHanded, requestIn, Tells, Hears, Submits, Hands};
 
-pub struct Member {
+// The numbers of a member: they go by value.
+#[repr(C)]
+pub struct Head {
     pub group: Group,
     pub number: MemberNumber,
     pub taken: SequenceNumber,
     pub submitted: u32,
     pub waiting: u32,
-    pub queue: [Message; Group::WAITING],
-    pub held: [Message; Group::HELD],
+}
+
+// A member: its numbers; of each place of its waiting messages and of each that is held its count, 0 for none, its originator, its
+// length and its payload.
+#[repr(C)]
+pub struct Member {
+    pub head: Head,
+    pub queued: [u32; Group::WAITING],
+    pub held: [u32; Group::HELD],
+    pub queued_originators: [u8; Group::WAITING],
+    pub queued_lengths: [u8; Group::WAITING],
+    pub held_originators: [u8; Group::HELD],
+    pub held_lengths: [u8; Group::HELD],
+    pub queued_payloads: [u8; Group::WAITING_BYTES],
+    pub held_payloads: [u8; Group::HELD_BYTES],
 }
 
 // What a call answers. What a take hands out goes with its payload, which lies at the front of the lent output.
@@ -56,30 +71,21 @@ pub enum Answer {
     },
 }
 
-// What a call gives back: the next state, its answer, and how many bytes it wrote to the front of the lent output.
-pub struct Step {
-    pub member: Member,
+// What a call says: its answer, and how many bytes it wrote to the front of the lent output.
+pub struct Reply {
     pub answer: Answer,
     pub written: usize,
 }
 
-// What a call says beside the state that it leaves: its answer, and how many bytes it wrote.
-struct Reply {
-    answer: Answer,
-    written: usize,
+// What the work of a call gives back: the next head, and what the caller is told.
+pub struct Done {
+    pub head: Head,
+    pub reply: Reply,
 }
 
-// What a packet comes to: a reply, and the message that a place holds after it.
-struct Heard {
-    answer: Answer,
-    written: usize,
-    at: usize,
-    message: Message,
-}
-
-// What opening gives back. Where it is refused, the state is all zero, and no call accepts it.
-pub struct Opening {
-    pub member: Member,
+// What the work of opening gives back.
+pub struct Begun {
+    pub head: Head,
     pub verdict: Verdict,
 }
 
@@ -92,16 +98,6 @@ fn put_bare(packet: Packet, group: u32, out: &mut [u8]) -> usize
     packet.put(group, &none, out)
 }
 
-// Lays a packet with the payload of a message at the front of the output, and gives its length.
-fn put_message(packet: Packet, group: u32, message: Message, out: &mut [u8]) -> usize
-    requires { ⌜ (fieldsVerdict (fieldsOf group packet) (length (payloadOf message)) (length (payloadOf message)) ≡ Verdict.Accepted) × (message .length ≤ payloadMost) × (longestPacket ≤ length (now out)) ⌝ }
-    ensures { λ r. ⌜ Laid (packetOf (fieldsOf group packet) (payloadOf message)) r (now (out .entry)) (now (out .exit)) ⌝ }
-{
-    let length = message.length;
-    let payload = message.payload;
-    packet.put(group, &payload[..length], out)
-}
-
 // A no: nothing is written.
 fn refused(refusal: Refusal) -> Reply
     ensures { λ r. ⌜ r ≡ record { answer = Answer.Refused refusal; written = 0 } ⌝ }
@@ -112,500 +108,930 @@ fn refused(refusal: Refusal) -> Reply
     }
 }
 
-// A message handed out, as the number that follows the last taken: its payload goes to the front of the output.
-fn handed(taken: SequenceNumber, message: Message, more: bool, out: &mut [u8]) -> Reply
-    requires { ⌜ (message .length ≤ payloadMost) × (taken .0 < largestNumber) × (longestPacket ≤ length (now out)) ⌝ }
-    ensures { λ r. ⌜ Spoken (Answer.Took (record { 0 = taken .0 + 1 }) (message .originator) (message .count) more) (payloadOf message) r (now (out .entry)) (now (out .exit)) ⌝ }
+// Question 1.
+fn sound(
+    head: Head,
+    queued: &[u32],
+    held: &[u32],
+    queued_originators: &[u8],
+    queued_lengths: &[u8],
+    held_originators: &[u8],
+    held_lengths: &[u8],
+    queued_payloads: &[u8],
+    held_payloads: &[u8],
+) -> bool
+    requires { ⌜ Sized (whole head (now queued) (now held) (now «queued_originators») (now «queued_lengths») (now «held_originators») (now «held_lengths») (now «queued_payloads») (now «held_payloads»)) ⌝ }
+    ensures { λ r. ⌜ r ≡ soundOf (viewOf (whole head (now (queued .entry)) (now (held .entry)) (now («queued_originators» .entry)) (now («queued_lengths» .entry)) (now («held_originators» .entry)) (now («held_lengths» .entry)) (now («queued_payloads» .entry)) (now («held_payloads» .entry)))) ⌝ }
 {
-    let written = window::put_payload(message, out);
-    let originator = message.originator;
+    let number = head.number;
+    if window::frame_sound(head.group.n, number) {
+        let mask = store::mask();
+        if window::waiting_sound(
+            number,
+            head.submitted,
+            head.waiting,
+            queued,
+            queued_originators,
+            queued_lengths,
+            queued_payloads,
+            &mask,
+        ) {
+            return window::held_sound(
+                head.group.n,
+                head.taken,
+                held,
+                held_originators,
+                held_lengths,
+                held_payloads,
+                &mask,
+            );
+        }
+        return false;
+    }
+    false
+}
+
+// Questions 1 and 2, of every call.
+fn ask(
+    head: Head,
+    queued: &[u32],
+    held: &[u32],
+    queued_originators: &[u8],
+    queued_lengths: &[u8],
+    held_originators: &[u8],
+    held_lengths: &[u8],
+    queued_payloads: &[u8],
+    held_payloads: &[u8],
+    room: usize,
+) -> Verdict
+    requires { ⌜ Sized (whole head (now queued) (now held) (now «queued_originators») (now «queued_lengths») (now «held_originators») (now «held_lengths») (now «queued_payloads») (now «held_payloads»)) ⌝ }
+    ensures { λ r. ⌜ r ≡ callVerdict (viewOf (whole head (now (queued .entry)) (now (held .entry)) (now («queued_originators» .entry)) (now («queued_lengths» .entry)) (now («held_originators» .entry)) (now («held_lengths» .entry)) (now («queued_payloads» .entry)) (now («held_payloads» .entry)))) room ⌝ }
+{
+    if sound(
+        head,
+        queued,
+        held,
+        queued_originators,
+        queued_lengths,
+        held_originators,
+        held_lengths,
+        queued_payloads,
+        held_payloads,
+    ) {
+        if room < Group::PACKET {
+            return Verdict::Refused(Refusal::ShortOutput);
+        }
+        return Verdict::Accepted;
+    }
+    Verdict::Refused(Refusal::UnsoundState)
+}
+
+// Questions 13, 14 and 16 of a submission of `size` bytes.
+fn ask_submission(head: Head, size: usize) -> Verdict
+    ensures { λ r. ⌜ r ≡ submitVerdict (emptyHanded head) size ⌝ }
+{
+    if Group::PAYLOAD < size {
+        return Verdict::Refused(Refusal::LongPayload);
+    }
+    if Group::WAITING <= (head.waiting as usize) {
+        return Verdict::Refused(Refusal::AlreadyWaiting);
+    }
+    if head.submitted < Group::LARGEST {
+        return Verdict::Accepted;
+    }
+    Verdict::Refused(Refusal::NumbersUsedUp)
+}
+
+// Lays a request with a payload at the front of the output, and gives its length. It acknowledges the row's end.
+fn put_request(
+    head: Head,
+    held: &[u32; Group::HELD],
+    count: u32,
+    payload: &[u8],
+    out: &mut [u8],
+) -> usize
+    requires { ⌜ (1 ≤ count) × (length (now payload) ≤ payloadMost) × (longestPacket ≤ length (now out)) ⌝ }
+    ensures { λ r. ⌜ Laid (requestIn head (now (held .entry)) count (now (payload .entry))) r (now (out .entry)) (now (out .exit)) ⌝ }
+{
+    let sender = head.number;
+    let taken = window::row_end(held, head.taken);
+    let packet = Packet::Request {
+        sender,
+        taken,
+        count,
+    };
+    packet.put(head.group.number, payload, out)
+}
+
+// Lays the request of the first message that waits at the front of the output, and gives its length.
+fn put_first(
+    head: Head,
+    held: &[u32; Group::HELD],
+    lengths: &[u8],
+    payloads: &[u8],
+    out: &mut [u8],
+) -> usize
+    requires { ⌜ (1 ≤ head .waiting) × (head .waiting ≤ head .submitted) × (length (now lengths) ≡ waitingMost) × (getD (now lengths) (queuePlace (head .submitted - head .waiting + 1)) 0 ≤ payloadMost) × (length (now payloads) ≡ waitingMost * payloadMost) × (longestPacket ≤ length (now out)) ⌝ }
+    ensures { λ r. ⌜ Laid (requestIn head (now (held .entry)) (head .submitted - head .waiting + 1) (take (getD (now (lengths .entry)) (queuePlace (head .submitted - head .waiting + 1)) 0) (partOf (now (payloads .entry)) (queuePlace (head .submitted - head .waiting + 1))))) r (now (out .entry)) (now (out .exit)) ⌝ }
+{
+    let last = head.submitted;
+    let count = last - head.waiting + 1;
+    let at = window::queue_place(count as usize);
+    let base = at * Group::PAYLOAD;
+    let end = base + (lengths[at] as usize);
+    put_request(head, held, count, &payloads[base..end], out)
+}
+
+// Lays a status packet at the front of the output, and gives its length.
+fn put_status(head: Head, end: SequenceNumber, out: &mut [u8]) -> usize
+    requires { ⌜ longestPacket ≤ length (now out) ⌝ }
+    ensures { λ r. ⌜ Laid (packetOf (fieldsOf (head .group .number) (Packet.Status (head .number) end)) []) r (now (out .entry)) (now (out .exit)) ⌝ }
+{
+    let sender = head.number;
+    let packet = Packet::Status { sender, taken: end };
+    put_bare(packet, head.group.number, out)
+}
+
+// Lays a gap packet from the number behind the row's end up to `last` at the front of the output, and gives its length.
+fn put_gap(head: Head, end: SequenceNumber, last: SequenceNumber, out: &mut [u8]) -> usize
+    requires { ⌜ (end .0 < last .0) × (longestPacket ≤ length (now out)) ⌝ }
+    ensures { λ r. ⌜ Laid (packetOf (fieldsOf (head .group .number) (Packet.Gap (head .number) end (record { 0 = end .0 + 1 }) last)) []) r (now (out .entry)) (now (out .exit)) ⌝ }
+{
+    let sender = head.number;
+    let first = SequenceNumber(end.0 + 1);
+    let packet = Packet::Gap {
+        sender,
+        taken: end,
+        first,
+        last,
+    };
+    put_bare(packet, head.group.number, out)
+}
+
+// Where a number up to `last` is missing: the answer with a gap packet; else the other, alone.
+fn gap_up_to(
+    head: Head,
+    held: &[u32; Group::HELD],
+    last: SequenceNumber,
+    gapped: Answer,
+    whole: Answer,
+    out: &mut [u8],
+) -> Reply
+    requires { ⌜ (last .0 ≤ head .taken .0 + heldMost) × (longestPacket ≤ length (now out)) ⌝ }
+    ensures { λ r. ⌜ Tells head (now (held .entry)) (λ m. gapUpTo m (last .0) gapped (answered m whole)) r (now (out .entry)) (now (out .exit)) ⌝ }
+{
+    let end = window::row_end(held, head.taken);
+    if last.0 <= end.0 {
+        return Reply {
+            answer: whole,
+            written: 0,
+        };
+    }
+    let written = put_gap(head, end, last, out);
     Reply {
-        answer: Answer::Took {
-            number: SequenceNumber(taken.0 + 1),
-            originator,
-            count: message.count,
-            more,
-        },
+        answer: gapped,
         written,
     }
 }
 
-impl Member {
-    // Opens a member: question 18. Where it is refused, the state is all zero.
-    pub fn fresh(n: u8, number: MemberNumber, group: u32) -> Opening
-        ensures answer { λ r. ⌜ r ≡ freshOf n number group ⌝ }
-        ensures wording { λ r. ⌜ verdictWording (r .verdict) ≡ verdictWording (freshOf n number group .verdict) ⌝ }
-    {
-        let opened = Group::fresh(n, group);
-        match opened {
-            Opened::Open(g) => {
-                if number.0 < g.n {
-                    let member = Member::idle(g, number);
-                    return Opening {
-                        member,
-                        verdict: Verdict::Accepted,
-                    };
-                }
-                Member::closed(Refusal::Opening)
-            }
-            Opened::Refused(q) => Member::closed(q),
-        }
+// A poll: what is missing up to its top, or the status where nothing is.
+fn poll(head: Head, held: &[u32; Group::HELD], top: SequenceNumber, out: &mut [u8]) -> Reply
+    requires { ⌜ longestPacket ≤ length (now out) ⌝ }
+    ensures { λ r. ⌜ Tells head (now (held .entry)) (λ m. pollOf m top) r (now (out .entry)) (now (out .exit)) ⌝ }
+{
+    let last = window::reach(top, head.taken);
+    let end = window::row_end(held, head.taken);
+    if last.0 <= end.0 {
+        let written = put_status(head, end, out);
+        return Reply {
+            answer: Answer::Status,
+            written,
+        };
     }
+    let written = put_gap(head, end, last, out);
+    Reply {
+        answer: Answer::Gap,
+        written,
+    }
+}
 
-    // The member that has taken, submitted and holds nothing.
-    fn idle(group: Group, number: MemberNumber) -> Self
-        ensures { λ r. ⌜ r ≡ freshMember group number ⌝ }
-    {
-        let empty = Message::empty();
-        Member {
-            group,
+// A number that is neither taken nor held, and for which there is a place: it is kept.
+fn kept(
+    head: Head,
+    held: &mut [u32; Group::HELD],
+    held_originators: &mut [u8; Group::HELD],
+    held_lengths: &mut [u8; Group::HELD],
+    held_payloads: &mut [u8; Group::HELD_BYTES],
+    originator: MemberNumber,
+    number: SequenceNumber,
+    count: u32,
+    payload: &[u8],
+    out: &mut [u8],
+) -> Reply
+    requires { ⌜ (head .taken .0 < number .0) × (number .0 ≤ head .taken .0 + heldMost) × (length (now payload) ≤ payloadMost) × (longestPacket ≤ length (now out)) ⌝ }
+    ensures { λ r. ⌜ Hears head (messagesIn (now (held .entry)) (now («held_originators» .entry)) (now («held_lengths» .entry)) (now («held_payloads» .entry))) (messagesIn (now (held .exit)) (now («held_originators» .exit)) (now («held_lengths» .exit)) (now («held_payloads» .exit))) (λ m. keptOf m originator (number .0) count (now (payload .entry))) r (now (out .entry)) (now (out .exit)) ⌝ }
+{
+    let at = window::place(number, 0);
+    window::keep(
+        held,
+        held_originators,
+        held_lengths,
+        held_payloads,
+        at,
+        originator,
+        count,
+        payload,
+    );
+    let last = SequenceNumber(number.0 - 1);
+    gap_up_to(head, held, last, Answer::KeptGap, Answer::Kept, out)
+}
+
+// A broadcast. Its floor is read and not yet acted on.
+fn broadcast(
+    head: Head,
+    held: &mut [u32; Group::HELD],
+    held_originators: &mut [u8; Group::HELD],
+    held_lengths: &mut [u8; Group::HELD],
+    held_payloads: &mut [u8; Group::HELD_BYTES],
+    originator: MemberNumber,
+    number: SequenceNumber,
+    count: u32,
+    payload: &[u8],
+    out: &mut [u8],
+) -> Reply
+    requires { ⌜ (length (now payload) ≤ payloadMost) × (longestPacket ≤ length (now out)) ⌝ }
+    ensures { λ r. ⌜ Hears head (messagesIn (now (held .entry)) (now («held_originators» .entry)) (now («held_lengths» .entry)) (now («held_payloads» .entry))) (messagesIn (now (held .exit)) (now («held_originators» .exit)) (now («held_lengths» .exit)) (now («held_payloads» .exit))) (λ m. broadcastOf m originator (number .0) count (now (payload .entry))) r (now (out .entry)) (now (out .exit)) ⌝ }
+{
+    let taken = head.taken;
+    if number.0 <= taken.0 {
+        return Reply {
+            answer: Answer::Old,
+            written: 0,
+        };
+    }
+    if (taken.0 as usize) + Group::HELD < (number.0 as usize) {
+        let last = SequenceNumber(taken.0 + (Group::HELD as u32));
+        return gap_up_to(head, held, last, Answer::BeyondGap, Answer::Beyond, out);
+    }
+    let place = window::place(number, 0);
+    if 0 < held[place] {
+        return Reply {
+            answer: Answer::Old,
+            written: 0,
+        };
+    }
+    kept(
+        head,
+        held,
+        held_originators,
+        held_lengths,
+        held_payloads,
+        originator,
+        number,
+        count,
+        payload,
+        out,
+    )
+}
+
+// What a packet of our group says: questions 8 and 9.
+fn content(
+    head: Head,
+    held: &mut [u32; Group::HELD],
+    held_originators: &mut [u8; Group::HELD],
+    held_lengths: &mut [u8; Group::HELD],
+    held_payloads: &mut [u8; Group::HELD_BYTES],
+    packet: Packet,
+    payload: &[u8],
+    out: &mut [u8],
+) -> Reply
+    requires { ⌜ (length (now payload) ≤ payloadMost) × (longestPacket ≤ length (now out)) ⌝ }
+    ensures { λ r. ⌜ Hears head (messagesIn (now (held .entry)) (now («held_originators» .entry)) (now («held_lengths» .entry)) (now («held_payloads» .entry))) (messagesIn (now (held .exit)) (now («held_originators» .exit)) (now («held_lengths» .exit)) (now («held_payloads» .exit))) (λ m. contentStep m packet (now (payload .entry))) r (now (out .entry)) (now (out .exit)) ⌝ }
+{
+    match packet {
+        Packet::Broadcast {
+            originator,
             number,
-            taken: SequenceNumber(0),
-            submitted: 0,
-            waiting: 0,
-            queue: [empty; Group::WAITING],
-            held: [empty; Group::HELD],
+            count,
+            floor: _,
+        } => {
+            if originator.0 < head.group.n {
+                return broadcast(
+                    head,
+                    held,
+                    held_originators,
+                    held_lengths,
+                    held_payloads,
+                    originator,
+                    number,
+                    count,
+                    payload,
+                    out,
+                );
+            }
+            refused(Refusal::UnknownMember)
+        }
+        Packet::Poll { top, floor: _ } => poll(head, held, top, out),
+        Packet::Request {
+            sender: _,
+            taken: _,
+            count: _,
+        } => refused(Refusal::OtherEnd),
+        Packet::Gap {
+            sender: _,
+            taken: _,
+            first: _,
+            last: _,
+        } => refused(Refusal::OtherEnd),
+        Packet::Status {
+            sender: _,
+            taken: _,
+        } => refused(Refusal::OtherEnd),
+    }
+}
+
+// A submission that no question refuses: its request is written, or, behind one that waits, nothing.
+fn submitted(
+    mut head: Head,
+    held: &[u32; Group::HELD],
+    queued: &mut [u32; Group::WAITING],
+    queued_originators: &mut [u8; Group::WAITING],
+    queued_lengths: &mut [u8; Group::WAITING],
+    queued_payloads: &mut [u8; Group::WAITING_BYTES],
+    payload: &[u8],
+    out: &mut [u8],
+) -> Done
+    requires { ⌜ (length (now payload) ≤ payloadMost) × (head .waiting < waitingMost) × (head .submitted < largestNumber) × (longestPacket ≤ length (now out)) ⌝ }
+    ensures { λ r. ⌜ Submits head (now (held .entry)) (messagesIn (now (queued .entry)) (now («queued_originators» .entry)) (now («queued_lengths» .entry)) (now («queued_payloads» .entry))) (messagesIn (now (queued .exit)) (now («queued_originators» .exit)) (now («queued_lengths» .exit)) (now («queued_payloads» .exit))) (now (payload .entry)) r (now (out .entry)) (now (out .exit)) ⌝ }
+{
+    let count = head.submitted + 1;
+    let place = window::queue_place(count as usize);
+    let number = head.number;
+    window::keep(
+        queued,
+        queued_originators,
+        queued_lengths,
+        queued_payloads,
+        place,
+        number,
+        count,
+        payload,
+    );
+    head.submitted = count;
+    if head.waiting == 0 {
+        head.waiting = 1;
+        let written = put_request(head, held, count, payload, out);
+        let answer = Answer::Sent;
+        let reply = Reply { answer, written };
+        return Done { head, reply };
+    }
+    head.waiting = head.waiting + 1;
+    let answer = Answer::Queued(count);
+    let reply = Reply { answer, written: 0 };
+    Done { head, reply }
+}
+
+// The following number is handed out: its payload goes to the front of the output, its place is made empty, and if it is the member's
+// own that waits first, the next is first.
+fn hand_out(
+    mut head: Head,
+    queued: &mut [u32; Group::WAITING],
+    queued_originators: &mut [u8; Group::WAITING],
+    queued_lengths: &mut [u8; Group::WAITING],
+    queued_payloads: &mut [u8; Group::WAITING_BYTES],
+    held: &mut [u32; Group::HELD],
+    held_originators: &mut [u8; Group::HELD],
+    held_lengths: &mut [u8; Group::HELD],
+    held_payloads: &mut [u8; Group::HELD_BYTES],
+    out: &mut [u8],
+) -> Done
+    requires { ⌜ (getD (now «held_lengths») (placeOf (head .taken .0 + 1)) 0 ≤ payloadMost) × (head .taken .0 < largestNumber) × (head .waiting ≤ head .submitted) × (longestPacket ≤ length (now out)) ⌝ }
+    ensures { λ r. ⌜ Hands head (messagesIn (now (queued .entry)) (now («queued_originators» .entry)) (now («queued_lengths» .entry)) (now («queued_payloads» .entry))) (messagesIn (now (held .entry)) (now («held_originators» .entry)) (now («held_lengths» .entry)) (now («held_payloads» .entry))) (r .head) (messagesIn (now (queued .exit)) (now («queued_originators» .exit)) (now («queued_lengths» .exit)) (now («queued_payloads» .exit))) (messagesIn (now (held .exit)) (now («held_originators» .exit)) (now («held_lengths» .exit)) (now («held_payloads» .exit))) (r .reply) (now (out .entry)) (now (out .exit)) ⌝ }
+{
+    let at = window::place(head.taken, 1);
+    let next = window::place(head.taken, 2);
+    let more = 0 < held[next];
+    let count = held[at];
+    let originator = MemberNumber(held_originators[at]);
+    let written = window::put_payload(held_payloads, at, held_lengths[at], out);
+    window::clear(held, held_originators, held_lengths, held_payloads, at);
+    let number = SequenceNumber(head.taken.0 + 1);
+    let answer = Answer::Took {
+        number,
+        originator,
+        count,
+        more,
+    };
+    let reply = Reply { answer, written };
+    head.taken = number;
+    if window::own(head.number, head.submitted, head.waiting, originator, count) {
+        let first = window::queue_place(count as usize);
+        window::clear(
+            queued,
+            queued_originators,
+            queued_lengths,
+            queued_payloads,
+            first,
+        );
+        head.waiting = head.waiting - 1;
+        return Done { head, reply };
+    }
+    Done { head, reply }
+}
+
+// The head of a member that has taken and submitted nothing.
+fn idle(group: Group, number: MemberNumber) -> Head
+    ensures { λ r. ⌜ r ≡ record { group = group; number = number; taken = record { 0 = 0 }; submitted = 0; waiting = 0 } ⌝ }
+{
+    Head {
+        group,
+        number,
+        taken: SequenceNumber(0),
+        submitted: 0,
+        waiting: 0,
+    }
+}
+
+// An opening that is refused.
+fn unopened(refusal: Refusal) -> Begun
+    ensures { λ r. ⌜ r ≡ record { head = record { group = descriptionOf 0 0; number = record { 0 = 0 }; taken = record { 0 = 0 }; submitted = 0; waiting = 0 }; verdict = Verdict.Refused refusal } ⌝ }
+{
+    let none = Group { n: 0, number: 0 };
+    let head = idle(none, MemberNumber(0));
+    Begun {
+        head,
+        verdict: Verdict::Refused(refusal),
+    }
+}
+
+// The work of opening: question 18. Where it is refused, the state is all zero.
+pub fn open_on(
+    head: Head,
+    queued: &mut [u32; Group::WAITING],
+    held: &mut [u32; Group::HELD],
+    queued_originators: &mut [u8; Group::WAITING],
+    queued_lengths: &mut [u8; Group::WAITING],
+    held_originators: &mut [u8; Group::HELD],
+    held_lengths: &mut [u8; Group::HELD],
+    queued_payloads: &mut [u8; Group::WAITING_BYTES],
+    held_payloads: &mut [u8; Group::HELD_BYTES],
+    n: u8,
+    number: MemberNumber,
+    group: u32,
+) -> Begun
+    ensures { λ r. ⌜ Begins (whole head (now (queued .entry)) (now (held .entry)) (now («queued_originators» .entry)) (now («queued_lengths» .entry)) (now («held_originators» .entry)) (now («held_lengths» .entry)) (now («queued_payloads» .entry)) (now («held_payloads» .entry))) n number group (r .verdict) (whole (r .head) (now (queued .exit)) (now (held .exit)) (now («queued_originators» .exit)) (now («queued_lengths» .exit)) (now («held_originators» .exit)) (now («held_lengths» .exit)) (now («queued_payloads» .exit)) (now («held_payloads» .exit))) ⌝ }
+{
+    *queued = [0u32; Group::WAITING];
+    *held = [0u32; Group::HELD];
+    *queued_originators = [0u8; Group::WAITING];
+    *queued_lengths = [0u8; Group::WAITING];
+    *held_originators = [0u8; Group::HELD];
+    *held_lengths = [0u8; Group::HELD];
+    *queued_payloads = [0u8; Group::WAITING_BYTES];
+    *held_payloads = [0u8; Group::HELD_BYTES];
+    let opened = Group::fresh(n, group);
+    match opened {
+        Opened::Open(g) => {
+            if number.0 < g.n {
+                let head = idle(g, number);
+                return Begun {
+                    head,
+                    verdict: Verdict::Accepted,
+                };
+            }
+            unopened(Refusal::Opening)
+        }
+        Opened::Refused(q) => unopened(q),
+    }
+}
+
+// The work of a submission.
+pub fn submit_on(
+    head: Head,
+    queued: &mut [u32; Group::WAITING],
+    held: &mut [u32; Group::HELD],
+    queued_originators: &mut [u8; Group::WAITING],
+    queued_lengths: &mut [u8; Group::WAITING],
+    held_originators: &mut [u8; Group::HELD],
+    held_lengths: &mut [u8; Group::HELD],
+    queued_payloads: &mut [u8; Group::WAITING_BYTES],
+    held_payloads: &mut [u8; Group::HELD_BYTES],
+    payload: &[u8],
+    out: &mut [u8],
+) -> Done
+    ensures { λ r. ⌜ Submitted (whole head (now (queued .entry)) (now (held .entry)) (now («queued_originators» .entry)) (now («queued_lengths» .entry)) (now («held_originators» .entry)) (now («held_lengths» .entry)) (now («queued_payloads» .entry)) (now («held_payloads» .entry))) (now (payload .entry)) (now (out .entry)) (r .reply) (whole (r .head) (now (queued .exit)) (now (held .exit)) (now («queued_originators» .exit)) (now («queued_lengths» .exit)) (now («held_originators» .exit)) (now («held_lengths» .exit)) (now («queued_payloads» .exit)) (now («held_payloads» .exit))) (now (out .exit)) ⌝ }
+{
+    let v = ask(
+        head,
+        queued,
+        held,
+        queued_originators,
+        queued_lengths,
+        held_originators,
+        held_lengths,
+        queued_payloads,
+        held_payloads,
+        out.len(),
+    );
+    match v {
+        Verdict::Accepted => {
+            let w = ask_submission(head, payload.len());
+            match w {
+                Verdict::Accepted => submitted(
+                    head,
+                    held,
+                    queued,
+                    queued_originators,
+                    queued_lengths,
+                    queued_payloads,
+                    payload,
+                    out,
+                ),
+                Verdict::Refused(q) => {
+                    let reply = refused(q);
+                    Done { head, reply }
+                }
+            }
+        }
+        Verdict::Refused(q) => {
+            let reply = refused(q);
+            Done { head, reply }
         }
     }
+}
 
-    // An opening that is refused.
-    fn closed(refusal: Refusal) -> Opening
-        ensures { λ r. ⌜ r ≡ record { member = freshMember (descriptionOf 0 0) (record { 0 = 0 }); verdict = Verdict.Refused refusal } ⌝ }
+// The work of a packet: questions 1 to 9, then the step.
+pub fn receive_on(
+    head: Head,
+    queued: &mut [u32; Group::WAITING],
+    held: &mut [u32; Group::HELD],
+    queued_originators: &mut [u8; Group::WAITING],
+    queued_lengths: &mut [u8; Group::WAITING],
+    held_originators: &mut [u8; Group::HELD],
+    held_lengths: &mut [u8; Group::HELD],
+    queued_payloads: &mut [u8; Group::WAITING_BYTES],
+    held_payloads: &mut [u8; Group::HELD_BYTES],
+    packet: &[u8],
+    out: &mut [u8],
+) -> Done
+    ensures { λ r. ⌜ Received (whole head (now (queued .entry)) (now (held .entry)) (now («queued_originators» .entry)) (now («queued_lengths» .entry)) (now («held_originators» .entry)) (now («held_lengths» .entry)) (now («queued_payloads» .entry)) (now («held_payloads» .entry))) (now (packet .entry)) (now (out .entry)) (r .reply) (whole (r .head) (now (queued .exit)) (now (held .exit)) (now («queued_originators» .exit)) (now («queued_lengths» .exit)) (now («held_originators» .exit)) (now («held_lengths» .exit)) (now («queued_payloads» .exit)) (now («held_payloads» .exit))) (now (out .exit)) ⌝ }
+{
+    let v = ask(
+        head,
+        queued,
+        held,
+        queued_originators,
+        queued_lengths,
+        held_originators,
+        held_lengths,
+        queued_payloads,
+        held_payloads,
+        out.len(),
+    );
+    match v {
+        Verdict::Accepted => {
+            let r = packet::read(packet);
+            match r {
+                Reading::Fields(h) => {
+                    if h.group == head.group.number {
+                        let end = Group::HEADER + packet::payload_length(packet);
+                        let reply = content(
+                            head,
+                            held,
+                            held_originators,
+                            held_lengths,
+                            held_payloads,
+                            Packet::of(h),
+                            &packet[Group::HEADER..end],
+                            out,
+                        );
+                        return Done { head, reply };
+                    }
+                    let reply = refused(Refusal::OtherGroup);
+                    Done { head, reply }
+                }
+                Reading::Refused(q) => {
+                    let reply = refused(q);
+                    Done { head, reply }
+                }
+            }
+        }
+        Verdict::Refused(q) => {
+            let reply = refused(q);
+            Done { head, reply }
+        }
+    }
+}
+
+// The work of a take.
+pub fn take_on(
+    head: Head,
+    queued: &mut [u32; Group::WAITING],
+    held: &mut [u32; Group::HELD],
+    queued_originators: &mut [u8; Group::WAITING],
+    queued_lengths: &mut [u8; Group::WAITING],
+    held_originators: &mut [u8; Group::HELD],
+    held_lengths: &mut [u8; Group::HELD],
+    queued_payloads: &mut [u8; Group::WAITING_BYTES],
+    held_payloads: &mut [u8; Group::HELD_BYTES],
+    out: &mut [u8],
+) -> Done
+    ensures { λ r. ⌜ Taken (whole head (now (queued .entry)) (now (held .entry)) (now («queued_originators» .entry)) (now («queued_lengths» .entry)) (now («held_originators» .entry)) (now («held_lengths» .entry)) (now («queued_payloads» .entry)) (now («held_payloads» .entry))) (now (out .entry)) (r .reply) (whole (r .head) (now (queued .exit)) (now (held .exit)) (now («queued_originators» .exit)) (now («queued_lengths» .exit)) (now («held_originators» .exit)) (now («held_lengths» .exit)) (now («queued_payloads» .exit)) (now («held_payloads» .exit))) (now (out .exit)) ⌝ }
+{
+    let v = ask(
+        head,
+        queued,
+        held,
+        queued_originators,
+        queued_lengths,
+        held_originators,
+        held_lengths,
+        queued_payloads,
+        held_payloads,
+        out.len(),
+    );
+    match v {
+        Verdict::Accepted => {
+            let following = window::place(head.taken, 1);
+            if 0 < held[following] {
+                return hand_out(
+                    head,
+                    queued,
+                    queued_originators,
+                    queued_lengths,
+                    queued_payloads,
+                    held,
+                    held_originators,
+                    held_lengths,
+                    held_payloads,
+                    out,
+                );
+            }
+            let answer = Answer::None;
+            let reply = Reply { answer, written: 0 };
+            Done { head, reply }
+        }
+        Verdict::Refused(q) => {
+            let reply = refused(q);
+            Done { head, reply }
+        }
+    }
+}
+
+// The work of a repeat: question 15.
+pub fn repeat_on(
+    head: Head,
+    queued: &[u32; Group::WAITING],
+    held: &[u32; Group::HELD],
+    queued_originators: &[u8; Group::WAITING],
+    queued_lengths: &[u8; Group::WAITING],
+    held_originators: &[u8; Group::HELD],
+    held_lengths: &[u8; Group::HELD],
+    queued_payloads: &[u8; Group::WAITING_BYTES],
+    held_payloads: &[u8; Group::HELD_BYTES],
+    out: &mut [u8],
+) -> Reply
+    ensures { λ r. ⌜ Repeated (whole head (now (queued .entry)) (now (held .entry)) (now («queued_originators» .entry)) (now («queued_lengths» .entry)) (now («held_originators» .entry)) (now («held_lengths» .entry)) (now («queued_payloads» .entry)) (now («held_payloads» .entry))) (now (out .entry)) r (now (out .exit)) ⌝ }
+{
+    let v = ask(
+        head,
+        queued,
+        held,
+        queued_originators,
+        queued_lengths,
+        held_originators,
+        held_lengths,
+        queued_payloads,
+        held_payloads,
+        out.len(),
+    );
+    match v {
+        Verdict::Accepted => {
+            if 1 <= head.waiting {
+                let written = put_first(head, held, queued_lengths, queued_payloads, out);
+                return Reply {
+                    answer: Answer::Sent,
+                    written,
+                };
+            }
+            refused(Refusal::NothingWaiting)
+        }
+        Verdict::Refused(q) => refused(q),
+    }
+}
+
+// The work of a status call.
+pub fn status_on(
+    head: Head,
+    queued: &[u32; Group::WAITING],
+    held: &[u32; Group::HELD],
+    queued_originators: &[u8; Group::WAITING],
+    queued_lengths: &[u8; Group::WAITING],
+    held_originators: &[u8; Group::HELD],
+    held_lengths: &[u8; Group::HELD],
+    queued_payloads: &[u8; Group::WAITING_BYTES],
+    held_payloads: &[u8; Group::HELD_BYTES],
+    out: &mut [u8],
+) -> Reply
+    ensures { λ r. ⌜ Reported (whole head (now (queued .entry)) (now (held .entry)) (now («queued_originators» .entry)) (now («queued_lengths» .entry)) (now («held_originators» .entry)) (now («held_lengths» .entry)) (now («queued_payloads» .entry)) (now («held_payloads» .entry))) (now (out .entry)) r (now (out .exit)) ⌝ }
+{
+    let v = ask(
+        head,
+        queued,
+        held,
+        queued_originators,
+        queued_lengths,
+        held_originators,
+        held_lengths,
+        queued_payloads,
+        held_payloads,
+        out.len(),
+    );
+    match v {
+        Verdict::Accepted => {
+            let end = window::row_end(held, head.taken);
+            let written = put_status(head, end, out);
+            Reply {
+                answer: Answer::Sent,
+                written,
+            }
+        }
+        Verdict::Refused(q) => refused(q),
+    }
+}
+
+// The last number through which the member has everything, taken or held.
+pub fn row_end_on(
+    head: Head,
+    queued: &[u32; Group::WAITING],
+    held: &[u32; Group::HELD],
+    queued_originators: &[u8; Group::WAITING],
+    queued_lengths: &[u8; Group::WAITING],
+    held_originators: &[u8; Group::HELD],
+    held_lengths: &[u8; Group::HELD],
+    queued_payloads: &[u8; Group::WAITING_BYTES],
+    held_payloads: &[u8; Group::HELD_BYTES],
+) -> SequenceNumber
+    ensures { λ r. ⌜ Ended (whole head (now (queued .entry)) (now (held .entry)) (now («queued_originators» .entry)) (now («queued_lengths» .entry)) (now («held_originators» .entry)) (now («held_lengths» .entry)) (now («queued_payloads» .entry)) (now («held_payloads» .entry))) r ⌝ }
+{
+    window::row_end(held, head.taken)
+}
+
+impl Member {
+    // The member that is not opened, all zero: no call accepts it.
+    pub fn closed() -> Self
+        ensures { λ r. ⌜ viewOf r ≡ freshMember (descriptionOf 0 0) (record { 0 = 0 }) ⌝ }
     {
         let none = Group { n: 0, number: 0 };
-        let member = Member::idle(none, MemberNumber(0));
-        Opening {
-            member,
-            verdict: Verdict::Refused(refusal),
+        let head = idle(none, MemberNumber(0));
+        Member {
+            head,
+            queued: [0u32; Group::WAITING],
+            held: [0u32; Group::HELD],
+            queued_originators: [0u8; Group::WAITING],
+            queued_lengths: [0u8; Group::WAITING],
+            held_originators: [0u8; Group::HELD],
+            held_lengths: [0u8; Group::HELD],
+            queued_payloads: [0u8; Group::WAITING_BYTES],
+            held_payloads: [0u8; Group::HELD_BYTES],
         }
     }
 
-    // Question 1.
-    fn sound(self) -> bool
-        ensures { λ r. ⌜ r ≡ soundOf self ⌝ }
+    // Opens a member: question 18. Where it is refused, the state is all zero.
+    pub fn open(&mut self, n: u8, number: MemberNumber, group: u32) -> Verdict
+        ensures { λ r. ⌜ Begins (now (self .entry)) n number group r (now (self .exit)) ⌝ }
     {
-        let number = self.number;
-        if window::frame_sound(self.group.n, number) {
-            let queue = self.queue;
-            if window::waiting_sound(number, self.submitted, self.waiting, queue) {
-                let held = self.held;
-                window::held_sound(self.group.n, held, self.taken)
-            } else {
-                false
-            }
-        } else {
-            false
-        }
-    }
-
-    // Questions 1 and 2, of every call.
-    fn ask(self, room: usize) -> Verdict
-        ensures { λ r. ⌜ r ≡ callVerdict self room ⌝ }
-    {
-        if self.sound() {
-            if room < Group::PACKET {
-                return Verdict::Refused(Refusal::ShortOutput);
-            }
-            Verdict::Accepted
-        } else {
-            Verdict::Refused(Refusal::UnsoundState)
-        }
-    }
-
-    // Questions 13, 14 and 16 of a submission of `size` bytes.
-    fn ask_submission(self, size: usize) -> Verdict
-        ensures { λ r. ⌜ r ≡ submitVerdict self size ⌝ }
-    {
-        if Group::PAYLOAD < size {
-            return Verdict::Refused(Refusal::LongPayload);
-        }
-        if Group::WAITING <= (self.waiting as usize) {
-            return Verdict::Refused(Refusal::AlreadyWaiting);
-        }
-        if self.submitted < Group::LARGEST {
-            return Verdict::Accepted;
-        }
-        Verdict::Refused(Refusal::NumbersUsedUp)
-    }
-
-    // The state as it is, beside a reply.
-    fn replied(self, reply: Reply) -> Step
-        ensures { λ r. ⌜ r ≡ record { member = self; answer = reply .answer; written = reply .written } ⌝ }
-    {
-        let answer = reply.answer;
-        Step {
-            member: self,
-            answer,
-            written: reply.written,
-        }
-    }
-
-    // The places as they are, beside a reply.
-    fn same(self, reply: Reply) -> Heard
-        ensures { λ r. ⌜ r ≡ record { answer = reply .answer; written = reply .written; at = 0; message = getD (self .held) 0 blank } ⌝ }
-    {
-        let answer = reply.answer;
-        let message = self.held[0];
-        Heard {
-            answer,
-            written: reply.written,
-            at: 0,
-            message,
-        }
-    }
-
-    // The last number through which the member has everything, taken or held.
-    pub fn row_end(self) -> SequenceNumber
-        ensures { λ r. ⌜ r .0 ≡ rowEndOf self ⌝ }
-    {
-        let held = self.held;
-        window::row_end(window::counts(held), self.taken)
-    }
-
-    // The number that every packet of the member acknowledges.
-    fn acknowledged(self) -> SequenceNumber
-        ensures { λ r. ⌜ r ≡ acknowledgedOf self ⌝ }
-    {
-        self.row_end()
-    }
-
-    // Lays the request of the first message that waits at the front of the output, and gives its length.
-    fn put_request(self, out: &mut [u8]) -> usize
-        requires { ⌜ (1 ≤ self .waiting) × (self .waiting ≤ self .submitted) × (firstWaiting self .length ≤ payloadMost) × (longestPacket ≤ length (now out)) ⌝ }
-        ensures { λ r. ⌜ Laid (requestPacket self) r (now (out .entry)) (now (out .exit)) ⌝ }
-    {
-        let count = self.submitted - self.waiting + 1;
-        let at = window::queue_place(count as usize);
-        let message = self.queue[at];
-        let sender = self.number;
-        let taken = self.acknowledged();
-        let packet = Packet::Request {
-            sender,
-            taken,
-            count,
-        };
-        put_message(packet, self.group.number, message, out)
-    }
-
-    // The answer with the status packet.
-    fn report(self, answer: Answer, out: &mut [u8]) -> Reply
-        requires { ⌜ longestPacket ≤ length (now out) ⌝ }
-        ensures { λ r. ⌜ Replied self (record { member = self; answer = answer; bytes = statusPacket self }) r (now (out .entry)) (now (out .exit)) ⌝ }
-    {
-        let sender = self.number;
-        let taken = self.acknowledged();
-        let packet = Packet::Status { sender, taken };
-        let written = put_bare(packet, self.group.number, out);
-        Reply { answer, written }
-    }
-
-    // Where a number up to `last` is missing: the answer with a gap packet from the lowest missing; else the other, alone.
-    fn gap_up_to(self, last: SequenceNumber, gapped: Answer, whole: Answer, out: &mut [u8]) -> Reply
-        requires { ⌜ longestPacket ≤ length (now out) ⌝ }
-        ensures { λ r. ⌜ Replied self (gapUpTo self (last .0) gapped (answered self whole)) r (now (out .entry)) (now (out .exit)) ⌝ }
-    {
-        let held = self.held;
-        let first = window::lowest_missing(window::counts(held), self.taken, last);
-        if first.0 == 0 {
-            return Reply {
-                answer: whole,
-                written: 0,
-            };
-        }
-        let sender = self.number;
-        let taken = self.acknowledged();
-        let packet = Packet::Gap {
-            sender,
-            taken,
-            first,
-            last,
-        };
-        let written = put_bare(packet, self.group.number, out);
-        Reply {
-            answer: gapped,
-            written,
-        }
-    }
-
-    // A poll: what is missing up to its top, or the status where nothing is.
-    fn poll(self, top: SequenceNumber, out: &mut [u8]) -> Reply
-        requires { ⌜ longestPacket ≤ length (now out) ⌝ }
-        ensures { λ r. ⌜ Replied self (pollOf self top) r (now (out .entry)) (now (out .exit)) ⌝ }
-    {
-        let last = window::reach(top, self.taken);
-        let reply = self.gap_up_to(last, Answer::Gap, Answer::Status, out);
-        if reply.written == 0 {
-            return self.report(Answer::Status, out);
-        }
-        reply
-    }
-
-    // A broadcast. Its floor is read and not yet acted on.
-    fn broadcast(
-        self,
-        originator: MemberNumber,
-        number: SequenceNumber,
-        count: u32,
-        payload: &[u8],
-        out: &mut [u8],
-    ) -> Heard
-        requires { ⌜ (length (now payload) ≤ payloadMost) × (longestPacket ≤ length (now out)) ⌝ }
-        ensures { λ r. ⌜ Hears self (broadcastOf self originator (number .0) count (now (payload .entry))) r (now (out .entry)) (now (out .exit)) ⌝ }
-    {
-        let taken = self.taken;
-        if number.0 <= taken.0 {
-            return self.same(Reply {
-                answer: Answer::Old,
-                written: 0,
-            });
-        }
-        if (taken.0 as usize) + Group::HELD < (number.0 as usize) {
-            let last = SequenceNumber(taken.0 + (Group::HELD as u32));
-            return self.same(self.gap_up_to(last, Answer::BeyondGap, Answer::Beyond, out));
-        }
-        let held = self.held;
-        let counts = window::counts(held);
-        let at = window::place(number, 0);
-        if 0 < counts[at] {
-            return self.same(Reply {
-                answer: Answer::Old,
-                written: 0,
-            });
-        }
-        self.kept(originator, number, count, payload, out)
-    }
-
-    // A number that is neither taken nor held, and for which there is a place: it is kept.
-    fn kept(
-        self,
-        originator: MemberNumber,
-        number: SequenceNumber,
-        count: u32,
-        payload: &[u8],
-        out: &mut [u8],
-    ) -> Heard
-        requires { ⌜ (self .taken .0 < number .0) × (number .0 ≤ self .taken .0 + heldMost) × (length (now payload) ≤ payloadMost) × (longestPacket ≤ length (now out)) ⌝ }
-        ensures { λ r. ⌜ Hears self (keptOf self originator (number .0) count (now (payload .entry))) r (now (out .entry)) (now (out .exit)) ⌝ }
-    {
-        let message = Message::keep(originator, count, payload);
-        let at = window::place(number, 0);
-        let last = SequenceNumber(number.0 - 1);
-        let reply = self.gap_up_to(last, Answer::KeptGap, Answer::Kept, out);
-        let answer = reply.answer;
-        Heard {
-            answer,
-            written: reply.written,
-            at,
-            message,
-        }
-    }
-
-    // What a packet of our group says: questions 8 and 9.
-    fn content(self, content: Packet, payload: &[u8], out: &mut [u8]) -> Heard
-        requires { ⌜ (length (now payload) ≤ payloadMost) × (longestPacket ≤ length (now out)) ⌝ }
-        ensures { λ r. ⌜ Hears self (contentStep self content (now (payload .entry))) r (now (out .entry)) (now (out .exit)) ⌝ }
-    {
-        match content {
-            Packet::Broadcast {
-                originator,
-                number,
-                count,
-                floor: _,
-            } => {
-                if originator.0 < self.group.n {
-                    return self.broadcast(originator, number, count, payload, out);
-                }
-                self.same(refused(Refusal::UnknownMember))
-            }
-            Packet::Poll { top, floor: _ } => self.same(self.poll(top, out)),
-            Packet::Request {
-                sender: _,
-                taken: _,
-                count: _,
-            } => self.same(refused(Refusal::OtherEnd)),
-            Packet::Gap {
-                sender: _,
-                taken: _,
-                first: _,
-                last: _,
-            } => self.same(refused(Refusal::OtherEnd)),
-            Packet::Status {
-                sender: _,
-                taken: _,
-            } => self.same(refused(Refusal::OtherEnd)),
-        }
-    }
-
-    // What a packet comes to: questions 1 to 9, then the step.
-    fn heard(self, packet: &[u8], out: &mut [u8]) -> Heard
-        ensures { λ r. ⌜ Hears self (receiveOf self (now (packet .entry)) (length (now (out .entry)))) r (now (out .entry)) (now (out .exit)) ⌝ }
-    {
-        let v = self.ask(out.len());
-        match v {
-            Verdict::Accepted => {
-                let r = packet::read(packet);
-                match r {
-                    Reading::Fields(h) => {
-                        if h.group == self.group.number {
-                            let end = Group::HEADER + packet::payload_length(packet);
-                            return self.content(Packet::of(h), &packet[Group::HEADER..end], out);
-                        }
-                        self.same(refused(Refusal::OtherGroup))
-                    }
-                    Reading::Refused(q) => self.same(refused(q)),
-                }
-            }
-            Verdict::Refused(q) => self.same(refused(q)),
-        }
-    }
-
-    // The reply to a status call.
-    fn reported(self, out: &mut [u8]) -> Reply
-        ensures { λ r. ⌜ Replied self (statusOf self (length (now (out .entry)))) r (now (out .entry)) (now (out .exit)) ⌝ }
-    {
-        let v = self.ask(out.len());
-        match v {
-            Verdict::Accepted => self.report(Answer::Sent, out),
-            Verdict::Refused(q) => refused(q),
-        }
-    }
-
-    // The reply to a repeat: question 15.
-    fn repeated(self, out: &mut [u8]) -> Reply
-        ensures { λ r. ⌜ Replied self (repeatOf self (length (now (out .entry)))) r (now (out .entry)) (now (out .exit)) ⌝ }
-    {
-        let v = self.ask(out.len());
-        match v {
-            Verdict::Accepted => {
-                if 1 <= self.waiting {
-                    let written = self.put_request(out);
-                    return Reply {
-                        answer: Answer::Sent,
-                        written,
-                    };
-                }
-                refused(Refusal::NothingWaiting)
-            }
-            Verdict::Refused(q) => refused(q),
-        }
+        let done = open_on(
+            self.head,
+            &mut self.queued,
+            &mut self.held,
+            &mut self.queued_originators,
+            &mut self.queued_lengths,
+            &mut self.held_originators,
+            &mut self.held_lengths,
+            &mut self.queued_payloads,
+            &mut self.held_payloads,
+            n,
+            number,
+            group,
+        );
+        self.head = done.head;
+        done.verdict
     }
 
     // Submits a message: its request is written, or, behind one that waits, nothing.
-    pub fn submit(mut self, payload: &[u8], out: &mut [u8]) -> Step
-        ensures answer { λ r. ⌜ r ≡ stepOf (submitOf self (now (payload .entry)) (length (now (out .entry)))) ⌝ }
-        ensures lent { λ _. ⌜ now (out .exit) ≡ front (submitOf self (now (payload .entry)) (length (now (out .entry))) .bytes) (now (out .entry)) ⌝ }
-        ensures wording { λ r. ⌜ wordingOf (r .answer) ≡ wordingOf (submitOf self (now (payload .entry)) (length (now (out .entry))) .answer) ⌝ }
+    pub fn submit(&mut self, payload: &[u8], out: &mut [u8]) -> Reply
+        ensures { λ r. ⌜ Submitted (now (self .entry)) (now (payload .entry)) (now (out .entry)) r (now (self .exit)) (now (out .exit)) ⌝ }
     {
-        let v = self.ask(out.len());
-        match v {
-            Verdict::Accepted => {
-                let w = self.ask_submission(payload.len());
-                match w {
-                    Verdict::Accepted => {
-                        let number = self.number;
-                        let count = self.submitted + 1;
-                        let message = Message::keep(number, count, payload);
-                        let place = window::queue_place(count as usize);
-                        self.submitted = count;
-                        self.waiting = self.waiting + 1;
-                        self.queue[place] = message;
-                        if self.waiting == 1 {
-                            let written = self.put_request(out);
-                            return self.replied(Reply {
-                                answer: Answer::Sent,
-                                written,
-                            });
-                        }
-                        return self.replied(Reply {
-                            answer: Answer::Queued(count),
-                            written: 0,
-                        });
-                    }
-                    Verdict::Refused(q) => return self.replied(refused(q)),
-                }
-            }
-            Verdict::Refused(q) => return self.replied(refused(q)),
-        }
+        let done = submit_on(
+            self.head,
+            &mut self.queued,
+            &mut self.held,
+            &mut self.queued_originators,
+            &mut self.queued_lengths,
+            &mut self.held_originators,
+            &mut self.held_lengths,
+            &mut self.queued_payloads,
+            &mut self.held_payloads,
+            payload,
+            out,
+        );
+        self.head = done.head;
+        done.reply
     }
 
-    // Writes the request of the first message that waits again, with what is acknowledged by then.
-    pub fn repeat(self, out: &mut [u8]) -> Step
-        ensures answer { λ r. ⌜ r ≡ stepOf (repeatOf self (length (now (out .entry)))) ⌝ }
-        ensures lent { λ _. ⌜ now (out .exit) ≡ front (repeatOf self (length (now (out .entry))) .bytes) (now (out .entry)) ⌝ }
-        ensures wording { λ r. ⌜ wordingOf (r .answer) ≡ wordingOf (repeatOf self (length (now (out .entry))) .answer) ⌝ }
+    // The call for packets.
+    pub fn receive(&mut self, packet: &[u8], out: &mut [u8]) -> Reply
+        ensures { λ r. ⌜ Received (now (self .entry)) (now (packet .entry)) (now (out .entry)) r (now (self .exit)) (now (out .exit)) ⌝ }
     {
-        let reply = self.repeated(out);
-        self.replied(reply)
-    }
-
-    // Writes a status packet.
-    pub fn status(self, out: &mut [u8]) -> Step
-        ensures answer { λ r. ⌜ r ≡ stepOf (statusOf self (length (now (out .entry)))) ⌝ }
-        ensures lent { λ _. ⌜ now (out .exit) ≡ front (statusOf self (length (now (out .entry))) .bytes) (now (out .entry)) ⌝ }
-        ensures wording { λ r. ⌜ wordingOf (r .answer) ≡ wordingOf (statusOf self (length (now (out .entry))) .answer) ⌝ }
-    {
-        let reply = self.reported(out);
-        self.replied(reply)
+        let done = receive_on(
+            self.head,
+            &mut self.queued,
+            &mut self.held,
+            &mut self.queued_originators,
+            &mut self.queued_lengths,
+            &mut self.held_originators,
+            &mut self.held_lengths,
+            &mut self.queued_payloads,
+            &mut self.held_payloads,
+            packet,
+            out,
+        );
+        self.head = done.head;
+        done.reply
     }
 
     // Hands out the following number, if it is held: its place is cleared, and if it is the member's own that waits first, the
     // next is first.
-    pub fn take(mut self, out: &mut [u8]) -> Step
-        ensures answer { λ r. ⌜ r ≡ stepOf (takeOf self (length (now (out .entry)))) ⌝ }
-        ensures lent { λ _. ⌜ now (out .exit) ≡ front (takeOf self (length (now (out .entry))) .bytes) (now (out .entry)) ⌝ }
-        ensures wording { λ r. ⌜ wordingOf (r .answer) ≡ wordingOf (takeOf self (length (now (out .entry))) .answer) ⌝ }
+    pub fn take(&mut self, out: &mut [u8]) -> Reply
+        ensures { λ r. ⌜ Taken (now (self .entry)) (now (out .entry)) r (now (self .exit)) (now (out .exit)) ⌝ }
     {
-        let v = self.ask(out.len());
-        match v {
-            Verdict::Accepted => {
-                let at = window::place(self.taken, 1);
-                let message = self.held[at];
-                if 0 < message.count {
-                    let next = window::place(self.taken, 2);
-                    let more = 0 < self.held[next].count;
-                    let reply = handed(self.taken, message, more, out);
-                    let empty = Message::empty();
-                    self.held[at] = empty;
-                    self.taken.0 = self.taken.0 + 1;
-                    let originator = message.originator;
-                    if window::own(
-                        self.number,
-                        self.submitted,
-                        self.waiting,
-                        originator,
-                        message.count,
-                    ) {
-                        let first = window::queue_place(message.count as usize);
-                        self.waiting = self.waiting - 1;
-                        self.queue[first] = empty;
-                        return self.replied(reply);
-                    }
-                    return self.replied(reply);
-                }
-                return self.replied(Reply {
-                    answer: Answer::None,
-                    written: 0,
-                });
-            }
-            Verdict::Refused(q) => return self.replied(refused(q)),
-        }
+        let done = take_on(
+            self.head,
+            &mut self.queued,
+            &mut self.held,
+            &mut self.queued_originators,
+            &mut self.queued_lengths,
+            &mut self.held_originators,
+            &mut self.held_lengths,
+            &mut self.queued_payloads,
+            &mut self.held_payloads,
+            out,
+        );
+        self.head = done.head;
+        done.reply
     }
 
-    // The call for packets.
-    pub fn receive(mut self, packet: &[u8], out: &mut [u8]) -> Step
-        ensures answer { λ r. ⌜ r ≡ stepOf (receiveOf self (now (packet .entry)) (length (now (out .entry)))) ⌝ }
-        ensures lent { λ _. ⌜ now (out .exit) ≡ front (receiveOf self (now (packet .entry)) (length (now (out .entry))) .bytes) (now (out .entry)) ⌝ }
-        ensures wording { λ r. ⌜ wordingOf (r .answer) ≡ wordingOf (receiveOf self (now (packet .entry)) (length (now (out .entry))) .answer) ⌝ }
+    // Writes the request of the first message that waits again, with what is acknowledged by then.
+    pub fn repeat(&self, out: &mut [u8]) -> Reply
+        ensures { λ r. ⌜ Repeated (now (self .entry)) (now (out .entry)) r (now (out .exit)) ⌝ }
     {
-        let heard = self.heard(packet, out);
-        let answer = heard.answer;
-        let at = heard.at;
-        let message = heard.message;
-        self.held[at] = message;
-        Step {
-            member: self,
-            answer,
-            written: heard.written,
-        }
+        repeat_on(
+            self.head,
+            &self.queued,
+            &self.held,
+            &self.queued_originators,
+            &self.queued_lengths,
+            &self.held_originators,
+            &self.held_lengths,
+            &self.queued_payloads,
+            &self.held_payloads,
+            out,
+        )
+    }
+
+    // Writes a status packet.
+    pub fn status(&self, out: &mut [u8]) -> Reply
+        ensures { λ r. ⌜ Reported (now (self .entry)) (now (out .entry)) r (now (out .exit)) ⌝ }
+    {
+        status_on(
+            self.head,
+            &self.queued,
+            &self.held,
+            &self.queued_originators,
+            &self.queued_lengths,
+            &self.held_originators,
+            &self.held_lengths,
+            &self.queued_payloads,
+            &self.held_payloads,
+            out,
+        )
+    }
+
+    // The last number through which the member has everything, taken or held.
+    pub fn row_end(&self) -> SequenceNumber
+        ensures { λ r. ⌜ Ended (now (self .entry)) r ⌝ }
+    {
+        row_end_on(
+            self.head,
+            &self.queued,
+            &self.held,
+            &self.queued_originators,
+            &self.queued_lengths,
+            &self.held_originators,
+            &self.held_lengths,
+            &self.queued_payloads,
+            &self.held_payloads,
+        )
     }
 }

@@ -9,8 +9,7 @@ use lib.Seq.{drop-at, take-at}
 use Rattle.group.specs.Choice.{if_then_else_}
 use Rattle.group.specs.Limits.{payloadMost}
 use Rattle.group.specs.declared.MemberNumber.{MemberNumber}
-use Rattle.message.specs.Message.{allZero, messageOf, emptyMessage, payloadOf, zeroBehind, isEmpty}
-use Rattle.message.specs.declared.Message.{Message}
+use Rattle.message.specs.Message.{Message, allZero, messageOf, emptyMessage, payloadOf, zeroBehind, isEmpty}
 
 zeros : (k : ℕ) → allZero (replicate k 0) ≡ true
 unfolding allZero if_then_else_

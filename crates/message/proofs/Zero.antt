@@ -41,28 +41,6 @@ or-zero a b = go (a =? 0) refl (b =? 0) refl
     go false p u q =
         ne-eqb (bitOr a b) 0 (λ z. eqb-false a 0 p (let l = and-le-r a b in omega (arith, sum))) ∙ sym (first-fails (a =? 0) (b =? 0) p)
 
--- of two bytes the smaller is zero exactly if one is
-smaller-first : (a b : ℕ) → a < b → (a =? 0) ≡ if a =? 0 then true else (b =? 0)
-smaller-first a b h = go (a =? 0) refl
-  where
-    go : (t : Bool) → (a =? 0) ≡ t → (a =? 0) ≡ if a =? 0 then true else (b =? 0)
-    go true e = e ∙ if-true (a =? 0) true true (b =? 0) e refl
-    go false e = e ∙ if-false (a =? 0) false true (b =? 0) e (sym (ne-eqb b 0 (λ z. omega arith)))
-
-smaller-then : (a b : ℕ) → b ≤ a → (b =? 0) ≡ if a =? 0 then true else (b =? 0)
-smaller-then a b h = go (a =? 0) refl
-  where
-    go : (t : Bool) → (a =? 0) ≡ t → (b =? 0) ≡ if a =? 0 then true else (b =? 0)
-    go true e = if-true (a =? 0) (b =? 0) true (b =? 0) e (eq-eqb b 0 (let z = eqb-true a 0 e in omega arith))
-    go false e = if-false (a =? 0) (b =? 0) true (b =? 0) e refl
-
-pub smaller-zero : (a b r : ℕ) → r ≡ (if a <? b then a else b) → (r =? 0) ≡ if a =? 0 then true else (b =? 0)
-smaller-zero a b r e =
-    rw e
-    (if-elim (λ (x : ℕ). (x =? 0) ≡ if a =? 0 then true else (b =? 0)) (a <? b)
-    (λ t. smaller-first a b (ltb-true a b t))
-    (λ f. smaller-then a b (ltb-false a b f)))
-
 either-true : (t u : Bool) → u ≡ true → (if t then true else u) ≡ true
 unfolding if_then_else_
 either-true true u e = refl

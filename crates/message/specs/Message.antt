@@ -6,7 +6,13 @@ use lib.ListN.{length, take, drop, replicate}
 use Rattle.group.specs.Choice.{_and_, _=?_}
 use Rattle.group.specs.Limits.{payloadMost}
 use Rattle.group.specs.declared.MemberNumber.{MemberNumber}
-use Rattle.message.specs.declared.Message.{Message}
+
+-- a place that holds a message, or none: it is empty exactly if its count is 0
+pub record Message : Type 0 where
+  pub originator : MemberNumber
+  pub count : ℕ
+  pub length : ℕ
+  pub payload : List ℕ
 
 -- every byte is zero
 unfoldable pub allZero : List ℕ → Bool

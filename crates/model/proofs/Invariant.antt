@@ -6,8 +6,7 @@ use lib.ListN.{length, getD}
 use Rattle.group.proofs.Lists.{All}
 use Rattle.group.specs.declared.Group as description
 use Rattle.member.proofs.Invariant.{requestedBy, Terminal}
-use Rattle.member.specs.State.{acknowledgedOf}
-use Rattle.member.specs.declared.Member.{Member}
+use Rattle.member.specs.State.{Member, acknowledgedOf}
 use Rattle.message.specs.Order.{Ordered}
 use Rattle.model.specs.Log.{order, taken, submitted}
 use Rattle.model.specs.World.{Group, World, noMember}

@@ -12,8 +12,7 @@ use Rattle.group.proofs.Lists.{at, all-append, all-map, at-append, set-each}
 use Rattle.group.specs.declared.Group as description
 use Rattle.member.proofs.Invariant.{requestedBy, Terminal, MemberGood}
 use Rattle.member.specs.Calls as member
-use Rattle.member.specs.State.{acknowledgedOf, firstCount}
-use Rattle.member.specs.declared.Member.{Member}
+use Rattle.member.specs.State.{Member, acknowledgedOf, firstCount}
 use Rattle.message.proofs.Owning.{Owns, owns-taken}
 use Rattle.message.specs.Order.{Ordered}
 use Rattle.model.specs.World.{Group, noMember, withMember, withSequencer}

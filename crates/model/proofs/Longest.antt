@@ -15,8 +15,7 @@ use Rattle.group.specs.Opening.{descriptionOf}
 use Rattle.group.specs.declared.Group as description
 use Rattle.member.proofs.Acknowledged.{acknowledged-least, acknowledged-near, acknowledged-most}
 use Rattle.member.proofs.Invariant.{numbered-near}
-use Rattle.member.specs.State.{acknowledgedOf}
-use Rattle.member.specs.declared.Member.{Member}
+use Rattle.member.specs.State.{Member, acknowledgedOf}
 use Rattle.message.proofs.Owning.{own-grows}
 use Rattle.message.specs.Order.{Ordered, ownOf}
 use Rattle.model.proofs.Invariant.{WorldInv}

@@ -19,7 +19,7 @@ use Rattle.member.proofs.Asking as memberAsking
 use Rattle.member.specs.Calls as member
 use Rattle.member.specs.Laws as memberLaws
 use Rattle.member.specs.declared.Answer as memberAnswer
-use Rattle.member.specs.declared.Member.{Member}
+use Rattle.member.specs.State.{Member}
 use Rattle.model.specs.Claim.{NotDone, RefusedChangesNothing}
 use Rattle.model.specs.World.{submit, repeat, status, poll, copy, handMember, handSequencer, Group, Happened, missing, withMember, withSequencer, noMember, handToMember, handToSequencer, happen}
 use Rattle.model.specs.World as world
@@ -28,7 +28,7 @@ use Rattle.sequencer.proofs.Laws as sequencerProofs
 use Rattle.sequencer.specs.Calls as sequencer
 use Rattle.sequencer.specs.Laws as sequencerLaws
 use Rattle.sequencer.specs.declared.Answer as sequencerAnswer
-use Rattle.sequencer.specs.declared.Sequencer.{Sequencer}
+use Rattle.sequencer.specs.State.{Sequencer}
 
 -- what a refusal leaves of an end
 unchanged-member : (m : Member) (questions : List Question) (o : member.Outcome) → memberLaws.FirstNo m questions o

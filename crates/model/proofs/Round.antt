@@ -20,10 +20,9 @@ use Rattle.member.proofs.Acknowledged.{acknowledged-least, acknowledged-holds, 
 use Rattle.member.proofs.Closing.{HandOk, hand-ok, TakeOk, take-ok, status-is, status-ok}
 use Rattle.member.specs.Calls as member
 use Rattle.member.specs.Sound as memberSound
-use Rattle.member.specs.State.{acknowledgedOf}
+use Rattle.member.specs.State.{Member, acknowledgedOf}
 use Rattle.window.specs.Places.{messageAt}
 use Rattle.member.specs.declared.Answer as memberAnswer
-use Rattle.member.specs.declared.Member.{Member}
 use Rattle.message.specs.Order.{Ordered}
 use Rattle.model.proofs.Invariant.{WorldInv, takenOf, acknowledgedIn}
 use Rattle.model.proofs.Step.{gather-snoc, next-keeps, run-keeps}
@@ -46,7 +45,7 @@ use Rattle.sequencer.specs.Note.{withTable, noteOf}
 use Rattle.sequencer.specs.Order.{numberedBy}
 use Rattle.sequencer.specs.Sound.{soundOf}
 use Rattle.sequencer.specs.declared.Answer.the-variants.{Noted, Sent}
-use Rattle.sequencer.specs.declared.Sequencer.{Sequencer}
+use Rattle.sequencer.specs.State.{Sequencer}
 
 -- what an event leaves of the group, seen from terminal i
 record Effect (g : Group) (i t′ : ℕ) (d : Happened) : Type 0 where

@@ -25,7 +25,7 @@ use Rattle.member.proofs.Taking.{take-good}
 use Rattle.member.specs.Calls as member
 use Rattle.member.specs.Order.{tookBy, acceptedBy}
 use Rattle.member.specs.State.{freshMember}
-use Rattle.member.specs.declared.Opening.{Opening}
+use Rattle.member.specs.Calls.{Opening}
 use Rattle.message.proofs.Owning.{Owns}
 use Rattle.message.specs.Order.{Ordered}
 use Rattle.model.proofs.Invariant.{Inv, WorldInv, acknowledgedIn, requestedIn}

@@ -13,8 +13,7 @@ use Rattle.group.specs.declared.Group as description
 use Rattle.history.proofs.Soundness.{takenIn}
 use Rattle.history.specs.State.{messageAt}
 use Rattle.member.proofs.Acknowledged.{acknowledged-near}
-use Rattle.member.specs.State.{acknowledgedOf}
-use Rattle.member.specs.declared.Member.{Member}
+use Rattle.member.specs.State.{Member, acknowledgedOf}
 use Rattle.model.proofs.Invariant.{WorldInv, takenOf}
 use Rattle.model.proofs.Round.{closes}
 use Rattle.model.proofs.Step.{run-keeps, fresh-inv}

@@ -15,13 +15,11 @@ use Rattle.group.specs.declared.Group as description
 use Rattle.member.proofs.Acknowledged.{acknowledged-least, acknowledged-near, acknowledged-holds, acknowledged-most}
 use Rattle.member.proofs.Invariant.{Terminal, numbered-near}
 use Rattle.member.proofs.Soundness.{sound-of}
-use Rattle.member.specs.State.{acknowledgedOf}
-use Rattle.member.specs.declared.Member.{Member}
+use Rattle.member.specs.State.{Member, acknowledgedOf}
 use Rattle.message.proofs.Kept.{kept-payload}
 use Rattle.message.proofs.Owning.{counted-length, own-most}
-use Rattle.message.specs.Message.{messageOf, payloadOf}
+use Rattle.message.specs.Message.{Message, messageOf, payloadOf}
 use Rattle.message.specs.Order.{Ordered, Submission, ownOf, countedFrom}
-use Rattle.message.specs.declared.Message.{Message}
 use Rattle.model.proofs.Invariant.{WorldInv, acknowledgedIn}
 use Rattle.model.specs.Claim.{sum, withoutLast}
 use Rattle.model.specs.Log.{order, taken, submitted, accepted, orderedAt, messagesAbove, historyOf, lastNumber, above, rowOf, owed}
@@ -29,7 +27,7 @@ use Rattle.model.specs.World.{World, noMember}
 use Rattle.history.specs.State.{messageAt}
 use Rattle.sequencer.proofs.Ordering.{floor-below}
 use Rattle.sequencer.proofs.Invariant.{SequencerInv}
-use Rattle.sequencer.specs.declared.Sequencer.{Sequencer}
+use Rattle.sequencer.specs.State.{Sequencer}
 use Rattle.window.specs.Places as window
 
 -- the messages of l are numbered b + 1, b + 2, ..

@@ -4,8 +4,7 @@ use mathlib.Core.List.{List, [], _∷_, _++_}
 use Prim.Native.Nat.{ℕ, zero, suc, _+_, _-_, _*_}
 use lib.ListN.{length}
 use Rattle.group.specs.Limits.{heldMost, placesMost}
-use Rattle.member.specs.State.{acknowledgedOf}
-use Rattle.member.specs.declared.Member.{Member}
+use Rattle.member.specs.State.{Member, acknowledgedOf}
 use Rattle.model.specs.World.{Event, copy, handMember, take, status, handSequencer, World}
 
 -- member i takes k numbers

@@ -8,9 +8,8 @@ use Rattle.group.specs.Limits.{headerSize, payloadMost, longestPacket, placesMo
 use Rattle.group.specs.Opening.{descriptionOf}
 use Rattle.group.specs.declared.Refusal.{Refusal}
 use Rattle.member.specs.Calls as member
-use Rattle.member.specs.State.{freshMember}
+use Rattle.member.specs.State.{Member, freshMember}
 use Rattle.member.specs.declared.Answer as memberAnswer
-use Rattle.member.specs.declared.Member.{Member}
 use Rattle.message.specs.Order.{Ordered}
 use Rattle.model.specs.Closing.{closing}
 use Rattle.model.specs.Log.{order, taken, owed, historyOf}
@@ -21,12 +20,10 @@ use Rattle.packet.specs.declared.Reading.{Reading}
 use Rattle.packet.specs.declared.Writing.{Writing}
 use Rattle.history.specs.Note.{withTaken}
 use Rattle.history.specs.Repeat.{repeatsOf}
-use Rattle.history.specs.State.{floorOf, noAcknowledgement}
-use Rattle.history.specs.declared.Acknowledgement.{Acknowledgement}
+use Rattle.history.specs.State.{Acknowledgement, floorOf, noAcknowledgement}
 use Rattle.sequencer.specs.Calls as sequencer
-use Rattle.sequencer.specs.State.{repeatCount, freshSequencer}
+use Rattle.sequencer.specs.State.{Sequencer, repeatCount, freshSequencer}
 use Rattle.sequencer.specs.declared.Answer as sequencerAnswer
-use Rattle.sequencer.specs.declared.Sequencer.{Sequencer}
 
 -- an acknowledgement of that number
 abbrev pub acknowledgedUpTo : ℕ → Acknowledgement

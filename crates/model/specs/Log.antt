@@ -4,15 +4,13 @@ use Prim.Native.Nat.{ℕ, zero, suc, _+_, _-_}
 use lib.ListN.{getD}
 use Rattle.group.specs.Choice.{if_then_else_, _<?_, _=?_}
 use Rattle.member.specs.Order.{tookBy, acceptedBy}
-use Rattle.member.specs.State.{acknowledgedOf}
-use Rattle.member.specs.declared.Member.{Member}
-use Rattle.message.specs.Message.{payloadOf}
+use Rattle.member.specs.State.{Member, acknowledgedOf}
+use Rattle.message.specs.Message.{Message, payloadOf}
 use Rattle.message.specs.Order.{Ordered, Submission, countedFrom}
-use Rattle.message.specs.declared.Message.{Message}
 use Rattle.history.specs.State.{messageAt}
 use Rattle.model.specs.World.{Event, submit, repeat, take, status, poll, copy, handMember, handSequencer, Answer, absent, bySequencer, byMember, Entry, World, noMember}
 use Rattle.sequencer.specs.Order.{numberedBy}
-use Rattle.sequencer.specs.declared.Sequencer.{Sequencer}
+use Rattle.sequencer.specs.State.{Sequencer}
 use Rattle.window.specs.Places as window
 
 -- what each entry gives, one after the other

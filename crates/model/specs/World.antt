@@ -8,14 +8,13 @@ use Rattle.group.specs.Choice.{if_then_else_, _<?_}
 use Rattle.group.specs.Limits.{longestPacket}
 use Rattle.group.specs.Opening.{descriptionOf}
 use Rattle.member.specs.Calls as member
-use Rattle.member.specs.State.{freshMember}
+use Rattle.member.specs.State.{Member, freshMember}
 use Rattle.member.specs.declared.Answer as memberAnswer
-use Rattle.member.specs.declared.Member.{Member}
 use Rattle.model.specs.declared.Reply.{Reply}
 use Rattle.packet.specs.Packet.{written}
 use Rattle.sequencer.specs.Calls as sequencer
 use Rattle.sequencer.specs.declared.Answer as sequencerAnswer
-use Rattle.sequencer.specs.declared.Sequencer.{Sequencer}
+use Rattle.sequencer.specs.State.{Sequencer}
 
 -- a member's submit, repeat, take and status call, the sequencer's poll and copy call, and "hand packet k to member i" or
 -- "to the sequencer"

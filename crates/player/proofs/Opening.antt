@@ -49,16 +49,15 @@ module _ (n number : ℕ) where
   told-many h = told-refused Refusal.Opening (many-refused n number h)
 
   pub opened-refused : (r : Opened) (refusal : Refusal) → Opens n number r → r .verdict ≡ Verdict.Refused refusal → refusedTold ≡ openTold (Opening.Group n number)
-  unfolding Rattle.simulator.specs.Whole.openedOf
-  opened-refused r refusal o e = told-refused refusal (sym (ap (λ (x : Opened). x .verdict) (o .result)) ∙ e)
+  opened-refused r refusal o e = told-refused refusal (sym (o .verdict) ∙ e)
 
   pub opened-group : (r : Opened) (told : declared.Told) (lent : List ℕ) → Opens n number r → r .verdict ≡ Verdict.Accepted
       → told .whole ≡ r .whole → told .phase ≡ Running → told .number ≡ 1 → told .written ≡ 0
       → Tells (openTold (Opening.Group n number)) told lent lent
-  unfolding openTold judged stageIn Rattle.simulator.specs.Whole.openedOf
+  unfolding openTold judged stageIn
   opened-group r told lent o e w p k z =
       let fits : Fits (r .whole) = record { members = o .room .members; packets = let y = o .room .packets in omega arith } in
-      let v : freshOf n number .verdict ≡ Verdict.Accepted = sym (ap (λ (x : Opened). x .verdict) (o .result)) ∙ e in
+      let v : freshOf n number .verdict ≡ Verdict.Accepted = sym (o .verdict) ∙ e in
       let stage : stageIn (phaseOf (told .whole) (told .phase)) (groupOf (told .whole)) (told .number) ≡ running (fresh n number .group) 1 =
       ap (λ (x : Phase). stageIn (phaseOf (told .whole) x) (groupOf (told .whole)) (told .number)) p
       ∙ ap (λ (x : _). stageIn (phaseOf x Running) (groupOf x) (told .number)) w

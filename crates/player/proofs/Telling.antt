@@ -17,6 +17,9 @@ use Rattle.group.proofs.Lists.{if-elim}
 use Rattle.group.specs.Choice.{if_then_else_, _and_, _<?_, _≤?_}
 use Rattle.group.specs.Lent.{front}
 use Rattle.group.specs.Limits.{membersMost, longestPacket}
+use Rattle.member.specs.State as State
+use Rattle.member.specs.View.{viewOf}
+use Rattle.member.specs.declared.Member.{Member}
 use Rattle.model.specs.World.{Event, submit, repeat, status, poll, copy, handMember, handSequencer, answerOf, Group, happen}
 use Rattle.model.specs.World as world
 use Rattle.report.specs.Print.{lineOf, noSpace, badLine, fitting}
@@ -25,7 +28,7 @@ use Rattle.schedule.specs.Laws.{meantBy}
 use Rattle.schedule.specs.Line.{commandOf, payloadOf}
 use Rattle.schedule.specs.declared.Command.{Command}
 use Rattle.simulator.proofs.Storing.{map-snoc}
-use Rattle.simulator.specs.Whole.{packetsMost, groupOf}
+use Rattle.simulator.specs.Whole.{packetsMost, groupOf, sizeOf}
 use Rattle.simulator.specs.declared.Happening.{Happening}
 use Rattle.simulator.specs.declared.Whole.{Whole}
 use Rattle.player.specs.Play.{Stage, running, ended, closed, nextNumber, eventTold}
@@ -39,13 +42,13 @@ use Rattle.player.specs.declared.Told.{Told}
 -- the two tests of a group's room
 module _ (w : Whole) where
   abbrev test : Bool
-  test = w .sequencer .group .n ≤? membersMost and w .count ≤? packetsMost
+  test = sizeOf w ≤? membersMost and w .count ≤? packetsMost
 
   pub phase-is : (phase : Phase) → Fits w → phaseOf w phase ≡ phase
   unfolding phaseOf
   phase-is phase f =
       sym (if-true test phase phase Closed
-      (both-hold (w .sequencer .group .n ≤? membersMost) (w .count ≤? packetsMost) (le-leb (w .sequencer .group .n) membersMost (f .members)) (le-leb (w .count) packetsMost (f .packets)))
+      (both-hold (sizeOf w ≤? membersMost) (w .count ≤? packetsMost) (le-leb (sizeOf w) membersMost (f .members)) (le-leb (w .count) packetsMost (f .packets)))
       refl)
 
   pub phase-was : (phase p : Phase) → phaseOf w phase ≡ p → (Closed ≡ p → ⊥) → Fits w × (phase ≡ p)
@@ -53,8 +56,8 @@ module _ (w : Whole) where
   phase-was phase p e shut =
       let z = if-was test phase Closed p e shut in (
         record {
-          members = leb-true (w .sequencer .group .n) membersMost (both-first (w .sequencer .group .n ≤? membersMost) (w .count ≤? packetsMost) (z .0));
-          packets = leb-true (w .count) packetsMost (both-then (w .sequencer .group .n ≤? membersMost) (w .count ≤? packetsMost) (z .0));
+          members = leb-true (sizeOf w) membersMost (both-first (sizeOf w ≤? membersMost) (w .count ≤? packetsMost) (z .0));
+          packets = leb-true (w .count) packetsMost (both-then (sizeOf w ≤? membersMost) (w .count ≤? packetsMost) (z .0));
         },
         z .1,
       )
@@ -217,3 +220,9 @@ taken-on f members taken i d h k e =
     ∙ ap (λ (l : List ℕ). l ++ (f (getD members i d) ∷ [])) e
     ∙ sym (map-snoc f (take i members) (getD members i d))
     ∙ ap (map f) (sym (take-suc members i d k)))
+
+-- what the members took, seen
+pub taken-seen : (members : List Member) → map (λ (m : Member). m .head .taken .0) members ≡ map (λ (m : State.Member). m .taken .0) (map viewOf members)
+unfolding viewOf
+taken-seen [] = refl
+taken-seen (m ∷ members) = ap (λ (l : List ℕ). m .head .taken .0 ∷ l) (taken-seen members)

@@ -8,7 +8,7 @@ use Rattle.group.specs.Lent.{front}
 use Rattle.group.specs.Limits.{membersMost, longestPacket}
 use Rattle.model.specs.World.{Group}
 use Rattle.report.specs.Print.{lineRoom}
-use Rattle.simulator.specs.Whole.{packetsMost, groupOf}
+use Rattle.simulator.specs.Whole.{packetsMost, groupOf, sizeOf}
 use Rattle.player.specs.Play as play
 use Rattle.player.specs.Play.{Stage}
 use Rattle.player.specs.Feed as feed
@@ -39,7 +39,7 @@ abbrev pub phaseWith : ℕ → ℕ → Phase → Phase
 phaseWith n count phase = if n ≤? membersMost and count ≤? packetsMost then phase else Closed
 
 unfoldable pub phaseOf : Whole → Phase → Phase
-phaseOf w phase = phaseWith (w .sequencer .group .n) (w .count) phase
+phaseOf w phase = phaseWith (sizeOf w) (w .count) phase
 
 abbrev pub stageOf : Player → Stage
 stageOf p = stageIn (phaseOf (p .whole) (p .phase)) (groupOf (p .whole)) (p .number)

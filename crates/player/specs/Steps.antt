@@ -7,7 +7,7 @@ use lib.ListN.{length}
 use Rattle.group.specs.Lent.{front}
 use Rattle.group.specs.Limits.{membersMost}
 use Rattle.model.specs.World.{Event}
-use Rattle.simulator.specs.Whole.{packetsMost, groupOf, nothing, Plays}
+use Rattle.simulator.specs.Whole.{packetsMost, sizeOf, groupOf, nothing, Plays}
 use Rattle.simulator.specs.declared.Happening.{Happening}
 use Rattle.simulator.specs.declared.Whole.{Whole}
 use Rattle.schedule.specs.Line.{payloadRoom}
@@ -19,7 +19,7 @@ use Rattle.player.specs.declared.Told.{Told}
 
 -- there is room for every member, and for the packets that were written
 pub record Fits (w : Whole) : Type 0 where
-  pub members : w .sequencer .group .n ≤ membersMost
+  pub members : sizeOf w ≤ membersMost
   pub packets : w .count ≤ packetsMost
 
 -- a submit's payload lies in the bytes that were lent

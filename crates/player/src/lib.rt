@@ -108,13 +108,13 @@ fn smaller(a: usize, b: usize) -> usize
 
 // What each member took last.
 fn each_taken(members: [Member; Group::MEMBERS]) -> [u32; Group::MEMBERS]
-    ensures { λ r. ⌜ r ≡ map (λ m. m .taken .0) members ⌝ }
+    ensures { λ r. ⌜ r ≡ map (λ m. m .head .taken .0) members ⌝ }
 {
     let mut taken = [0u32; Group::MEMBERS];
     let mut i: usize = 0;
     while i < Group::MEMBERS {
         let member = members[i];
-        taken[i] = member.taken.0;
+        taken[i] = member.head.taken.0;
         i += 1;
     }
     taken
@@ -220,9 +220,9 @@ fn write_taken(whole: Whole, out: &mut [u8; Player::OUTPUT]) -> usize
 {
     let members = whole.members;
     let taken = each_taken(members);
-    let n = whole.sequencer.group.n as usize;
-    let top = whole.sequencer.top;
-    let floor = whole.sequencer.floor;
+    let n = whole.sequencer.head.group.n as usize;
+    let top = whole.sequencer.head.top;
+    let floor = whole.sequencer.head.floor;
     write_last(top, floor, &taken[..n], out)
 }
 
@@ -297,7 +297,7 @@ fn play(
 ) -> Told
     ensures { λ r. ⌜ Tells (lineTold (stageIn (phaseOf whole phase) (groupOf whole) number) (now (line .entry))) r (now (out .entry)) (now (out .exit)) ⌝ }
 {
-    let stands = phase_of(whole.sequencer.group.n, whole.count, phase);
+    let stands = phase_of(whole.sequencer.head.group.n, whole.count, phase);
     match stands {
         Phase::Opening => open(whole, line, out),
         Phase::Running => tell(whole, number, line, out),
@@ -442,7 +442,7 @@ impl Player {
     {
         let whole = self.whole;
         let phase = self.phase;
-        let stands = phase_of(whole.sequencer.group.n, whole.count, phase);
+        let stands = phase_of(whole.sequencer.head.group.n, whole.count, phase);
         match stands {
             Phase::Opening => write_bad_opening(out),
             Phase::Running => write_taken(whole, out),

@@ -29,10 +29,9 @@ use Rattle.history.specs.Repeat.{findOf}
 use Rattle.sequencer.specs.Calls.{Outcome, answered, broadcastOf, pollPacket, repeatedOf, oldOf, againOf, fullOf, withMessage, numberedOf, requestOf, gapOf}
 use Rattle.sequencer.specs.Note.{withTable, noteOf}
 use Rattle.sequencer.specs.Order.{numberedBy}
-use Rattle.sequencer.specs.State.{lastCount, repeatCount}
+use Rattle.sequencer.specs.State.{Sequencer, lastCount, repeatCount}
 use Rattle.sequencer.specs.declared.Answer.{Answer}
 use Rattle.sequencer.specs.declared.Answer.the-variants.{Old, Again, Full, Numbered, Noted, Wanted}
-use Rattle.sequencer.specs.declared.Sequencer.{Sequencer}
 use Rattle.sequencer.proofs.Histories.{member-inside, note-inv, repeated-inv, numbered-inv, broadcast-is, broadcast-may, broadcast-known}
 use Rattle.sequencer.proofs.Invariant.{SequencerInv, SequencerGood}
 use Rattle.sequencer.proofs.Keeping.{repeated-taken}

@@ -25,11 +25,10 @@ use Rattle.history.specs.Repeat.{findOf}
 use Rattle.sequencer.specs.Calls.{Outcome, answered, refused, oldOf, againOf, fullOf, numberedOf, requestOf, gapOf, contentStep, readStep}
 use Rattle.sequencer.specs.Laws.{fieldsQuestions}
 use Rattle.sequencer.specs.Note.{noteOf}
-use Rattle.sequencer.specs.State.{lastCount}
+use Rattle.sequencer.specs.State.{Sequencer, lastCount}
 use Rattle.sequencer.specs.Steps.{acceptedStep}
 use Rattle.sequencer.specs.declared.Answer.{Answer}
 use Rattle.sequencer.specs.declared.Answer.the-variants.{Old, Again, Full, Numbered, Noted, Wanted, Sent}
-use Rattle.sequencer.specs.declared.Sequencer.{Sequencer}
 
 -- an answer that is no refusal
 abbrev pub Answers : Answer → Type 0

@@ -25,12 +25,10 @@ use Rattle.packet.specs.declared.Packet.the-variants.{Broadcast}
 use Rattle.history.proofs.Counting.{counted-each, counted-same, counted-up}
 use Rattle.history.proofs.Noting.{cleared-other}
 use Rattle.history.proofs.Soundness.{countIn, floor-most}
-use Rattle.history.specs.State.{noAcknowledgement, messageAt, placeOf}
-use Rattle.history.specs.declared.Acknowledgement.{Acknowledgement}
+use Rattle.history.specs.State.{Acknowledgement, noAcknowledgement, messageAt, placeOf}
 use Rattle.sequencer.specs.Calls.{broadcastOf, repeatedOf, withMessage}
 use Rattle.sequencer.specs.Note.{withTable, noteOf}
-use Rattle.sequencer.specs.State.{repeatCount, freshSequencer}
-use Rattle.sequencer.specs.declared.Sequencer.{Sequencer}
+use Rattle.sequencer.specs.State.{Sequencer, repeatCount, freshSequencer}
 use Rattle.sequencer.proofs.Invariant.{SequencerInv}
 use Rattle.sequencer.proofs.Keeping.{repeated-count, repeated-typed, repeated-sound}
 use Rattle.sequencer.proofs.Noting.{noted-count, floor-up, note-typed, note-sound}

@@ -18,7 +18,7 @@ use Rattle.sequencer.specs.Calls.{Outcome}
 use Rattle.sequencer.specs.Laws.{Typed}
 use Rattle.sequencer.specs.Order.{numberedBy}
 use Rattle.sequencer.specs.Sound.{soundOf}
-use Rattle.sequencer.specs.declared.Sequencer.{Sequencer}
+use Rattle.sequencer.specs.State.{Sequencer}
 
 -- the group's sequencer, where `order` is the order so far
 pub record SequencerInv (group : Group) (s : Sequencer) (order : List Ordered) : Type 0 where

@@ -27,8 +27,7 @@ use Rattle.history.proofs.Finding.{found-in}
 use Rattle.history.specs.Ask.{senderVerdict, countVerdict, wantedVerdict}
 use Rattle.history.specs.Note.{largerOf, withCounts}
 use Rattle.history.specs.Repeat.{oneMore, findOf}
-use Rattle.history.specs.State.{noAcknowledgement, acknowledgementOf, messageAt}
-use Rattle.history.specs.declared.Acknowledgement.{Acknowledgement}
+use Rattle.history.specs.State.{Acknowledgement, noAcknowledgement, acknowledgementOf, messageAt}
 use Rattle.history.proofs.Asking.{sender-was, count-was}
 use Rattle.history.proofs.Counting.{counted-each, counted-taken}
 use Rattle.history.proofs.Repeating.{more-most}
@@ -36,10 +35,9 @@ use Rattle.history.proofs.Soundness.{takenIn, countIn, kept-under, floor-same}
 use Rattle.sequencer.specs.Calls.{Outcome, answered, refused, broadcastOf, pollPacket, repeatedOf, oldOf, againOf, fullOf, numberedOf, withMessage, requestOf, gapOf, contentStep}
 use Rattle.sequencer.specs.Laws.{Typed}
 use Rattle.sequencer.specs.Note.{withTable, noteOf}
-use Rattle.sequencer.specs.State.{lastCount, repeatCount}
+use Rattle.sequencer.specs.State.{Sequencer, lastCount, repeatCount}
 use Rattle.sequencer.specs.declared.Answer.{Answer}
 use Rattle.sequencer.specs.declared.Answer.the-variants.{Noted, Wanted}
-use Rattle.sequencer.specs.declared.Sequencer.{Sequencer}
 use Rattle.sequencer.proofs.Noting.{noted-count, note-typed, note-sound}
 use Rattle.sequencer.proofs.Numbering.{numbered-typed, numbered-sound}
 use Rattle.sequencer.proofs.Packets.{broadcast-allowed, poll-allowed}

@@ -26,7 +26,7 @@ use Rattle.sequencer.specs.Laws.{callQuestions, fieldsQuestions, receive
 use Rattle.sequencer.specs.Sound.{soundOf}
 use Rattle.sequencer.specs.Steps.{acceptedStep}
 use Rattle.sequencer.specs.declared.Answer.the-variants.{Sent}
-use Rattle.sequencer.specs.declared.Sequencer.{Sequencer}
+use Rattle.sequencer.specs.State.{Sequencer}
 use Rattle.sequencer.proofs.Asking.{Answers, accepted-answers, fields-asked}
 use Rattle.sequencer.proofs.Keeping.{Stays, broadcast-reads, poll-reads, content-stays}
 use Rattle.sequencer.proofs.Soundness.{sound-of, of-sound}

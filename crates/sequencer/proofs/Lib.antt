@@ -9,9 +9,11 @@ pub mod Answering
 pub mod Ordering
 pub mod Asking
 pub mod Laws
+pub mod Leaving
 pub mod Repeating
 pub mod Settling
 pub mod Sending
-pub mod Walk
+pub mod View
+pub mod Lends
 pub mod Outcomes
 pub mod Owed

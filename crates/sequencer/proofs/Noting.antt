@@ -15,12 +15,11 @@ use Rattle.message.proofs.Kept.{empty-zero}
 use Rattle.message.specs.Message.{isEmpty}
 use Rattle.history.proofs.Soundness.{takenIn, countIn, kept-under, floor-most, floor-least, floor-first}
 use Rattle.history.specs.Note.{withTaken, tableNoted}
-use Rattle.history.specs.State.{noAcknowledgement, acknowledgementOf, messageAt, floorOf}
-use Rattle.history.specs.declared.Acknowledgement.{Acknowledgement}
+use Rattle.history.specs.State.{Acknowledgement, noAcknowledgement, acknowledgementOf, messageAt, floorOf}
 use Rattle.history.proofs.Noting.{larger-least, larger-new, larger-most, cleared-length, cleared-other, cleared-empty}
 use Rattle.sequencer.specs.Laws.{Typed}
 use Rattle.sequencer.specs.Note.{withTable, noteOf}
-use Rattle.sequencer.specs.declared.Sequencer.{Sequencer}
+use Rattle.sequencer.specs.State.{Sequencer}
 use Rattle.sequencer.proofs.Soundness.{Sound}
 
 module _ (s : Sequencer) (m : MemberNumber) (taken : SequenceNumber) (long : length (s .acknowledgements) ≡ membersMost) (sound : Sound s) (member : m .0 < s .group .n) where

@@ -11,17 +11,14 @@ use Rattle.group.proofs.Lists.{eq-or}
 use Rattle.group.specs.Limits.{placesMost, payloadMost, largestNumber}
 use Rattle.group.specs.declared.MemberNumber.{MemberNumber}
 use Rattle.message.proofs.Kept.{kept-zero}
-use Rattle.message.specs.Message.{messageOf, blank, isEmpty}
-use Rattle.message.specs.declared.Message.{Message}
+use Rattle.message.specs.Message.{Message, messageOf, blank, isEmpty}
 use Rattle.history.proofs.Counting.{counted-each, counted-taken, counted-same, counted-up}
 use Rattle.history.proofs.Soundness.{countIn, KeptFacts, kept-under, floor-same}
 use Rattle.history.specs.Note.{withCounts}
-use Rattle.history.specs.State.{noAcknowledgement, acknowledgementOf, placeOf, messageAt}
-use Rattle.history.specs.declared.Acknowledgement.{Acknowledgement}
+use Rattle.history.specs.State.{Acknowledgement, noAcknowledgement, acknowledgementOf, placeOf, messageAt}
 use Rattle.sequencer.specs.Calls.{withMessage}
 use Rattle.sequencer.specs.Laws.{Typed}
-use Rattle.sequencer.specs.State.{repeatCount}
-use Rattle.sequencer.specs.declared.Sequencer.{Sequencer}
+use Rattle.sequencer.specs.State.{Sequencer, repeatCount}
 use Rattle.sequencer.proofs.Soundness.{Sound}
 
 module _ (s : Sequencer) (m : MemberNumber) (count : ℕ) (payload : List ℕ) (typed : Typed s) (sound : Sound s) (member : m .0 < s .group .n) where

@@ -34,10 +34,9 @@ use Rattle.history.specs.Ask.{senderVerdict, countVerdict, wantedVerdict}
 use Rattle.sequencer.specs.Calls.{Outcome, answered, refused, broadcastOf, pollPacket, requestOf, contentStep, readStep, callVerdict, receiveOf, pollOf, copyOf}
 use Rattle.sequencer.specs.Note.{withTable, noteOf}
 use Rattle.sequencer.specs.Order.{numberedBy}
-use Rattle.sequencer.specs.State.{lastCount}
+use Rattle.sequencer.specs.State.{Sequencer, lastCount}
 use Rattle.sequencer.specs.declared.Answer.{Answer}
 use Rattle.sequencer.specs.declared.Answer.the-variants.{Noted, Sent}
-use Rattle.sequencer.specs.declared.Sequencer.{Sequencer}
 use Rattle.sequencer.proofs.Histories.{broadcast-is}
 use Rattle.sequencer.proofs.Invariant.{SequencerInv, SequencerGood}
 use Rattle.sequencer.proofs.Noting.{noted-count, noted-own, noted-other}

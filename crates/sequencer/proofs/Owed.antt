@@ -15,14 +15,13 @@ use Rattle.packet.specs.declared.Packet.{Packet}
 use Rattle.packet.specs.declared.Packet.the-variants.{Request, Broadcast, Gap, Status, Poll}
 use Rattle.history.specs.Ask.{requestVerdict, gapVerdict, senderOf, contentVerdict}
 use Rattle.history.specs.Note.{withTaken, tableNoted}
-use Rattle.history.specs.State.{acknowledgementOf}
-use Rattle.history.specs.declared.Acknowledgement.{Acknowledgement}
+use Rattle.history.specs.State.{Acknowledgement, acknowledgementOf}
 use Rattle.history.proofs.Asking.{sender-was, count-was, judged-was}
 use Rattle.history.proofs.Sizes.{set-count}
 use Rattle.sequencer.specs.Calls.{callVerdict}
-use Rattle.sequencer.specs.Done.{Left}
+use Rattle.sequencer.specs.Owed.{Left}
 use Rattle.sequencer.specs.Sound.{soundOf}
-use Rattle.sequencer.specs.declared.Sequencer.{Sequencer}
+use Rattle.sequencer.specs.State.{Sequencer}
 
 -- questions 1 and 2
 pub call-asked : (s : Sequencer) (room : ℕ) → callVerdict s room ≡ Accepted → (soundOf s ≡ true) × (longestPacket ≤ room)

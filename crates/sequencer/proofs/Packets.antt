@@ -6,8 +6,7 @@ use native.Mathlib.Omega.{arith}
 use lib.ListN.{length}
 use Rattle.group.specs.Limits.{longestPacket}
 use Rattle.message.proofs.Kept.{payload-short}
-use Rattle.message.specs.Message.{payloadOf}
-use Rattle.message.specs.declared.Message.{Message}
+use Rattle.message.specs.Message.{Message, payloadOf}
 use Rattle.packet.proofs.Permitted.{broadcast-fields, poll-fields}
 use Rattle.packet.proofs.Verdicts.{accepted}
 use Rattle.packet.specs.Laws.{Allowed}
@@ -15,7 +14,7 @@ use Rattle.packet.specs.Packet.{fieldsOf}
 use Rattle.packet.specs.declared.Packet.the-variants.{Broadcast, Poll}
 use Rattle.history.specs.State.{messageAt}
 use Rattle.sequencer.specs.Laws.{Typed}
-use Rattle.sequencer.specs.declared.Sequencer.{Sequencer}
+use Rattle.sequencer.specs.State.{Sequencer}
 use Rattle.sequencer.proofs.Soundness.{Sound}
 
 module _ (s : Sequencer) (typed : Typed s) (sound : Sound s) where

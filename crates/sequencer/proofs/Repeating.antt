@@ -30,9 +30,8 @@ use Rattle.sequencer.specs.Calls.{Outcome, answered, repeatedOf, oldOf, 
 use Rattle.sequencer.specs.Laws.{Typed, isRepeat, OldCount, ReceiveOldCount, PollOldCount, CopyOldCount, FreshOldCount}
 use Rattle.sequencer.specs.Note.{withTable, noteOf}
 use Rattle.sequencer.specs.Sound.{soundOf}
-use Rattle.sequencer.specs.State.{lastCount, freshSequencer}
+use Rattle.sequencer.specs.State.{Sequencer, lastCount, freshSequencer}
 use Rattle.sequencer.specs.declared.Answer.the-variants.{Noted}
-use Rattle.sequencer.specs.declared.Sequencer.{Sequencer}
 use Rattle.sequencer.proofs.Noting.{noted-length}
 use Rattle.sequencer.proofs.Soundness.{Sound, sound-of}
 

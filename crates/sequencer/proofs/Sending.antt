@@ -13,20 +13,19 @@ use Rattle.group.specs.Choice.{_<?_, _≤?_, _=?_}
 use Rattle.group.specs.Limits.{membersMost, placesMost, payloadMost}
 use Rattle.group.specs.declared.MemberNumber.{MemberNumber}
 use Rattle.group.specs.declared.Verdict.{Verdict}
-use Rattle.message.specs.Message.{messageOf}
-use Rattle.message.specs.declared.Message.{Message}
+use Rattle.message.specs.Message.{Message, messageOf}
 use Rattle.packet.specs.declared.Packet.{Packet}
 use Rattle.packet.specs.declared.Packet.the-variants.{Request, Broadcast, Gap, Status, Poll}
 use Rattle.history.proofs.Finding.{found-in}
 use Rattle.history.specs.Ask.{senderOf, contentVerdict}
 use Rattle.history.specs.Repeat.{findOf}
-use Rattle.sequencer.specs.Done.{MayBroadcast, MaySend}
+use Rattle.sequencer.specs.Owed.{MayBroadcast, MaySend}
 use Rattle.sequencer.specs.Note.{noteOf}
 use Rattle.sequencer.specs.Sound.{soundOf}
 use Rattle.sequencer.specs.Steps.{quiet, againChange, requestChange, gapAnswer, changeOf, laidOf}
 use Rattle.sequencer.specs.declared.Answer.{Answer}
 use Rattle.sequencer.specs.declared.Change.{Change}
-use Rattle.sequencer.specs.declared.Sequencer.{Sequencer}
+use Rattle.sequencer.specs.State.{Sequencer}
 use Rattle.sequencer.proofs.Noting.{note-sound}
 use Rattle.sequencer.proofs.Owed.{accepted-sender}
 use Rattle.sequencer.proofs.Soundness.{Sound, sound-of}

@@ -21,8 +21,7 @@ use Rattle.group.specs.declared.SequenceNumber.{SequenceNumber}
 use Rattle.group.specs.declared.Verdict.{Verdict}
 use Rattle.group.proofs.Choice.{if-true, if-false, if-was}
 use Rattle.group.proofs.Question.{accepted≢}
-use Rattle.message.specs.Message.{messageOf, blank}
-use Rattle.message.specs.declared.Message.{Message}
+use Rattle.message.specs.Message.{Message, messageOf, blank}
 use Rattle.packet.specs.Packet.{contentOf}
 use Rattle.packet.specs.declared.Header.{Header}
 use Rattle.packet.specs.declared.Packet.{Packet}
@@ -31,17 +30,15 @@ use Rattle.packet.specs.declared.Reading.{Reading}
 use Rattle.history.specs.Ask.{senderVerdict, requestVerdict, gapVerdict, senderOf, contentVerdict, packetVerdict}
 use Rattle.history.specs.Note.{largerOf, withCounts}
 use Rattle.history.specs.Repeat.{oneMore, findOf}
-use Rattle.history.specs.State.{noAcknowledgement, acknowledgementOf, placeOf, messageAt}
-use Rattle.history.specs.declared.Acknowledgement.{Acknowledgement}
+use Rattle.history.specs.State.{Acknowledgement, noAcknowledgement, acknowledgementOf, placeOf, messageAt}
 use Rattle.history.proofs.Finding.{found-in}
 use Rattle.sequencer.specs.Calls.{Outcome, answered, refused, broadcastOf, pollPacket, repeatedOf, oldOf, againOf, fullOf, withMessage, numberedOf, requestOf, gapOf, contentStep, readStep}
 use Rattle.sequencer.specs.Note.{noteOf}
-use Rattle.sequencer.specs.State.{lastCount, repeatCount}
+use Rattle.sequencer.specs.State.{Sequencer, lastCount, repeatCount}
 use Rattle.sequencer.specs.Steps.{acceptedStep, quiet, againChange, requestChange, gapAnswer, changeOf, sentOf, laidOf, changed}
 use Rattle.sequencer.specs.declared.Answer.{Answer}
 use Rattle.sequencer.specs.declared.Answer.the-variants.{Old, Again, Full, Numbered, Noted, Wanted}
 use Rattle.sequencer.specs.declared.Change.{Change}
-use Rattle.sequencer.specs.declared.Sequencer.{Sequencer}
 
 -- an entry that is set to what it is
 set-own : {A : Type 0} (l : List A) (i : ℕ) (d : A) → set l i (getD l i d) ≡ l

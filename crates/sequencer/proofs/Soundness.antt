@@ -15,10 +15,9 @@ use Rattle.group.specs.Limits.{membersMost, placesMost}
 use Rattle.message.specs.Message.{isEmpty}
 use Rattle.history.proofs.Soundness.{takenIn, KeptFacts, kept-facts, facts-kept, entry-used, entry-unused, entry-sound}
 use Rattle.history.specs.Sound.{entrySound, placeSound, frameSound}
-use Rattle.history.specs.State.{noAcknowledgement, messageAt, floorOf}
-use Rattle.history.specs.declared.Acknowledgement.{Acknowledgement}
+use Rattle.history.specs.State.{Acknowledgement, noAcknowledgement, messageAt, floorOf}
 use Rattle.sequencer.specs.Sound.{soundOf}
-use Rattle.sequencer.specs.declared.Sequencer.{Sequencer}
+use Rattle.sequencer.specs.State.{Sequencer}
 
 -- the facts of a sound state
 pub record Sound (s : Sequencer) : Type 0 where

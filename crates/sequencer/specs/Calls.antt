@@ -1,7 +1,7 @@
 -- The sequencer's calls: each goes down its questions in their order, and then takes its step.
 use mathlib.Core.List.{List, []}
 use Prim.Native.Nat.{ℕ, _+_, _-_}
-use lib.ListN.{length, set}
+use lib.ListN.{set}
 use Rattle.group.specs.Choice.{if_then_else_, ask_or_then_, _and_, _<?_, _≤?_, _=?_}
 use Rattle.group.specs.Limits.{placesMost, longestPacket}
 use Rattle.group.specs.Opening.{descriptionOf, openOf}
@@ -25,22 +25,15 @@ use Rattle.history.specs.Repeat.{oneMore, findOf}
 use Rattle.history.specs.Ask.{senderVerdict, countVerdict, wantedVerdict}
 use Rattle.sequencer.specs.Note.{noteOf}
 use Rattle.sequencer.specs.Sound.{soundOf}
-use Rattle.sequencer.specs.State.{lastCount, repeatCount, freshSequencer}
+use Rattle.sequencer.specs.State.{Sequencer, lastCount, repeatCount, freshSequencer}
 use Rattle.sequencer.specs.declared.Answer.{Answer}
 use Rattle.sequencer.specs.declared.Answer.the-variants.{Old, Again, Full, Numbered, Noted, Wanted, Sent}
-use Rattle.sequencer.specs.declared.Opening.{Opening}
-use Rattle.sequencer.specs.declared.Sequencer.{Sequencer}
-use Rattle.sequencer.specs.declared.Step.{Step}
 
 -- what a call comes to: the state that it leaves, its answer, and the bytes that it lays at the front of the lent output
 pub record Outcome : Type 0 where
   pub sequencer : Sequencer
   pub answer : Answer
   pub bytes : List ℕ
-
--- what the call gives back of it
-abbrev pub stepOf : Outcome → Step
-stepOf o = record { sequencer = o .sequencer; answer = o .answer; written = length (o .bytes) }
 
 -- an answer that writes nothing
 unfoldable pub answered : Sequencer → Answer → Outcome
@@ -166,6 +159,11 @@ copyOf s number room =
     judged (callVerdict s room) (refused s)
     (ask s .floor .0 <? number .0 and number .0 ≤? s .top .0 or refused s NotInHistory then
     record { sequencer = s; answer = Sent; bytes = broadcastOf s (number .0) })
+
+-- what opening comes to
+pub record Opening : Type 0 where
+  pub sequencer : Sequencer
+  pub verdict : Verdict
 
 -- opening: question 18. Where it is refused, the state is all zero
 unfoldable pub openedOf : Opened → Opening

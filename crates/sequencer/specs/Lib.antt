@@ -4,6 +4,8 @@ pub mod Note
 pub mod Calls
 pub mod Order
 pub mod Wording
+pub mod View
+pub mod Promise
 pub mod Laws
 pub mod Steps
-pub mod Done
+pub mod Owed

@@ -4,10 +4,9 @@ use mathlib.Core.List.{List}
 use Prim.Native.Nat.{ℕ, _-_}
 use Rattle.group.specs.declared.MemberNumber.{MemberNumber}
 use Rattle.group.specs.declared.SequenceNumber.{SequenceNumber}
-use Rattle.history.specs.State.{floorOf}
-use Rattle.history.specs.declared.Acknowledgement.{Acknowledgement}
+use Rattle.history.specs.State.{Acknowledgement, floorOf}
 use Rattle.history.specs.Note.{tableNoted, clearedOf}
-use Rattle.sequencer.specs.declared.Sequencer.{Sequencer}
+use Rattle.sequencer.specs.State.{Sequencer}
 
 -- a state under a table of acknowledgements and its floor: what the floor passes is cleared
 unfoldable pub withTable : Sequencer → List Acknowledgement → ℕ → Sequencer

@@ -4,7 +4,7 @@ use Rattle.group.specs.Choice.{_and_}
 use Rattle.group.specs.Fold.{all, allAbove}
 use Rattle.group.specs.Limits.{placesMost}
 use Rattle.history.specs.Sound.{entrySound, placeSound, frameSound}
-use Rattle.sequencer.specs.declared.Sequencer.{Sequencer}
+use Rattle.sequencer.specs.State.{Sequencer}
 
 unfoldable pub soundOf : Sequencer → Bool
 soundOf s =

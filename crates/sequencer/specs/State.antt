@@ -1,13 +1,21 @@
 -- What the sequencer holds: n, the group number, for each member the last number known taken, the last own count
 -- numbered and the repeat count, top (last number given), floor, and a history of 32 places.
+use mathlib.Core.List.{List}
 use Prim.Native.Nat.{ℕ}
 use lib.ListN.{replicate}
 use Rattle.group.specs.Limits.{membersMost, placesMost}
 use Rattle.group.specs.declared.Group.{Group}
 use Rattle.group.specs.declared.MemberNumber.{MemberNumber}
-use Rattle.message.specs.Message.{emptyMessage}
-use Rattle.history.specs.State.{noAcknowledgement, acknowledgementOf}
-use Rattle.sequencer.specs.declared.Sequencer.{Sequencer}
+use Rattle.group.specs.declared.SequenceNumber.{SequenceNumber}
+use Rattle.message.specs.Message.{Message, emptyMessage}
+use Rattle.history.specs.State.{Acknowledgement, noAcknowledgement, acknowledgementOf}
+
+pub record Sequencer : Type 0 where
+  pub group : Group
+  pub acknowledgements : List Acknowledgement
+  pub top : SequenceNumber
+  pub floor : SequenceNumber
+  pub history : List Message
 
 -- the last count p of member m
 abbrev pub lastCount : Sequencer → MemberNumber → ℕ

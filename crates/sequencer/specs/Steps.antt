@@ -6,8 +6,7 @@ use Rattle.group.specs.Choice.{if_then_else_, _<?_, _≤?_, _=?_}
 use Rattle.group.specs.Limits.{placesMost}
 use Rattle.group.specs.declared.MemberNumber.{MemberNumber}
 use Rattle.group.specs.declared.SequenceNumber.{SequenceNumber}
-use Rattle.message.specs.Message.{messageOf, payloadOf}
-use Rattle.message.specs.declared.Message.{Message}
+use Rattle.message.specs.Message.{Message, messageOf, payloadOf}
 use Rattle.packet.specs.Packet.{fieldsOf, packetOf}
 use Rattle.packet.specs.declared.Packet.{Packet}
 use Rattle.packet.specs.declared.Packet.the-variants.{Request, Broadcast, Gap, Status, Poll}
@@ -19,7 +18,7 @@ use Rattle.sequencer.specs.Note.{noteOf}
 use Rattle.sequencer.specs.declared.Answer.{Answer}
 use Rattle.sequencer.specs.declared.Answer.the-variants.{Old, Again, Full, Numbered, Noted, Wanted, Sent}
 use Rattle.sequencer.specs.declared.Change.{Change}
-use Rattle.sequencer.specs.declared.Sequencer.{Sequencer}
+use Rattle.sequencer.specs.State.{Sequencer}
 
 -- what is done with a packet that no question refuses; of the kinds for the other end none is left
 unfoldable pub acceptedStep : Sequencer → Packet → List ℕ → Outcome

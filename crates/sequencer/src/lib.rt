@@ -5,33 +5,48 @@ use group::Opened;
 use group::Refusal;
 use group::SequenceNumber;
 use group::Verdict;
-use history::Acknowledgement;
-use message::Message;
 use packet::Header;
 use packet::Packet;
 use packet::Reading;
 ghost use mathlib.Core.Path.{_≡_};
 ghost use mathlib.Core.List.{[]};
 ghost use Prim.Native.Nat.{_<_, _≤_};
-ghost use lib.ListN.{length};
-ghost use Rattle.group.specs.Lent.{front, Laid};
-ghost use Rattle.group.specs.Limits.{longestPacket, largestNumber};
-ghost use Rattle.message.specs.Message.{payloadOf};
-ghost use Rattle.packet.specs.Packet.{fieldsOf, packetOf};
+ghost use lib.ListN.{length, getD, take};
+ghost use Rattle.group.specs.Lent.{Laid};
+ghost use Rattle.group.specs.Limits.{placesMost, payloadMost, longestPacket, largestNumber};
+ghost use Rattle.group.specs.Opening.{descriptionOf};
+ghost use Rattle.message.specs.Message.{blank, payloadOf};
+ghost use Rattle.packet.specs.Packet.{fieldsOf, packetOf, writeOf};
+ghost use Rattle.store.specs.Places.{messagesIn, partOf, Lies};
+ghost use Rattle.history.specs.View.{Places, listed};
 ghost use Rattle.sequencer.specs.State.{freshSequencer};
 ghost use Rattle.sequencer.specs.Sound.{soundOf};
-ghost use Rattle.sequencer.specs.Calls.{stepOf, answered, readStep, callVerdict, receiveOf, pollOf, copyOf, freshOf};
-ghost use Rattle.group.specs.Wording.{verdictWording};
-ghost use Rattle.sequencer.specs.Wording.{wordingOf};
-ghost use Rattle.sequencer.specs.Done.{Done, Quiet, MayBroadcast, MaySend, Sized, Left, Due};
+ghost use Rattle.sequencer.specs.Calls.{readStep, callVerdict, copyOf};
+ghost use Rattle.sequencer.specs.View.{Fits, Placed, whole, viewOf};
+ghost use Rattle.sequencer.specs.Promise.{Changed, Told, Received, Polled, Copied, Opens};
+ghost use Rattle.sequencer.specs.Owed.{MayBroadcast, MaySend, Sized, Left, Due, Refuses};
 ghost use Rattle.sequencer.specs.Steps.{acceptedStep, quiet, requestChange, gapAnswer, changeOf, sentOf};
 
-pub struct Sequencer {
+// The numbers of the whole: the group's description, the last number given, and the number through which every member has everything.
+#[repr(C)]
+pub struct Head {
     pub group: Group,
-    pub acknowledgements: [Acknowledgement; Group::MEMBERS],
     pub top: SequenceNumber,
     pub floor: SequenceNumber,
-    pub history: [Message; Group::PLACES],
+}
+
+// What the sequencer holds. Of each member: the last number that it is known to have taken, its last count that was numbered, and how
+// often it repeated itself. Of each place of the history: its message's count (0: none), originator, length and payload.
+#[repr(C)]
+pub struct Sequencer {
+    pub head: Head,
+    pub taken: [u32; Group::MEMBERS],
+    pub counts: [u32; Group::MEMBERS],
+    pub repeats: [u32; Group::MEMBERS],
+    pub kept: [u32; Group::PLACES],
+    pub originators: [u8; Group::PLACES],
+    pub lengths: [u8; Group::PLACES],
+    pub payloads: [u8; Group::HISTORY_BYTES],
 }
 
 // What a call answers.
@@ -46,11 +61,22 @@ pub enum Answer {
     Sent,
 }
 
-// What a call gives back: the next state, its answer, and how many bytes it wrote to the front of the lent output.
-pub struct Step {
-    pub sequencer: Sequencer,
+// What a call gives back: its answer, and how many bytes it wrote to the front of the lent output.
+pub struct Reply {
     pub answer: Answer,
     pub written: usize,
+}
+
+// What a call on the arrays gives back: the head that the state has next, and the reply.
+pub struct Step {
+    pub head: Head,
+    pub reply: Reply,
+}
+
+// What opening on the arrays gives back.
+pub struct Start {
+    pub head: Head,
+    pub verdict: Verdict,
 }
 
 // What a packet changes beside the noting: the number whose place is laid, top, the sender's last count and repeat count.
@@ -62,33 +88,46 @@ struct Change {
     answer: Answer,
 }
 
-// What opening gives back. Where it is refused, the state is all zero, and no call accepts it.
-pub struct Opening {
-    pub sequencer: Sequencer,
-    pub verdict: Verdict,
+// Writes a packet with the first bytes of a place as its payload, if its questions allow it.
+fn put_place(
+    packet: Packet,
+    group: u32,
+    payloads: &[u8],
+    at: usize,
+    size: u8,
+    out: &mut [u8],
+) -> usize
+    requires { ⌜ Lies at (now payloads) × (size ≤ payloadMost) ⌝ }
+    ensures { λ r. ⌜ Laid (writeOf (fieldsOf group packet) (take size (partOf (now (payloads .entry)) at)) (length (now (out .entry))) .bytes) r (now (out .entry)) (now (out .exit)) ⌝ }
+{
+    let base = at * Group::PAYLOAD;
+    let end = base + (size as usize);
+    packet.put(group, &payloads[base..end], out)
 }
 
-// Writes the broadcast of a message with today's floor.
+// Writes the broadcast of a number, whose message lies in a place, with today's floor.
 fn send(
     group: u32,
     floor: SequenceNumber,
     number: SequenceNumber,
-    m: Message,
+    at: usize,
+    kept: &[u32],
+    originators: &[u8],
+    lengths: &[u8],
+    payloads: &[u8],
     out: &mut [u8],
 ) -> usize
-    requires { ⌜ MayBroadcast number floor m × (longestPacket ≤ length (now out)) ⌝ }
-    ensures { λ r. ⌜ Laid (packetOf (fieldsOf group (Packet.Broadcast (m .originator) number (m .count) floor)) (payloadOf m)) r (now (out .entry)) (now (out .exit)) ⌝ }
+    requires { ⌜ (at < placesMost) × MayBroadcast number floor (getD (messagesIn (now kept) (now originators) (now lengths) (now payloads)) at blank) × (longestPacket ≤ length (now out)) × Places (now kept) (now originators) (now lengths) (now payloads) ⌝ }
+    ensures { λ r. ⌜ Laid (packetOf (fieldsOf group (Packet.Broadcast (getD (messagesIn (now (kept .entry)) (now (originators .entry)) (now (lengths .entry)) (now (payloads .entry))) at blank .originator) number (getD (messagesIn (now (kept .entry)) (now (originators .entry)) (now (lengths .entry)) (now (payloads .entry))) at blank .count) floor)) (payloadOf (getD (messagesIn (now (kept .entry)) (now (originators .entry)) (now (lengths .entry)) (now (payloads .entry))) at blank))) r (now (out .entry)) (now (out .exit)) ⌝ }
 {
-    let originator = m.originator;
-    let payload = m.payload;
-    let length = m.length;
+    let originator = MemberNumber(originators[at]);
     let packet = Packet::Broadcast {
         originator,
         number,
-        count: m.count,
+        count: kept[at],
         floor,
     };
-    packet.put(group, &payload[..length], out)
+    put_place(packet, group, payloads, at, lengths[at], out)
 }
 
 // Writes the poll packet.
@@ -101,24 +140,48 @@ fn send_poll(group: u32, top: SequenceNumber, floor: SequenceNumber, out: &mut [
     packet.put(group, &none, out)
 }
 
-// Writes what an answer comes with: a broadcast, a poll packet, or nothing.
+// Writes what an answer comes with: a broadcast of the message in a place, a poll packet, or nothing.
 fn send_answer(
     answer: Answer,
     group: u32,
     top: SequenceNumber,
     floor: SequenceNumber,
-    m: Message,
+    at: usize,
+    kept: &[u32],
+    originators: &[u8],
+    lengths: &[u8],
+    payloads: &[u8],
     out: &mut [u8],
 ) -> usize
-    requires { ⌜ MaySend answer top floor m × (longestPacket ≤ length (now out)) ⌝ }
-    ensures { λ r. ⌜ Laid (sentOf answer group top floor m) r (now (out .entry)) (now (out .exit)) ⌝ }
+    requires { ⌜ (at < placesMost) × MaySend answer top floor (getD (messagesIn (now kept) (now originators) (now lengths) (now payloads)) at blank) × (longestPacket ≤ length (now out)) × Places (now kept) (now originators) (now lengths) (now payloads) ⌝ }
+    ensures { λ r. ⌜ Laid (sentOf answer group top floor (getD (messagesIn (now (kept .entry)) (now (originators .entry)) (now (lengths .entry)) (now (payloads .entry))) at blank)) r (now (out .entry)) (now (out .exit)) ⌝ }
 {
     match answer {
         Answer::Refused(_) => 0,
         Answer::Old => 0,
-        Answer::Again(number) => send(group, floor, number, m, out),
+        Answer::Again(number) => send(
+            group,
+            floor,
+            number,
+            at,
+            kept,
+            originators,
+            lengths,
+            payloads,
+            out,
+        ),
         Answer::Full => send_poll(group, top, floor, out),
-        Answer::Numbered(number) => send(group, floor, number, m, out),
+        Answer::Numbered(number) => send(
+            group,
+            floor,
+            number,
+            at,
+            kept,
+            originators,
+            lengths,
+            payloads,
+            out,
+        ),
         Answer::Noted => 0,
         Answer::Wanted(_, _) => 0,
         Answer::Sent => 0,
@@ -140,7 +203,8 @@ fn quiet(last: u32, top: SequenceNumber, repeats: u32, answer: Answer) -> Change
 
 // What a request changes, once A is noted: Old, Again, Full or Numbered.
 fn request_change(
-    history: [Message; Group::PLACES],
+    kept: &[u32],
+    originators: &[u8],
     sender: MemberNumber,
     count: u32,
     last: u32,
@@ -148,15 +212,15 @@ fn request_change(
     top: SequenceNumber,
     repeats: u32,
 ) -> Change
-    requires { ⌜ (last < count → top .0 < largestNumber) ⌝ }
-    ensures { λ r. ⌜ r ≡ requestChange history sender count last (floor .0) top repeats ⌝ }
+    requires { ⌜ (last < count → top .0 < largestNumber) × (length (now kept) ≡ placesMost) × (length (now originators) ≡ placesMost) ⌝ }
+    ensures { λ r. ⌜ r ≡ requestChange (listed (now (kept .entry)) (now (originators .entry))) sender count last (floor .0) top repeats ⌝ }
 {
     let more = history::one_more(repeats);
     if count < last {
         return quiet(last, top, more, Answer::Old);
     }
     if count == last {
-        let number = history::find(history, sender, count, floor, top);
+        let number = history::find(kept, originators, sender, count, floor, top);
         if number.0 == 0 {
             return quiet(last, top, more, Answer::Old);
         }
@@ -196,22 +260,23 @@ fn gap_answer(floor: SequenceNumber, first: SequenceNumber, last: SequenceNumber
 
 // What a packet changes, once A is noted.
 fn packet_change(
-    history: [Message; Group::PLACES],
+    kept: &[u32],
+    originators: &[u8],
     packet: Packet,
     last: u32,
     floor: SequenceNumber,
     top: SequenceNumber,
     repeats: u32,
 ) -> Change
-    requires { ⌜ Left packet last (top .0) ⌝ }
-    ensures { λ r. ⌜ r ≡ changeOf history packet last (floor .0) top repeats ⌝ }
+    requires { ⌜ Left packet last (top .0) × (length (now kept) ≡ placesMost) × (length (now originators) ≡ placesMost) ⌝ }
+    ensures { λ r. ⌜ r ≡ changeOf (listed (now (kept .entry)) (now (originators .entry))) packet last (floor .0) top repeats ⌝ }
 {
     match packet {
         Packet::Request {
             sender,
             taken: _,
             count,
-        } => request_change(history, sender, count, last, floor, top, repeats),
+        } => request_change(kept, originators, sender, count, last, floor, top, repeats),
         Packet::Broadcast {
             originator: _,
             number: _,
@@ -232,231 +297,509 @@ fn packet_change(
     }
 }
 
+// The head of a fresh state.
+fn fresh_head(group: Group) -> Head
+    ensures { λ r. ⌜ r ≡ record { group = group; top = record { 0 = 0 }; floor = record { 0 = 0 } } ⌝ }
+{
+    Head {
+        group,
+        top: SequenceNumber(0),
+        floor: SequenceNumber(0),
+    }
+}
+
+// Question 1: is the state sound?
+fn sound(
+    head: Head,
+    taken: &[u32; Group::MEMBERS],
+    counts: &[u32],
+    repeats: &[u32],
+    kept: &[u32],
+    originators: &[u8],
+    lengths: &[u8],
+    payloads: &[u8],
+) -> bool
+    requires { ⌜ Placed (whole head (now taken) (now counts) (now repeats) (now kept) (now originators) (now lengths) (now payloads)) ⌝ }
+    ensures answer { λ r. ⌜ r ≡ soundOf (viewOf (whole head (now (taken .entry)) (now (counts .entry)) (now (repeats .entry)) (now (kept .entry)) (now (originators .entry)) (now (lengths .entry)) (now (payloads .entry)))) ⌝ }
+    ensures sizes { λ _. ⌜ Fits (whole head (now (taken .entry)) (now (counts .entry)) (now (repeats .entry)) (now (kept .entry)) (now (originators .entry)) (now (lengths .entry)) (now (payloads .entry))) ⌝ }
+{
+    let n = head.group.n;
+    let floor = head.floor;
+    let top = head.top;
+    let entries = history::entries_sound(n, top, taken, counts, repeats);
+    if history::frame_sound(n, floor, top, taken) {
+        if entries {
+            return history::history_sound(
+                n,
+                floor,
+                top,
+                counts,
+                kept,
+                originators,
+                lengths,
+                payloads,
+            );
+        }
+        return false;
+    }
+    false
+}
+
+// Questions 1 and 2, of every call.
+fn ask(
+    head: Head,
+    taken: &[u32; Group::MEMBERS],
+    counts: &[u32],
+    repeats: &[u32],
+    kept: &[u32],
+    originators: &[u8],
+    lengths: &[u8],
+    payloads: &[u8],
+    room: usize,
+) -> Verdict
+    requires { ⌜ Placed (whole head (now taken) (now counts) (now repeats) (now kept) (now originators) (now lengths) (now payloads)) ⌝ }
+    ensures answer { λ r. ⌜ r ≡ callVerdict (viewOf (whole head (now (taken .entry)) (now (counts .entry)) (now (repeats .entry)) (now (kept .entry)) (now (originators .entry)) (now (lengths .entry)) (now (payloads .entry)))) room ⌝ }
+    ensures sizes { λ _. ⌜ Fits (whole head (now (taken .entry)) (now (counts .entry)) (now (repeats .entry)) (now (kept .entry)) (now (originators .entry)) (now (lengths .entry)) (now (payloads .entry))) ⌝ }
+{
+    if sound(
+        head,
+        taken,
+        counts,
+        repeats,
+        kept,
+        originators,
+        lengths,
+        payloads,
+    ) {
+        if room < Group::PACKET {
+            return Verdict::Refused(Refusal::ShortOutput);
+        }
+        return Verdict::Accepted;
+    }
+    Verdict::Refused(Refusal::UnsoundState)
+}
+
+fn refused(refusal: Refusal) -> Reply
+    ensures { λ r. ⌜ Refuses refusal r ⌝ }
+{
+    let answer = Answer::Refused(refusal);
+    Reply { answer, written: 0 }
+}
+
+// A refusal, which leaves the head.
+fn unchanged(head: Head, refusal: Refusal) -> Step
+    ensures head { λ r. ⌜ r .head ≡ head ⌝ }
+    ensures reply { λ r. ⌜ Refuses refusal (r .reply) ⌝ }
+{
+    let reply = refused(refusal);
+    Step { head, reply }
+}
+
+// A packet that no question refuses: A is noted, what the floor passes is cleared, and then what it changes is laid into the state.
+fn accepted(
+    head: Head,
+    taken: &mut [u32; Group::MEMBERS],
+    counts: &mut [u32],
+    repeats: &mut [u32],
+    kept: &mut [u32],
+    originators: &mut [u8],
+    lengths: &mut [u8],
+    payloads: &mut [u8],
+    packet: Packet,
+    payload: &[u8],
+    out: &mut [u8],
+) -> Step
+    requires { ⌜ Due (viewOf (whole head (now taken) (now counts) (now repeats) (now kept) (now originators) (now lengths) (now payloads))) packet (length (now payload)) (length (now out)) × Fits (whole head (now taken) (now counts) (now repeats) (now kept) (now originators) (now lengths) (now payloads)) ⌝ }
+    ensures { λ r. ⌜ Changed (acceptedStep (viewOf (whole head (now (taken .entry)) (now (counts .entry)) (now (repeats .entry)) (now (kept .entry)) (now (originators .entry)) (now (lengths .entry)) (now (payloads .entry)))) packet (now (payload .entry))) (r .reply) (whole (r .head) (now (taken .exit)) (now (counts .exit)) (now (repeats .exit)) (now (kept .exit)) (now (originators .exit)) (now (lengths .exit)) (now (payloads .exit))) (now (out .entry)) (now (out .exit)) ⌝ }
+{
+    let from = history::sender_of(packet);
+    let sender = from.member;
+    let acknowledged = from.taken;
+    let group = head.group;
+    let was = head.floor;
+    let top = head.top;
+    let floor = history::note(group.n, taken, sender, acknowledged);
+    history::clear(was, floor, kept, originators, lengths, payloads);
+    let member = sender.0 as usize;
+    let count = counts[member];
+    let again = repeats[member];
+    let c = packet_change(kept, originators, packet, count, floor, top, again);
+    counts[member] = c.count;
+    repeats[member] = c.repeats;
+    let number = c.number;
+    history::lay(
+        number,
+        top,
+        kept,
+        originators,
+        lengths,
+        payloads,
+        sender,
+        c.count,
+        payload,
+    );
+    let at = history::place(number.0 as u64);
+    let last = c.top;
+    let answer = c.answer;
+    let written = send_answer(
+        answer,
+        group.number,
+        last,
+        floor,
+        at,
+        kept,
+        originators,
+        lengths,
+        payloads,
+        out,
+    );
+    let reply = Reply { answer, written };
+    let next = Head {
+        group,
+        top: last,
+        floor,
+    };
+    Step { head: next, reply }
+}
+
+// Fields that were read: what they mean is asked questions 7 to 12, and 16.
+fn take(
+    head: Head,
+    taken: &mut [u32; Group::MEMBERS],
+    counts: &mut [u32],
+    repeats: &mut [u32],
+    kept: &mut [u32],
+    originators: &mut [u8],
+    lengths: &mut [u8],
+    payloads: &mut [u8],
+    h: Header,
+    payload: &[u8],
+    out: &mut [u8],
+) -> Step
+    requires { ⌜ Sized (viewOf (whole head (now taken) (now counts) (now repeats) (now kept) (now originators) (now lengths) (now payloads))) (length (now payload)) (length (now out)) × Fits (whole head (now taken) (now counts) (now repeats) (now kept) (now originators) (now lengths) (now payloads)) ⌝ }
+    ensures { λ r. ⌜ Changed (readStep (viewOf (whole head (now (taken .entry)) (now (counts .entry)) (now (repeats .entry)) (now (kept .entry)) (now (originators .entry)) (now (lengths .entry)) (now (payloads .entry)))) (Reading.Fields h) (now (payload .entry))) (r .reply) (whole (r .head) (now (taken .exit)) (now (counts .exit)) (now (repeats .exit)) (now (kept .exit)) (now (originators .exit)) (now (lengths .exit)) (now (payloads .exit))) (now (out .entry)) (now (out .exit)) ⌝ }
+{
+    let packet = Packet::of(h);
+    let group = head.group;
+    let top = head.top;
+    let v = history::ask_packet(group, counts, top, h.group, packet);
+    match v {
+        Verdict::Accepted => accepted(
+            head,
+            taken,
+            counts,
+            repeats,
+            kept,
+            originators,
+            lengths,
+            payloads,
+            packet,
+            payload,
+            out,
+        ),
+        Verdict::Refused(q) => unchanged(head, q),
+    }
+}
+
+// The call for packets, on the arrays.
+pub fn receive_on(
+    head: Head,
+    taken: &mut [u32; Group::MEMBERS],
+    counts: &mut [u32; Group::MEMBERS],
+    repeats: &mut [u32; Group::MEMBERS],
+    kept: &mut [u32; Group::PLACES],
+    originators: &mut [u8; Group::PLACES],
+    lengths: &mut [u8; Group::PLACES],
+    payloads: &mut [u8; Group::HISTORY_BYTES],
+    packet: &[u8],
+    out: &mut [u8],
+) -> Step
+    ensures { λ r. ⌜ Received (whole head (now (taken .entry)) (now (counts .entry)) (now (repeats .entry)) (now (kept .entry)) (now (originators .entry)) (now (lengths .entry)) (now (payloads .entry))) (now (packet .entry)) (now (out .entry)) (r .reply) (whole (r .head) (now (taken .exit)) (now (counts .exit)) (now (repeats .exit)) (now (kept .exit)) (now (originators .exit)) (now (lengths .exit)) (now (payloads .exit))) (now (out .exit)) ⌝ }
+{
+    let v = ask(
+        head,
+        taken,
+        counts,
+        repeats,
+        kept,
+        originators,
+        lengths,
+        payloads,
+        out.len(),
+    );
+    match v {
+        Verdict::Accepted => {
+            let reading = packet::read(packet);
+            match reading {
+                Reading::Fields(h) => {
+                    let end = Group::HEADER + packet::payload_length(packet);
+                    take(
+                        head,
+                        taken,
+                        counts,
+                        repeats,
+                        kept,
+                        originators,
+                        lengths,
+                        payloads,
+                        h,
+                        &packet[Group::HEADER..end],
+                        out,
+                    )
+                }
+                Reading::Refused(q) => unchanged(head, q),
+            }
+        }
+        Verdict::Refused(q) => unchanged(head, q),
+    }
+}
+
+// The poll call on the arrays.
+pub fn poll_on(
+    head: Head,
+    taken: &[u32; Group::MEMBERS],
+    counts: &[u32; Group::MEMBERS],
+    repeats: &[u32; Group::MEMBERS],
+    kept: &[u32; Group::PLACES],
+    originators: &[u8; Group::PLACES],
+    lengths: &[u8; Group::PLACES],
+    payloads: &[u8; Group::HISTORY_BYTES],
+    out: &mut [u8],
+) -> Reply
+    ensures { λ r. ⌜ Polled (whole head (now (taken .entry)) (now (counts .entry)) (now (repeats .entry)) (now (kept .entry)) (now (originators .entry)) (now (lengths .entry)) (now (payloads .entry))) (now (out .entry)) r (now (out .exit)) ⌝ }
+{
+    let v = ask(
+        head,
+        taken,
+        counts,
+        repeats,
+        kept,
+        originators,
+        lengths,
+        payloads,
+        out.len(),
+    );
+    match v {
+        Verdict::Accepted => {
+            let top = head.top;
+            let floor = head.floor;
+            let written = send_poll(head.group.number, top, floor, out);
+            let answer = Answer::Sent;
+            Reply { answer, written }
+        }
+        Verdict::Refused(q) => refused(q),
+    }
+}
+
+// Question 17, then the broadcast.
+fn copied(
+    head: Head,
+    taken: &[u32; Group::MEMBERS],
+    counts: &[u32],
+    repeats: &[u32],
+    kept: &[u32],
+    originators: &[u8],
+    lengths: &[u8],
+    payloads: &[u8],
+    number: SequenceNumber,
+    out: &mut [u8],
+) -> Reply
+    requires { ⌜ (callVerdict (viewOf (whole head (now taken) (now counts) (now repeats) (now kept) (now originators) (now lengths) (now payloads))) (length (now out)) ≡ Verdict.Accepted) × Fits (whole head (now taken) (now counts) (now repeats) (now kept) (now originators) (now lengths) (now payloads)) ⌝ }
+    ensures { λ r. ⌜ Copied (whole head (now (taken .entry)) (now (counts .entry)) (now (repeats .entry)) (now (kept .entry)) (now (originators .entry)) (now (lengths .entry)) (now (payloads .entry))) number (now (out .entry)) r (now (out .exit)) ⌝ }
+{
+    let today = head.floor;
+    if number.0 <= today.0 {
+        return refused(Refusal::NotInHistory);
+    }
+    if head.top.0 < number.0 {
+        return refused(Refusal::NotInHistory);
+    }
+    let at = history::place(number.0 as u64);
+    let written = send(
+        head.group.number,
+        today,
+        number,
+        at,
+        kept,
+        originators,
+        lengths,
+        payloads,
+        out,
+    );
+    let answer = Answer::Sent;
+    Reply { answer, written }
+}
+
+// The copy call on the arrays.
+pub fn copy_on(
+    head: Head,
+    taken: &[u32; Group::MEMBERS],
+    counts: &[u32; Group::MEMBERS],
+    repeats: &[u32; Group::MEMBERS],
+    kept: &[u32; Group::PLACES],
+    originators: &[u8; Group::PLACES],
+    lengths: &[u8; Group::PLACES],
+    payloads: &[u8; Group::HISTORY_BYTES],
+    number: SequenceNumber,
+    out: &mut [u8],
+) -> Reply
+    ensures { λ r. ⌜ Copied (whole head (now (taken .entry)) (now (counts .entry)) (now (repeats .entry)) (now (kept .entry)) (now (originators .entry)) (now (lengths .entry)) (now (payloads .entry))) number (now (out .entry)) r (now (out .exit)) ⌝ }
+{
+    let v = ask(
+        head,
+        taken,
+        counts,
+        repeats,
+        kept,
+        originators,
+        lengths,
+        payloads,
+        out.len(),
+    );
+    match v {
+        Verdict::Accepted => copied(
+            head,
+            taken,
+            counts,
+            repeats,
+            kept,
+            originators,
+            lengths,
+            payloads,
+            number,
+            out,
+        ),
+        Verdict::Refused(q) => refused(q),
+    }
+}
+
+// Opening on the arrays.
+pub fn open_on(
+    head: Head,
+    taken: &mut [u32; Group::MEMBERS],
+    counts: &mut [u32; Group::MEMBERS],
+    repeats: &mut [u32; Group::MEMBERS],
+    kept: &mut [u32; Group::PLACES],
+    originators: &mut [u8; Group::PLACES],
+    lengths: &mut [u8; Group::PLACES],
+    payloads: &mut [u8; Group::HISTORY_BYTES],
+    n: u8,
+    group: u32,
+) -> Start
+    ensures { λ r. ⌜ Opens (whole head (now (taken .entry)) (now (counts .entry)) (now (repeats .entry)) (now (kept .entry)) (now (originators .entry)) (now (lengths .entry)) (now (payloads .entry))) n group (r .verdict) (whole (r .head) (now (taken .exit)) (now (counts .exit)) (now (repeats .exit)) (now (kept .exit)) (now (originators .exit)) (now (lengths .exit)) (now (payloads .exit))) ⌝ }
+{
+    *taken = [0u32; Group::MEMBERS];
+    *counts = [0u32; Group::MEMBERS];
+    *repeats = [0u32; Group::MEMBERS];
+    *kept = [0u32; Group::PLACES];
+    *originators = [0u8; Group::PLACES];
+    *lengths = [0u8; Group::PLACES];
+    *payloads = [0u8; Group::HISTORY_BYTES];
+    let opened = Group::fresh(n, group);
+    match opened {
+        Opened::Open(g) => {
+            let head = fresh_head(g);
+            let verdict = Verdict::Accepted;
+            Start { head, verdict }
+        }
+        Opened::Refused(q) => {
+            let head = fresh_head(Group { n: 0, number: 0 });
+            let verdict = Verdict::Refused(q);
+            Start { head, verdict }
+        }
+    }
+}
+
 impl Sequencer {
-    // Fresh: all zero but n and group.
-    fn empty(group: Group) -> Self
-        ensures { λ r. ⌜ r ≡ freshSequencer group ⌝ }
+    // All zero: what a caller has before it opens a group. No call accepts it.
+    pub fn closed() -> Self
+        ensures { λ r. ⌜ viewOf r ≡ freshSequencer (descriptionOf 0 0) ⌝ }
     {
-        let none = Acknowledgement {
-            taken: SequenceNumber(0),
-            count: 0,
-            repeats: 0,
-        };
-        let table = [none; Group::MEMBERS];
-        let m = Message::empty();
-        let history = [m; Group::PLACES];
+        let head = fresh_head(Group { n: 0, number: 0 });
         Sequencer {
+            head,
+            taken: [0u32; Group::MEMBERS],
+            counts: [0u32; Group::MEMBERS],
+            repeats: [0u32; Group::MEMBERS],
+            kept: [0u32; Group::PLACES],
+            originators: [0u8; Group::PLACES],
+            lengths: [0u8; Group::PLACES],
+            payloads: [0u8; Group::HISTORY_BYTES],
+        }
+    }
+
+    // Opening: question 18. The state is fresh; where opening is refused, it is all zero, and no call accepts it.
+    pub fn open(&mut self, n: u8, group: u32) -> Verdict
+        ensures { λ r. ⌜ Opens (now (self .entry)) n group r (now (self .exit)) ⌝ }
+    {
+        let start = open_on(
+            self.head,
+            &mut self.taken,
+            &mut self.counts,
+            &mut self.repeats,
+            &mut self.kept,
+            &mut self.originators,
+            &mut self.lengths,
+            &mut self.payloads,
+            n,
             group,
-            acknowledgements: table,
-            top: SequenceNumber(0),
-            floor: SequenceNumber(0),
-            history,
-        }
-    }
-
-    // Question 1: is the state sound?
-    fn sound(self) -> bool
-        ensures { λ r. ⌜ r ≡ soundOf self ⌝ }
-    {
-        let n = self.group.n;
-        let table = self.acknowledgements;
-        let history = self.history;
-        let floor = self.floor;
-        let top = self.top;
-        if history::frame_sound(n, table, floor, top) {
-            if history::entries_sound(n, table, top) {
-                return history::history_sound(n, table, history, floor, top);
-            }
-            return false;
-        }
-        false
-    }
-
-    // Questions 1 and 2, of every call.
-    fn ask(self, room: usize) -> Verdict
-        ensures { λ r. ⌜ r ≡ callVerdict self room ⌝ }
-    {
-        if self.sound() {
-            if room < Group::PACKET {
-                return Verdict::Refused(Refusal::ShortOutput);
-            }
-            return Verdict::Accepted;
-        }
-        Verdict::Refused(Refusal::UnsoundState)
-    }
-
-    fn refused(self, refusal: Refusal) -> Step
-        ensures { λ r. ⌜ Quiet (answered self (Answer.Refused refusal)) r ⌝ }
-    {
-        let answer = Answer::Refused(refusal);
-        Step {
-            sequencer: self,
-            answer,
-            written: 0,
-        }
-    }
-
-    // A packet that no question refuses: A is noted, what the floor passes is cleared, and then the state is put together.
-    fn accepted(mut self, packet: Packet, payload: &[u8], out: &mut [u8]) -> Step
-        requires { ⌜ Due self packet (length (now payload)) (length (now out)) ⌝ }
-        ensures { λ r. ⌜ Done (acceptedStep self packet (now (payload .entry))) r (now (out .entry)) (now (out .exit)) ⌝ }
-    {
-        let from = history::sender_of(packet);
-        let sender = from.member;
-        let taken = from.taken;
-        let old = self.acknowledgements;
-        let table = history::table_noted(old, sender, taken);
-        let floor = history::smallest(self.group.n, table);
-        let was = self.floor;
-        let mut passed = was.0;
-        while passed < floor.0 {
-            passed += 1;
-            let at = history::place(passed as u64);
-            let none = Message::empty();
-            self.history[at] = none;
-        }
-        let member = sender.0 as usize;
-        let entry = table[member];
-        let history = self.history;
-        let top = self.top;
-        let c = packet_change(history, packet, entry.count, floor, top, entry.repeats);
-        let at = history::place(c.number.0 as u64);
-        let m = history::laid(self.history[at], sender, c.number, top, c.count, payload);
-        self.history[at] = m;
-        self.acknowledgements = table;
-        let acknowledged = entry.taken;
-        let next = Acknowledgement {
-            taken: acknowledged,
-            count: c.count,
-            repeats: c.repeats,
-        };
-        self.acknowledgements[member] = next;
-        self.floor = floor;
-        let last = c.top;
-        self.top = last;
-        let answer = c.answer;
-        let written = send_answer(answer, self.group.number, last, floor, m, out);
-        Step {
-            sequencer: self,
-            answer,
-            written,
-        }
-    }
-
-    // Fields that were read: what they mean is asked questions 7 to 12, and 16.
-    fn take(self, h: Header, payload: &[u8], out: &mut [u8]) -> Step
-        requires { ⌜ Sized self (length (now payload)) (length (now out)) ⌝ }
-        ensures { λ r. ⌜ Done (readStep self (Reading.Fields h) (now (payload .entry))) r (now (out .entry)) (now (out .exit)) ⌝ }
-    {
-        let packet = Packet::of(h);
-        let group = self.group;
-        let table = self.acknowledgements;
-        let top = self.top;
-        let v = history::ask_packet(group, table, top, h.group, packet);
-        match v {
-            Verdict::Accepted => self.accepted(packet, payload, out),
-            Verdict::Refused(q) => self.refused(q),
-        }
+        );
+        self.head = start.head;
+        start.verdict
     }
 
     // The call for packets.
-    pub fn receive(self, packet: &[u8], out: &mut [u8]) -> Step
-        ensures answer { λ r. ⌜ r ≡ stepOf (receiveOf self (now (packet .entry)) (length (now (out .entry)))) ⌝ }
-        ensures lent { λ _. ⌜ now (out .exit) ≡ front (receiveOf self (now (packet .entry)) (length (now (out .entry))) .bytes) (now (out .entry)) ⌝ }
-        ensures wording { λ r. ⌜ wordingOf (r .answer) ≡ wordingOf (receiveOf self (now (packet .entry)) (length (now (out .entry))) .answer) ⌝ }
+    pub fn receive(&mut self, packet: &[u8], out: &mut [u8]) -> Reply
+        ensures { λ r. ⌜ Received (now (self .entry)) (now (packet .entry)) (now (out .entry)) r (now (self .exit)) (now (out .exit)) ⌝ }
     {
-        let v = self.ask(out.len());
-        match v {
-            Verdict::Accepted => {
-                let reading = packet::read(packet);
-                match reading {
-                    Reading::Fields(h) => {
-                        let end = Group::HEADER + packet::payload_length(packet);
-                        self.take(h, &packet[Group::HEADER..end], out)
-                    }
-                    Reading::Refused(q) => self.refused(q),
-                }
-            }
-            Verdict::Refused(q) => self.refused(q),
-        }
+        let step = receive_on(
+            self.head,
+            &mut self.taken,
+            &mut self.counts,
+            &mut self.repeats,
+            &mut self.kept,
+            &mut self.originators,
+            &mut self.lengths,
+            &mut self.payloads,
+            packet,
+            out,
+        );
+        self.head = step.head;
+        step.reply
     }
 
     // The poll call: the poll packet.
-    pub fn poll(self, out: &mut [u8]) -> Step
-        ensures answer { λ r. ⌜ r ≡ stepOf (pollOf self (length (now (out .entry)))) ⌝ }
-        ensures lent { λ _. ⌜ now (out .exit) ≡ front (pollOf self (length (now (out .entry))) .bytes) (now (out .entry)) ⌝ }
-        ensures wording { λ r. ⌜ wordingOf (r .answer) ≡ wordingOf (pollOf self (length (now (out .entry))) .answer) ⌝ }
+    pub fn poll(&self, out: &mut [u8]) -> Reply
+        ensures { λ r. ⌜ Polled (now (self .entry)) (now (out .entry)) r (now (out .exit)) ⌝ }
     {
-        let v = self.ask(out.len());
-        match v {
-            Verdict::Accepted => {
-                let top = self.top;
-                let floor = self.floor;
-                let written = send_poll(self.group.number, top, floor, out);
-                let answer = Answer::Sent;
-                Step {
-                    sequencer: self,
-                    answer,
-                    written,
-                }
-            }
-            Verdict::Refused(q) => self.refused(q),
-        }
-    }
-
-    // Question 17, then the broadcast.
-    fn copied(self, number: SequenceNumber, out: &mut [u8]) -> Step
-        requires { ⌜ callVerdict self (length (now out)) ≡ Verdict.Accepted ⌝ }
-        ensures { λ r. ⌜ Done (copyOf self number (length (now (out .entry)))) r (now (out .entry)) (now (out .exit)) ⌝ }
-    {
-        if number.0 <= self.floor.0 {
-            return self.refused(Refusal::NotInHistory);
-        }
-        if self.top.0 < number.0 {
-            return self.refused(Refusal::NotInHistory);
-        }
-        let at = history::place(number.0 as u64);
-        let m = self.history[at];
-        let floor = self.floor;
-        let written = send(self.group.number, floor, number, m, out);
-        let answer = Answer::Sent;
-        Step {
-            sequencer: self,
-            answer,
-            written,
-        }
+        poll_on(
+            self.head,
+            &self.taken,
+            &self.counts,
+            &self.repeats,
+            &self.kept,
+            &self.originators,
+            &self.lengths,
+            &self.payloads,
+            out,
+        )
     }
 
     // The copy call for a number: its broadcast, with today's floor.
-    pub fn copy(self, number: SequenceNumber, out: &mut [u8]) -> Step
-        ensures answer { λ r. ⌜ r ≡ stepOf (copyOf self number (length (now (out .entry)))) ⌝ }
-        ensures lent { λ _. ⌜ now (out .exit) ≡ front (copyOf self number (length (now (out .entry))) .bytes) (now (out .entry)) ⌝ }
-        ensures wording { λ r. ⌜ wordingOf (r .answer) ≡ wordingOf (copyOf self number (length (now (out .entry))) .answer) ⌝ }
+    pub fn copy(&self, number: SequenceNumber, out: &mut [u8]) -> Reply
+        ensures { λ r. ⌜ Copied (now (self .entry)) number (now (out .entry)) r (now (out .exit)) ⌝ }
     {
-        let v = self.ask(out.len());
-        match v {
-            Verdict::Accepted => self.copied(number, out),
-            Verdict::Refused(q) => self.refused(q),
-        }
-    }
-
-    // Opening: question 18. Where it is refused, the state is all zero.
-    pub fn fresh(n: u8, group: u32) -> Opening
-        ensures answer { λ r. ⌜ r ≡ freshOf n group ⌝ }
-        ensures wording { λ r. ⌜ verdictWording (r .verdict) ≡ verdictWording (freshOf n group .verdict) ⌝ }
-    {
-        let opened = Group::fresh(n, group);
-        match opened {
-            Opened::Open(g) => {
-                let sequencer = Sequencer::empty(g);
-                let verdict = Verdict::Accepted;
-                Opening { sequencer, verdict }
-            }
-            Opened::Refused(q) => {
-                let sequencer = Sequencer::empty(Group { n: 0, number: 0 });
-                let verdict = Verdict::Refused(q);
-                Opening { sequencer, verdict }
-            }
-        }
+        copy_on(
+            self.head,
+            &self.taken,
+            &self.counts,
+            &self.repeats,
+            &self.kept,
+            &self.originators,
+            &self.lengths,
+            &self.payloads,
+            number,
+            out,
+        )
     }
 }

@@ -5,6 +5,7 @@ use Prim.Native.Nat.{ℕ, _≤_}
 use Rattle.group.specs.Limits.{membersMost}
 use Rattle.model.specs.World.{Event, Answer, Group, happen, Entry, World, step, run, fresh}
 use Rattle.simulator.specs.Course.{answered, Played, opened, played, Reached, PlayedReached}
+use Rattle.simulator.specs.Whole.{sizeOf}
 use Rattle.simulator.specs.declared.Whole.{Whole}
 use Rattle.simulator.proofs.Storing.{map-snoc}
 
@@ -16,7 +17,7 @@ run-snoc w (e ∷ events) event = run-snoc (step w e) events event
 module _ (n number : ℕ) where
   -- what is reached, and that there is room for every member
   abbrev Here : List Event → List Answer → Whole → Type 0
-  Here events answers w = Reached n number events answers w × (w .sequencer .group .n ≤ membersMost)
+  Here events answers w = Reached n number events answers w × (sizeOf w ≤ membersMost)
 
   here : {events : List Event} {answers : List Answer} {w : Whole} → Played n number events answers w → Here events answers w
   unfolding run fresh

@@ -5,11 +5,12 @@ use Prim.Native.Nat.{ℕ, _+_, _≤_, _<_}
 use lib.ListN.{length, take, set}
 use Rattle.group.specs.Limits.{longestPacket}
 use Rattle.member.specs.Calls as member
-use Rattle.member.specs.declared.Member.{Member}
-use Rattle.member.specs.declared.Step as memberStep
+use Rattle.member.specs.State.{Member}
+use Rattle.member.specs.declared.Reply as memberReply
 use Rattle.model.specs.World.{Group, Happened}
 use Rattle.sequencer.specs.Calls as sequencer
-use Rattle.sequencer.specs.declared.Step as sequencerStep
+use Rattle.sequencer.specs.State.{Sequencer}
+use Rattle.sequencer.specs.declared.Reply as sequencerReply
 use Rattle.simulator.specs.Whole.{groupOf, Room, Does}
 use Rattle.simulator.specs.declared.Happening.{Happening}
 use Rattle.simulator.specs.declared.Whole.{Whole}
@@ -27,12 +28,12 @@ withPackets g packets = record { sequencer = g .sequencer; members = g .members;
 abbrev pub withMemberAt : Group → ℕ → Member → Group
 withMemberAt g i m = record { sequencer = g .sequencer; members = set (g .members) i m; packets = g .packets }
 
--- the outcome of a call, out of what it gave back and the lent output after it
-abbrev pub memberOutcome : memberStep.Step → List ℕ → member.Outcome
-memberOutcome step out = record { member = step .member; answer = step .answer; bytes = take (step .written) out }
+-- the outcome of a call, out of the state that it leaves, what it says, and the lent output after it
+abbrev pub memberOutcome : Member → memberReply.Reply → List ℕ → member.Outcome
+memberOutcome m reply out = record { member = m; answer = reply .answer; bytes = take (reply .written) out }
 
-abbrev pub sequencerOutcome : sequencerStep.Step → List ℕ → sequencer.Outcome
-sequencerOutcome step out = record { sequencer = step .sequencer; answer = step .answer; bytes = take (step .written) out }
+abbrev pub sequencerOutcome : Sequencer → sequencerReply.Reply → List ℕ → sequencer.Outcome
+sequencerOutcome s reply out = record { sequencer = s; answer = reply .answer; bytes = take (reply .written) out }
 
 -- packets were added
 pub record Grown (w : Whole) (packets : List (List ℕ)) (r : Whole) : Type 0 where

@@ -1,9 +1,9 @@
--- A call of the sequencer keeps its n: the call's text, a choice at a time. Assumes nothing.
+-- A call of the sequencer for packets keeps its n: the call's text, a choice at a time. Assumes nothing.
 use mathlib.Core.Path.{_≡_, refl}
 use mathlib.Core.List.{List}
 use Prim.Native.Nat.{ℕ, _-_}
 use Rattle.group.proofs.Lists.{if-elim, judged-elim}
-use Rattle.group.specs.Choice.{_and_, _<?_, _≤?_, _=?_}
+use Rattle.group.specs.Choice.{_<?_, _≤?_, _=?_}
 use Rattle.group.specs.Limits.{placesMost}
 use Rattle.group.specs.declared.MemberNumber.{MemberNumber}
 use Rattle.group.specs.declared.SequenceNumber.{SequenceNumber}
@@ -13,10 +13,9 @@ use Rattle.packet.specs.declared.Packet.the-variants.{Request, Broadcast, Gap, 
 use Rattle.packet.specs.declared.Reading.{Reading}
 use Rattle.packet.specs.declared.Reading.the-variants.{Fields}
 use Rattle.history.specs.Ask.{senderVerdict, countVerdict, wantedVerdict}
-use Rattle.sequencer.specs.Calls.{Outcome, answered, repeatedOf, oldOf, againOf, fullOf, withMessage, numberedOf, requestOf, gapOf, contentStep, readStep, callVerdict, receiveOf, pollOf, copyOf}
+use Rattle.sequencer.specs.Calls.{Outcome, answered, repeatedOf, oldOf, againOf, fullOf, withMessage, numberedOf, requestOf, gapOf, contentStep, readStep, callVerdict, receiveOf}
 use Rattle.sequencer.specs.Note.{withTable, noteOf}
-use Rattle.sequencer.specs.State.{lastCount}
-use Rattle.sequencer.specs.declared.Sequencer.{Sequencer}
+use Rattle.sequencer.specs.State.{Sequencer, lastCount}
 
 -- the sequencer that a call leaves has that n
 abbrev pub Has : ℕ → Outcome → Type 0
@@ -67,13 +66,3 @@ module _ (s : Sequencer) where
   unfolding receiveOf answered
   receive-has packet room =
       judged-elim (Has (s .group .n)) (callVerdict s room) (λ _ _. refl) (λ _. read-has (readOf packet) (payloadAt packet))
-
-  pub poll-has : (room : ℕ) → Has (s .group .n) (pollOf s room)
-  unfolding pollOf answered
-  poll-has room = judged-elim (Has (s .group .n)) (callVerdict s room) (λ _ _. refl) (λ _. refl)
-
-  pub copy-has : (number : SequenceNumber) (room : ℕ) → Has (s .group .n) (copyOf s number room)
-  unfolding copyOf answered
-  copy-has number room =
-      judged-elim (Has (s .group .n)) (callVerdict s room) (λ _ _. refl)
-      (λ _. if-elim (Has (s .group .n)) (s .floor .0 <? number .0 and number .0 ≤? s .top .0) (λ _. refl) (λ _. refl))

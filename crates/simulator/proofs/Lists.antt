@@ -1,10 +1,10 @@
--- Reading a list inside its length, by an index or with a value for what is not there. Assumes nothing.
-use mathlib.Core.Path.{_≡_, refl}
+-- A list with another element, under a function; reading a list inside its length, by an index or with a value for what is not there. Assumes nothing.
+use mathlib.Core.Path.{_≡_, refl, ap}
 use mathlib.Core.Option.{none, some}
 use mathlib.Core.List.{List, [], _∷_, map}
 use Prim.Native.Nat.{ℕ, zero, suc, _≤_, _<_}
 use native.Mathlib.Omega.{arith}
-use lib.ListN.{length, getD, take, getElem?}
+use lib.ListN.{length, getD, set, take, getElem?}
 
 module _ {A : Type 0} where
   -- the value for what is not there does not matter
@@ -17,6 +17,16 @@ module _ {A : Type 0} where
   get-outside [] k h = refl
   get-outside (x ∷ l) zero h = absurd (omega arith)
   get-outside (x ∷ l) (suc k) h = get-outside l k (omega arith)
+
+  pub map-set : {B : Type 0} (f : A → B) (l : List A) (i : ℕ) (x : A) → map f (set l i x) ≡ set (map f l) i (f x)
+  map-set f [] i x = refl
+  map-set f (y ∷ l) zero x = refl
+  map-set f (y ∷ l) (suc i) x = ap (λ (r : List _). f y ∷ r) (map-set f l i x)
+
+  pub take-map : {B : Type 0} (f : A → B) (k : ℕ) (l : List A) → take k (map f l) ≡ map f (take k l)
+  take-map f zero l = refl
+  take-map f (suc k) [] = refl
+  take-map f (suc k) (x ∷ l) = ap (λ (r : List _). f x ∷ r) (take-map f k l)
 
   -- the k-th of what `f` says of the first n
   pub get-map : {B : Type 0} (f : A → B) (n : ℕ) (l : List A) (k : ℕ) (d : A) → k < n → k < length l → getElem? (map f (take n l)) k ≡ some (f (getD l k d))

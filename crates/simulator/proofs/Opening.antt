@@ -1,12 +1,13 @@
--- The fresh members, one after the other; and the fresh group out of them. Assumes nothing.
+-- The fresh members, one after the other; the fresh group out of them; and an opening leaves nothing open. Assumes nothing.
 use mathlib.Core.Path.{_≡_, refl, sym, ap, _∙_}
-use mathlib.Core.List.{List, [], _∷_, _++_}
+use mathlib.Core.List.{List, [], _∷_, _++_, map}
+use mathlib.Core.Option.{some}
 use Prim.Native.Nat.{ℕ, zero, suc, _+_, _≤_, _<_}
 use native.Mathlib.Numerals.{add-one}
 use native.Mathlib.Nat.{zero-add}
 use native.Mathlib.Omega.{arith}
 use borrow.Author.Tests.{leb-true}
-use lib.ListN.{length, take, set}
+use lib.ListN.{length, take, drop, getD, getElem?, set, replicate}
 use lib.Seq.{take-suc-set}
 use Rattle.group.proofs.Choice.{both-then}
 use Rattle.group.proofs.Lists.{if-elim}
@@ -18,12 +19,21 @@ use Rattle.group.specs.declared.Opened as group
 use Rattle.group.specs.declared.Refusal.{Refusal}
 use Rattle.group.specs.declared.Verdict.{Verdict}
 use Rattle.member.specs.Calls as member
-use Rattle.member.specs.declared.Member.{Member}
+use Rattle.member.specs.State.{Member}
+use Rattle.member.proofs.Leaving as memberLeaving
+use Rattle.member.specs.View as memberView
+use Rattle.member.specs.declared.Member as stored
 use Rattle.model.specs.World.{freshMembers, fresh}
 use Rattle.sequencer.specs.Calls as sequencer
-use Rattle.sequencer.specs.State.{freshSequencer}
-use Rattle.simulator.specs.Whole.{groupOf, openedOf, Opens}
+use Rattle.sequencer.proofs.Leaving as sequencerLeaving
+use Rattle.sequencer.specs.Promise.{Starts}
+use Rattle.sequencer.specs.State.{Sequencer, freshSequencer}
+use Rattle.sequencer.specs.View as sequencerView
+use Rattle.simulator.specs.Course.{OpensWhole}
+use Rattle.simulator.specs.Whole.{packetsMost, sizeOf, groupOf, noPacket, packetIn, Opens}
 use Rattle.simulator.specs.declared.Opened.{Opened}
+use Rattle.simulator.proofs.Lists.{take-map}
+use Rattle.simulator.proofs.Storing.{map-snoc}
 
 module _ (n number : ℕ) where
   abbrev freshAt : ℕ → Member
@@ -37,12 +47,14 @@ module _ (n number : ℕ) where
       ap (λ (l : List Member). freshAt i ∷ l) (members-snoc (i + 1) k ∙ ap (λ (j : ℕ). freshMembers n number (i + 1) k ++ (freshAt j ∷ [])) e)
 
   -- one member more
-  pub members-on : (i : ℕ) (members : List Member) (m : Member) → i < length members → take i members ≡ freshMembers n number 0 i → m ≡ freshAt i
-      → take (i + 1) (set members i m) ≡ freshMembers n number 0 (i + 1)
+  pub members-on : (i : ℕ) (members : List stored.Member) (m : stored.Member) → i < length members
+      → map memberView.viewOf (take i members) ≡ freshMembers n number 0 i → memberView.viewOf m ≡ freshAt i
+      → map memberView.viewOf (take (i + 1) (set members i m)) ≡ freshMembers n number 0 (i + 1)
   members-on i members m h e f =
       rw add-one
-      (take-suc-set members i m h
-      ∙ ap (λ (l : List Member). l ++ (m ∷ [])) e
+      (ap (map memberView.viewOf) (take-suc-set members i m h)
+      ∙ map-snoc memberView.viewOf (take i members) m
+      ∙ ap (λ (l : List Member). l ++ (memberView.viewOf m ∷ [])) e
       ∙ ap (λ (x : Member). freshMembers n number 0 i ++ (x ∷ [])) f
       ∙ ap (λ (j : ℕ). freshMembers n number 0 i ++ (freshAt j ∷ [])) (sym (zero-add i))
       ∙ sym (members-snoc 0 i))
@@ -67,17 +79,49 @@ module _ (n number : ℕ) where
       if-elim (λ (o : group.Opened). sequencer.openedOf o .sequencer .group .n ≤ membersMost) (1 ≤? n and n ≤? membersMost)
       (λ t. leb-true n membersMost (both-then (1 ≤? n) (n ≤? membersMost) t)) (λ _. omega arith)
 
-  pub opens : (r : Opened) → r ≡ openedOf n number → Opens n number r
-  unfolding openedOf groupOf fresh
-  opens r e =
-      rw e
-      (record {
-        result = refl;
+  pub opens : (r : Opened) → Starts (sequencer.freshOf n number) (r .verdict) (r .whole .sequencer)
+      → map memberView.viewOf (r .whole .members) ≡ freshMembers n number 0 membersMost → r .whole .packets ≡ replicate packetsMost noPacket → r .whole .count ≡ 0
+      → Opens n number r
+  unfolding groupOf fresh sequencerView.viewOf
+  opens r o m p z =
+      let size : sizeOf (r .whole) ≡ sequencer.freshOf n number .sequencer .group .n = ap (λ (s : Sequencer). s .group .n) (o .state) in
+      record {
+        verdict = o .answer;
+        sequencer = o .state;
+        members = m;
+        packets = p;
+        count = z;
         group = λ yes.
-            let o = opened-yes yes in
-            let m : take (sequencer.freshOf n number .sequencer .group .n) (freshMembers n number 0 membersMost) ≡ freshMembers n number 0 n =
-            ap (λ (k : ℕ). take k (freshMembers n number 0 membersMost)) (o .1) ∙ members-take 0 n membersMost (o .0)
+            let q = opened-yes (sym (o .answer) ∙ yes) in
+            let few : map memberView.viewOf (take (sizeOf (r .whole)) (r .whole .members)) ≡ freshMembers n number 0 n =
+            sym (take-map memberView.viewOf (sizeOf (r .whole)) (r .whole .members))
+            ∙ ap (take (sizeOf (r .whole))) m
+            ∙ ap (λ (k : ℕ). take k (freshMembers n number 0 membersMost)) (size ∙ q .1)
+            ∙ members-take 0 n membersMost (q .0)
             in
-            λ i. record { sequencer = sequencer.freshOf n number .sequencer; members = m i; packets = [] };
-        room = record { packets = omega arith; members = opened-few };
-      })
+            let none : map packetIn (take (r .whole .count) (r .whole .packets)) ≡ [] = ap (λ (k : ℕ). map packetIn (take k (r .whole .packets))) z in
+            λ i. record { sequencer = o .state i; members = few i; packets = none i };
+        room = record { packets = rw z (omega arith); members = rw size opened-few };
+      }
+
+-- members whose arrays have their lengths, seen alike, are the same
+abbrev AllSized : List stored.Member → Type 0
+AllSized l = (i : ℕ) (m : stored.Member) → getElem? l i ≡ some m → memberView.Sized m
+
+members-whole : (l k : List stored.Member) → AllSized l → AllSized k → map memberView.viewOf l ≡ map memberView.viewOf k → l ≡ k
+members-whole [] [] a b e = refl
+members-whole [] (m ∷ k) a b e = absurd (let z : 0 ≡ suc (length (map memberView.viewOf k)) = ap length e in omega arith)
+members-whole (m ∷ l) [] a b e = absurd (let z : suc (length (map memberView.viewOf l)) ≡ 0 = ap length e in omega arith)
+members-whole (m ∷ l) (p ∷ k) a b e =
+    let first = memberLeaving.view-whole m p (a 0 m refl) (b 0 p refl) (ap (λ (s : List Member). getD s 0 (memberView.viewOf m)) e) in
+    let rest = members-whole l k (λ i. a (suc i)) (λ i. b (suc i)) (ap (drop 1) e) in
+    λ i. first i ∷ rest i
+
+pub opens-whole : OpensWhole
+opens-whole n number r s a b o p =
+    let q = sequencerLeaving.view-whole (r .whole .sequencer) (s .whole .sequencer) (a .sequencer) (b .sequencer) (o .sequencer ∙ sym (p .sequencer)) in
+    let l = members-whole (r .whole .members) (s .whole .members) (a .members) (b .members) (o .members ∙ sym (p .members)) in
+    let packets = o .packets ∙ sym (p .packets) in
+    let count = o .count ∙ sym (p .count) in
+    let verdict = o .verdict ∙ sym (p .verdict) in
+    λ i. record { whole = record { sequencer = q i; members = l i; packets = packets i; count = count i }; verdict = verdict i }

@@ -1,30 +1,46 @@
 -- The member and the packet that the code reads are the group's, and so are the packet's bytes. Assumes nothing.
-use mathlib.Core.Path.{_≡_, refl, sym, _∙_}
+use mathlib.Core.Path.{_≡_, refl, sym, ap, _∙_}
 use mathlib.Core.Option.{none, some}
-use mathlib.Core.List.{List}
+use mathlib.Core.List.{List, map}
 use Prim.Native.Nat.{ℕ, _≤_, _<_}
 use native.Mathlib.Omega.{arith}
 use borrow.Author.Tests.{lt-ltb, le-ltb, ltb-true}
-use lib.ListN.{length, getD, take, getElem?, length-map, length-take}
+use lib.ListN.{length, getD, take, getElem?, length-map, length-take, List·getD-map}
 use lib.Seq.{getD-take, take-all}
 use Rattle.group.proofs.Choice.{if-true, if-false}
 use Rattle.group.proofs.Lists.{if-elim, le-or}
 use Rattle.group.specs.Choice.{_<?_}
 use Rattle.group.specs.Limits.{longestPacket}
+use Rattle.member.specs.State.{Member as Seen}
+use Rattle.member.specs.View.{viewOf}
 use Rattle.member.specs.declared.Member.{Member}
 use Rattle.model.specs.World.{noMember}
 use Rattle.simulator.specs.Steps.{packetSize}
-use Rattle.simulator.specs.Whole.{packetIn, groupOf}
+use Rattle.simulator.specs.Whole.{packetIn, sizeOf, groupOf}
 use Rattle.simulator.specs.declared.Stored.{Stored}
 use Rattle.simulator.specs.declared.Whole.{Whole}
-use Rattle.simulator.proofs.Lists.{getD-inside, get-outside, get-map}
-use Rattle.simulator.proofs.Storing.{inside-n, inside-places}
+use Rattle.simulator.proofs.Lists.{take-map, getD-inside, get-outside, get-map}
+use Rattle.simulator.proofs.Storing.{inside-n}
+
+-- a member of the code's list, seen
+pub getD-seen : (members : List Member) (i : ℕ) (d : Member) → i < length members → viewOf (getD members i d) ≡ getD (map viewOf members) i noMember
+getD-seen members i d h =
+    sym (List·getD-map viewOf members i d) ∙ getD-inside (map viewOf members) i (viewOf d) noMember (rw (length-map members viewOf) h)
 
 -- what is read is the group's
-pub member-read : (w : Whole) (i : ℕ) (d : Member) → i < length (groupOf w .members) → getD (w .members) i d ≡ getD (groupOf w .members) i noMember
+pub member-read : (w : Whole) (i : ℕ) (d : Member) → i < length (groupOf w .members) → viewOf (getD (w .members) i d) ≡ getD (groupOf w .members) i noMember
 unfolding groupOf
 member-read w i d h =
-    getD-inside (w .members) i d noMember (inside-places w i h) ∙ sym (getD-take (w .sequencer .group .n) (w .members) i noMember (inside-n w i h))
+    ap viewOf (sym (getD-take (sizeOf w) (w .members) i d (inside-n w i h)))
+    ∙ sym (List·getD-map viewOf (take (sizeOf w) (w .members)) i d)
+    ∙ getD-inside (groupOf w .members) i (viewOf d) noMember h
+
+-- so is a member of the code's list, seen
+pub member-seen : (w : Whole) (i : ℕ) → i < length (groupOf w .members) → getD (map viewOf (w .members)) i noMember ≡ getD (groupOf w .members) i noMember
+unfolding groupOf
+member-seen w i h =
+    sym (getD-take (sizeOf w) (map viewOf (w .members)) i noMember (inside-n w i h))
+    ∙ ap (λ (l : List Seen). getD l i noMember) (take-map viewOf (sizeOf w) (w .members))
 
 module _ (w : Whole) (k : ℕ) where
   pub packet-there : (d : Stored) → k < w .count → k < length (w .packets) → getElem? (groupOf w .packets) k ≡ some (packetIn (getD (w .packets) k d))

@@ -4,12 +4,12 @@ use mathlib.Core.Bool.{Bool, true, false}
 use Prim.Native.Nat.{ℕ}
 use native.Mathlib.Omega.{arith}
 use borrow.Author.Tests.{lt-ltb, le-leb, ltb-true, leb-true}
-use lib.ListN.{length, length-take}
+use lib.ListN.{length, length-map, length-take}
 use Rattle.group.proofs.Choice.{both-hold, both-first, both-then}
 use Rattle.group.specs.Choice.{_<?_, _≤?_}
 use Rattle.group.specs.Limits.{membersMost}
 use Rattle.simulator.specs.Steps.{roomOf, thereOf}
-use Rattle.simulator.specs.Whole.{packetsMost, groupOf, Room}
+use Rattle.simulator.specs.Whole.{packetsMost, sizeOf, groupOf, Room}
 use Rattle.simulator.specs.declared.Whole.{Whole}
 use Rattle.simulator.proofs.Effects.{There}
 
@@ -19,7 +19,7 @@ true≢false e = let z : _≡_ {A = ℕ} 0 1 = cc in omega arith
 -- what the two tests say
 module _ (w : Whole) where
   abbrev n : ℕ
-  n = w .sequencer .group .n
+  n = sizeOf w
 
   abbrev m : ℕ
   m = length (groupOf w .members)
@@ -42,7 +42,7 @@ module _ (w : Whole) where
   -- the group has the members that it says
   members-length : length (w .members) ≡ membersMost → Room w → m ≡ n
   unfolding groupOf
-  members-length places room = let z = room .members in simp length-take (omega arith)
+  members-length places room = let z = room .members in simp (length-map, length-take) (omega arith)
 
   pub there-yes : (i : ℕ) → length (w .members) ≡ membersMost → thereOf (w .count) n i ≡ true → There w i
   unfolding thereOf

@@ -12,18 +12,21 @@ use lib.Seq.{length-take-le, take-set-le, take-set-lt, take-suc-set}
 use Rattle.group.proofs.Choice.{if-eq, if-ne}
 use Rattle.group.specs.Choice.{_=?_}
 use Rattle.group.specs.Limits.{longestPacket}
+use Rattle.member.specs.View as member
 use Rattle.member.specs.declared.Member.{Member}
-use Rattle.member.specs.declared.Step as memberStep
+use Rattle.member.specs.declared.Reply as memberReply
 use Rattle.model.specs.World.{answerOf, Group, Happened, withMember, withSequencer}
 use Rattle.model.specs.declared.Reply.{Reply}
 use Rattle.packet.specs.Packet.{written}
+use Rattle.sequencer.specs.View as sequencer
+use Rattle.sequencer.specs.declared.Reply as sequencerReply
 use Rattle.sequencer.specs.declared.Sequencer.{Sequencer}
-use Rattle.sequencer.specs.declared.Step as sequencerStep
 use Rattle.simulator.specs.Steps.{countAfter}
-use Rattle.simulator.specs.Whole.{packetsMost, packetIn, groupOf, Room}
+use Rattle.simulator.specs.Whole.{packetsMost, packetIn, sizeOf, groupOf, Room}
 use Rattle.simulator.specs.declared.Happening.{Happening}
 use Rattle.simulator.specs.declared.Stored.{Stored}
 use Rattle.simulator.specs.declared.Whole.{Whole}
+use Rattle.simulator.proofs.Lists.{map-set}
 use Rattle.simulator.proofs.Effects.{There, withPackets, withMemberAt, memberOutcome, sequencerOutcome, Grown, Did}
 
 pub map-snoc : {A B : Type 0} (f : A → B) (l : List A) (x : A) → map f (l ++ (x ∷ [])) ≡ map f l ++ (f x ∷ [])
@@ -68,7 +71,7 @@ module _ (w : Whole) (size count : ℕ) (bytes : List ℕ) where
           ap (λ (k : ℕ). take k (set (w .packets) (w .count) p)) c ∙ take-set-le (w .count) (w .packets) (w .count) p (omega arith) in
           let e : groupOf stored .packets ≡ groupOf w .packets ++ written (take size bytes) = ap (map packetIn) s ∙ rw z (sym (append-nil (groupOf w .packets))) in
           record {
-            group = λ i. record { sequencer = w .sequencer; members = groupOf w .members; packets = e i };
+            group = λ i. record { sequencer = sequencer.viewOf (w .sequencer); members = groupOf w .members; packets = e i };
             count = count-is stored (simp length-set (omega arith));
             most = omega arith;
           }
@@ -82,62 +85,64 @@ module _ (w : Whole) (size count : ℕ) (bytes : List ℕ) where
           ap (map packetIn) s ∙ map-snoc packetIn (take (w .count) (w .packets)) p ∙ ap (λ (l : List (List ℕ)). groupOf w .packets ++ l) (sym (written-one size bytes n y))
           in
           record {
-            group = λ i. record { sequencer = w .sequencer; members = groupOf w .members; packets = e i };
+            group = λ i. record { sequencer = sequencer.viewOf (w .sequencer); members = groupOf w .members; packets = e i };
             count = count-is stored (simp length-set (omega arith));
             most = omega arith;
           }
 
 -- an index of the group's members is below n, and below the places
-pub inside-n : (w : Whole) (i : ℕ) → i < length (groupOf w .members) → i < w .sequencer .group .n
+pub inside-n : (w : Whole) (i : ℕ) → i < length (groupOf w .members) → i < sizeOf w
 unfolding groupOf
-inside-n w i h = let z = simp length-take at h in omega arith
+inside-n w i h = let z = simp (length-map, length-take) at h in omega arith
 
 pub inside-places : (w : Whole) (i : ℕ) → i < length (groupOf w .members) → i < length (w .members)
 unfolding groupOf
-inside-places w i h = let z = simp length-take at h in omega arith
+inside-places w i h = let z = simp (length-map, length-take) at h in omega arith
 
 -- another state of member i
 pub member-set : (w : Whole) (i : ℕ) (m : Member) → i < length (groupOf w .members)
-    → groupOf (record { sequencer = w .sequencer; members = set (w .members) i m; packets = w .packets; count = w .count }) ≡ withMemberAt (groupOf w) i m
+    → groupOf (record { sequencer = w .sequencer; members = set (w .members) i m; packets = w .packets; count = w .count }) ≡ withMemberAt (groupOf w) i (member.viewOf m)
 unfolding groupOf
 member-set w i m h =
-    let n : i < w .sequencer .group .n = inside-n w i h in
-    λ k. record { sequencer = w .sequencer; members = take-set-lt (w .sequencer .group .n) (w .members) i m n k; packets = groupOf w .packets }
+    let e : map member.viewOf (take (sizeOf w) (set (w .members) i m)) ≡ set (groupOf w .members) i (member.viewOf m) =
+    ap (map member.viewOf) (take-set-lt (sizeOf w) (w .members) i m (inside-n w i h)) ∙ map-set member.viewOf (take (sizeOf w) (w .members)) i m in
+    λ k. record { sequencer = sequencer.viewOf (w .sequencer); members = e k; packets = groupOf w .packets }
 
 -- another state of the sequencer, of as many members
-pub sequencer-set : (w : Whole) (s : Sequencer) → s .group .n ≡ w .sequencer .group .n
-    → groupOf (record { sequencer = s; members = w .members; packets = w .packets; count = w .count }) ≡ record { sequencer = s; members = groupOf w .members; packets = groupOf w .packets }
+pub sequencer-set : (w : Whole) (s : Sequencer) → s .head .group .n ≡ sizeOf w
+    → groupOf (record { sequencer = s; members = w .members; packets = w .packets; count = w .count })
+    ≡ record { sequencer = sequencer.viewOf s; members = groupOf w .members; packets = groupOf w .packets }
 unfolding groupOf
-sequencer-set w s e = λ k. record { sequencer = s; members = take (e k) (w .members); packets = groupOf w .packets }
+sequencer-set w s e = λ k. record { sequencer = sequencer.viewOf s; members = map member.viewOf (take (e k) (w .members)); packets = groupOf w .packets }
 
 -- what the code gives back after a call of member i, and of the sequencer
-abbrev pub memberAfter : Whole → ℕ → memberStep.Step → List ℕ → ℕ → ℕ → Happening
-memberAfter w i step out size count =
+abbrev pub memberAfter : Whole → ℕ → Member → memberReply.Reply → List ℕ → ℕ → ℕ → Happening
+memberAfter w i m reply out size count =
     record {
       whole =
           record {
             sequencer = w .sequencer;
-            members = set (w .members) i (step .member);
+            members = set (w .members) i m;
             packets = set (w .packets) (w .count) (record { length = size; bytes = out });
             count = count;
           };
-      reply = Reply.Member (step .answer);
-      written = step .written;
+      reply = Reply.Member (reply .answer);
+      written = reply .written;
       bytes = out;
     }
 
-abbrev pub sequencerAfter : Whole → sequencerStep.Step → List ℕ → ℕ → Happening
-sequencerAfter w step out count =
+abbrev pub sequencerAfter : Whole → Sequencer → sequencerReply.Reply → List ℕ → ℕ → Happening
+sequencerAfter w s reply out count =
     record {
       whole =
           record {
-            sequencer = step .sequencer;
+            sequencer = s;
             members = w .members;
-            packets = set (w .packets) (w .count) (record { length = step .written; bytes = out });
+            packets = set (w .packets) (w .count) (record { length = reply .written; bytes = out });
             count = count;
           };
-      reply = Reply.Sequencer (step .answer);
-      written = step .written;
+      reply = Reply.Sequencer (reply .answer);
+      written = reply .written;
       bytes = out;
     }
 
@@ -155,24 +160,24 @@ did h w w₁ packets r e n g a l =
 -- a group that has a place for the packet of a call
 module _ (w : Whole) (places : length (w .packets) ≡ packetsMost) (out : List ℕ) (room : length out ≡ longestPacket) (count : ℕ) where
   -- the member's state, then the packet
-  pub did-member : (i : ℕ) (step : memberStep.Step) (size : ℕ) → There w i → step .written ≤ longestPacket → count ≡ countAfter (w .count) size
-      → Did (withMember (groupOf w) i (memberOutcome step out) (written (take size out))) w (memberAfter w i step out size count)
+  pub did-member : (i : ℕ) (m : Member) (reply : memberReply.Reply) (size : ℕ) → There w i → reply .written ≤ longestPacket → count ≡ countAfter (w .count) size
+      → Did (withMember (groupOf w) i (memberOutcome (member.viewOf m) reply out) (written (take size out))) w (memberAfter w i m reply out size count)
   unfolding answerOf
-  did-member i step size there l e =
-      let w₁ : Whole = record { sequencer = w .sequencer; members = set (w .members) i (step .member); packets = w .packets; count = w .count } in
+  did-member i m reply size there l e =
+      let w₁ : Whole = record { sequencer = w .sequencer; members = set (w .members) i m; packets = w .packets; count = w .count } in
       let k = there .room .packets in
-      did (withMember (groupOf w) i (memberOutcome step out) (written (take size out))) w w₁ (written (take size out)) (memberAfter w i step out size count)
-      (ap (λ (g : Group). withPackets g (written (take size out))) (member-set w i (step .member) (there .member))) refl
+      did (withMember (groupOf w) i (memberOutcome (member.viewOf m) reply out) (written (take size out))) w w₁ (written (take size out)) (memberAfter w i m reply out size count)
+      (ap (λ (g : Group). withPackets g (written (take size out))) (member-set w i m (there .member))) refl
       (grown w₁ size count out e (omega arith) (omega arith)) refl l
 
   -- the sequencer's state, of as many members, then the packet
-  pub did-sequencer : (step : sequencerStep.Step) → Room w → step .sequencer .group .n ≡ w .sequencer .group .n → step .written ≤ longestPacket
-      → count ≡ countAfter (w .count) (step .written)
-      → Did (withSequencer (groupOf w) (sequencerOutcome step out)) w (sequencerAfter w step out count)
+  pub did-sequencer : (s : Sequencer) (reply : sequencerReply.Reply) → Room w → s .head .group .n ≡ sizeOf w → reply .written ≤ longestPacket
+      → count ≡ countAfter (w .count) (reply .written)
+      → Did (withSequencer (groupOf w) (sequencerOutcome (sequencer.viewOf s) reply out)) w (sequencerAfter w s reply out count)
   unfolding answerOf
-  did-sequencer step there n l e =
-      let w₁ : Whole = record { sequencer = step .sequencer; members = w .members; packets = w .packets; count = w .count } in
+  did-sequencer s reply there n l e =
+      let w₁ : Whole = record { sequencer = s; members = w .members; packets = w .packets; count = w .count } in
       let k = there .packets in
-      did (withSequencer (groupOf w) (sequencerOutcome step out)) w w₁ (written (take (step .written) out)) (sequencerAfter w step out count)
-      (ap (λ (g : Group). withPackets g (written (take (step .written) out))) (sequencer-set w (step .sequencer) n)) refl
-      (grown w₁ (step .written) count out e (omega arith) (omega arith)) refl l
+      did (withSequencer (groupOf w) (sequencerOutcome (sequencer.viewOf s) reply out)) w w₁ (written (take (reply .written) out)) (sequencerAfter w s reply out count)
+      (ap (λ (g : Group). withPackets g (written (take (reply .written) out))) (sequencer-set w s n)) refl
+      (grown w₁ (reply .written) count out e (omega arith) (omega arith)) refl l

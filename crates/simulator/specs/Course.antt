@@ -1,15 +1,29 @@
 -- The calls of the code, one after the other from an opening, lead where their events lead: what is run is what demand 3 speaks
--- of. `proofs/Course.antt` has the proof.
+-- of; and an opening leaves nothing open. `proofs/Course.antt` and `proofs/Opening.antt` have the proofs.
 use mathlib.Core.Path.{_≡_}
 use mathlib.Core.List.{List, [], _∷_, _++_, map}
+use mathlib.Core.Option.{some}
 use Prim.Native.Nat.{ℕ, _<_}
-use lib.ListN.{take}
+use lib.ListN.{take, getElem?}
 use Rattle.group.specs.declared.Verdict.{Verdict}
+use Rattle.member.specs.View as member
+use Rattle.member.specs.declared.Member.{Member}
 use Rattle.model.specs.World.{Event, Answer, answerOf, run, fresh}
+use Rattle.sequencer.specs.View.{Fits}
 use Rattle.simulator.specs.Whole.{packetsMost, groupOf, Plays, Opens}
 use Rattle.simulator.specs.declared.Happening.{Happening}
 use Rattle.simulator.specs.declared.Opened.{Opened}
 use Rattle.simulator.specs.declared.Whole.{Whole}
+
+-- every array of the ends has its length
+pub record Sized (w : Whole) : Type 0 where
+  pub sequencer : Fits (w .sequencer)
+  pub members : (i : ℕ) (m : Member) → getElem? (w .members) i ≡ some m → member.Sized m
+
+-- an opening settles the whole: two of one group, whose arrays have their lengths, are one, every number and byte
+abbrev pub OpensWhole : Type 0
+OpensWhole =
+    (n number : ℕ) (r s : Opened) → Sized (r .whole) → Sized (s .whole) → Opens n number r → Opens n number s → r ≡ s
 
 -- what an event was answered
 abbrev pub answered : Happening → Answer

@@ -8,9 +8,11 @@ use lib.ListN.{length, take, drop, set, replicate}
 use Rattle.group.specs.Lent.{front}
 use Rattle.group.specs.Limits.{membersMost, longestPacket}
 use Rattle.group.specs.declared.Verdict.{Verdict}
+use Rattle.member.specs.View as member
 use Rattle.model.specs.World.{Event, answerOf, Group, Happened, happen, freshMembers, fresh}
 use Rattle.model.specs.declared.Reply.{Reply}
-use Rattle.sequencer.specs.Calls as sequencer
+use Rattle.sequencer.specs.Calls.{freshOf}
+use Rattle.sequencer.specs.View as sequencer
 use Rattle.simulator.specs.declared.Happening.{Happening}
 use Rattle.simulator.specs.declared.Opened.{Opened}
 use Rattle.simulator.specs.declared.Stored.{Stored}
@@ -24,19 +26,23 @@ packetsMost = 200
 abbrev pub packetIn : Stored → List ℕ
 packetIn p = take (p .length) (p .bytes)
 
+-- the members that its sequencer says
+abbrev pub sizeOf : Whole → ℕ
+sizeOf w = w .sequencer .head .group .n
+
 -- the group that is run
 unfoldable pub groupOf : Whole → Group
 groupOf w =
     record {
-      sequencer = w .sequencer;
-      members = take (w .sequencer .group .n) (w .members);
+      sequencer = sequencer.viewOf (w .sequencer);
+      members = map member.viewOf (take (sizeOf w) (w .members));
       packets = map packetIn (take (w .count) (w .packets));
     }
 
 -- there is room for one packet more, and for every member
 pub record Room (w : Whole) : Type 0 where
   pub packets : w .count < packetsMost
-  pub members : w .sequencer .group .n ≤ membersMost
+  pub members : sizeOf w ≤ membersMost
 
 -- what an event of the group gives, the executable group gives; its count is the index of the next packet
 pub record Does (h : Happened) (r : Happening) : Type 0 where
@@ -56,7 +62,7 @@ nothing w = record { whole = w; reply = Reply.Absent; written = 0; bytes = zeros
 -- and the bytes behind a packet's length
 pub record Free (w : Whole) (r : Happening) : Type 0 where
   -- no member from n on changes
-  pub members : drop (w .sequencer .group .n) (r .whole .members) ≡ drop (w .sequencer .group .n) (w .members)
+  pub members : drop (sizeOf w) (r .whole .members) ≡ drop (sizeOf w) (w .members)
   -- no packet changes but the one at count, in which the call's output is stored
   pub packets : (r .whole .packets ≡ w .packets)
       ⊎ ((size : ℕ) × (r .whole .packets ≡ set (w .packets) (w .count) (record { length = size; bytes = r .bytes })))
@@ -72,7 +78,7 @@ pub record Plays (event : Event) (w : Whole) (r : Happening) : Type 0 where
   -- the bytes that are said to be written are there
   pub size : r .written ≤ longestPacket
   -- n stays, and there is at most one packet more: there is room until `packetsMost` were written
-  pub same : r .whole .sequencer .group .n ≡ w .sequencer .group .n
+  pub same : sizeOf (r .whole) ≡ sizeOf w
   pub most : r .whole .count ≤ w .count + 1
   -- and the part that the group does not show
   pub free : Free w r
@@ -81,24 +87,14 @@ pub record Plays (event : Event) (w : Whole) (r : Happening) : Type 0 where
 abbrev pub noPacket : Stored
 noPacket = record { length = 0; bytes = zeros }
 
--- opening: question 18. A place that no member of the group has is all zero; where n is refused, every place is, and the
--- sequencer has no member
-unfoldable pub openedOf : ℕ → ℕ → Opened
-openedOf n number =
-    record {
-      whole =
-          record {
-            sequencer = sequencer.freshOf n number .sequencer;
-            members = freshMembers n number 0 membersMost;
-            packets = replicate packetsMost noPacket;
-            count = 0;
-          };
-      verdict = sequencer.freshOf n number .verdict;
-    }
-
--- the promise of opening
+-- the promise of opening: question 18. A place that no member of the group has is all zero; where n is refused, every place is, and
+-- the sequencer has no member
 pub record Opens (n number : ℕ) (r : Opened) : Type 0 where
-  pub result : r ≡ openedOf n number
+  pub verdict : r .verdict ≡ freshOf n number .verdict
+  pub sequencer : sequencer.viewOf (r .whole .sequencer) ≡ freshOf n number .sequencer
+  pub members : map member.viewOf (r .whole .members) ≡ freshMembers n number 0 membersMost
+  pub packets : r .whole .packets ≡ replicate packetsMost noPacket
+  pub count : r .whole .count ≡ 0
   -- where it is accepted, the group is a fresh one, with room
   pub group : r .verdict ≡ Verdict.Accepted → groupOf (r .whole) ≡ fresh n number .group
   pub room : Room (r .whole)

@@ -1,4 +1,16 @@
 // The group that can be run: the two ends themselves, room for every member, and room for the packets of a schedule.
+use by_value::MemberStep;
+use by_value::SequencerStep;
+use by_value::copy_sequencer;
+use by_value::open_member;
+use by_value::open_sequencer;
+use by_value::poll_sequencer;
+use by_value::receive_member;
+use by_value::receive_sequencer;
+use by_value::repeat_member;
+use by_value::status_member;
+use by_value::submit_member;
+use by_value::take_member;
 use group::Group;
 use group::MemberNumber;
 use group::SequenceNumber;
@@ -7,13 +19,16 @@ use member::Member;
 use model::Reply;
 use sequencer::Sequencer;
 ghost use mathlib.Core.Path.{_≡_};
+ghost use mathlib.Core.List.{map};
 ghost use Prim.Native.Nat.{_<_};
 ghost use lib.ListN.{length};
-ghost use Rattle.group.specs.Lent.{front};
 ghost use Rattle.group.specs.Limits.{membersMost};
 ghost use Rattle.member.specs.Calls as memberCalls;
+ghost use Rattle.member.specs.Promise as memberPromise;
+ghost use Rattle.member.specs.View as memberView;
 ghost use Rattle.model.specs.World as world;
 ghost use Rattle.sequencer.specs.Calls as sequencerCalls;
+ghost use Rattle.sequencer.specs.Promise as sequencerPromise;
 ghost use Rattle.simulator.specs.Whole.{packetsMost, packetIn, Plays, Opens};
 ghost use Rattle.simulator.specs.Steps.{packetSize, roomOf, thereOf, countAfter, Idle};
 
@@ -54,13 +69,13 @@ fn packets_most() -> usize
 
 // Members 0 to n - 1, fresh; the other places are all zero.
 fn fresh_members(n: u8, number: u32) -> [Member; Group::MEMBERS]
-    ensures { λ r. ⌜ r ≡ world.freshMembers n number 0 membersMost ⌝ }
+    ensures { λ r. ⌜ map memberView.viewOf r ≡ world.freshMembers n number 0 membersMost ⌝ }
 {
-    let first = Member::fresh(n, MemberNumber(0), number).member;
+    let first = open_member(n, MemberNumber(0), number).member;
     let mut members = [first; Group::MEMBERS];
     let mut i: usize = 0;
     while i < Group::MEMBERS {
-        let member = Member::fresh(n, MemberNumber(i as u8), number).member;
+        let member = open_member(n, MemberNumber(i as u8), number).member;
         members[i] = member;
         i += 1;
     }
@@ -79,23 +94,21 @@ impl Stored {
     }
 
     // The packet is handed to a member.
-    fn to_member(self, member: Member, out: &mut [u8]) -> member::Step
-        ensures answer { λ r. ⌜ r ≡ memberCalls.stepOf (memberCalls.receiveOf member (packetIn self) (length (now (out .entry)))) ⌝ }
-        ensures lent { λ _. ⌜ now (out .exit) ≡ front (memberCalls.receiveOf member (packetIn self) (length (now (out .entry))) .bytes) (now (out .entry)) ⌝ }
+    fn to_member(self, member: Member, out: &mut [u8]) -> MemberStep
+        ensures { λ r. ⌜ memberPromise.Received member (packetIn self) (now (out .entry)) (r .reply) (r .member) (now (out .exit)) ⌝ }
     {
         let bytes = self.bytes;
         let size = self.size();
-        member.receive(&bytes[..size], out)
+        receive_member(member, &bytes[..size], out)
     }
 
     // The packet is handed to a sequencer.
-    fn to_sequencer(self, sequencer: Sequencer, out: &mut [u8]) -> sequencer::Step
-        ensures answer { λ r. ⌜ r ≡ sequencerCalls.stepOf (sequencerCalls.receiveOf sequencer (packetIn self) (length (now (out .entry)))) ⌝ }
-        ensures lent { λ _. ⌜ now (out .exit) ≡ front (sequencerCalls.receiveOf sequencer (packetIn self) (length (now (out .entry))) .bytes) (now (out .entry)) ⌝ }
+    fn to_sequencer(self, sequencer: Sequencer, out: &mut [u8]) -> SequencerStep
+        ensures { λ r. ⌜ sequencerPromise.Received sequencer (packetIn self) (now (out .entry)) (r .reply) (r .sequencer) (now (out .exit)) ⌝ }
     {
         let bytes = self.bytes;
         let size = self.size();
-        sequencer.receive(&bytes[..size], out)
+        receive_sequencer(sequencer, &bytes[..size], out)
     }
 }
 
@@ -138,7 +151,7 @@ impl Whole {
     pub fn fresh(n: u8, number: u32) -> Opened
         ensures { λ r. ⌜ Opens n number r ⌝ }
     {
-        let opening = Sequencer::fresh(n, number);
+        let opening = open_sequencer(n, number);
         let sequencer = opening.sequencer;
         let verdict = opening.verdict;
         let members = fresh_members(n, number);
@@ -173,23 +186,24 @@ impl Whole {
         ensures { λ r. ⌜ Plays (world.submit i (now (payload .entry))) self r ⌝ }
     {
         let at = self.count;
-        if has_member(at, self.sequencer.group.n, i) {
+        if has_member(at, self.sequencer.head.group.n, i) {
             let mut out = [0u8; Group::PACKET];
-            let step = self.members[i].submit(payload, &mut out);
+            let step = submit_member(self.members[i], payload, &mut out);
             let member = step.member;
-            let answer = step.answer;
+            let reply = step.reply;
+            let answer = reply.answer;
             let packet = Stored {
-                length: step.written,
+                length: reply.written,
                 bytes: out,
             };
-            let next = count_after(at, step.written);
+            let next = count_after(at, reply.written);
             self.members[i] = member;
             self.packets[at] = packet;
             self.count = next;
             return Happening {
                 whole: self,
                 reply: Reply::Member(answer),
-                written: step.written,
+                written: reply.written,
                 bytes: out,
             };
         }
@@ -201,23 +215,21 @@ impl Whole {
         ensures { λ r. ⌜ Plays (world.repeat i) self r ⌝ }
     {
         let at = self.count;
-        if has_member(at, self.sequencer.group.n, i) {
+        if has_member(at, self.sequencer.head.group.n, i) {
             let mut out = [0u8; Group::PACKET];
-            let step = self.members[i].repeat(&mut out);
-            let member = step.member;
-            let answer = step.answer;
+            let reply = repeat_member(self.members[i], &mut out);
+            let answer = reply.answer;
             let packet = Stored {
-                length: step.written,
+                length: reply.written,
                 bytes: out,
             };
-            let next = count_after(at, step.written);
-            self.members[i] = member;
+            let next = count_after(at, reply.written);
             self.packets[at] = packet;
             self.count = next;
             return Happening {
                 whole: self,
                 reply: Reply::Member(answer),
-                written: step.written,
+                written: reply.written,
                 bytes: out,
             };
         }
@@ -229,11 +241,12 @@ impl Whole {
         ensures { λ r. ⌜ Plays (world.take i) self r ⌝ }
     {
         let at = self.count;
-        if has_member(at, self.sequencer.group.n, i) {
+        if has_member(at, self.sequencer.head.group.n, i) {
             let mut out = [0u8; Group::PACKET];
-            let step = self.members[i].take(&mut out);
+            let step = take_member(self.members[i], &mut out);
             let member = step.member;
-            let answer = step.answer;
+            let reply = step.reply;
+            let answer = reply.answer;
             let packet = Stored {
                 length: 0,
                 bytes: out,
@@ -245,7 +258,7 @@ impl Whole {
             return Happening {
                 whole: self,
                 reply: Reply::Member(answer),
-                written: step.written,
+                written: reply.written,
                 bytes: out,
             };
         }
@@ -257,23 +270,21 @@ impl Whole {
         ensures { λ r. ⌜ Plays (world.status i) self r ⌝ }
     {
         let at = self.count;
-        if has_member(at, self.sequencer.group.n, i) {
+        if has_member(at, self.sequencer.head.group.n, i) {
             let mut out = [0u8; Group::PACKET];
-            let step = self.members[i].status(&mut out);
-            let member = step.member;
-            let answer = step.answer;
+            let reply = status_member(self.members[i], &mut out);
+            let answer = reply.answer;
             let packet = Stored {
-                length: step.written,
+                length: reply.written,
                 bytes: out,
             };
-            let next = count_after(at, step.written);
-            self.members[i] = member;
+            let next = count_after(at, reply.written);
             self.packets[at] = packet;
             self.count = next;
             return Happening {
                 whole: self,
                 reply: Reply::Member(answer),
-                written: step.written,
+                written: reply.written,
                 bytes: out,
             };
         }
@@ -285,24 +296,22 @@ impl Whole {
         ensures { λ r. ⌜ Plays world.poll self r ⌝ }
     {
         let at = self.count;
-        if has_room(at, self.sequencer.group.n) {
+        if has_room(at, self.sequencer.head.group.n) {
             let sequencer = self.sequencer;
             let mut out = [0u8; Group::PACKET];
-            let step = sequencer.poll(&mut out);
-            let after = step.sequencer;
-            let answer = step.answer;
+            let reply = poll_sequencer(sequencer, &mut out);
+            let answer = reply.answer;
             let packet = Stored {
-                length: step.written,
+                length: reply.written,
                 bytes: out,
             };
-            let next = count_after(at, step.written);
-            self.sequencer = after;
+            let next = count_after(at, reply.written);
             self.packets[at] = packet;
             self.count = next;
             return Happening {
                 whole: self,
                 reply: Reply::Sequencer(answer),
-                written: step.written,
+                written: reply.written,
                 bytes: out,
             };
         }
@@ -314,24 +323,22 @@ impl Whole {
         ensures { λ r. ⌜ Plays (world.copy (number .0)) self r ⌝ }
     {
         let at = self.count;
-        if has_room(at, self.sequencer.group.n) {
+        if has_room(at, self.sequencer.head.group.n) {
             let sequencer = self.sequencer;
             let mut out = [0u8; Group::PACKET];
-            let step = sequencer.copy(number, &mut out);
-            let after = step.sequencer;
-            let answer = step.answer;
+            let reply = copy_sequencer(sequencer, number, &mut out);
+            let answer = reply.answer;
             let packet = Stored {
-                length: step.written,
+                length: reply.written,
                 bytes: out,
             };
-            let next = count_after(at, step.written);
-            self.sequencer = after;
+            let next = count_after(at, reply.written);
             self.packets[at] = packet;
             self.count = next;
             return Happening {
                 whole: self,
                 reply: Reply::Sequencer(answer),
-                written: step.written,
+                written: reply.written,
                 bytes: out,
             };
         }
@@ -343,24 +350,25 @@ impl Whole {
         ensures { λ r. ⌜ Plays (world.handMember k i) self r ⌝ }
     {
         let at = self.count;
-        if has_member(at, self.sequencer.group.n, i) {
+        if has_member(at, self.sequencer.head.group.n, i) {
             if k < at {
                 let mut out = [0u8; Group::PACKET];
                 let step = self.packets[k].to_member(self.members[i], &mut out);
                 let member = step.member;
-                let answer = step.answer;
+                let reply = step.reply;
+                let answer = reply.answer;
                 let packet = Stored {
-                    length: step.written,
+                    length: reply.written,
                     bytes: out,
                 };
-                let next = count_after(at, step.written);
+                let next = count_after(at, reply.written);
                 self.members[i] = member;
                 self.packets[at] = packet;
                 self.count = next;
                 return Happening {
                     whole: self,
                     reply: Reply::Member(answer),
-                    written: step.written,
+                    written: reply.written,
                     bytes: out,
                 };
             }
@@ -374,25 +382,26 @@ impl Whole {
         ensures { λ r. ⌜ Plays (world.handSequencer k) self r ⌝ }
     {
         let at = self.count;
-        if has_room(at, self.sequencer.group.n) {
+        if has_room(at, self.sequencer.head.group.n) {
             if k < at {
                 let sequencer = self.sequencer;
                 let mut out = [0u8; Group::PACKET];
                 let step = self.packets[k].to_sequencer(sequencer, &mut out);
                 let after = step.sequencer;
-                let answer = step.answer;
+                let reply = step.reply;
+                let answer = reply.answer;
                 let packet = Stored {
-                    length: step.written,
+                    length: reply.written,
                     bytes: out,
                 };
-                let next = count_after(at, step.written);
+                let next = count_after(at, reply.written);
                 self.sequencer = after;
                 self.packets[at] = packet;
                 self.count = next;
                 return Happening {
                     whole: self,
                     reply: Reply::Sequencer(answer),
-                    written: step.written,
+                    written: reply.written,
                     bytes: out,
                 };
             }

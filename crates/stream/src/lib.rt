@@ -107,7 +107,7 @@ fn play_part(quiet: bool, mut player: Player, part: &[u8], mut sink: Sink) -> St
         let fed = player.feed(&part[from..], &mut text);
         player = fed.player;
         let phase = player.phase;
-        let n = player.whole.sequencer.group.n;
+        let n = player.whole.sequencer.head.group.n;
         let size = said(quiet, n, player.whole.count, phase, fed.written);
         sink = put_text(sink, text, size);
         from += fed.used;
@@ -185,7 +185,8 @@ fn put_lists(
     let mut i: usize = 0;
     while i < n {
         let member = members[i];
-        let jobs = list_left(packets, count, member.taken);
+        let taken = member.head.taken;
+        let jobs = list_left(packets, count, taken);
         sink = put_jobs(i as u32, jobs, sink);
         i += 1;
     }
@@ -199,7 +200,7 @@ fn put_group(whole: Whole, sink: Sink) -> Sink
 {
     let members = whole.members;
     let packets = whole.packets;
-    let n = whole.sequencer.group.n as usize;
+    let n = whole.sequencer.head.group.n as usize;
     let next = sink.write(b"terminal place holder job\n");
     put_lists(members, packets, whole.count, n, next)
 }
@@ -210,7 +211,7 @@ fn put_left(player: Player, sink: Sink) -> Sink
 {
     let whole = player.whole;
     let phase = player.phase;
-    let stands = phase_of(whole.sequencer.group.n, whole.count, phase);
+    let stands = phase_of(whole.sequencer.head.group.n, whole.count, phase);
     match stands {
         Phase::Opening => sink,
         Phase::Running => put_group(whole, sink),
@@ -242,7 +243,7 @@ fn finish(quiet: bool, player: Player, sink: Sink) -> Sink
     let fed = player.end(&mut text);
     let last = fed.player;
     let phase = last.phase;
-    let n = last.whole.sequencer.group.n;
+    let n = last.whole.sequencer.head.group.n;
     let size = said(quiet, n, last.whole.count, phase, fed.written);
     let next = put_text(sink, text, size);
     put_last(quiet, last, next)

@@ -26,7 +26,7 @@ use Rattle.jobs.specs.Job.{noJobs}
 use Rattle.jobs.specs.declared.Job.{Job}
 use Rattle.member.proofs.Acknowledged.{acknowledged-most}
 use Rattle.member.specs.Calls as member
-use Rattle.member.specs.declared.Member.{Member}
+use Rattle.member.specs.State.{Member}
 use Rattle.message.specs.Order.{Ordered}
 use Rattle.model.proofs.Invariant.{Inv, WorldInv, acknowledgedIn, requestedIn}
 use Rattle.model.proofs.Step.{step-keeps, gather-snoc, next-keeps, run-keeps, fresh-inv}
@@ -47,10 +47,9 @@ use Rattle.sequencer.proofs.Ordering.{floor-below}
 use Rattle.sequencer.specs.Calls as sequencer
 use Rattle.sequencer.specs.Note.{noteOf}
 use Rattle.sequencer.specs.Order.{numberedBy}
-use Rattle.sequencer.specs.State.{lastCount}
+use Rattle.sequencer.specs.State.{Sequencer, lastCount}
 use Rattle.sequencer.specs.declared.Answer as sequencerAnswer
 use Rattle.sequencer.specs.declared.Answer.the-variants.{Old, Again, Full, Numbered, Noted, Wanted, Sent}
-use Rattle.sequencer.specs.declared.Sequencer.{Sequencer}
 use Rattle.terminal.specs.Laws.{ListLeft}
 use Rattle.terminal.specs.Left.{isNext, heardOf, heardAll}
 use Rattle.terminal.specs.Take.{fedBy}

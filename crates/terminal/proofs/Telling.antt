@@ -17,20 +17,18 @@ use Rattle.packet.specs.declared.Header.{Header}
 use Rattle.group.specs.declared.MemberNumber.{MemberNumber}
 use Rattle.group.specs.declared.SequenceNumber.{SequenceNumber}
 use Rattle.jobs.specs.declared.Job.{Job}
-use Rattle.member.specs.Calls.{Outcome, stepOf}
+use Rattle.member.specs.Calls.{Outcome, takeOf}
 use Rattle.member.specs.Order.{tookBy}
-use Rattle.member.specs.declared.Step.{Step}
+use Rattle.member.specs.View.{viewOf}
+use Rattle.member.specs.declared.Reply.{Reply}
 use Rattle.member.specs.declared.Answer.{Answer}
 use Rattle.member.specs.declared.Answer.the-variants.{Refused, Sent, Queued, Old, Kept, KeptGap, Beyond, BeyondGap, Gap, Status, None, Took}
 use Rattle.terminal.specs.Left.{isNext}
-use Rattle.terminal.specs.Take.{fedBy, answeredBy, takingOf}
-use Rattle.terminal.specs.declared.Feeding.{Feeding}
+use Rattle.terminal.specs.Laws.{TakeFeeds}
+use Rattle.terminal.specs.Take.{feedingOf}
 
 front-take : (bytes lent : List ℕ) → take (length bytes) (front bytes lent) ≡ bytes
 front-take bytes lent = take-at bytes (drop (length bytes) lent) (length bytes) refl
-
-front-long : (bytes lent : List ℕ) → length bytes ≤ length (front bytes lent)
-front-long bytes lent = let e = length-append bytes (drop (length bytes) lent) in omega (arith, e)
 
 -- a tag is not among those below it
 unfoldable below : ℕ → List ℕ → Type 0
@@ -66,34 +64,13 @@ not-took Status bytes n = refl
 not-took None bytes n = refl
 not-took (Took number originator count more) bytes n = absurd (n number originator count more refl)
 
--- a take's step and output: what it handed out lies at the front of the output
-module _ (o : Outcome) (r : Step) (before after : List ℕ) (step : r ≡ stepOf o) (lent : after ≡ front (o .bytes) before) where
-  pub written-is : r .written ≡ length (o .bytes)
-  written-is = ap (λ (s : Step). s .written) step
-
-  pub handed-out : take (r .written) after ≡ o .bytes
-  handed-out = ap (λ (k : ℕ). take k after) written-is ∙ ap (take (length (o .bytes))) lent ∙ front-take (o .bytes) before
-
-  pub handed-fits : r .written ≤ length after
-  handed-fits = let l = front-long (o .bytes) before in let e = ap length lent in let w = written-is in omega (arith, l, e, w)
-
-  pub handed-long : r .written ≡ length (take (r .written) after)
-  handed-long = written-is ∙ ap length (sym handed-out)
-
-  -- and the list is fed that
-  pub taking-is : (jobs : List Job) (f : Feeding)
-      → (f .jobs ≡ fedBy jobs (tookBy (r .answer) (take (r .written) after))) × (f .fed ≡ answeredBy jobs (tookBy (r .answer) (take (r .written) after)))
-      → record { member = r .member; answer = r .answer; written = r .written; jobs = f .jobs; fed = f .fed } ≡ takingOf o jobs
-  unfolding takingOf
-  taking-is jobs f e =
-      let took : tookBy (r .answer) (take (r .written) after) ≡ tookBy (o .answer) (o .bytes) = ap (λ (s : Step). tookBy (s .answer) (take (r .written) after)) step ∙ ap (tookBy (o .answer)) handed-out in
-      λ i. record {
-        member = step i .member;
-        answer = step i .answer;
-        written = step i .written;
-        jobs = (e .0 ∙ ap (fedBy jobs) took) i;
-        fed = (e .1 ∙ ap (answeredBy jobs) took) i;
-      }
+-- what a take handed out lies at the front of the output
+pub take-feeds : TakeFeeds
+take-feeds s s′ before after reply jobs t =
+    let o : Outcome = takeOf (viewOf s) (length before) in
+    let e : take (reply .written) after ≡ o .bytes =
+    ap (λ (r : Reply). take (r .written) after) (t .answer) ∙ ap (take (length (o .bytes))) (t .lent) ∙ front-take (o .bytes) before in
+    ap (λ (bytes : List ℕ). feedingOf jobs (tookBy (reply .answer) bytes)) e ∙ ap (λ (r : Reply). feedingOf jobs (tookBy (r .answer) (o .bytes))) (t .answer)
 
 -- a number that comes next was taken
 pub next-most : (t number : ℕ) (h : Header) → isNext t number h ≡ true → number ≤ t

@@ -1,17 +1,32 @@
--- What is proved of the work lists, of every log, so of that of every list of events that demand 3 speaks of. `proofs/Lists.antt`
--- and `proofs/Order.antt` have the proofs.
+-- What is proved of the work lists, of every log, so of that of every list of events that demand 3 speaks of. `proofs/Lists.antt`,
+-- `proofs/Order.antt` and, of a take, `proofs/Telling.antt` have the proofs.
 use mathlib.Core.Path.{_≡_}
 use mathlib.Core.Bool.{true}
 use mathlib.Core.List.{List}
+use lib.ListN.{length, take}
 use Prim.Native.Nat.{ℕ, _+_, _≤_, _<_}
 use Rattle.group.specs.Limits.{membersMost, largestNumber}
+use Rattle.jobs.specs.declared.Job.{Job}
 use Rattle.jobs.specs.Count.{waitingIn, givenIn}
 use Rattle.jobs.specs.Sound.{soundOf}
+use Rattle.member.specs.Calls.{takeOf}
+use Rattle.member.specs.Order.{tookBy}
+use Rattle.member.specs.Promise.{Taken}
+use Rattle.member.specs.View.{viewOf}
+use Rattle.member.specs.declared.Member.{Member as Stored}
+use Rattle.member.specs.declared.Reply.{Reply}
 use Rattle.model.specs.Closing.{closing}
 use Rattle.model.specs.Log.{taken}
 use Rattle.model.specs.World.{Event, Entry, World, run, fresh}
 use Rattle.terminal.specs.Left.{listIn}
+use Rattle.terminal.specs.Take.{feedingOf, takingOf}
 use Rattle.terminal.specs.Log.{listOf, Tally, freshTally, tallyFrom}
+
+-- a member's take, and then a feed of what its answer and the front of the lent output hand out: the list is fed what was taken
+abbrev pub TakeFeeds : Type 0
+TakeFeeds =
+    (s s′ : Stored) (before after : List ℕ) (reply : Reply) (jobs : List Job) → Taken s before reply s′ after
+    → feedingOf jobs (tookBy (reply .answer) (take (reply .written) after)) ≡ takingOf (takeOf (viewOf s) (length before)) jobs
 
 -- terminals with the same taken messages hold the same list
 abbrev pub SameList : Type 0

@@ -9,8 +9,7 @@ use native.Mathlib.Omega.{arith}
 use lib.ListN.{length, set, length-set}
 use Rattle.group.specs.Limits.{heldMost, waitingMost}
 use Rattle.group.proofs.Lists.{eq-or, set-each}
-use Rattle.message.specs.Message.{blank, emptyMessage, isEmpty}
-use Rattle.message.specs.declared.Message.{Message}
+use Rattle.message.specs.Message.{Message, blank, emptyMessage, isEmpty}
 use Rattle.message.proofs.Kept.{empty-zero}
 use Rattle.window.specs.Places.{placeOf, queuePlace, queuedAt}
 use Rattle.window.proofs.Missing.{place-one, place-near, held-each}

@@ -10,8 +10,7 @@ use lib.ListN.{length, set, length-set}
 use lib.Seq.{getD-set-same, getD-set-other}
 use Rattle.group.specs.Limits.{heldMost}
 use Rattle.group.proofs.Lists.{if-elim, eq-or}
-use Rattle.message.specs.Message.{blank}
-use Rattle.message.specs.declared.Message.{Message}
+use Rattle.message.specs.Message.{Message, blank}
 use Rattle.window.specs.Places.{placeOf, messageAt, isHeld, lowestMissing}
 
 -- the lowest missing of the k numbers above t
@@ -67,11 +66,3 @@ module _ (held : List Message) (long : length held ≡ heldMost) (k : ℕ) (x : 
       eq-or (placeOf s) (placeOf k)
       (λ e. rw (e, held-same) (same e))
       (λ e. rw (getD-set-other held (placeOf k) (placeOf s) x blank e) (other e))
-
--- a change of the place of a number above the first k leaves the lowest missing of them
-pub lowest-other : (held : List Message) (t k s : ℕ) (x : Message) → t + k < s → s ≤ t + heldMost → lowestMissing (set held (placeOf s) x) t k ≡ lowestMissing held t k
-unfolding lowestMissing
-lowest-other held t zero s x lo hi = refl
-lowest-other held t (suc k) s x lo hi =
-    let e : messageAt (set held (placeOf s) x) (t + 1) ≡ messageAt held (t + 1) = getD-set-other held (placeOf s) (placeOf (t + 1)) x blank (λ z. omega arith) in
-    rw (e, lowest-other held (t + 1) k s x (omega arith) (omega arith))

@@ -1,85 +1,50 @@
--- The eight places are sound exactly if those of the eight numbers above t are: each place is for one of them. Assumes nothing.
-use mathlib.Core.Path.{_≡_, refl, sym, ap, _∙_, subst}
-use mathlib.Core.Bool.{Bool, true, false, _&&_}
-use mathlib.Core.List.{List}
-use Prim.Native.Nat.{ℕ, zero, suc, _+_, _≤_, _<_}
+-- The test of a place is that of the message that the arrays hold there, and the counts of the places are the messages' counts. Assumes nothing.
+use mathlib.Core.Path.{_≡_, refl, sym, ap, _∙_}
+use mathlib.Core.Bool.{Bool}
+use mathlib.Core.List.{List, [], _∷_}
+use Prim.Native.Nat.{ℕ, zero, suc, _+_, _-_, _*_, _≤_, _<_}
 use native.Mathlib.Omega.{arith}
-use lib.ListN.{getD}
-use Rattle.group.specs.Fold.{allAbove}
-use Rattle.group.specs.Limits.{heldMost}
-use Rattle.group.proofs.Fold.{above-each, above-all}
-use Rattle.message.specs.Message.{blank}
-use Rattle.message.specs.declared.Message.{Message}
-use Rattle.window.specs.Places.{placeOf, messageAt}
-use Rattle.window.specs.Sound.{placeSound}
-use Rattle.window.specs.Steps.{numberIn, messageSound}
+use lib.ListN.{length, take, drop, getD, length-append, length-replicate}
+use lib.Seq.{take-take}
+use Rattle.group.specs.Limits.{payloadMost}
+use Rattle.group.specs.declared.MemberNumber.{MemberNumber}
+use Rattle.message.specs.Message.{Message, padded, blank}
+use Rattle.store.specs.Places.{partOf, messageIn, messagesIn}
+use Rattle.store.proofs.Places.{message-in}
+use Rattle.window.specs.Places.{placeOf, queuePlace}
+use Rattle.window.specs.Sound.{placeSound, queueSound}
+use Rattle.window.specs.Steps.{Counted, messageSound, queuedSound}
 
--- the eight places hold what q says
-abbrev pub eight : (ℕ → Bool) → Bool
-eight q = ((((((q 0 && q 1) && q 2) && q 3) && q 4) && q 5) && q 6) && q 7
+pub counted-in : (counts originators lengths bytes : List ℕ) → Counted counts (messagesIn counts originators lengths bytes)
+unfolding messagesIn
+counted-in [] originators lengths bytes i = refl
+counted-in (count ∷ counts) originators lengths bytes zero = refl
+counted-in (count ∷ counts) originators lengths bytes (suc i) = counted-in counts (drop 1 originators) (drop 1 lengths) (drop payloadMost bytes) i
 
-first : (a b : Bool) → (a && b) ≡ true → a ≡ true
-first true b e = refl
-first false b e = e
+module _ (counts originators lengths bytes : List ℕ) (at : ℕ) (inside : at < length counts) where
+  abbrev here : Message
+  here = messageIn (getD counts at 0) (getD originators at 0) (getD lengths at 0) (partOf bytes at)
 
-second : (a b : Bool) → (a && b) ≡ true → b ≡ true
-second true b e = e
-second false b e = absurd (let z : _≡_ {A = ℕ} 0 1 = cc in omega arith)
+  -- the place of a number or of a count holds that message
+  pub here-is : (place : ℕ) → at ≡ place → here ≡ getD (messagesIn counts originators lengths bytes) place blank
+  here-is place e = sym (message-in counts originators lengths bytes at inside) ∙ ap (λ (k : ℕ). getD (messagesIn counts originators lengths bytes) k blank) e
 
-same-bool : (a b : Bool) → (a ≡ true → b ≡ true) → (b ≡ true → a ≡ true) → a ≡ b
-same-bool true b f g = sym (f refl)
-same-bool false true f g = g refl
-same-bool false false f g = refl
+  pub queue-in : (number : MemberNumber) (submitted count : ℕ) (r : Bool) → at ≡ queuePlace count → r ≡ queuedSound number submitted here count
+      → r ≡ queueSound number (messagesIn counts originators lengths bytes) submitted count
+  unfolding queuedSound queueSound
+  queue-in number submitted count r p e = e ∙ ap (λ (m : Message). queuedSound number submitted m count) (here-is (queuePlace count) p)
 
-each-of : (q : ℕ → Bool) → eight q ≡ true → (i : ℕ) → i < heldMost → q i ≡ true
-each-of q e =
-    let a1 : Bool = q 0 && q 1 in
-    let a2 : Bool = a1 && q 2 in
-    let a3 : Bool = a2 && q 3 in
-    let a4 : Bool = a3 && q 4 in
-    let a5 : Bool = a4 && q 5 in
-    let a6 : Bool = a5 && q 6 in
-    let e6 = first a6 (q 7) e in
-    let e5 = first a5 (q 6) e6 in
-    let e4 = first a4 (q 5) e5 in
-    let e3 = first a3 (q 4) e4 in
-    let e2 = first a2 (q 3) e3 in
-    let e1 = first a1 (q 2) e2 in
-    go (first (q 0) (q 1) e1) (second (q 0) (q 1) e1) (second a1 (q 2) e2) (second a2 (q 3) e3) (second a3 (q 4) e4) (second a4 (q 5) e5) (second a5 (q 6) e6) (second a6 (q 7) e)
-  where
-    go : q 0 ≡ true → q 1 ≡ true → q 2 ≡ true → q 3 ≡ true → q 4 ≡ true → q 5 ≡ true → q 6 ≡ true → q 7 ≡ true → (i : ℕ) → i < heldMost → q i ≡ true
-    go a b c d e f g h zero l = a
-    go a b c d e f g h (suc zero) l = b
-    go a b c d e f g h (suc (suc zero)) l = c
-    go a b c d e f g h (suc (suc (suc zero))) l = d
-    go a b c d e f g h (suc (suc (suc (suc zero)))) l = e
-    go a b c d e f g h (suc (suc (suc (suc (suc zero))))) l = f
-    go a b c d e f g h (suc (suc (suc (suc (suc (suc zero)))))) l = g
-    go a b c d e f g h (suc (suc (suc (suc (suc (suc (suc zero))))))) l = h
-    go a b c d e f g h (suc (suc (suc (suc (suc (suc (suc (suc i)))))))) l = absurd (omega arith)
-
-of-each : (q : ℕ → Bool) → ((i : ℕ) → i < heldMost → q i ≡ true) → eight q ≡ true
-of-each q h =
-    rw (h 0 (omega arith), h 1 (omega arith), h 2 (omega arith), h 3 (omega arith), h 4 (omega arith), h 5 (omega arith), h 6 (omega arith), h 7 (omega arith))
-
-module _ (n : ℕ) (held : List Message) (t : ℕ) where
-  abbrev placed : ℕ → Bool
-  placed i = messageSound n (getD held i blank) (numberIn t i)
-
-  same : (number : ℕ) → messageSound n (messageAt held number) number ≡ placeSound n held number
+  pub place-in : (n number : ℕ) (r : Bool) → at ≡ placeOf number → r ≡ messageSound n here number → r ≡ placeSound n (messagesIn counts originators lengths bytes) number
   unfolding messageSound placeSound
-  same number = refl
+  place-in n number r p e = e ∙ ap (λ (m : Message). messageSound n m number) (here-is (placeOf number) p)
 
-  -- a place holds the number that it is for
-  here : (i : ℕ) → i < heldMost → placed i ≡ placeSound n held (numberIn t i)
-  here i h =
-      let e : placeOf (numberIn t i) ≡ i = omega arith in
-      ap (λ (j : ℕ). messageSound n (getD held j blank) (numberIn t i)) (sym e) ∙ same (numberIn t i)
+-- the front of a place, as it is lent from the place's start on
+pub front-part : (bytes : List ℕ) (at size : ℕ) → size ≤ payloadMost
+    → take (at * payloadMost + size - at * payloadMost) (drop (at * payloadMost) bytes) ≡ take size (partOf bytes at)
+front-part bytes at size h =
+    let e : at * payloadMost + size - at * payloadMost ≡ size = omega arith in
+    rw e (sym (take-take size payloadMost (drop (at * payloadMost) bytes) h))
 
-  pub all-eight : eight placed ≡ allAbove (placeSound n held) t heldMost
-  all-eight =
-      same-bool (eight placed) (allAbove (placeSound n held) t heldMost)
-      (λ e. above-all (placeSound n held) t heldMost
-      (λ k lo hi. let z : numberIn t (placeOf k) ≡ k = omega arith in
-      subst (λ (s : ℕ). placeSound n held s ≡ true) z (sym (here (placeOf k) (omega arith)) ∙ each-of placed e (placeOf k) (omega arith))))
-      (λ e. of-each placed (λ i h. here i h ∙ above-each (placeSound n held) t heldMost e (numberIn t i) (omega arith) (omega arith)))
+-- a payload with zeros behind it fills a place
+pub padded-length : (payload : List ℕ) → length payload ≤ payloadMost → length (padded payload) ≡ payloadMost
+padded-length payload h = simp (length-append, length-replicate) (omega arith)

@@ -13,10 +13,9 @@ use Rattle.group.specs.Choice.{_<?_, _=?_}
 use Rattle.group.specs.Limits.{heldMost}
 use Rattle.group.proofs.Choice.{if-eq-of, if-ne-of}
 use Rattle.group.proofs.Lists.{if-elim, eq-or, le-or}
-use Rattle.message.specs.Message.{emptyMessage, blank}
-use Rattle.message.specs.declared.Message.{Message}
+use Rattle.message.specs.Message.{Message, emptyMessage, blank}
 use Rattle.window.specs.Places.{placeOf, messageAt, isHeld, lowestMissing, rowEnd, smallerOf}
-use Rattle.window.specs.Steps.{countsOf, lowestUncounted, rowCounted}
+use Rattle.window.specs.Steps.{Counted, lowestUncounted, rowCounted}
 use Rattle.window.proofs.Missing.{Lowest, lowest-is, lowest-none, held-same}
 use Rattle.window.proofs.Scan.{uncounted}
 
@@ -88,18 +87,6 @@ module _ {held : List Message} {t k r : ℕ} (w : Row held t k r) where
         (λ e. let z : messageAt held j .count ≡ 0 = rw e empty in absurd (omega arith))
         (λ e. rw (other j e) h))
 
-    -- where one below it is missing, the row stays
-    pub row-same : (low : ℕ) → t < low → low < s → s ≤ t + heldMost → messageAt held low .count ≡ 0 → Row (set held (placeOf s) x) t k r
-    row-same low lo hi near missing =
-        let b = row-below w low lo missing in
-        let a = w .least in
-        record {
-          least = w .least;
-          most = w .most;
-          holds = λ j c d. rw (other j (λ e. omega arith)) (w .holds j c d);
-          hole = λ h. rw (other (r + 1) (λ e. omega arith)) (w .hole h);
-        }
-
   -- the number t + 1 is taken: the row stays, since the number that its place is for next is not held
   pub row-take : (k′ : ℕ) → length held ≡ heldMost → k ≤ heldMost → t < r → r ≤ t + 1 + k′ → (t + k < t + 1 + k′ → k ≡ heldMost) → Row (set held (placeOf (t + 1)) emptyMessage) (t + 1) k′ r
   unfolding emptyMessage
@@ -116,10 +103,10 @@ module _ {held : List Message} {t k r : ℕ} (w : Row held t k r) where
       }
 
 -- the scan of the counts, up to a number that is not below t, finds it
-pub row-counted : (held : List Message) (t last : ℕ) → t ≤ last → rowCounted (countsOf held) t last ≡ rowEnd held t (last - t)
+pub row-counted : (counts : List ℕ) (held : List Message) → Counted counts held → (t last : ℕ) → t ≤ last → rowCounted counts t last ≡ rowEnd held t (last - t)
 unfolding rowCounted
-row-counted held t last le =
-    rw (uncounted held t (last - t))
+row-counted counts held c t last le =
+    rw (uncounted counts held c t (last - t))
     (if-elim (λ (r : ℕ). r ≡ rowEnd held t (last - t)) (low =? 0)
     (λ e. let n = lowest-none held t (last - t) (eqb-true low 0 e) in
     sym (row-one (record { least = le; most = omega arith; holds = λ s lo hi. n s lo (omega arith); hole = λ h. absurd (omega arith) })))
@@ -127,6 +114,23 @@ row-counted held t last le =
   where
     low : ℕ
     low = lowestMissing held t (last - t)
+
+-- the lowest missing of the numbers up to `last`, which lies among the k, is none where the row reaches it, and else the number behind the row
+module _ (held : List Message) (t k last : ℕ) (in-k : last ≤ t + k) where
+  pub lowest-reached : last ≤ rowEnd held t k → lowestMissing held t (last - t) ≡ 0
+  lowest-reached h =
+      let w = row-is held t k in
+      eq-or (lowestMissing held t (last - t)) 0 (λ z. z)
+      (λ n. let l = lowest-is held t (last - t) n in let a = w .holds _ (l .above) (let u = l .up-to in let v = l .above in omega arith) in let b = l .missing in absurd (omega arith))
+
+  pub lowest-behind : rowEnd held t k < last → lowestMissing held t (last - t) ≡ rowEnd held t k + 1
+  lowest-behind h =
+      let w = row-is held t k in
+      let least = w .least in
+      let hole = w .hole (omega arith) in
+      eq-or (lowestMissing held t (last - t)) 0
+      (λ z. let a = lowest-none held t (last - t) z (rowEnd held t k + 1) (omega arith) (omega arith) in absurd (omega arith))
+      (λ n. let l = lowest-is held t (last - t) n in row-gap w (record { above = l .above; up-to = (let u = l .up-to in let v = l .above in omega arith); missing = l .missing; below = l .below }))
 
 -- what the scan up to `last` found as `first` says
 module _ (counts : List ℕ) (t last end first : ℕ) (e : last ≡ end) (f : first ≡ lowestUncounted counts t (last - t)) where

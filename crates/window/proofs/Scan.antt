@@ -6,33 +6,15 @@ use Prim.Native.Nat.{ℕ, zero, suc, _+_, _-_, _≤_, _<_}
 use native.Mathlib.Omega.{arith}
 use lib.ListN.{getD}
 use Rattle.group.specs.Choice.{if_then_else_, _<?_}
-use Rattle.group.specs.Limits.{heldMost}
 use Rattle.group.proofs.Choice.{if-lt, if-nlt}
-use Rattle.message.specs.Message.{blank}
-use Rattle.message.specs.declared.Message.{Message}
-use Rattle.window.specs.Places.{placeOf, messageAt, isHeld, lowestMissing}
-use Rattle.window.specs.Steps.{countsOf, lowestUncounted}
+use Rattle.message.specs.Message.{Message}
+use Rattle.window.specs.Places.{placeOf, lowestMissing}
+use Rattle.window.specs.Steps.{Counted, lowestUncounted}
 
--- the count of a place
-count-at : (held : List Message) (i : ℕ) → i < heldMost → getD (countsOf held) i 0 ≡ getD held i blank .count
-count-at held zero h = refl
-count-at held (suc zero) h = refl
-count-at held (suc (suc zero)) h = refl
-count-at held (suc (suc (suc zero))) h = refl
-count-at held (suc (suc (suc (suc zero)))) h = refl
-count-at held (suc (suc (suc (suc (suc zero))))) h = refl
-count-at held (suc (suc (suc (suc (suc (suc zero)))))) h = refl
-count-at held (suc (suc (suc (suc (suc (suc (suc zero))))))) h = refl
-count-at held (suc (suc (suc (suc (suc (suc (suc (suc i)))))))) h = absurd (omega arith)
-
--- a number's place is held by its count
-pub counted : (held : List Message) (s : ℕ) → getD (countsOf held) (placeOf s) 0 ≡ messageAt held s .count
-counted held s = count-at held (placeOf s) (omega arith)
-
-pub uncounted : (held : List Message) (t k : ℕ) → lowestUncounted (countsOf held) t k ≡ lowestMissing held t k
+pub uncounted : (counts : List ℕ) (held : List Message) → Counted counts held → (t k : ℕ) → lowestUncounted counts t k ≡ lowestMissing held t k
 unfolding lowestUncounted lowestMissing
-uncounted held t zero = refl
-uncounted held t (suc k) = rw (counted held (t + 1), uncounted held (t + 1) k)
+uncounted counts held e t zero = refl
+uncounted counts held e t (suc k) = rw (e (placeOf (t + 1)), uncounted counts held e (t + 1) k)
 
 -- the scan for `found`, from the number above `number` up to `last`
 module _ (counts : List ℕ) (last number found : ℕ) (inv : found ≡ lowestUncounted counts number (last - number)) where

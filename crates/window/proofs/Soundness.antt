@@ -14,8 +14,7 @@ use Rattle.group.specs.declared.MemberNumber.{MemberNumber}
 use Rattle.group.proofs.Choice.{if-true, if-false, both-hold, both-then, says}
 use Rattle.group.proofs.Fold.{above-each, above-all}
 use Rattle.group.proofs.Lists.{if-elim}
-use Rattle.message.specs.Message.{zeroBehind, isEmpty}
-use Rattle.message.specs.declared.Message.{Message}
+use Rattle.message.specs.Message.{Message, zeroBehind, isEmpty}
 use Rattle.window.specs.Sound.{placeSound, queueSound, waitingSound}
 use Rattle.window.specs.Places.{messageAt, isHeld, queuedAt}
 

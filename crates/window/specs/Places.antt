@@ -5,8 +5,7 @@ use Prim.Native.Nat.{ℕ, zero, suc, _+_, _%_}
 use lib.ListN.{getD}
 use Rattle.group.specs.Choice.{if_then_else_, _<?_}
 use Rattle.group.specs.Limits.{heldMost, waitingMost}
-use Rattle.message.specs.Message.{blank}
-use Rattle.message.specs.declared.Message.{Message}
+use Rattle.message.specs.Message.{Message, blank}
 
 -- number s lies in place s modulo 8
 abbrev pub placeOf : ℕ → ℕ

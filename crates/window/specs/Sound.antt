@@ -6,8 +6,7 @@ use Rattle.group.specs.Choice.{if_then_else_, _and_, _<?_, _≤?_, _=?_}
 use Rattle.group.specs.Fold.{allAbove}
 use Rattle.group.specs.Limits.{membersMost, payloadMost, waitingMost, largestNumber}
 use Rattle.group.specs.declared.MemberNumber.{MemberNumber}
-use Rattle.message.specs.Message.{zeroBehind, isEmpty}
-use Rattle.message.specs.declared.Message.{Message}
+use Rattle.message.specs.Message.{Message, zeroBehind, isEmpty}
 use Rattle.window.specs.Places.{messageAt, isHeld, queuedAt}
 
 -- held originators are below n with counts of at least 1, lengths at most 240, no held number is over the largest, and every

@@ -1,18 +1,14 @@
 -- What the steps inside the code promise, in terms of the meaning. No call's promise speaks of these.
+use mathlib.Core.Path.{_≡_}
 use mathlib.Core.Bool.{Bool}
-use mathlib.Core.List.{List, [], _∷_}
-use Prim.Native.Nat.{ℕ, zero, suc, _+_, _-_, _%_}
+use mathlib.Core.List.{List}
+use Prim.Native.Nat.{ℕ, zero, suc, _+_, _-_}
 use lib.ListN.{getD}
 use Rattle.group.specs.Choice.{if_then_else_, _and_, _<?_, _≤?_, _=?_}
-use Rattle.group.specs.Limits.{heldMost, payloadMost, largestNumber}
+use Rattle.group.specs.Limits.{payloadMost, largestNumber}
 use Rattle.group.specs.declared.MemberNumber.{MemberNumber}
-use Rattle.message.specs.Message.{zeroBehind, isEmpty, blank}
-use Rattle.message.specs.declared.Message.{Message}
+use Rattle.message.specs.Message.{Message, zeroBehind, isEmpty, blank}
 use Rattle.window.specs.Places.{placeOf}
-
--- the number that place `at` is for, of the eight above t
-abbrev pub numberIn : ℕ → ℕ → ℕ
-numberIn t at = t + 1 + (at + heldMost - (t + 1) % heldMost) % heldMost
 
 -- whether the place of a number is sound, of the message that lies in it
 unfoldable pub messageSound : ℕ → Message → ℕ → Bool
@@ -34,18 +30,9 @@ queuedSound number submitted message count =
     and zeroBehind message
     else isEmpty message
 
--- the counts of the eight places
-abbrev pub countsOf : List Message → List ℕ
-countsOf held =
-    getD held 0 blank .count
-    ∷ getD held 1 blank .count
-    ∷ getD held 2 blank .count
-    ∷ getD held 3 blank .count
-    ∷ getD held 4 blank .count
-    ∷ getD held 5 blank .count
-    ∷ getD held 6 blank .count
-    ∷ getD held 7 blank .count
-    ∷ []
+-- those are the counts of the places
+abbrev pub Counted : List ℕ → List Message → Type 0
+Counted counts held = (i : ℕ) → getD counts i 0 ≡ getD held i blank .count
 
 -- the lowest missing of the k numbers above t, by the counts of the places; 0: none is
 unfoldable pub lowestUncounted : List ℕ → ℕ → ℕ → ℕ

@@ -1,20 +1,20 @@
-// The window of a member: its 8 places for the numbers above the last taken, and the tests and choices on plain numbers and on
-// one message that its calls are made of.
+// The window of a member: its 8 places for the numbers above the last taken, its 5 places of messages that wait, and the tests and
+// choices on plain numbers and on one place that its calls are made of.
 use group::Group;
 use group::MemberNumber;
 use group::SequenceNumber;
-use message::Message;
 ghost use mathlib.Core.Path.{_≡_};
-ghost use Prim.Native.Nat.{_+_, _-_, _≤_, _<_};
-ghost use lib.ListN.{length};
+ghost use Prim.Native.Nat.{_+_, _-_, _*_, _≤_, _<_};
+ghost use lib.ListN.{length, take, set};
 ghost use Rattle.group.specs.Choice.{_and_, _≤?_, _=?_};
 ghost use Rattle.group.specs.Fold.{allAbove};
 ghost use Rattle.group.specs.Lent.{Laid};
 ghost use Rattle.group.specs.Limits.{heldMost, payloadMost, waitingMost, longestPacket, largestNumber};
-ghost use Rattle.message.specs.Message.{payloadOf};
+ghost use Rattle.message.specs.Message.{isEmpty, messageOf, emptyMessage};
+ghost use Rattle.store.specs.Places.{partOf, Lies, maskOf, messageIn, messagesIn};
 ghost use Rattle.window.specs.Places.{placeOf, queuePlace, smallerOf};
 ghost use Rattle.window.specs.Sound.{placeSound, queueSound, waitingSound, frameSound};
-ghost use Rattle.window.specs.Steps.{numberIn, messageSound, queuedSound, countsOf, lowestUncounted, rowCounted};
+ghost use Rattle.window.specs.Steps.{messageSound, queuedSound, lowestUncounted, rowCounted};
 
 // Number s lies in place s modulo 8: the place of the number that lies `ahead` above a number, which may pass the largest.
 pub fn place(number: SequenceNumber, ahead: usize) -> usize
@@ -24,29 +24,10 @@ pub fn place(number: SequenceNumber, ahead: usize) -> usize
     (number.0 as usize + ahead) % Group::HELD
 }
 
-// The counts of the places, by which a place is held or empty.
-pub fn counts(held: [Message; Group::HELD]) -> [u32; Group::HELD]
-    ensures { λ r. ⌜ r ≡ countsOf held ⌝ }
-{
-    [
-        held[0].count,
-        held[1].count,
-        held[2].count,
-        held[3].count,
-        held[4].count,
-        held[5].count,
-        held[6].count,
-        held[7].count,
-    ]
-}
-
 // The lowest number above the last taken, up to `last`, that is missing by the counts of the places; 0 if none is.
-pub fn lowest_missing(
-    counts: [u32; Group::HELD],
-    taken: SequenceNumber,
-    last: SequenceNumber,
-) -> SequenceNumber
-    ensures { λ r. ⌜ r .0 ≡ lowestUncounted counts (taken .0) (last .0 - taken .0) ⌝ }
+pub fn lowest_missing(counts: &[u32], taken: SequenceNumber, last: SequenceNumber) -> SequenceNumber
+    requires { ⌜ length (now counts) ≡ heldMost ⌝ }
+    ensures { λ r. ⌜ r .0 ≡ lowestUncounted (now (counts .entry)) (taken .0) (last .0 - taken .0) ⌝ }
 {
     let mut number = taken;
     while number.0 < last.0 {
@@ -80,23 +61,58 @@ pub fn queue_place(count: usize) -> usize
     count % Group::WAITING
 }
 
-// A message waits as the member's own with its place's count; a place of a count that was not submitted is all zero.
-fn queued_sound(number: MemberNumber, submitted: u32, message: Message, count: usize) -> bool
-    ensures { λ r. ⌜ r ≡ queuedSound number submitted message count ⌝ }
+// All of a place is zero.
+fn empty_sound(
+    count: u32,
+    originator: u8,
+    length: u8,
+    payloads: &[u8],
+    mask: &[u8],
+    at: usize,
+) -> bool
+    requires { ⌜ Lies at (now payloads) × (now mask ≡ maskOf) ⌝ }
+    ensures { λ r. ⌜ r ≡ isEmpty (messageIn count originator length (partOf (now (payloads .entry)) at)) ⌝ }
 {
-    if count <= (submitted as usize) {
-        if message.originator.0 != number.0 {
-            return false;
-        }
-        if (message.count as usize) != count {
-            return false;
-        }
-        if Group::PAYLOAD < message.length {
-            return false;
-        }
-        return message.zero_behind();
+    if originator != 0 {
+        return false;
     }
-    message.is_empty()
+    if count != 0 {
+        return false;
+    }
+    if length != 0 {
+        return false;
+    }
+    store::zero_from(payloads, mask, at, length)
+}
+
+// A message waits as the member's own with its place's count; a place of a count that was not submitted is all zero.
+fn queued_sound(
+    number: MemberNumber,
+    submitted: u32,
+    place: usize,
+    count: u32,
+    originator: u8,
+    length: u8,
+    payloads: &[u8],
+    mask: &[u8],
+    at: usize,
+) -> bool
+    requires { ⌜ Lies at (now payloads) × (now mask ≡ maskOf) ⌝ }
+    ensures { λ r. ⌜ r ≡ queuedSound number submitted (messageIn count originator length (partOf (now (payloads .entry)) at)) place ⌝ }
+{
+    if place <= (submitted as usize) {
+        if originator != number.0 {
+            return false;
+        }
+        if (count as usize) != place {
+            return false;
+        }
+        if Group::PAYLOAD < (length as usize) {
+            return false;
+        }
+        return store::zero_from(payloads, mask, at, length);
+    }
+    empty_sound(count, originator, length, payloads, mask, at)
 }
 
 // At most five messages wait, no more than were submitted, and each of the five places is sound.
@@ -104,9 +120,14 @@ pub fn waiting_sound(
     number: MemberNumber,
     submitted: u32,
     waiting: u32,
-    queue: [Message; Group::WAITING],
+    counts: &[u32],
+    originators: &[u8],
+    lengths: &[u8],
+    payloads: &[u8],
+    mask: &[u8],
 ) -> bool
-    ensures { λ r. ⌜ r ≡ waitingSound number submitted waiting queue ⌝ }
+    requires { ⌜ (length (now counts) ≡ waitingMost) × (length (now originators) ≡ waitingMost) × (length (now lengths) ≡ waitingMost) × (length (now payloads) ≡ waitingMost * payloadMost) × (now mask ≡ maskOf) ⌝ }
+    ensures { λ r. ⌜ r ≡ waitingSound number submitted waiting (messagesIn (now (counts .entry)) (now (originators .entry)) (now (lengths .entry)) (now (payloads .entry))) ⌝ }
 {
     if Group::WAITING < (waiting as usize) {
         return false;
@@ -114,7 +135,16 @@ pub fn waiting_sound(
     if submitted < waiting {
         return false;
     }
-    queue_sound(number, submitted, submitted - waiting, queue)
+    queue_sound(
+        number,
+        submitted,
+        submitted - waiting,
+        counts,
+        originators,
+        lengths,
+        payloads,
+        mask,
+    )
 }
 
 // The places of the five counts above those that were taken are sound.
@@ -122,16 +152,30 @@ fn queue_sound(
     number: MemberNumber,
     submitted: u32,
     taken: u32,
-    queue: [Message; Group::WAITING],
+    counts: &[u32],
+    originators: &[u8],
+    lengths: &[u8],
+    payloads: &[u8],
+    mask: &[u8],
 ) -> bool
-    requires { ⌜ taken ≤ submitted ⌝ }
-    ensures { λ r. ⌜ r ≡ allAbove (queueSound number queue submitted) taken waitingMost ⌝ }
+    requires { ⌜ (taken ≤ submitted) × (length (now counts) ≡ waitingMost) × (length (now originators) ≡ waitingMost) × (length (now lengths) ≡ waitingMost) × (length (now payloads) ≡ waitingMost * payloadMost) × (now mask ≡ maskOf) ⌝ }
+    ensures { λ r. ⌜ r ≡ allAbove (queueSound number (messagesIn (now (counts .entry)) (now (originators .entry)) (now (lengths .entry)) (now (payloads .entry))) submitted) taken waitingMost ⌝ }
 {
     let mut i: usize = 0;
     while i < Group::WAITING {
         let count = (taken as usize) + i + 1;
         let at = queue_place(count);
-        if queued_sound(number, submitted, queue[at], count) {
+        if queued_sound(
+            number,
+            submitted,
+            count,
+            counts[at],
+            originators[at],
+            lengths[at],
+            payloads,
+            mask,
+            at,
+        ) {
             i += 1;
         } else {
             return false;
@@ -140,60 +184,117 @@ fn queue_sound(
     true
 }
 
-// The number that a place is for, of the eight above the last taken.
-fn number_in(taken: SequenceNumber, at: usize) -> usize
-    requires { ⌜ at < heldMost ⌝ }
-    ensures { λ r. ⌜ r ≡ numberIn (taken .0) at ⌝ }
-{
-    let first = taken.0 as usize + 1;
-    first + (at + Group::HELD - first % Group::HELD) % Group::HELD
-}
-
 // A held message has a member of the group as its originator, a length in the limit and a number in the limit; else its
 // place is all zero.
-fn message_sound(n: u8, message: Message, taken: SequenceNumber, at: usize) -> bool
-    requires { ⌜ at < heldMost ⌝ }
-    ensures { λ r. ⌜ r ≡ messageSound n message (numberIn (taken .0) at) ⌝ }
+fn message_sound(
+    n: u8,
+    number: usize,
+    count: u32,
+    originator: u8,
+    length: u8,
+    payloads: &[u8],
+    mask: &[u8],
+    at: usize,
+) -> bool
+    requires { ⌜ Lies at (now payloads) × (now mask ≡ maskOf) ⌝ }
+    ensures { λ r. ⌜ r ≡ messageSound n (messageIn count originator length (partOf (now (payloads .entry)) at)) number ⌝ }
 {
-    if 0 < message.count {
-        if n <= message.originator.0 {
+    if 0 < count {
+        if n <= originator {
             return false;
         }
-        if Group::PAYLOAD < message.length {
+        if Group::PAYLOAD < (length as usize) {
             return false;
         }
-        if message.zero_behind() {
-            return number_in(taken, at) <= (Group::LARGEST as usize);
+        if store::zero_from(payloads, mask, at, length) {
+            return number <= (Group::LARGEST as usize);
         }
         return false;
     }
-    message.is_empty()
+    empty_sound(count, originator, length, payloads, mask, at)
 }
 
-// The places of the eight numbers above the last taken are sound. Each is looked at by its own index, so that no copy of the
-// table is made.
-pub fn held_sound(n: u8, held: [Message; Group::HELD], taken: SequenceNumber) -> bool
-    ensures { λ r. ⌜ r ≡ allAbove (placeSound n held) (taken .0) heldMost ⌝ }
+// The places of the eight numbers above the last taken are sound.
+pub fn held_sound(
+    n: u8,
+    taken: SequenceNumber,
+    counts: &[u32],
+    originators: &[u8],
+    lengths: &[u8],
+    payloads: &[u8],
+    mask: &[u8],
+) -> bool
+    requires { ⌜ (length (now counts) ≡ heldMost) × (length (now originators) ≡ heldMost) × (length (now lengths) ≡ heldMost) × (length (now payloads) ≡ heldMost * payloadMost) × (now mask ≡ maskOf) ⌝ }
+    ensures { λ r. ⌜ r ≡ allAbove (placeSound n (messagesIn (now (counts .entry)) (now (originators .entry)) (now (lengths .entry)) (now (payloads .entry)))) (taken .0) heldMost ⌝ }
 {
-    message_sound(n, held[0], taken, 0)
-        & message_sound(n, held[1], taken, 1)
-        & message_sound(n, held[2], taken, 2)
-        & message_sound(n, held[3], taken, 3)
-        & message_sound(n, held[4], taken, 4)
-        & message_sound(n, held[5], taken, 5)
-        & message_sound(n, held[6], taken, 6)
-        & message_sound(n, held[7], taken, 7)
+    let mut i: usize = 0;
+    while i < Group::HELD {
+        let at = place(taken, i + 1);
+        let number = (taken.0 as usize) + i + 1;
+        if message_sound(
+            n,
+            number,
+            counts[at],
+            originators[at],
+            lengths[at],
+            payloads,
+            mask,
+            at,
+        ) {
+            i += 1;
+        } else {
+            return false;
+        }
+    }
+    true
 }
 
-// Lays the payload of a message at the front of the output, and gives its length.
-pub fn put_payload(message: Message, out: &mut [u8]) -> usize
-    requires { ⌜ (message .length ≤ payloadMost) × (longestPacket ≤ length (now out)) ⌝ }
-    ensures { λ r. ⌜ Laid (payloadOf message) r (now (out .entry)) (now (out .exit)) ⌝ }
+// A message goes to a place: the keeping step.
+pub fn keep(
+    counts: &mut [u32],
+    originators: &mut [u8],
+    lengths: &mut [u8],
+    payloads: &mut [u8],
+    at: usize,
+    originator: MemberNumber,
+    count: u32,
+    payload: &[u8],
+)
+    requires { ⌜ (at < length (now counts)) × (at < length (now originators)) × (at < length (now lengths)) × Lies at (now payloads) × (length (now payload) ≤ payloadMost) ⌝ }
+    ensures { λ _. ⌜ messagesIn (now (counts .exit)) (now (originators .exit)) (now (lengths .exit)) (now (payloads .exit)) ≡ set (messagesIn (now (counts .entry)) (now (originators .entry)) (now (lengths .entry)) (now (payloads .entry))) at (messageOf originator count (now (payload .entry))) ⌝ }
 {
-    let length = message.length;
-    let payload = message.payload;
-    message::copy(&payload[..length], out);
-    length
+    counts[at] = count;
+    originators[at] = originator.0;
+    lengths[at] = payload.len() as u8;
+    store::keep(payloads, at, payload);
+}
+
+// A place is made empty.
+pub fn clear(
+    counts: &mut [u32],
+    originators: &mut [u8],
+    lengths: &mut [u8],
+    payloads: &mut [u8],
+    at: usize,
+)
+    requires { ⌜ (at < length (now counts)) × (at < length (now originators)) × (at < length (now lengths)) × Lies at (now payloads) ⌝ }
+    ensures { λ _. ⌜ messagesIn (now (counts .exit)) (now (originators .exit)) (now (lengths .exit)) (now (payloads .exit)) ≡ set (messagesIn (now (counts .entry)) (now (originators .entry)) (now (lengths .entry)) (now (payloads .entry))) at emptyMessage ⌝ }
+{
+    counts[at] = 0;
+    originators[at] = 0;
+    lengths[at] = 0;
+    store::clear(payloads, at);
+}
+
+// Lays the payload of a place at the front of the output, and gives its length.
+pub fn put_payload(payloads: &[u8], at: usize, size: u8, out: &mut [u8]) -> usize
+    requires { ⌜ Lies at (now payloads) × (size ≤ payloadMost) × (longestPacket ≤ length (now out)) ⌝ }
+    ensures { λ r. ⌜ Laid (take size (partOf (now (payloads .entry)) at)) r (now (out .entry)) (now (out .exit)) ⌝ }
+{
+    let base = at * Group::PAYLOAD;
+    let end = base + (size as usize);
+    message::copy(&payloads[base..end], out);
+    size as usize
 }
 
 // The smaller of a poll's top and the last number that a place is for.
@@ -207,8 +308,9 @@ pub fn reach(top: SequenceNumber, taken: SequenceNumber) -> SequenceNumber
 }
 
 // The last number through which nothing above the last taken is missing, by the counts of the places.
-pub fn row_end(counts: [u32; Group::HELD], taken: SequenceNumber) -> SequenceNumber
-    ensures { λ r. ⌜ r .0 ≡ rowCounted counts (taken .0) (smallerOf largestNumber (taken .0 + heldMost)) ⌝ }
+pub fn row_end(counts: &[u32], taken: SequenceNumber) -> SequenceNumber
+    requires { ⌜ length (now counts) ≡ heldMost ⌝ }
+    ensures { λ r. ⌜ r .0 ≡ rowCounted (now (counts .entry)) (taken .0) (smallerOf largestNumber (taken .0 + heldMost)) ⌝ }
 {
     let last = reach(SequenceNumber(Group::LARGEST), taken);
     let first = lowest_missing(counts, taken, last);

@@ -3,7 +3,9 @@
 use denote.Ref.{now}
 use mathlib.Core.Path.{sym, ap, _∙_}
 use Rattle.packet.specs.Wording.{readingWording}
-use Rattle.boundary.specs.Codes.{numbersIn, codeOf, numbersAfter, readCode, fieldsAfter}
+use Rattle.group.specs.Choice.{if_then_else_}
+use Rattle.group.specs.Codes.{numbersIn, codeOf, wordCode}
+use Rattle.boundary.specs.Codes.{numbersAfter, readCode, fieldsAfter}
 use borrow.Author.Needs.{needs}
 use Rattle.boundary.proofs.boundary_read.Statement.{statement}
 use Rattle.boundary.proofs.boundary_read.Tie as tie
@@ -27,13 +29,13 @@ number-requires : tie.Need-number-requires
 number-requires c κs = search needs
 
 returns : tie.Need-returns
-unfolding readingWording numbersIn codeOf numbersAfter
+unfolding readingWording numbersIn codeOf wordCode if_then_else_ numbersAfter
 returns c =
     let e = sym (c .before .before .before .before .reading .given .1) ∙ c .before .before .before .before .before .before .read .ensures .0 in
     (ap readCode e, ap (λ r. fieldsAfter r (now (c .before .before .before .before .before .before .before .before .args .fields))) e)
 
 returns-2 : tie.Need-returns-2
-unfolding readingWording numbersIn codeOf numbersAfter
+unfolding readingWording numbersIn codeOf wordCode if_then_else_ numbersAfter
 returns-2 c =
     let e = sym (c .before .before .reading2 .given .1) ∙ c .before .before .before .before .read .ensures .0 in
     (c .number .ensures ∙ ap readCode e, ap (λ r. fieldsAfter r (now (c .before .before .before .before .before .before .args .fields))) e)

@@ -2,7 +2,8 @@
 -- Assumes nothing.
 use mathlib.Core.Path.{sym, ap, _∙_}
 use Rattle.packet.specs.Wording.{writingWording}
-use Rattle.boundary.specs.Codes.{numbersIn, firstNumber, writeCode, headerWith}
+use Rattle.group.specs.Codes.{numbersIn}
+use Rattle.boundary.specs.Codes.{firstNumber, writeCode, headerWith}
 use borrow.Author.Needs.{needs}
 use Rattle.boundary.proofs.boundary_write.Statement.{statement}
 use Rattle.boundary.proofs.boundary_write.Tie as tie

@@ -2,8 +2,10 @@
 -- Assumes nothing.
 use mathlib.Core.Path.{sym, _∙_}
 use native.Mathlib.Nat.{lt-of-lt-of-le}
+use denote.Ref.{now}
 use Rattle.history.specs.Ask.{requestVerdict}
 use Rattle.history.proofs.Asking.{sender-was, judged-yes, judged-no}
+use Rattle.history.proofs.View.{count-own}
 use borrow.Author.Needs.{needs}
 use Rattle.history.proofs.ask_request.Statement.{statement}
 use Rattle.history.proofs.ask_request.Tie as tie
@@ -17,11 +19,11 @@ enum-told c = search needs
 cast-at : tie.Need-cast-at
 cast-at c = search needs
 
-mul-entry : tie.Need-mul-entry
-mul-entry c = search needs
+mul-ask-count : tie.Need-mul-ask-count
+mul-ask-count c = search needs
 
-array-copy-out-entry : tie.Need-array-copy-out-entry
-array-copy-out-entry c = lt-of-lt-of-le (sender-was _ _ _ _ (sym (c .before .before .before .ask-sender .ensures) ∙ c .before .enum-told .given .1) .0) (c .before .before .before .before .pre)
+shared-slice-read-ask-count : tie.Need-shared-slice-read-ask-count
+shared-slice-read-ask-count c = rw (c .before .before .before .before .before .before .pre .1) (lt-of-lt-of-le (sender-was _ _ _ _ (sym (c .before .before .before .before .ask-sender .ensures) ∙ c .before .before .enum-told .given .1) .0) (c .before .before .before .before .before .before .pre .0))
 
 ask-count-requires : tie.Need-ask-count-requires
 ask-count-requires c κs = search needs
@@ -31,7 +33,7 @@ enum-known-v c = search needs
 
 returns : tie.Need-returns
 unfolding requestVerdict
-returns c = c .ask-count .ensures ∙ judged-yes _ _ _ (sym (c .before .before .before .before .before .ask-sender .ensures) ∙ c .before .before .before .enum-told .given .1)
+returns c = rw (count-own (now (c .before .before .before .before .before .before .before .args .counts)) (c .before .before .before .before .before .before .before .args .sender .0)) (c .ask-count .ensures ∙ judged-yes _ _ _ (sym (c .before .before .before .before .before .ask-sender .ensures) ∙ c .before .before .before .enum-told .given .1))
 
 returns-2 : tie.Need-returns-2
 unfolding requestVerdict
@@ -44,8 +46,8 @@ ask-request-spec =
     ask-sender-requires
     enum-told
     cast-at
-    mul-entry
-    array-copy-out-entry
+    mul-ask-count
+    shared-slice-read-ask-count
     ask-count-requires
     enum-known-v
     returns

@@ -1,24 +1,26 @@
--- The loop's invariant: what is found from `number` downwards is what is found from top downwards.
+-- The loop's invariant: the search from top finds what the search from `number` finds.
 -- Assumes nothing.
 use mathlib.Core.Path.{_≡_, refl}
 use Prim.Native.Nat.{_-_, _≤_}
 use lib.ListN.{length}
-use Rattle.group.specs.Limits.{placesMost}
-use Rattle.history.proofs.Finding.{find-found, find-on, find-end}
-use Rattle.history.specs.Repeat.{findOf}
 use native.Mathlib.Omega.{arith}
+use Rattle.group.specs.Limits.{placesMost}
+use Rattle.history.specs.Repeat.{findOf}
+use Rattle.history.specs.View.{listed}
+use Rattle.history.proofs.Finding.{find-found, find-on, find-end}
+use Rattle.history.proofs.View.{of-asked}
 use borrow.Author.Needs.{needs}
 use Rattle.history.proofs.find.Statement.{statement}
 use Rattle.history.proofs.find.Tie as tie
 
 abbrev Inv-loop : tie.InvT-loop
-Inv-loop sender count floor history number₀ number = (length history ≡ placesMost) × (number ≤ number₀) × (findOf history sender count (floor .0) (number₀ - floor .0) ≡ findOf history sender count (floor .0) (number - floor .0))
+Inv-loop kept originators sender count floor number₀ number = (length kept ≡ placesMost) × (length originators ≡ placesMost) × (number ≤ number₀) × (findOf (listed kept originators) sender count (floor .0) (number₀ - floor .0) ≡ findOf (listed kept originators) sender count (floor .0) (number - floor .0))
 
 abbrev μ-loop : tie.MeasureT-loop
-μ-loop sender count floor history number₀ number = number
+μ-loop kept originators sender count floor number₀ number = number
 
 loop-holds : tie.Need-loop-holds Inv-loop μ-loop
-loop-holds c = (search needs, search needs, refl)
+loop-holds c = (c .before .before .pre .0, c .before .before .pre .1, search needs, refl)
 
 cast-place : tie.Need-cast-place Inv-loop μ-loop
 cast-place c = search needs
@@ -29,16 +31,19 @@ place-requires c κs = search needs
 mul-is-of : tie.Need-mul-is-of Inv-loop μ-loop
 mul-is-of c = search needs
 
-array-copy-out-is-of : tie.Need-array-copy-out-is-of Inv-loop μ-loop
-array-copy-out-is-of c = search needs
+shared-slice-read-is-of : tie.Need-shared-slice-read-is-of Inv-loop μ-loop
+shared-slice-read-is-of c = search needs
+
+shared-slice-read-is-of-2 : tie.Need-shared-slice-read-is-of-2 Inv-loop μ-loop
+shared-slice-read-is-of-2 c = search needs
 
 is-of-requires : tie.Need-is-of-requires Inv-loop μ-loop
 is-of-requires c κs = search needs
 
 returns : tie.Need-returns Inv-loop μ-loop
 returns c =
-    let l = c .before .before .before .before .before .before .loop in
-    find-found _ _ _ _ _ (l .number) (l .inv .2) (c .before .is-of .result) (omega arith) (rw (← c .before .before .before .place .ensures) (c .before .is-of .ensures)) (c .if2 .taken)
+    let l = c .before .before .before .before .before .before .before .loop in
+    find-found _ _ _ _ _ (l .number) (l .inv .3) (c .before .is-of .result) (omega arith) (of-asked _ _ _ _ (l .number) _ _ (c .before .before .before .before .place .ensures) (let p = c .before .before .before .before .place .ensures in omega (arith, p, l .inv .0)) (c .before .is-of .ensures)) (c .if2 .taken)
 
 sub-number : tie.Need-sub-number Inv-loop μ-loop
 sub-number c = search needs
@@ -48,13 +53,13 @@ loop-less c = search needs
 
 loop-again : tie.Need-loop-again Inv-loop μ-loop
 loop-again c =
-    let l = c .before .before .before .before .before .before .loop in
-    (l .inv .0, search needs, find-on _ _ _ _ _ (l .number) (l .inv .2) (c .before .is-of .result) (omega arith) (rw (← c .before .before .before .place .ensures) (c .before .is-of .ensures)) (c .if2 .left))
+    let l = c .before .before .before .before .before .before .before .loop in
+    (l .inv .0, l .inv .1, search needs, find-on _ _ _ _ _ (l .number) (l .inv .3) (c .before .is-of .result) (omega arith) (of-asked _ _ _ _ (l .number) _ _ (c .before .before .before .before .place .ensures) (let p = c .before .before .before .before .place .ensures in omega (arith, p, l .inv .0)) (c .before .is-of .ensures)) (c .if2 .left))
 
 returns-2 : tie.Need-returns-2 Inv-loop μ-loop
 returns-2 c =
     let l = c .before .before .loop in
-    find-end _ _ _ _ _ (l .number) (l .inv .2) (omega arith)
+    find-end _ _ _ _ _ (l .number) (l .inv .3) (omega arith)
 
 pub find-spec : {M : Type 1} → statement M
 find-spec =
@@ -66,7 +71,8 @@ find-spec =
     cast-place
     place-requires
     mul-is-of
-    array-copy-out-is-of
+    shared-slice-read-is-of
+    shared-slice-read-is-of-2
     is-of-requires
     returns
     sub-number

@@ -1,7 +1,10 @@
 -- Each test is one of the definition's.
 -- Assumes nothing.
+use denote.Ref.{now}
 use Rattle.group.proofs.Choice.{choices}
+use Rattle.message.specs.Message.{zeroBehind}
 use Rattle.history.specs.Sound.{keptSound}
+use Rattle.history.proofs.View.{count-own}
 use borrow.Author.Needs.{needs}
 use Rattle.history.proofs.kept_sound.Statement.{statement}
 use Rattle.history.proofs.kept_sound.Tie as tie
@@ -14,29 +17,26 @@ returns-2 : tie.Need-returns-2
 unfolding keptSound
 returns-2 c = search (choices, needs) depth 9
 
-cast-at : tie.Need-cast-at
-cast-at c = search needs
+mul-if3 : tie.Need-mul-if3
+mul-if3 c = search needs
 
-mul-entry : tie.Need-mul-entry
-mul-entry c = search needs
-
-array-copy-out-entry : tie.Need-array-copy-out-entry
-array-copy-out-entry c = search needs
+shared-slice-read-if3 : tie.Need-shared-slice-read-if3
+shared-slice-read-if3 c = search needs
 
 returns-3 : tie.Need-returns-3
 unfolding keptSound
-returns-3 c = search (choices, needs) depth 9
+returns-3 c = rw (count-own (now (c .before .before .before .before .before .before .before .args .counts)) (c .before .before .before .before .before .before .before .args .originator)) (search (choices, needs) depth 9)
 
 returns-4 : tie.Need-returns-4
 unfolding keptSound
-returns-4 c = search (choices, needs) depth 9
+returns-4 c = rw (count-own (now (c .before .before .before .before .before .before .before .before .args .counts)) (c .before .before .before .before .before .before .before .before .args .originator)) (search (choices, needs) depth 9)
 
-zero-behind-requires : tie.Need-zero-behind-requires
-zero-behind-requires c κs = search needs
+zero-from-requires : tie.Need-zero-from-requires
+zero-from-requires c κs = search needs
 
 returns-5 : tie.Need-returns-5
-unfolding keptSound
-returns-5 c = search (choices, needs) depth 9
+unfolding keptSound zeroBehind
+returns-5 c = rw (count-own (now (c .before .before .before .before .before .before .before .before .before .args .counts)) (c .before .before .before .before .before .before .before .before .before .args .originator)) (search (choices, needs) depth 9)
 
 pub kept-sound-spec : {M : Type 1} → statement M
 kept-sound-spec =
@@ -44,10 +44,9 @@ kept-sound-spec =
     (tie.spec
     returns
     returns-2
-    cast-at
-    mul-entry
-    array-copy-out-entry
+    mul-if3
+    shared-slice-read-if3
     returns-3
     returns-4
-    zero-behind-requires
+    zero-from-requires
     returns-5)

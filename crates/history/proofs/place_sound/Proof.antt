@@ -14,12 +14,12 @@ kept-sound-requires c κs = search needs
 returns : tie.Need-returns
 returns c = search (choices, needs) depth 9
 
-is-empty-requires : tie.Need-is-empty-requires
-is-empty-requires c κs = search needs
+empty-sound-requires : tie.Need-empty-sound-requires
+empty-sound-requires c κs = search needs
 
 returns-2 : tie.Need-returns-2
 returns-2 c = search (choices, needs) depth 9
 
 pub place-sound-spec : {M : Type 1} → statement M
 place-sound-spec =
-    tie.close (tie.spec cast-if1 kept-sound-requires returns is-empty-requires returns-2)
+    tie.close (tie.spec cast-if1 kept-sound-requires returns empty-sound-requires returns-2)

@@ -3,7 +3,7 @@
 use mathlib.Core.List.{_++_}
 use Rattle.text.proofs.Pieces.{laid-then}
 use Rattle.text.specs.Written.{spaced, line}
-use Rattle.inspection.specs.Table.{columns, rowIn, rowLines}
+use Rattle.inspection.specs.Table.{columns, rowAt, rowLines}
 use borrow.Author.Needs.{needs}
 use Rattle.inspection.proofs.put_table.Statement.{statement}
 use Rattle.inspection.proofs.put_table.Tie as tie
@@ -22,7 +22,7 @@ same-length c = search needs
 
 returns : tie.Need-returns
 unfolding spaced
-returns c = let a = c .before .before .before .before .before .before .before .before .before .before .args in laid-then (line columns) (rowLines (rowIn (a .members) (a .table)) (a .n)) (c .before .before .before .before .before .before .put-text .ensures) (c .before .before .put-rows .ensures)
+returns c = let a = c .before .before .before .before .before .before .before .before .before .before .args in laid-then (line columns) (rowLines (rowAt (a .members) (a .repeats)) (a .n)) (c .before .before .before .before .before .before .put-text .ensures) (c .before .before .put-rows .ensures)
 
 pub put-table-spec : {M : Type 1} → statement M
 put-table-spec = tie.close (tie.spec slice-aggregate-put-text put-text-requires put-rows-requires same-length returns)

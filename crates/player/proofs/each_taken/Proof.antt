@@ -13,7 +13,7 @@ use Rattle.player.proofs.each_taken.Statement.{statement}
 use Rattle.player.proofs.each_taken.Tie as tie
 
 abbrev Inv-loop : tie.InvT-loop
-Inv-loop members taken₀ i₀ taken i = (length taken ≡ membersMost) × (take i taken ≡ map (λ m. m .taken .0) (take i members))
+Inv-loop members taken₀ i₀ taken i = (length taken ≡ membersMost) × (take i taken ≡ map (λ m. m .head .taken .0) (take i members))
 
 abbrev μ-loop : tie.MeasureT-loop
 μ-loop members taken₀ i₀ taken i = membersMost - i
@@ -41,11 +41,11 @@ loop-less c = search needs
 
 loop-again : tie.Need-loop-again Inv-loop μ-loop
 loop-again c =
-    let l = c .before .before .loop in (simp length-set (l .inv .0), taken-on (λ (m : Member). m .taken .0) (c .before .before .before .args .t1) (l .taken) (l .i) _ (search needs) (search needs) (l .inv .1))
+    let l = c .before .before .loop in (simp length-set (l .inv .0), taken-on (λ (m : Member). m .head .taken .0) (c .before .before .before .args .t1) (l .taken) (l .i) _ (search needs) (search needs) (l .inv .1))
 
 returns : tie.Need-returns Inv-loop μ-loop
 returns c =
-    let l = c .before .loop in sym (take-all (l .i) (l .taken) (search needs)) ∙ l .inv .1 ∙ ap (map (λ (m : Member). m .taken .0)) (take-all (l .i) (c .before .before .args .t1) (search needs))
+    let l = c .before .loop in sym (take-all (l .i) (l .taken) (search needs)) ∙ l .inv .1 ∙ ap (map (λ (m : Member). m .head .taken .0)) (take-all (l .i) (c .before .before .args .t1) (search needs))
 
 pub each-taken-spec : {M : Type 1} → statement M
 each-taken-spec =

@@ -9,7 +9,7 @@ enum-known-packet : tie.Need-enum-known-packet
 enum-known-packet c = search needs
 
 request-change-requires : tie.Need-request-change-requires
-request-change-requires c κs = rw (c .before .packet .given .1) at (c .before .before .before .pre)
+request-change-requires c κs = let p = c .before .before .before .before .before .pre in (rw (c .before .packet .given .1) at (p .0), p .1, p .2)
 
 enum-told : tie.Need-enum-told
 enum-told c = search needs
@@ -59,22 +59,4 @@ unfolding changeOf
 returns-5 c = rw (c .before .enum-told3 .given .1) (c .quiet4 .ensures)
 
 pub packet-change-spec : {M : Type 1} → statement M
-packet-change-spec =
-    tie.close
-    (tie.spec
-    enum-known-packet
-    request-change-requires
-    enum-told
-    quiet-requires
-    enum-known-packet-2
-    gap-answer-requires
-    quiet-requires-2
-    enum-told-2
-    quiet-requires-3
-    enum-told-3
-    quiet-requires-4
-    returns
-    returns-2
-    returns-3
-    returns-4
-    returns-5)
+packet-change-spec = tie.close (tie.spec enum-known-packet request-change-requires enum-told quiet-requires enum-known-packet-2 gap-answer-requires quiet-requires-2 enum-told-2 quiet-requires-3 enum-told-3 quiet-requires-4 returns returns-2 returns-3 returns-4 returns-5)

@@ -18,7 +18,7 @@ unfolding requestChange
 returns c = rw (c .quiet .ensures, c .before .before .one-more .ensures) (search (choices, needs) depth 9)
 
 find-requires : tie.Need-find-requires
-find-requires c κs = search needs
+find-requires c κs = let p = c .before .before .before .before .before .pre in (p .1, p .2)
 
 quiet-requires-2 : tie.Need-quiet-requires-2
 quiet-requires-2 c κs = search needs
@@ -41,26 +41,12 @@ returns-4 : tie.Need-returns-4
 unfolding requestChange
 returns-4 c = rw (c .quiet3 .ensures) (search (choices, needs) depth 9)
 
-add-t19 : tie.Need-add-t19
-add-t19 c = let z = c .before .before .before .before .before .before .pre (omega arith) in omega arith
+add-t20 : tie.Need-add-t20
+add-t20 c = let z = c .before .before .before .before .before .before .before .before .pre .0 (omega arith) in omega arith
 
 returns-5 : tie.Need-returns-5
 unfolding requestChange
 returns-5 c = search (choices, needs) depth 9
 
 pub request-change-spec : {M : Type 1} → statement M
-request-change-spec =
-    tie.close
-    (tie.spec
-    one-more-requires
-    quiet-requires
-    returns
-    find-requires
-    quiet-requires-2
-    returns-2
-    returns-3
-    kept-requires
-    quiet-requires-3
-    returns-4
-    add-t19
-    returns-5)
+request-change-spec = tie.close (tie.spec one-more-requires quiet-requires returns find-requires quiet-requires-2 returns-2 returns-3 kept-requires quiet-requires-3 returns-4 add-t20 returns-5)

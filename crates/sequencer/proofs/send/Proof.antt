@@ -1,36 +1,40 @@
 -- The broadcast's fields, laid with the message's payload.
 -- Assumes nothing.
-use mathlib.Core.Path.{_≡_}
-use lib.ListN.{length, length-take}
-use Rattle.group.specs.Limits.{payloadMost}
-use Rattle.message.proofs.Kept.{payload-short}
-use Rattle.message.specs.Message.{payloadOf}
-use Rattle.packet.proofs.Permitted.{broadcast-fields, laid-whole}
 use native.Mathlib.Omega.{arith}
+use denote.Ref.{now}
+use Rattle.sequencer.proofs.View.{may-send, broadcast-laid}
 use borrow.Author.Needs.{needs}
 use Rattle.sequencer.proofs.send.Statement.{statement}
 use Rattle.sequencer.proofs.send.Tie as tie
 
-array-share-prefix-payload : tie.Need-array-share-prefix-payload
-array-share-prefix-payload c = let n : length (c .before .before .before .args .m .payload) ≡ payloadMost = search needs in omega arith
+shared-slice-read-put-place : tie.Need-shared-slice-read-put-place
+shared-slice-read-put-place c = search needs
 
-slice-aggregate-put : tie.Need-slice-aggregate-put
-slice-aggregate-put c = let n : length (c .before .before .before .before .args .m .payload) ≡ payloadMost = search needs in simp length-take (omega arith)
+mul-t14 : tie.Need-mul-t14
+mul-t14 c = search needs
 
-put-requires : tie.Need-put-requires
-put-requires c κs = search needs
+shared-slice-read-t16 : tie.Need-shared-slice-read-t16
+shared-slice-read-t16 c = search needs
+
+shared-slice-read-put-place-2 : tie.Need-shared-slice-read-put-place-2
+shared-slice-read-put-place-2 c = search needs
+
+put-place-requires : tie.Need-put-place-requires
+put-place-requires c κs =
+    let a = c .before .before .before .before .before .before .before .before .before .args in
+    let p = c .before .before .before .before .before .before .before .before .before .pre in
+    let s = p .3 in
+    (omega (arith, s .payloads-size, p .0), may-send (a .group) (a .floor) (a .number) (a .at) (now (a .kept)) (now (a .originators)) (now (a .lengths)) (now (a .payloads)) (omega (arith, s .kept-size, p .0)) (p .1) .0)
 
 same-length : tie.Need-same-length
 same-length c = search needs
 
 returns : tie.Need-returns
-unfolding payloadOf
 returns c =
-    let a = c .before .before .before .before .before .before .before .before .args in
-    let p = c .before .before .before .before .before .before .before .before .pre in
-    laid-whole _ (payloadOf (a .m)) _ (broadcast-fields (a .group) (a .m .originator) (a .number) (a .floor) (a .m .count) (length (payloadOf (a .m))) (p .0 .1) (p .0 .2)) (payload-short (a .m) (p .0 .0)) (p .1) (c .before .before .put .ensures)
+    let a = c .before .before .before .before .before .before .before .before .before .before .before .before .args in
+    let p = c .before .before .before .before .before .before .before .before .before .before .before .before .pre in
+    let s = p .3 in
+    broadcast-laid (a .group) (a .floor) (a .number) (a .at) (now (a .kept)) (now (a .originators)) (now (a .lengths)) (now (a .payloads)) (omega (arith, s .kept-size, p .0)) _ (p .1) (p .2) (c .before .before .put-place .ensures)
 
 pub send-spec : {M : Type 1} → statement M
-send-spec =
-    tie.close
-    (tie.spec array-share-prefix-payload slice-aggregate-put put-requires same-length returns)
+send-spec = tie.close (tie.spec shared-slice-read-put-place mul-t14 shared-slice-read-t16 shared-slice-read-put-place-2 put-place-requires same-length returns)

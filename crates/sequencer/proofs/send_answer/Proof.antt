@@ -16,19 +16,19 @@ enum-known-answer : tie.Need-enum-known-answer
 enum-known-answer c = search needs
 
 send-requires : tie.Need-send-requires
-send-requires c κs = let p = c .before .before .before .before .before .pre in (rw (c .before .before .answer .given .1) at (p .0), p .1)
+send-requires c κs = let p = c .before .before .before .before .before .before .before .before .before .pre in (p .0, rw (c .before .before .answer .given .1) at (p .1), p .2, p .3)
 
 enum-told-3 : tie.Need-enum-told-3
 enum-told-3 c = search needs
 
 send-poll-requires : tie.Need-send-poll-requires
-send-poll-requires c κs = let p = c .before .before .before .before .pre in (rw (c .before .enum-told3 .given .1) at (p .0), p .1)
+send-poll-requires c κs = let p = c .before .before .before .before .before .before .before .before .pre in (rw (c .before .enum-told3 .given .1) at (p .1), p .2)
 
 enum-known-answer-2 : tie.Need-enum-known-answer-2
 enum-known-answer-2 c = search needs
 
 send-requires-2 : tie.Need-send-requires-2
-send-requires-2 c κs = let p = c .before .before .before .before .before .pre in (rw (c .before .before .answer2 .given .1) at (p .0), p .1)
+send-requires-2 c κs = let p = c .before .before .before .before .before .before .before .before .before .pre in (p .0, rw (c .before .before .answer2 .given .1) at (p .1), p .2, p .3)
 
 enum-told-4 : tie.Need-enum-told-4
 enum-told-4 c = search needs
@@ -81,28 +81,4 @@ unfolding sentOf
 returns-8 c = rw (c .enum-told6 .given .1) (record { size = refl; lent = refl })
 
 pub send-answer-spec : {M : Type 1} → statement M
-send-answer-spec =
-    tie.close
-    (tie.spec
-    enum-told
-    enum-told-2
-    enum-known-answer
-    send-requires
-    enum-told-3
-    send-poll-requires
-    enum-known-answer-2
-    send-requires-2
-    enum-told-4
-    enum-told-5
-    enum-told-6
-    returns
-    returns-2
-    same-length
-    returns-3
-    same-length-2
-    returns-4
-    same-length-3
-    returns-5
-    returns-6
-    returns-7
-    returns-8)
+send-answer-spec = tie.close (tie.spec enum-told enum-told-2 enum-known-answer send-requires enum-told-3 send-poll-requires enum-known-answer-2 send-requires-2 enum-told-4 enum-told-5 enum-told-6 returns returns-2 same-length returns-3 same-length-2 returns-4 same-length-3 returns-5 returns-6 returns-7 returns-8)

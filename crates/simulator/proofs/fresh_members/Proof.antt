@@ -1,12 +1,13 @@
 -- The loop's invariant: the first i members are fresh.
 -- Assumes nothing.
 use mathlib.Core.Path.{_≡_, refl, sym, ap, _∙_}
+use mathlib.Core.List.{map}
 use Prim.Native.Nat.{_-_, _≤_}
 use native.Mathlib.Omega.{arith}
 use lib.ListN.{length, take, length-set}
 use lib.Seq.{take-all}
 use Rattle.group.specs.Limits.{membersMost}
-use Rattle.member.specs.declared.Opening.{Opening}
+use Rattle.member.specs.View.{viewOf}
 use Rattle.model.specs.World.{freshMembers}
 use Rattle.simulator.proofs.Opening.{members-on}
 use borrow.Author.Needs.{needs}
@@ -14,13 +15,13 @@ use Rattle.simulator.proofs.fresh_members.Statement.{statement}
 use Rattle.simulator.proofs.fresh_members.Tie as tie
 
 abbrev Inv-loop : tie.InvT-loop
-Inv-loop n number members₀ i₀ members i = (i ≤ membersMost) × (length members ≡ membersMost) × (take i members ≡ freshMembers n number 0 i)
+Inv-loop n number members₀ i₀ members i = (i ≤ membersMost) × (length members ≡ membersMost) × (map viewOf (take i members) ≡ freshMembers n number 0 i)
 
 abbrev μ-loop : tie.MeasureT-loop
 μ-loop n number members₀ i₀ members i = membersMost - i
 
-fresh-requires : tie.Need-fresh-requires Inv-loop μ-loop
-fresh-requires c κs = search needs
+open-member-requires : tie.Need-open-member-requires Inv-loop μ-loop
+open-member-requires c κs = search needs
 
 loop-holds : tie.Need-loop-holds Inv-loop μ-loop
 unfolding freshMembers
@@ -29,8 +30,8 @@ loop-holds c = (search needs, search needs, refl)
 cast-t11 : tie.Need-cast-t11 Inv-loop μ-loop
 cast-t11 c = search needs
 
-fresh-requires-2 : tie.Need-fresh-requires-2 Inv-loop μ-loop
-fresh-requires-2 c κs = search needs
+open-member-requires-2 : tie.Need-open-member-requires-2 Inv-loop μ-loop
+open-member-requires-2 c κs = search needs
 
 mul-members : tie.Need-mul-members Inv-loop μ-loop
 mul-members c = search needs
@@ -47,13 +48,13 @@ loop-less c = search needs
 loop-again : tie.Need-loop-again Inv-loop μ-loop
 loop-again c =
     let l = c .before .before .before .loop in
-    (search needs, simp length-set (l .inv .1), members-on (c .before .before .before .before .before .before .args .n) (c .before .before .before .before .before .before .args .number) (l .i) (l .members) _ (omega arith) (l .inv .2) (ap (λ (o : Opening). o .member) (c .before .fresh2 .ensures .0)))
+    (search needs, simp length-set (l .inv .1), members-on (c .before .before .before .before .before .before .args .n) (c .before .before .before .before .before .before .args .number) (l .i) (l .members) _ (omega arith) (l .inv .2) (c .before .open-member2 .ensures .state))
 
 returns : tie.Need-returns Inv-loop μ-loop
 returns c =
     let l = c .before .loop in
     let e : l .i ≡ membersMost = omega arith in
-    sym (take-all (l .i) (l .members) (omega arith)) ∙ l .inv .2 ∙ ap (freshMembers (c .before .before .before .before .args .n) (c .before .before .before .before .args .number) 0) e
+    ap (map viewOf) (sym (take-all (l .i) (l .members) (omega arith))) ∙ l .inv .2 ∙ ap (freshMembers (c .before .before .before .before .args .n) (c .before .before .before .before .args .number) 0) e
 
 pub fresh-members-spec : {M : Type 1} → statement M
 fresh-members-spec =
@@ -61,10 +62,10 @@ fresh-members-spec =
     (tie.spec
     Inv-loop
     μ-loop
-    fresh-requires
+    open-member-requires
     loop-holds
     cast-t11
-    fresh-requires-2
+    open-member-requires-2
     mul-members
     array-set-from-members
     add-i

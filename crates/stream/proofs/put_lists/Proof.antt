@@ -11,9 +11,9 @@ use Rattle.group.specs.Limits.{membersMost}
 use Rattle.inspection.proofs.Lists.{lists-on, no-lists-yet}
 use Rattle.inspection.specs.Lists.{jobLines, listLines, listOn}
 use Rattle.jobs.specs.declared.Job.{Job}
-use Rattle.member.specs.declared.Member.{Member}
-use Rattle.model.specs.World.{noMember}
-use Rattle.simulator.proofs.Lists.{getD-inside}
+use Rattle.member.specs.State.{Member}
+use Rattle.member.specs.View.{viewOf}
+use Rattle.simulator.proofs.Reading.{getD-seen}
 use Rattle.simulator.specs.Whole.{packetIn}
 use Rattle.terminal.specs.Left.{heardAll, freshLeft}
 use borrow.Author.Needs.{needs}
@@ -53,15 +53,16 @@ loop-less : tie.Need-loop-less Inv-loop μ-loop
 loop-less c = search needs
 
 loop-again : tie.Need-loop-again Inv-loop μ-loop
+unfolding viewOf
 loop-again c =
-    let l = c .before .before .before .before .loop in
-    let a = c .before .before .before .before .before .args in
+    let l = c .before .before .before .before .before .loop in
+    let a = c .before .before .before .before .before .before .args in
     let packets = map packetIn (take (a .count) (a .packets)) in
     let n : length (a .t1) ≡ membersMost = search needs in
-    let t = c .before .before .before .loop-test .taken in
-    let p = c .before .before .before .before .before .pre .0 in
+    let t = c .before .before .before .before .loop-test .taken in
+    let p = c .before .before .before .before .before .before .pre .0 in
     let b : l .i < length (a .t1) = omega arith in
-    let e = c .before .list-left .ensures ∙ ap (λ (m : Member). heardAll (m .taken .0) freshLeft packets .jobs) (getD-inside (a .t1) (l .i) _ noMember b) in
+    let e = c .before .list-left .ensures ∙ ap (λ (m : Member). heardAll (m .taken .0) freshLeft packets .jobs) (getD-seen (a .t1) (l .i) _ b) in
     let f = takes-as (ap (λ (jobs : List Job). jobLines (l .i) jobs (length jobs)) e) (c .put-jobs .ensures) in
     (search needs, takes-as (sym (lists-on (listOn (a .t1) packets) (l .i))) (takes-both (l .inv .1) f))
 

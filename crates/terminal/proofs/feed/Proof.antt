@@ -4,7 +4,8 @@ use mathlib.Core.Path.{refl, ap}
 use denote.Ref.{now}
 use Rattle.member.specs.Order.{tookBy}
 use Rattle.jobs.specs.declared.Outcome.{Outcome}
-use Rattle.terminal.specs.Take.{fedBy, answeredBy}
+use Rattle.terminal.specs.Take.{feedingOf, fedBy, answeredBy}
+use Rattle.terminal.specs.Wording.{fedWording}
 use Rattle.terminal.specs.declared.Fed.the-variants.{Answered}
 use Rattle.terminal.proofs.Telling.{took-key, not-took}
 use borrow.Author.Needs.{needs}
@@ -18,14 +19,14 @@ feed-array-requires : tie.Need-feed-array-requires
 feed-array-requires c κs = search needs
 
 returns : tie.Need-returns
-unfolding fedBy answeredBy tookBy
+unfolding feedingOf fedBy answeredBy tookBy
 returns c =
-    let a = c .before .before .before .before .before .before .args in
     let o = c .before .feed-array .ensures .0 in
-    rw (c .before .before .before .answer .given .1) (ap (λ (r : Outcome). r .jobs) o, ap (λ (r : Outcome). Answered (r .answer)) o)
+    rw (c .before .before .before .answer .given .1)
+    (λ i. record { jobs = o i .jobs; fed = Answered (o i .answer) }, ap (λ (r : Outcome). fedWording (Answered (r .answer))) o)
 
 returns-2 : tie.Need-returns-2
-unfolding fedBy answeredBy
+unfolding feedingOf fedBy answeredBy
 returns-2 c =
     let a = c .before .before .args in
     let none = not-took (a .answer) (now (a .bytes)) (λ number originator count more e. took-key (rw e at (c .match .keys2))) in

@@ -1,6 +1,7 @@
 -- Each test is one of the definition's.
 -- Assumes nothing.
 use Rattle.group.proofs.Choice.{choices}
+use Rattle.message.specs.Message.{zeroBehind}
 use Rattle.window.specs.Steps.{messageSound}
 use borrow.Author.Needs.{needs}
 use Rattle.window.proofs.message_sound.Statement.{statement}
@@ -14,25 +15,22 @@ returns-2 : tie.Need-returns-2
 unfolding messageSound
 returns-2 c = search (choices, needs) depth 9
 
-zero-behind-requires : tie.Need-zero-behind-requires
-zero-behind-requires c κs = search needs
-
-number-in-requires : tie.Need-number-in-requires
-number-in-requires c κs = search needs
+zero-from-requires : tie.Need-zero-from-requires
+zero-from-requires c κs = search needs
 
 cast-result : tie.Need-cast-result
 cast-result c = search needs
 
 returns-3 : tie.Need-returns-3
-unfolding messageSound
-returns-3 c = rw (← c .number-in .ensures) (search (choices, needs) depth 9)
+unfolding messageSound zeroBehind
+returns-3 c = search (choices, needs) depth 9
 
 returns-4 : tie.Need-returns-4
-unfolding messageSound
+unfolding messageSound zeroBehind
 returns-4 c = search (choices, needs) depth 9
 
-is-empty-requires : tie.Need-is-empty-requires
-is-empty-requires c κs = search needs
+empty-sound-requires : tie.Need-empty-sound-requires
+empty-sound-requires c κs = search needs
 
 returns-5 : tie.Need-returns-5
 unfolding messageSound
@@ -44,10 +42,9 @@ message-sound-spec =
     (tie.spec
     returns
     returns-2
-    zero-behind-requires
-    number-in-requires
+    zero-from-requires
     cast-result
     returns-3
     returns-4
-    is-empty-requires
+    empty-sound-requires
     returns-5)

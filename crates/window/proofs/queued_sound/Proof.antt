@@ -1,6 +1,7 @@
 -- Each test is one of the definition's.
 -- Assumes nothing.
 use Rattle.group.proofs.Choice.{choices}
+use Rattle.message.specs.Message.{zeroBehind}
 use Rattle.window.specs.Steps.{queuedSound}
 use borrow.Author.Needs.{needs}
 use Rattle.window.proofs.queued_sound.Statement.{statement}
@@ -10,9 +11,6 @@ returns : tie.Need-returns
 unfolding queuedSound
 returns c = search (choices, needs) depth 9
 
-cast-if3 : tie.Need-cast-if3
-cast-if3 c = search needs
-
 returns-2 : tie.Need-returns-2
 unfolding queuedSound
 returns-2 c = search (choices, needs) depth 9
@@ -21,15 +19,15 @@ returns-3 : tie.Need-returns-3
 unfolding queuedSound
 returns-3 c = search (choices, needs) depth 9
 
-zero-behind-requires : tie.Need-zero-behind-requires
-zero-behind-requires c κs = search needs
+zero-from-requires : tie.Need-zero-from-requires
+zero-from-requires c κs = search needs
 
 returns-4 : tie.Need-returns-4
-unfolding queuedSound
+unfolding queuedSound zeroBehind
 returns-4 c = search (choices, needs) depth 9
 
-is-empty-requires : tie.Need-is-empty-requires
-is-empty-requires c κs = search needs
+empty-sound-requires : tie.Need-empty-sound-requires
+empty-sound-requires c κs = search needs
 
 returns-5 : tie.Need-returns-5
 unfolding queuedSound
@@ -40,10 +38,9 @@ queued-sound-spec =
     tie.close
     (tie.spec
     returns
-    cast-if3
     returns-2
     returns-3
-    zero-behind-requires
+    zero-from-requires
     returns-4
-    is-empty-requires
+    empty-sound-requires
     returns-5)

@@ -1,5 +1,6 @@
--- The state is all zero.
+-- All zero: nothing waits and nothing is held.
 -- Assumes nothing.
+use Rattle.member.proofs.Opening.{fresh-is}
 use borrow.Author.Needs.{needs}
 use Rattle.member.proofs.Member.closed.Statement.{statement}
 use Rattle.member.proofs.Member.closed.Tie as tie
@@ -8,7 +9,7 @@ idle-requires : tie.Need-idle-requires
 idle-requires c κs = search needs
 
 returns : tie.Need-returns
-returns c = rw (c .idle .ensures)
+returns c = fresh-is (c .idle .ensures)
 
 pub closed-spec : {M : Type 1} → statement M
 closed-spec = tie.close (tie.spec idle-requires returns)

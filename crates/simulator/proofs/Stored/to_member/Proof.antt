@@ -1,12 +1,11 @@
 -- The stretch that is read is the packet.
 -- Assumes nothing.
-use mathlib.Core.Path.{_≡_, sym}
+use mathlib.Core.Path.{_≡_, sym, _∙_}
 use native.Mathlib.Omega.{arith}
-use lib.ListN.{length}
+use lib.ListN.{length, length-map}
 use lib.Seq.{length-take-le}
 use Rattle.group.specs.Limits.{longestPacket}
 use Rattle.simulator.proofs.Reading.{packet-read, packet-fits}
-use Rattle.simulator.proofs.Playing.{answered-lent}
 use borrow.Author.Needs.{needs}
 use Rattle.simulator.proofs.Stored.to_member.Statement.{statement}
 use Rattle.simulator.proofs.Stored.to_member.Tie as tie
@@ -21,15 +20,15 @@ array-share-prefix-bytes c =
     let s = packet-fits (c .size .result) (a .length) (c .size .ensures) in
     omega arith
 
-slice-aggregate-receive : tie.Need-slice-aggregate-receive
-slice-aggregate-receive c =
+slice-aggregate-receive-member : tie.Need-slice-aggregate-receive-member
+slice-aggregate-receive-member c =
     let a = c .before .before .before .before .args .self in
     let n : length (a .bytes) ≡ longestPacket = search needs in
     let s = packet-fits (c .before .size .result) (a .length) (c .before .size .ensures) in
     sym (length-take-le (c .before .size .result) (a .bytes) (omega arith))
 
-receive-requires : tie.Need-receive-requires
-receive-requires c κs = search needs
+receive-member-requires : tie.Need-receive-member-requires
+receive-member-requires c κs = search needs
 
 same-length : tie.Need-same-length
 same-length c = search needs
@@ -37,8 +36,8 @@ same-length c = search needs
 returns : tie.Need-returns
 returns c =
     let a = c .before .before .before .before .before .before .before .before .args .self in
-    let n : length (a .bytes) ≡ longestPacket = search needs in
-    rw (← packet-read (c .before .before .before .before .before .size .result) (a .length) (a .bytes) n (c .before .before .before .before .before .size .ensures)) (answered-lent (c .before .before .receive .ensures))
+    let n : length (a .bytes) ≡ longestPacket = sym (length-map (a .bytes) _) ∙ c .before .before .before .before .before .before .before .before .good .0 .1 .1 .1 .0 .1 .0 .1 in
+    rw (← packet-read (c .before .before .before .before .before .size .result) (a .length) (a .bytes) n (c .before .before .before .before .before .size .ensures)) (c .before .before .receive-member .ensures)
 
 pub to-member-spec : {M : Type 1} → statement M
 to-member-spec =
@@ -46,7 +45,7 @@ to-member-spec =
     (tie.spec
     size-requires
     array-share-prefix-bytes
-    slice-aggregate-receive
-    receive-requires
+    slice-aggregate-receive-member
+    receive-member-requires
     same-length
     returns)

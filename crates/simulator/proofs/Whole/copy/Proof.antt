@@ -1,15 +1,16 @@
 -- The call of the sequencer, of which the group has the outcome.
 -- Assumes nothing.
-use mathlib.Core.Path.{refl, sym, _∙_}
+use mathlib.Core.Path.{refl, sym, ap, _∙_}
 use native.Mathlib.Omega.{arith}
 use lib.ListN.{length-map}
 use Rattle.group.specs.Limits.{longestPacket}
 use Rattle.model.specs.World as world
+use Rattle.sequencer.proofs.Leaving.{copy-leaves}
 use Rattle.sequencer.specs.Calls as sequencer
-use Rattle.sequencer.specs.declared.Sequencer.{Sequencer}
-use Rattle.simulator.proofs.Groups.{copy-has}
+use Rattle.sequencer.specs.State.{Sequencer}
+use Rattle.sequencer.specs.View.{viewOf}
 use Rattle.simulator.proofs.Rooms.{room-yes, room-no}
-use Rattle.simulator.proofs.Playing.{answered-lent, plays-nothing, plays-sequencer}
+use Rattle.simulator.proofs.Playing.{told-sequencer, plays-nothing, plays-sequencer}
 use borrow.Author.Needs.{needs}
 use Rattle.simulator.proofs.Whole.copy.Statement.{statement}
 use Rattle.simulator.proofs.Whole.copy.Tie as tie
@@ -17,29 +18,29 @@ use Rattle.simulator.proofs.Whole.copy.Tie as tie
 has-room-requires : tie.Need-has-room-requires
 has-room-requires c κs = search needs
 
-slice-aggregate-copy : tie.Need-slice-aggregate-copy
-slice-aggregate-copy c = search needs
+slice-aggregate-copy-sequencer : tie.Need-slice-aggregate-copy-sequencer
+slice-aggregate-copy-sequencer c = search needs
 
-copy-requires : tie.Need-copy-requires
-copy-requires c κs = search needs
+copy-sequencer-requires : tie.Need-copy-sequencer-requires
+copy-sequencer-requires c κs = search needs
 
 count-after-requires : tie.Need-count-after-requires
 count-after-requires c κs =
-    (room-yes (c .before .before .before .before .before .before .before .args .t1) (sym (c .before .before .before .before .before .before .has-room .ensures) ∙ c .before .before .before .before .before .if1 .taken)) .packets
+    (room-yes (c .before .before .before .before .before .before .args .t1) (sym (c .before .before .before .before .before .has-room .ensures) ∙ c .before .before .before .before .if1 .taken)) .packets
 
 mul-packet : tie.Need-mul-packet
 mul-packet c =
-    let q = (room-yes (c .before .before .before .before .before .before .before .before .args .t1) (sym (c .before .before .before .before .before .before .before .has-room .ensures) ∙ c .before .before .before .before .before .before .if1 .taken)) .packets in omega arith
+    let q = (room-yes (c .before .before .before .before .before .before .before .args .t1) (sym (c .before .before .before .before .before .before .has-room .ensures) ∙ c .before .before .before .before .before .if1 .taken)) .packets in omega arith
 
 element-set-from-packet : tie.Need-element-set-from-packet
 element-set-from-packet c =
-    let q = (room-yes (c .before .before .before .before .before .before .before .before .args .t1) (sym (c .before .before .before .before .before .before .before .has-room .ensures) ∙ c .before .before .before .before .before .before .if1 .taken)) .packets in omega arith
+    let q = (room-yes (c .before .before .before .before .before .before .before .args .t1) (sym (c .before .before .before .before .before .before .has-room .ensures) ∙ c .before .before .before .before .before .if1 .taken)) .packets in omega arith
 
 returns : tie.Need-returns
 unfolding world.happen
 returns c =
-    let a = c .before .before .before .before .before .before .before .before .args in
-    plays-sequencer (a .t1) (room-yes (c .before .before .before .before .before .before .before .before .args .t1) (sym (c .before .before .before .before .before .before .before .has-room .ensures) ∙ c .before .before .before .before .before .before .if1 .taken)) (world.copy (a .number .0)) (λ (s : Sequencer). sequencer.copyOf s (a .number) longestPacket) (c .before .before .before .copy .result) _ (c .count-after .result) refl (answered-lent (c .before .before .before .copy .ensures)) (copy-has (a .t1 .sequencer) (a .number) longestPacket) (c .count-after .ensures) (sym (length-map (c .before .before .before .before .before .before .before .before .args .t1 .packets) _) ∙ c .before .before .before .before .before .before .before .before .good .0 .1 .1 .1 .1 .0 .1 .0 .1) (search needs)
+    let a = c .before .before .before .before .before .before .before .args in
+    plays-sequencer (a .t1) (room-yes (c .before .before .before .before .before .before .before .args .t1) (sym (c .before .before .before .before .before .before .has-room .ensures) ∙ c .before .before .before .before .before .if1 .taken)) (world.copy (a .number .0)) (λ (s : Sequencer). sequencer.copyOf s (a .number) longestPacket) (a .t1 .sequencer) (c .before .before .copy-sequencer .result) _ (c .count-after .result) refl (told-sequencer _ _ _ _ _ (c .before .before .copy-sequencer .ensures) (sym (copy-leaves (viewOf (a .t1 .sequencer)) (a .number) longestPacket))) (ap (λ (s : Sequencer). s .group .n) (copy-leaves (viewOf (a .t1 .sequencer)) (a .number) longestPacket)) (c .count-after .ensures) (sym (length-map (c .before .before .before .before .before .before .before .args .t1 .packets) _) ∙ c .before .before .before .before .before .before .before .good .0 .1 .1 .1 .1 .0 .1 .0 .1) (search needs)
 
 absent-requires : tie.Need-absent-requires
 absent-requires c κs = search needs
@@ -55,8 +56,8 @@ copy-spec =
     tie.close
     (tie.spec
     has-room-requires
-    slice-aggregate-copy
-    copy-requires
+    slice-aggregate-copy-sequencer
+    copy-sequencer-requires
     count-after-requires
     mul-packet
     element-set-from-packet

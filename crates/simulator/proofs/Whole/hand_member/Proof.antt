@@ -42,34 +42,34 @@ to-member-requires c κs = search needs
 
 count-after-requires : tie.Need-count-after-requires
 count-after-requires c κs =
-    (there-yes (c .before .before .before .before .before .before .before .before .before .args .t1) (c .before .before .before .before .before .before .before .before .before .args .i) (sym (length-map (c .before .before .before .before .before .before .before .before .before .args .t1 .members) _) ∙ c .before .before .before .before .before .before .before .before .before .good .0 .1 .1 .1 .0 .1 .0 .1) (sym (c .before .before .before .before .before .before .before .before .has-member .ensures) ∙ c .before .before .before .before .before .before .before .if1 .taken)) .room .packets
+    (there-yes (c .before .before .before .before .before .before .before .before .before .before .args .t1) (c .before .before .before .before .before .before .before .before .before .before .args .i) (sym (length-map (c .before .before .before .before .before .before .before .before .before .before .args .t1 .members) _) ∙ c .before .before .before .before .before .before .before .before .before .before .good .0 .1 .1 .1 .0 .1 .0 .1) (sym (c .before .before .before .before .before .before .before .before .before .has-member .ensures) ∙ c .before .before .before .before .before .before .before .before .if1 .taken)) .room .packets
 
 mul-member : tie.Need-mul-member
 mul-member c =
-    let t = (there-yes (c .before .before .before .before .before .before .before .before .before .before .args .t1) (c .before .before .before .before .before .before .before .before .before .before .args .i) (sym (length-map (c .before .before .before .before .before .before .before .before .before .before .args .t1 .members) _) ∙ c .before .before .before .before .before .before .before .before .before .before .good .0 .1 .1 .1 .0 .1 .0 .1) (sym (c .before .before .before .before .before .before .before .before .before .has-member .ensures) ∙ c .before .before .before .before .before .before .before .before .if1 .taken)) in let p = inside-n (c .before .before .before .before .before .before .before .before .before .before .args .t1) (c .before .before .before .before .before .before .before .before .before .before .args .i) (t .member) in let q = t .room .members in omega arith
+    let t = (there-yes (c .before .before .before .before .before .before .before .before .before .before .before .args .t1) (c .before .before .before .before .before .before .before .before .before .before .before .args .i) (sym (length-map (c .before .before .before .before .before .before .before .before .before .before .before .args .t1 .members) _) ∙ c .before .before .before .before .before .before .before .before .before .before .before .good .0 .1 .1 .1 .0 .1 .0 .1) (sym (c .before .before .before .before .before .before .before .before .before .before .has-member .ensures) ∙ c .before .before .before .before .before .before .before .before .before .if1 .taken)) in let p = inside-n (c .before .before .before .before .before .before .before .before .before .before .before .args .t1) (c .before .before .before .before .before .before .before .before .before .before .before .args .i) (t .member) in let q = t .room .members in omega arith
 
 element-set-from-member : tie.Need-element-set-from-member
 element-set-from-member c =
-    let t = (there-yes (c .before .before .before .before .before .before .before .before .before .before .args .t1) (c .before .before .before .before .before .before .before .before .before .before .args .i) (sym (length-map (c .before .before .before .before .before .before .before .before .before .before .args .t1 .members) _) ∙ c .before .before .before .before .before .before .before .before .before .before .good .0 .1 .1 .1 .0 .1 .0 .1) (sym (c .before .before .before .before .before .before .before .before .before .has-member .ensures) ∙ c .before .before .before .before .before .before .before .before .if1 .taken)) in let p = inside-n (c .before .before .before .before .before .before .before .before .before .before .args .t1) (c .before .before .before .before .before .before .before .before .before .before .args .i) (t .member) in let q = t .room .members in omega arith
+    let t = (there-yes (c .before .before .before .before .before .before .before .before .before .before .before .args .t1) (c .before .before .before .before .before .before .before .before .before .before .before .args .i) (sym (length-map (c .before .before .before .before .before .before .before .before .before .before .before .args .t1 .members) _) ∙ c .before .before .before .before .before .before .before .before .before .before .before .good .0 .1 .1 .1 .0 .1 .0 .1) (sym (c .before .before .before .before .before .before .before .before .before .before .has-member .ensures) ∙ c .before .before .before .before .before .before .before .before .before .if1 .taken)) in let p = inside-n (c .before .before .before .before .before .before .before .before .before .before .before .args .t1) (c .before .before .before .before .before .before .before .before .before .before .before .args .i) (t .member) in let q = t .room .members in omega arith
 
 mul-packet : tie.Need-mul-packet
 mul-packet c =
-    let q = (there-yes (c .before .before .before .before .before .before .before .before .before .before .args .t1) (c .before .before .before .before .before .before .before .before .before .before .args .i) (sym (length-map (c .before .before .before .before .before .before .before .before .before .before .args .t1 .members) _) ∙ c .before .before .before .before .before .before .before .before .before .before .good .0 .1 .1 .1 .0 .1 .0 .1) (sym (c .before .before .before .before .before .before .before .before .before .has-member .ensures) ∙ c .before .before .before .before .before .before .before .before .if1 .taken)) .room .packets in omega arith
+    let q = (there-yes (c .before .before .before .before .before .before .before .before .before .before .before .args .t1) (c .before .before .before .before .before .before .before .before .before .before .before .args .i) (sym (length-map (c .before .before .before .before .before .before .before .before .before .before .before .args .t1 .members) _) ∙ c .before .before .before .before .before .before .before .before .before .before .before .good .0 .1 .1 .1 .0 .1 .0 .1) (sym (c .before .before .before .before .before .before .before .before .before .before .has-member .ensures) ∙ c .before .before .before .before .before .before .before .before .before .if1 .taken)) .room .packets in omega arith
 
 element-set-from-packet : tie.Need-element-set-from-packet
 element-set-from-packet c =
-    let q = (there-yes (c .before .before .before .before .before .before .before .before .before .before .args .t1) (c .before .before .before .before .before .before .before .before .before .before .args .i) (sym (length-map (c .before .before .before .before .before .before .before .before .before .before .args .t1 .members) _) ∙ c .before .before .before .before .before .before .before .before .before .before .good .0 .1 .1 .1 .0 .1 .0 .1) (sym (c .before .before .before .before .before .before .before .before .before .has-member .ensures) ∙ c .before .before .before .before .before .before .before .before .if1 .taken)) .room .packets in omega arith
+    let q = (there-yes (c .before .before .before .before .before .before .before .before .before .before .before .args .t1) (c .before .before .before .before .before .before .before .before .before .before .before .args .i) (sym (length-map (c .before .before .before .before .before .before .before .before .before .before .before .args .t1 .members) _) ∙ c .before .before .before .before .before .before .before .before .before .before .before .good .0 .1 .1 .1 .0 .1 .0 .1) (sym (c .before .before .before .before .before .before .before .before .before .before .has-member .ensures) ∙ c .before .before .before .before .before .before .before .before .before .if1 .taken)) .room .packets in omega arith
 
 returns : tie.Need-returns
 unfolding world.happen
 returns c =
-    let a = c .before .before .before .before .before .before .before .before .before .before .args in
-    let t = (there-yes (c .before .before .before .before .before .before .before .before .before .before .args .t1) (c .before .before .before .before .before .before .before .before .before .before .args .i) (sym (length-map (c .before .before .before .before .before .before .before .before .before .before .args .t1 .members) _) ∙ c .before .before .before .before .before .before .before .before .before .before .good .0 .1 .1 .1 .0 .1 .0 .1) (sym (c .before .before .before .before .before .before .before .before .before .has-member .ensures) ∙ c .before .before .before .before .before .before .before .before .if1 .taken)) in
+    let a = c .before .before .before .before .before .before .before .before .before .before .before .args in
+    let t = (there-yes (c .before .before .before .before .before .before .before .before .before .before .before .args .t1) (c .before .before .before .before .before .before .before .before .before .before .before .args .i) (sym (length-map (c .before .before .before .before .before .before .before .before .before .before .before .args .t1 .members) _) ∙ c .before .before .before .before .before .before .before .before .before .before .before .good .0 .1 .1 .1 .0 .1 .0 .1) (sym (c .before .before .before .before .before .before .before .before .before .before .has-member .ensures) ∙ c .before .before .before .before .before .before .before .before .before .if1 .taken)) in
     let q = t .room .packets in
-    let n : length (a .t1 .packets) ≡ packetsMost = (sym (length-map (c .before .before .before .before .before .before .before .before .before .before .args .t1 .packets) _) ∙ c .before .before .before .before .before .before .before .before .before .before .good .0 .1 .1 .1 .1 .0 .1 .0 .1) in
-    let e = rw (member-read (a .t1) (a .i) _ (t .member)) at (c .before .before .before .to-member .ensures) in
-    plays-member (a .t1) (a .i) t (world.handMember (a .k) (a .i)) _ (λ (o : member.Outcome). written (o .bytes)) (c .before .before .before .to-member .result) _ (c .before .before .before .to-member .result .written) (c .count-after .result)
-    (ap (world.handToMember (groupOf (a .t1)) (a .i)) (sym (packet-there (a .t1) (a .k) _ (c .before .before .before .before .before .before .before .if2 .taken) (omega arith)))) e refl (c .count-after .ensures) n (search needs)
+    let n : length (a .t1 .packets) ≡ packetsMost = (sym (length-map (c .before .before .before .before .before .before .before .before .before .before .before .args .t1 .packets) _) ∙ c .before .before .before .before .before .before .before .before .before .before .before .good .0 .1 .1 .1 .1 .0 .1 .0 .1) in
+    let e = rw (member-read (a .t1) (a .i) _ (t .member)) at (c .before .before .before .before .to-member .ensures) in
+    plays-member (a .t1) (a .i) t (world.handMember (a .k) (a .i)) _ (λ (o : member.Outcome). written (o .bytes)) (c .before .before .before .before .to-member .result .member) (c .before .before .before .before .to-member .result .reply) _ (c .before .before .before .before .to-member .result .reply .written) (c .count-after .result)
+    (ap (world.handToMember (groupOf (a .t1)) (a .i)) (sym (packet-there (a .t1) (a .k) _ (c .before .before .before .before .before .before .before .before .if2 .taken) (omega arith)))) e refl (c .count-after .ensures) n (search needs)
 
 absent-requires : tie.Need-absent-requires
 absent-requires c κs = search needs

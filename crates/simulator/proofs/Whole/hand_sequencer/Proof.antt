@@ -7,7 +7,8 @@ use lib.ListN.{length, getD, length-map}
 use Rattle.group.specs.Limits.{longestPacket}
 use Rattle.model.specs.World as world
 use Rattle.sequencer.specs.Calls as sequencer
-use Rattle.sequencer.specs.declared.Sequencer.{Sequencer}
+use Rattle.sequencer.specs.State.{Sequencer}
+use Rattle.sequencer.specs.View.{viewOf}
 use Rattle.simulator.specs.Whole.{packetsMost, packetIn, groupOf}
 use Rattle.simulator.specs.declared.Stored.{Stored}
 use Rattle.simulator.proofs.Groups.{receive-has}
@@ -37,28 +38,28 @@ to-sequencer-requires c κs = search needs
 
 count-after-requires : tie.Need-count-after-requires
 count-after-requires c κs =
-    (room-yes (c .before .before .before .before .before .before .before .before .before .args .t1) (sym (c .before .before .before .before .before .before .before .before .has-room .ensures) ∙ c .before .before .before .before .before .before .before .if1 .taken)) .packets
+    (room-yes (c .before .before .before .before .before .before .before .before .before .before .args .t1) (sym (c .before .before .before .before .before .before .before .before .before .has-room .ensures) ∙ c .before .before .before .before .before .before .before .before .if1 .taken)) .packets
 
 mul-packet : tie.Need-mul-packet
 mul-packet c =
-    let q = (room-yes (c .before .before .before .before .before .before .before .before .before .before .args .t1) (sym (c .before .before .before .before .before .before .before .before .before .has-room .ensures) ∙ c .before .before .before .before .before .before .before .before .if1 .taken)) .packets in omega arith
+    let q = (room-yes (c .before .before .before .before .before .before .before .before .before .before .before .args .t1) (sym (c .before .before .before .before .before .before .before .before .before .before .has-room .ensures) ∙ c .before .before .before .before .before .before .before .before .before .if1 .taken)) .packets in omega arith
 
 element-set-from-packet : tie.Need-element-set-from-packet
 element-set-from-packet c =
-    let q = (room-yes (c .before .before .before .before .before .before .before .before .before .before .args .t1) (sym (c .before .before .before .before .before .before .before .before .before .has-room .ensures) ∙ c .before .before .before .before .before .before .before .before .if1 .taken)) .packets in omega arith
+    let q = (room-yes (c .before .before .before .before .before .before .before .before .before .before .before .args .t1) (sym (c .before .before .before .before .before .before .before .before .before .before .has-room .ensures) ∙ c .before .before .before .before .before .before .before .before .before .if1 .taken)) .packets in omega arith
 
 returns : tie.Need-returns
 unfolding world.happen
 returns c =
-    let a = c .before .before .before .before .before .before .before .before .before .before .args in
-    let t = (room-yes (c .before .before .before .before .before .before .before .before .before .before .args .t1) (sym (c .before .before .before .before .before .before .before .before .before .has-room .ensures) ∙ c .before .before .before .before .before .before .before .before .if1 .taken)) in
+    let a = c .before .before .before .before .before .before .before .before .before .before .before .args in
+    let t = (room-yes (c .before .before .before .before .before .before .before .before .before .before .before .args .t1) (sym (c .before .before .before .before .before .before .before .before .before .before .has-room .ensures) ∙ c .before .before .before .before .before .before .before .before .before .if1 .taken)) in
     let q = t .packets in
-    let n : length (a .t1 .packets) ≡ packetsMost = (sym (length-map (c .before .before .before .before .before .before .before .before .before .before .args .t1 .packets) _) ∙ c .before .before .before .before .before .before .before .before .before .before .good .0 .1 .1 .1 .1 .0 .1 .0 .1) in
+    let n : length (a .t1 .packets) ≡ packetsMost = (sym (length-map (c .before .before .before .before .before .before .before .before .before .before .before .args .t1 .packets) _) ∙ c .before .before .before .before .before .before .before .before .before .before .before .good .0 .1 .1 .1 .1 .0 .1 .0 .1) in
     let z : Stored = record { length = 0; bytes = [] } in
     let p = getD (a .t1 .packets) (a .k) z in
-    plays-sequencer (a .t1) t (world.handSequencer (a .k)) (λ (s : Sequencer). sequencer.receiveOf s (packetIn p) longestPacket) (c .before .before .before .to-sequencer .result) _ (c .count-after .result)
-    (ap (world.handToSequencer (groupOf (a .t1))) (sym (packet-there (a .t1) (a .k) z (c .before .before .before .before .before .before .before .if2 .taken) (omega arith))))
-    (c .before .before .before .to-sequencer .ensures) (receive-has (a .t1 .sequencer) (packetIn p) longestPacket) (c .count-after .ensures) n (search needs)
+    plays-sequencer (a .t1) t (world.handSequencer (a .k)) (λ (s : Sequencer). sequencer.receiveOf s (packetIn p) longestPacket) (c .before .before .before .before .to-sequencer .result .sequencer) (c .before .before .before .before .to-sequencer .result .reply) _ (c .count-after .result)
+    (ap (world.handToSequencer (groupOf (a .t1))) (sym (packet-there (a .t1) (a .k) z (c .before .before .before .before .before .before .before .before .if2 .taken) (omega arith))))
+    (c .before .before .before .before .to-sequencer .ensures) (receive-has (viewOf (a .t1 .sequencer)) (packetIn p) longestPacket) (c .count-after .ensures) n (search needs)
 
 absent-requires : tie.Need-absent-requires
 absent-requires c κs = search needs

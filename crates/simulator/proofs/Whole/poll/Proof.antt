@@ -1,15 +1,16 @@
 -- The call of the sequencer, of which the group has the outcome.
 -- Assumes nothing.
-use mathlib.Core.Path.{refl, sym, _∙_}
+use mathlib.Core.Path.{refl, sym, ap, _∙_}
 use native.Mathlib.Omega.{arith}
 use lib.ListN.{length-map}
 use Rattle.group.specs.Limits.{longestPacket}
 use Rattle.model.specs.World as world
+use Rattle.sequencer.proofs.Leaving.{poll-leaves}
 use Rattle.sequencer.specs.Calls as sequencer
-use Rattle.sequencer.specs.declared.Sequencer.{Sequencer}
-use Rattle.simulator.proofs.Groups.{poll-has}
+use Rattle.sequencer.specs.State.{Sequencer}
+use Rattle.sequencer.specs.View.{viewOf}
 use Rattle.simulator.proofs.Rooms.{room-yes, room-no}
-use Rattle.simulator.proofs.Playing.{answered-lent, plays-nothing, plays-sequencer}
+use Rattle.simulator.proofs.Playing.{told-sequencer, plays-nothing, plays-sequencer}
 use borrow.Author.Needs.{needs}
 use Rattle.simulator.proofs.Whole.poll.Statement.{statement}
 use Rattle.simulator.proofs.Whole.poll.Tie as tie
@@ -17,29 +18,29 @@ use Rattle.simulator.proofs.Whole.poll.Tie as tie
 has-room-requires : tie.Need-has-room-requires
 has-room-requires c κs = search needs
 
-slice-aggregate-poll : tie.Need-slice-aggregate-poll
-slice-aggregate-poll c = search needs
+slice-aggregate-poll-sequencer : tie.Need-slice-aggregate-poll-sequencer
+slice-aggregate-poll-sequencer c = search needs
 
-poll-requires : tie.Need-poll-requires
-poll-requires c κs = search needs
+poll-sequencer-requires : tie.Need-poll-sequencer-requires
+poll-sequencer-requires c κs = search needs
 
 count-after-requires : tie.Need-count-after-requires
 count-after-requires c κs =
-    (room-yes (c .before .before .before .before .before .before .before .args .t1) (sym (c .before .before .before .before .before .before .has-room .ensures) ∙ c .before .before .before .before .before .if1 .taken)) .packets
+    (room-yes (c .before .before .before .before .before .before .args .t1) (sym (c .before .before .before .before .before .has-room .ensures) ∙ c .before .before .before .before .if1 .taken)) .packets
 
 mul-packet : tie.Need-mul-packet
 mul-packet c =
-    let q = (room-yes (c .before .before .before .before .before .before .before .before .args .t1) (sym (c .before .before .before .before .before .before .before .has-room .ensures) ∙ c .before .before .before .before .before .before .if1 .taken)) .packets in omega arith
+    let q = (room-yes (c .before .before .before .before .before .before .before .args .t1) (sym (c .before .before .before .before .before .before .has-room .ensures) ∙ c .before .before .before .before .before .if1 .taken)) .packets in omega arith
 
 element-set-from-packet : tie.Need-element-set-from-packet
 element-set-from-packet c =
-    let q = (room-yes (c .before .before .before .before .before .before .before .before .args .t1) (sym (c .before .before .before .before .before .before .before .has-room .ensures) ∙ c .before .before .before .before .before .before .if1 .taken)) .packets in omega arith
+    let q = (room-yes (c .before .before .before .before .before .before .before .args .t1) (sym (c .before .before .before .before .before .before .has-room .ensures) ∙ c .before .before .before .before .before .if1 .taken)) .packets in omega arith
 
 returns : tie.Need-returns
 unfolding world.happen
 returns c =
-    let a = c .before .before .before .before .before .before .before .before .args in
-    plays-sequencer (a .t1) (room-yes (c .before .before .before .before .before .before .before .before .args .t1) (sym (c .before .before .before .before .before .before .before .has-room .ensures) ∙ c .before .before .before .before .before .before .if1 .taken)) world.poll (λ (s : Sequencer). sequencer.pollOf s longestPacket) (c .before .before .before .poll .result) _ (c .count-after .result) refl (answered-lent (c .before .before .before .poll .ensures)) (poll-has (a .t1 .sequencer) longestPacket) (c .count-after .ensures) (sym (length-map (c .before .before .before .before .before .before .before .before .args .t1 .packets) _) ∙ c .before .before .before .before .before .before .before .before .good .0 .1 .1 .1 .1 .0 .1 .0 .1) (search needs)
+    let a = c .before .before .before .before .before .before .before .args in
+    plays-sequencer (a .t1) (room-yes (c .before .before .before .before .before .before .before .args .t1) (sym (c .before .before .before .before .before .before .has-room .ensures) ∙ c .before .before .before .before .before .if1 .taken)) world.poll (λ (s : Sequencer). sequencer.pollOf s longestPacket) (a .t1 .sequencer) (c .before .before .poll-sequencer .result) _ (c .count-after .result) refl (told-sequencer _ _ _ _ _ (c .before .before .poll-sequencer .ensures) (sym (poll-leaves (viewOf (a .t1 .sequencer)) longestPacket))) (ap (λ (s : Sequencer). s .group .n) (poll-leaves (viewOf (a .t1 .sequencer)) longestPacket)) (c .count-after .ensures) (sym (length-map (c .before .before .before .before .before .before .before .args .t1 .packets) _) ∙ c .before .before .before .before .before .before .before .good .0 .1 .1 .1 .1 .0 .1 .0 .1) (search needs)
 
 absent-requires : tie.Need-absent-requires
 absent-requires c κs = search needs
@@ -55,8 +56,8 @@ poll-spec =
     tie.close
     (tie.spec
     has-room-requires
-    slice-aggregate-poll
-    poll-requires
+    slice-aggregate-poll-sequencer
+    poll-sequencer-requires
     count-after-requires
     mul-packet
     element-set-from-packet

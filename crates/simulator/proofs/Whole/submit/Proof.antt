@@ -12,7 +12,7 @@ use Rattle.simulator.specs.Whole.{groupOf}
 use Rattle.simulator.proofs.Storing.{inside-n}
 use Rattle.simulator.proofs.Rooms.{there-yes, there-no}
 use Rattle.simulator.proofs.Reading.{member-read}
-use Rattle.simulator.proofs.Playing.{answered-lent, plays-member, plays-nothing, no-member}
+use Rattle.simulator.proofs.Playing.{plays-member, plays-nothing, no-member}
 use borrow.Author.Needs.{needs}
 use Rattle.simulator.proofs.Whole.submit.Statement.{statement}
 use Rattle.simulator.proofs.Whole.submit.Tie as tie
@@ -20,47 +20,47 @@ use Rattle.simulator.proofs.Whole.submit.Tie as tie
 has-member-requires : tie.Need-has-member-requires
 has-member-requires c κs = search needs
 
-mul-submit : tie.Need-mul-submit
-mul-submit c =
+mul-submit-member : tie.Need-mul-submit-member
+mul-submit-member c =
     let t = (there-yes (c .before .before .before .args .t1) (c .before .before .before .args .i) (sym (length-map (c .before .before .before .args .t1 .members) _) ∙ c .before .before .before .good .0 .1 .1 .1 .0 .1 .0 .1) (sym (c .before .has-member .ensures) ∙ c .if1 .taken)) in let p = inside-n (c .before .before .before .args .t1) (c .before .before .before .args .i) (t .member) in let q = t .room .members in omega arith
 
-element-copy-out-submit : tie.Need-element-copy-out-submit
-element-copy-out-submit c =
+element-copy-out-submit-member : tie.Need-element-copy-out-submit-member
+element-copy-out-submit-member c =
     let t = (there-yes (c .before .before .before .args .t1) (c .before .before .before .args .i) (sym (length-map (c .before .before .before .args .t1 .members) _) ∙ c .before .before .before .good .0 .1 .1 .1 .0 .1 .0 .1) (sym (c .before .has-member .ensures) ∙ c .if1 .taken)) in let p = inside-n (c .before .before .before .args .t1) (c .before .before .before .args .i) (t .member) in let q = t .room .members in omega arith
 
-slice-aggregate-submit : tie.Need-slice-aggregate-submit
-slice-aggregate-submit c = search needs
+slice-aggregate-submit-member : tie.Need-slice-aggregate-submit-member
+slice-aggregate-submit-member c = search needs
 
-submit-requires : tie.Need-submit-requires
-submit-requires c κs = search needs
+submit-member-requires : tie.Need-submit-member-requires
+submit-member-requires c κs = search needs
 
 count-after-requires : tie.Need-count-after-requires
 count-after-requires c κs =
-    (there-yes (c .before .before .before .before .before .before .before .before .args .t1) (c .before .before .before .before .before .before .before .before .args .i) (sym (length-map (c .before .before .before .before .before .before .before .before .args .t1 .members) _) ∙ c .before .before .before .before .before .before .before .before .good .0 .1 .1 .1 .0 .1 .0 .1) (sym (c .before .before .before .before .before .before .has-member .ensures) ∙ c .before .before .before .before .before .if1 .taken)) .room .packets
+    (there-yes (c .before .before .before .before .before .before .before .before .before .args .t1) (c .before .before .before .before .before .before .before .before .before .args .i) (sym (length-map (c .before .before .before .before .before .before .before .before .before .args .t1 .members) _) ∙ c .before .before .before .before .before .before .before .before .before .good .0 .1 .1 .1 .0 .1 .0 .1) (sym (c .before .before .before .before .before .before .before .has-member .ensures) ∙ c .before .before .before .before .before .before .if1 .taken)) .room .packets
 
 mul-member : tie.Need-mul-member
 mul-member c =
-    let t = (there-yes (c .before .before .before .before .before .before .before .before .before .args .t1) (c .before .before .before .before .before .before .before .before .before .args .i) (sym (length-map (c .before .before .before .before .before .before .before .before .before .args .t1 .members) _) ∙ c .before .before .before .before .before .before .before .before .before .good .0 .1 .1 .1 .0 .1 .0 .1) (sym (c .before .before .before .before .before .before .before .has-member .ensures) ∙ c .before .before .before .before .before .before .if1 .taken)) in let p = inside-n (c .before .before .before .before .before .before .before .before .before .args .t1) (c .before .before .before .before .before .before .before .before .before .args .i) (t .member) in let q = t .room .members in omega arith
+    let t = (there-yes (c .before .before .before .before .before .before .before .before .before .before .args .t1) (c .before .before .before .before .before .before .before .before .before .before .args .i) (sym (length-map (c .before .before .before .before .before .before .before .before .before .before .args .t1 .members) _) ∙ c .before .before .before .before .before .before .before .before .before .before .good .0 .1 .1 .1 .0 .1 .0 .1) (sym (c .before .before .before .before .before .before .before .before .has-member .ensures) ∙ c .before .before .before .before .before .before .before .if1 .taken)) in let p = inside-n (c .before .before .before .before .before .before .before .before .before .before .args .t1) (c .before .before .before .before .before .before .before .before .before .before .args .i) (t .member) in let q = t .room .members in omega arith
 
 element-set-from-member : tie.Need-element-set-from-member
 element-set-from-member c =
-    let t = (there-yes (c .before .before .before .before .before .before .before .before .before .args .t1) (c .before .before .before .before .before .before .before .before .before .args .i) (sym (length-map (c .before .before .before .before .before .before .before .before .before .args .t1 .members) _) ∙ c .before .before .before .before .before .before .before .before .before .good .0 .1 .1 .1 .0 .1 .0 .1) (sym (c .before .before .before .before .before .before .before .has-member .ensures) ∙ c .before .before .before .before .before .before .if1 .taken)) in let p = inside-n (c .before .before .before .before .before .before .before .before .before .args .t1) (c .before .before .before .before .before .before .before .before .before .args .i) (t .member) in let q = t .room .members in omega arith
+    let t = (there-yes (c .before .before .before .before .before .before .before .before .before .before .args .t1) (c .before .before .before .before .before .before .before .before .before .before .args .i) (sym (length-map (c .before .before .before .before .before .before .before .before .before .before .args .t1 .members) _) ∙ c .before .before .before .before .before .before .before .before .before .before .good .0 .1 .1 .1 .0 .1 .0 .1) (sym (c .before .before .before .before .before .before .before .before .has-member .ensures) ∙ c .before .before .before .before .before .before .before .if1 .taken)) in let p = inside-n (c .before .before .before .before .before .before .before .before .before .before .args .t1) (c .before .before .before .before .before .before .before .before .before .before .args .i) (t .member) in let q = t .room .members in omega arith
 
 mul-packet : tie.Need-mul-packet
 mul-packet c =
-    let q = (there-yes (c .before .before .before .before .before .before .before .before .before .args .t1) (c .before .before .before .before .before .before .before .before .before .args .i) (sym (length-map (c .before .before .before .before .before .before .before .before .before .args .t1 .members) _) ∙ c .before .before .before .before .before .before .before .before .before .good .0 .1 .1 .1 .0 .1 .0 .1) (sym (c .before .before .before .before .before .before .before .has-member .ensures) ∙ c .before .before .before .before .before .before .if1 .taken)) .room .packets in omega arith
+    let q = (there-yes (c .before .before .before .before .before .before .before .before .before .before .args .t1) (c .before .before .before .before .before .before .before .before .before .before .args .i) (sym (length-map (c .before .before .before .before .before .before .before .before .before .before .args .t1 .members) _) ∙ c .before .before .before .before .before .before .before .before .before .before .good .0 .1 .1 .1 .0 .1 .0 .1) (sym (c .before .before .before .before .before .before .before .before .has-member .ensures) ∙ c .before .before .before .before .before .before .before .if1 .taken)) .room .packets in omega arith
 
 element-set-from-packet : tie.Need-element-set-from-packet
 element-set-from-packet c =
-    let q = (there-yes (c .before .before .before .before .before .before .before .before .before .args .t1) (c .before .before .before .before .before .before .before .before .before .args .i) (sym (length-map (c .before .before .before .before .before .before .before .before .before .args .t1 .members) _) ∙ c .before .before .before .before .before .before .before .before .before .good .0 .1 .1 .1 .0 .1 .0 .1) (sym (c .before .before .before .before .before .before .before .has-member .ensures) ∙ c .before .before .before .before .before .before .if1 .taken)) .room .packets in omega arith
+    let q = (there-yes (c .before .before .before .before .before .before .before .before .before .before .args .t1) (c .before .before .before .before .before .before .before .before .before .before .args .i) (sym (length-map (c .before .before .before .before .before .before .before .before .before .before .args .t1 .members) _) ∙ c .before .before .before .before .before .before .before .before .before .before .good .0 .1 .1 .1 .0 .1 .0 .1) (sym (c .before .before .before .before .before .before .before .before .has-member .ensures) ∙ c .before .before .before .before .before .before .before .if1 .taken)) .room .packets in omega arith
 
 returns : tie.Need-returns
 unfolding world.happen
 returns c =
-    let a = c .before .before .before .before .before .before .before .before .before .args in
-    let t = (there-yes (c .before .before .before .before .before .before .before .before .before .args .t1) (c .before .before .before .before .before .before .before .before .before .args .i) (sym (length-map (c .before .before .before .before .before .before .before .before .before .args .t1 .members) _) ∙ c .before .before .before .before .before .before .before .before .before .good .0 .1 .1 .1 .0 .1 .0 .1) (sym (c .before .before .before .before .before .before .before .has-member .ensures) ∙ c .before .before .before .before .before .before .if1 .taken)) in
-    let e = rw (member-read (a .t1) (a .i) _ (t .member)) at (answered-lent (c .before .before .before .submit .ensures)) in
-    plays-member (a .t1) (a .i) t (world.submit (a .i) (now (a .payload))) (member.submitOf (getD (groupOf (a .t1) .members) (a .i) world.noMember) (now (a .payload)) longestPacket) (λ (o : member.Outcome). written (o .bytes)) (c .before .before .before .submit .result) _ (c .before .before .before .submit .result .written) (c .count-after .result) refl e refl (c .count-after .ensures) (sym (length-map (c .before .before .before .before .before .before .before .before .before .args .t1 .packets) _) ∙ c .before .before .before .before .before .before .before .before .before .good .0 .1 .1 .1 .1 .0 .1 .0 .1) (search needs)
+    let a = c .before .before .before .before .before .before .before .before .before .before .args in
+    let t = (there-yes (c .before .before .before .before .before .before .before .before .before .before .args .t1) (c .before .before .before .before .before .before .before .before .before .before .args .i) (sym (length-map (c .before .before .before .before .before .before .before .before .before .before .args .t1 .members) _) ∙ c .before .before .before .before .before .before .before .before .before .before .good .0 .1 .1 .1 .0 .1 .0 .1) (sym (c .before .before .before .before .before .before .before .before .has-member .ensures) ∙ c .before .before .before .before .before .before .before .if1 .taken)) in
+    let e = rw (member-read (a .t1) (a .i) _ (t .member)) at (c .before .before .before .before .submit-member .ensures) in
+    plays-member (a .t1) (a .i) t (world.submit (a .i) (now (a .payload))) (member.submitOf (getD (groupOf (a .t1) .members) (a .i) world.noMember) (now (a .payload)) longestPacket) (λ (o : member.Outcome). written (o .bytes)) (c .before .before .before .before .submit-member .result .member) (c .before .before .before .before .submit-member .result .reply) _ (c .before .before .before .before .submit-member .result .reply .written) (c .count-after .result) refl e refl (c .count-after .ensures) (sym (length-map (c .before .before .before .before .before .before .before .before .before .before .args .t1 .packets) _) ∙ c .before .before .before .before .before .before .before .before .before .before .good .0 .1 .1 .1 .1 .0 .1 .0 .1) (search needs)
 
 absent-requires : tie.Need-absent-requires
 absent-requires c κs = search needs
@@ -76,10 +76,10 @@ submit-spec =
     tie.close
     (tie.spec
     has-member-requires
-    mul-submit
-    element-copy-out-submit
-    slice-aggregate-submit
-    submit-requires
+    mul-submit-member
+    element-copy-out-submit-member
+    slice-aggregate-submit-member
+    submit-member-requires
     count-after-requires
     mul-member
     element-set-from-member

@@ -1,0 +1,29 @@
+-- The fields of a request may be written; the row's end is what is acknowledged.
+-- Assumes nothing.
+use mathlib.Core.Path.{_≡_}
+use denote.Ref.{now}
+use lib.ListN.{length}
+use Rattle.packet.proofs.Permitted.{request-fields, laid-whole}
+use Rattle.member.proofs.View.{requested}
+use borrow.Author.Needs.{needs}
+use Rattle.member.proofs.put_request.Statement.{statement}
+use Rattle.member.proofs.put_request.Tie as tie
+
+row-end-requires : tie.Need-row-end-requires
+row-end-requires c κs = search needs
+
+put-requires : tie.Need-put-requires
+put-requires c κs = search needs
+
+same-length : tie.Need-same-length
+same-length c = search needs
+
+returns : tie.Need-returns
+returns c =
+    let a = c .before .before .before .before .before .before .before .before .before .args in
+    let p = c .before .before .before .before .before .before .before .before .before .pre in
+    requested (a .head) (now (a .held)) (a .count) (now (a .payload)) _ (c .before .before .before .before .row-end .ensures)
+    (laid-whole _ (now (a .payload)) _ (request-fields (a .head .group .number) (a .head .number) _ (a .count) (length (now (a .payload))) (p .0)) (p .1) (p .2) (c .before .before .put .ensures))
+
+pub put-request-spec : {M : Type 1} → statement M
+put-request-spec = tie.close (tie.spec row-end-requires put-requires same-length returns)

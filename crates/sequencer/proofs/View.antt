@@ -1,0 +1,303 @@
+-- What is done to the arrays, said of the state that they hold: noting and clearing lead to the noted state, and what is laid then to the
+-- step of the definition. The view says every number and byte of the struct. Assumes nothing.
+use mathlib.Core.Path.{_≡_, refl, sym, ap, subst, _∙_}
+use mathlib.Core.List.{List}
+use Prim.Native.Nat.{ℕ, _+_, _-_, _*_, _<_, _≤_}
+use native.Mathlib.Nat.{lt-of-lt-of-le}
+use native.Mathlib.Omega.{arith}
+use lib.ListN.{length, getD, set, take, drop, replicate, length-set}
+use lib.Seq.{getD-set-same, take-take}
+use Rattle.group.specs.Choice.{if_then_else_, _and_, _≤?_}
+use Rattle.group.specs.Fold.{all, allAbove}
+use Rattle.group.specs.Lent.{Laid}
+use Rattle.group.specs.Limits.{membersMost, placesMost, payloadMost, longestPacket}
+use Rattle.group.specs.declared.Group.{Group}
+use Rattle.group.specs.declared.MemberNumber.{MemberNumber}
+use Rattle.group.specs.declared.Refusal.{Refusal}
+use Rattle.group.specs.declared.SequenceNumber.{SequenceNumber}
+use Rattle.group.specs.declared.Verdict.{Verdict}
+use Rattle.message.proofs.Kept.{payload-short}
+use Rattle.message.specs.Message.{Message, messageOf, payloadOf, blank}
+use Rattle.packet.proofs.Permitted.{broadcast-fields, laid-whole}
+use Rattle.packet.specs.Packet.{contentOf, fieldsOf, packetOf, writeOf}
+use Rattle.packet.specs.declared.Header.{Header}
+use Rattle.packet.specs.declared.Packet.{Packet}
+use Rattle.packet.specs.declared.Packet.the-variants.{Request, Broadcast, Gap, Status, Poll}
+use Rattle.packet.specs.declared.Reading.{Reading}
+use Rattle.store.specs.Places.{partOf, messageIn, messagesIn}
+use Rattle.store.proofs.Places.{length-messages, message-in, messages-none}
+use Rattle.history.specs.Ask.{senderOf, contentVerdict, packetVerdict}
+use Rattle.history.specs.Note.{largerOf, withTaken, withCounts, tableNoted, clearedOf}
+use Rattle.history.specs.Sound.{entrySound, placeSound, frameSound}
+use Rattle.history.specs.State.{Acknowledgement, noAcknowledgement, acknowledgementOf, placeOf, messageAt, floorOf}
+use Rattle.history.specs.View.{tableIn, takenOnly, countsOnly, listed}
+use Rattle.history.proofs.Asking.{judged-yes, judged-no}
+use Rattle.history.proofs.Noting.{cleared-length}
+use Rattle.history.proofs.View.{set-own, length-table, entry-in, table-laid, taken-laid, floor-taken, frame-taken, places-only, packet-only, find-listed, table-none}
+use Rattle.sequencer.specs.Owed.{MayBroadcast, MaySend, Due, Left}
+use Rattle.sequencer.specs.Calls.{refused, readStep}
+use Rattle.sequencer.specs.Note.{withTable, noteOf}
+use Rattle.sequencer.specs.Promise.{Changed}
+use Rattle.sequencer.specs.State.{Sequencer, lastCount, repeatCount, freshSequencer}
+use Rattle.sequencer.specs.Sound.{soundOf}
+use Rattle.sequencer.specs.Steps.{acceptedStep, requestChange, changeOf, sentOf, laidOf, changed}
+use Rattle.sequencer.specs.View.{whole, viewOf, Fits}
+use Rattle.sequencer.specs.declared.Change.{Change}
+use Rattle.sequencer.specs.declared.Head.{Head}
+use Rattle.sequencer.specs.declared.Sequencer.{Sequencer as InPlace}
+use Rattle.sequencer.proofs.Outcomes.{changed-as, changed-laid}
+use Rattle.sequencer.proofs.Owed.{accepted-sender, accepted-left}
+use Rattle.sequencer.proofs.Sending.{change-sends, noted-sound}
+use Rattle.sequencer.proofs.Settling.{settledOf, accepted-is, read-is, content-was}
+use Rattle.sequencer.proofs.Soundness.{Sound, sound-of}
+
+-- what a packet changes, of a history of which only counts and originators are asked
+change-listed : (kept originators lengths payloads : List ℕ) (packet : Packet) (last floor : ℕ) (top : SequenceNumber) (repeats : ℕ)
+    → changeOf (listed kept originators) packet last floor top repeats ≡ changeOf (messagesIn kept originators lengths payloads) packet last floor top repeats
+unfolding changeOf requestChange
+change-listed kept originators lengths payloads (Request sender taken count) last floor top repeats =
+    rw (find-listed kept originators lengths payloads sender count floor (top .0 - floor))
+change-listed kept originators lengths payloads (Broadcast originator number count f) last floor top repeats = refl
+change-listed kept originators lengths payloads (Gap sender taken first to) last floor top repeats = refl
+change-listed kept originators lengths payloads (Status sender taken) last floor top repeats = refl
+change-listed kept originators lengths payloads (Poll t f) last floor top repeats = refl
+
+-- counts and repeats that are laid into an entry
+counts-laid : (taken counts repeats : List ℕ) (i c r : ℕ) → i < length taken → i < length counts → i < length repeats
+    → tableIn taken (set counts i c) (set repeats i r) ≡ set (tableIn taken counts repeats) i (withCounts (getD (tableIn taken counts repeats) i noAcknowledgement) c r)
+counts-laid taken counts repeats i c r a b d =
+    ap (λ (l : List ℕ). tableIn l (set counts i c) (set repeats i r)) (sym (set-own taken i 0))
+    ∙ table-laid taken counts repeats i (getD taken i 0) c r a b d
+    ∙ ap (λ (x : Acknowledgement). set (tableIn taken counts repeats) i (withCounts x c r)) (sym (entry-in taken counts repeats i a))
+
+-- a packet that is accepted, in a struct whose arrays have their lengths
+module _ (head : Head) (taken counts repeats kept originators lengths payloads : List ℕ) (fits : Fits (whole head taken counts repeats kept originators lengths payloads))
+    (packet : Packet) (payload : List ℕ) (room : ℕ) (due : Due (viewOf (whole head taken counts repeats kept originators lengths payloads)) packet (length payload) room) where
+  abbrev state : Sequencer
+  state = viewOf (whole head taken counts repeats kept originators lengths payloads)
+
+  abbrev m : MemberNumber
+  m = senderOf packet .member
+
+  sender-known : (m .0 < head .group .n) × (senderOf packet .taken .0 ≤ head .top .0)
+  unfolding viewOf
+  sender-known = accepted-sender _ _ _ packet (due .accepted)
+
+  most : head .group .n ≤ membersMost
+  unfolding viewOf
+  most = sound-of state (due .sizes .sound) .n-most
+
+  pub inside : m .0 < membersMost
+  inside = lt-of-lt-of-le (sender-known .0) most
+
+  -- A is noted, and what the floor passes is cleared
+  module _ (taken′ kept′ originators′ lengths′ payloads′ : List ℕ) (floor : SequenceNumber)
+      (noted : taken′ ≡ set taken (m .0) (largerOf (getD taken (m .0) 0) (senderOf packet .taken .0)))
+      (smallest : floor .0 ≡ floorOf (head .group .n) (takenOnly taken′))
+      (cleared : messagesIn kept′ originators′ lengths′ payloads′ ≡ clearedOf (messagesIn kept originators lengths payloads) (head .floor .0) (floor .0 - head .floor .0)) where
+    abbrev next : InPlace
+    next = whole (record { group = head .group; top = head .top; floor = floor }) taken′ counts repeats kept′ originators′ lengths′ payloads′
+
+    sizes : (length taken ≡ membersMost) × (length counts ≡ membersMost) × (length repeats ≡ membersMost) × (length kept ≡ placesMost)
+    sizes = (fits .entries .taken-size, fits .entries .counts-size, fits .entries .repeats-size, fits .places .kept-size)
+
+    table-noted : tableIn taken′ counts repeats ≡ tableNoted (tableIn taken counts repeats) m (senderOf packet .taken)
+    unfolding tableNoted
+    table-noted =
+        let z = sizes in
+        let i = inside in
+        ap (λ (l : List ℕ). tableIn l counts repeats) noted
+        ∙ taken-laid taken counts repeats (m .0) (largerOf (getD taken (m .0) 0) (senderOf packet .taken .0))
+        ∙ ap (λ (x : Acknowledgement). set (tableIn taken counts repeats) (m .0) (withTaken x (senderOf packet .taken))) (sym (entry-in taken counts repeats (m .0) (omega arith)))
+
+    noted-is : viewOf next ≡ noteOf state m (senderOf packet .taken)
+    unfolding viewOf noteOf withTable
+    noted-is =
+        let f = smallest ∙ floor-taken (head .group .n) taken′ counts repeats ∙ ap (floorOf (head .group .n)) table-noted in
+        (λ i. record { group = head .group; acknowledgements = table-noted i; top = head .top; floor = floor; history = cleared i })
+        ∙ (λ i. record { group = head .group; acknowledgements = tableNoted (tableIn taken counts repeats) m (senderOf packet .taken); top = head .top; floor = record { 0 = f i }; history = clearedOf (messagesIn kept originators lengths payloads) (head .floor .0) (f i - head .floor .0) })
+
+    next-sound : Sound (viewOf next)
+    unfolding viewOf
+    next-sound =
+        let z = sizes in
+        subst Sound (sym noted-is)
+        (noted-sound state packet (due .sizes .sound) (length-table taken counts repeats ∙ z .0) (length-messages kept originators lengths payloads ∙ z .3) (due .accepted))
+
+    member-inside : m .0 < length taken′
+    member-inside =
+        let z = sizes in
+        let i = inside in
+        let l = length-set taken (m .0) (largerOf (getD taken (m .0) 0) (senderOf packet .taken .0)) in
+        subst (λ (x : List ℕ). m .0 < length x) (sym noted) (omega arith)
+
+    last-is : getD counts (m .0) 0 ≡ lastCount (viewOf next) m
+    unfolding viewOf
+    last-is = ap (λ (a : Acknowledgement). a .count) (sym (entry-in taken′ counts repeats (m .0) member-inside))
+
+    repeats-is : getD repeats (m .0) 0 ≡ repeatCount (viewOf next) m
+    unfolding viewOf
+    repeats-is = ap (λ (a : Acknowledgement). a .repeats) (sym (entry-in taken′ counts repeats (m .0) member-inside))
+
+    pub next-left : Left packet (getD counts (m .0) 0) (head .top .0)
+    unfolding viewOf
+    next-left =
+        let last : getD counts (m .0) 0 ≡ acknowledgementOf (tableNoted (tableIn taken counts repeats) m (senderOf packet .taken)) m .count
+        = last-is ∙ ap (λ (t : List Acknowledgement). acknowledgementOf t m .count) table-noted in
+        subst (λ (k : ℕ). Left packet k (head .top .0)) (sym last)
+        (accepted-left (head .group .n) (tableIn taken counts repeats) (head .top .0) packet (senderOf packet .taken) (due .accepted))
+
+    -- what the packet changes
+    abbrev pub change : Change
+    change = changeOf (listed kept′ originators′) packet (getD counts (m .0) 0) (floor .0) (head .top) (getD repeats (m .0) 0)
+
+    abbrev changeIn : Sequencer → Change
+    changeIn s = changeOf (s .history) packet (lastCount s m) (s .floor .0) (s .top) (repeatCount s m)
+
+    change-is : change ≡ changeIn (viewOf next)
+    unfolding viewOf
+    change-is =
+        change-listed kept′ originators′ lengths′ payloads′ packet (getD counts (m .0) 0) (floor .0) (head .top) (getD repeats (m .0) 0)
+        ∙ (λ i. changeOf (messagesIn kept′ originators′ lengths′ payloads′) packet (last-is i) (floor .0) (head .top) (repeats-is i))
+
+    places-kept : length (messagesIn kept′ originators′ lengths′ payloads′) ≡ placesMost
+    places-kept =
+        ap (λ (h : List Message). length h) cleared
+        ∙ cleared-length (messagesIn kept originators lengths payloads) (head .floor .0) (floor .0 - head .floor .0)
+        ∙ length-messages kept originators lengths payloads ∙ sizes .3
+
+    -- the change is laid
+    module _ (kept″ originators″ lengths″ payloads″ : List ℕ)
+        (laid : messagesIn kept″ originators″ lengths″ payloads″
+        ≡ set (messagesIn kept′ originators′ lengths′ payloads′) (placeOf (change .number .0))
+        (if change .number .0 ≤? head .top .0 then messageAt (messagesIn kept′ originators′ lengths′ payloads′) (change .number .0) else messageOf m (change .count) payload)) where
+      abbrev message : Message
+      message = laidOf (viewOf next) m change payload
+
+      laid-is : messagesIn kept″ originators″ lengths″ payloads″ ≡ set (messagesIn kept′ originators′ lengths′ payloads′) (placeOf (change .number .0)) message
+      unfolding laidOf viewOf
+      laid-is = laid
+
+      message-is : message ≡ getD (messagesIn kept″ originators″ lengths″ payloads″) (placeOf (change .number .0)) blank
+      message-is =
+          let z = places-kept in
+          sym (ap (λ (h : List Message). getD h (placeOf (change .number .0)) blank) laid-is
+          ∙ getD-set-same (messagesIn kept′ originators′ lengths′ payloads′) (placeOf (change .number .0)) message blank (omega arith))
+
+      pub next-sends : MaySend (change .answer) (change .top) floor (getD (messagesIn kept″ originators″ lengths″ payloads″) (placeOf (change .number .0)) blank)
+      unfolding viewOf
+      next-sends =
+          subst (λ (x : Message). MaySend (change .answer) (change .top) floor x) message-is
+          (subst (λ (c : Change). MaySend (c .answer) (c .top) floor (laidOf (viewOf next) m c payload)) (sym change-is)
+          (change-sends (viewOf next) next-sound m payload (due .sizes .payload) packet (lastCount (viewOf next) m) (repeatCount (viewOf next) m)))
+
+      abbrev last : InPlace
+      last = whole (record { group = head .group; top = change .top; floor = floor }) taken′ (set counts (m .0) (change .count)) (set repeats (m .0) (change .repeats)) kept″ originators″ lengths″ payloads″
+
+      last-view : viewOf last ≡ changed (viewOf next) m change message
+      unfolding viewOf changed
+      last-view =
+          let z = sizes in
+          let i = inside in
+          let table = counts-laid taken′ counts repeats (m .0) (change .count) (change .repeats) member-inside (omega arith) (omega arith) in
+          λ i. record { group = head .group; acknowledgements = table i; top = change .top; floor = floor; history = laid-is i }
+
+      places-next : length (viewOf next .history) ≡ placesMost
+      unfolding viewOf
+      places-next = places-kept
+
+      outcome-is : settledOf (viewOf next) m payload change ≡ acceptedStep state packet payload
+      outcome-is =
+          let size = ap (λ (s : Sequencer). length (s .history)) (sym noted-is) ∙ places-next in
+          ap (settledOf (viewOf next) m payload) change-is
+          ∙ ap (λ (s : Sequencer). settledOf s m payload (changeIn s)) noted-is
+          ∙ sym (accepted-is state packet payload (due .accepted) size)
+
+      pub accepted-changed : (written : ℕ) (x y : List ℕ)
+          → Laid (sentOf (change .answer) (head .group .number) (change .top) floor (getD (messagesIn kept″ originators″ lengths″ payloads″) (placeOf (change .number .0)) blank)) written x y
+          → Changed (acceptedStep state packet payload) (record { answer = change .answer; written = written }) last x y
+      unfolding viewOf
+      accepted-changed written x y l =
+          changed-as outcome-is
+          (changed-laid (settledOf (viewOf next) m payload change) last written x y last-view
+          (subst (λ (b : Message). Laid (sentOf (change .answer) (head .group .number) (change .top) floor b) written x y) (sym message-is) l))
+
+-- question 1 as the code asks it: each part of the arrays that it reads
+pub sound-as : (head : Head) (taken counts repeats kept originators lengths payloads : List ℕ) → Fits (whole head taken counts repeats kept originators lengths payloads)
+    → (frameSound (head .group .n) (takenOnly taken) (head .floor .0) (head .top .0)
+    and all (entrySound (head .group .n) (head .top .0)) 0 (tableIn taken counts repeats)
+    and allAbove (placeSound (head .group .n) (countsOnly counts) (messagesIn kept originators lengths payloads) (head .top .0)) (head .floor .0) placesMost)
+    ≡ soundOf (viewOf (whole head taken counts repeats kept originators lengths payloads))
+unfolding soundOf viewOf
+sound-as head taken counts repeats kept originators lengths payloads fits =
+    let size = fits .entries .counts-size ∙ sym (fits .entries .taken-size) in
+    let frame = frame-taken (head .group .n) taken counts repeats (head .floor .0) (head .top .0) in
+    let places = places-only taken counts repeats size (head .group .n) (messagesIn kept originators lengths payloads) (head .top .0) in
+    λ i. frame i and all (entrySound (head .group .n) (head .top .0)) 0 (tableIn taken counts repeats) and allAbove (places i) (head .floor .0) placesMost
+
+-- a packet that was read, with the verdict on it as the code asks it
+module _ (head : Head) (taken counts repeats kept originators lengths payloads : List ℕ) (fits : Fits (whole head taken counts repeats kept originators lengths payloads))
+    (h : Header) (payload : List ℕ) (v : Verdict) (asked : v ≡ packetVerdict (head .group) (countsOnly counts) (head .top .0) (h .group) (contentOf h)) where
+  abbrev held : Sequencer
+  held = viewOf (whole head taken counts repeats kept originators lengths payloads)
+
+  verdict-is : packetVerdict (held .group) (held .acknowledgements) (held .top .0) (h .group) (contentOf h) ≡ v
+  unfolding viewOf
+  verdict-is =
+      let size = fits .entries .counts-size ∙ sym (fits .entries .taken-size) in
+      sym (packet-only taken counts repeats size (head .group) (head .top .0) (h .group) (contentOf h)) ∙ sym asked
+
+  pub read-accepted : v ≡ Verdict.Accepted
+      → (contentVerdict (held .group .n) (held .acknowledgements) (held .top .0) (contentOf h) ≡ Verdict.Accepted)
+      × (acceptedStep held (contentOf h) payload ≡ readStep held (Reading.Fields h) payload)
+  read-accepted e = (
+    content-was _ _ _ _ _ (verdict-is ∙ e),
+    judged-yes _ (refused held) _ (verdict-is ∙ e) ∙ sym (read-is held h payload),
+  )
+
+  pub read-refused : (r : Refusal) → v ≡ Verdict.Refused r → refused held r ≡ readStep held (Reading.Fields h) payload
+  read-refused r e = judged-no _ (refused held) (acceptedStep held (contentOf h) payload) r (verdict-is ∙ e) ∙ sym (read-is held h payload)
+
+-- the first bytes of a place, as they are lent
+place-bytes : (payloads : List ℕ) (at size : ℕ) → size ≤ payloadMost → take (at * payloadMost + size - at * payloadMost) (drop (at * payloadMost) payloads) ≡ take size (partOf payloads at)
+place-bytes payloads at size h =
+    let e : at * payloadMost + size - at * payloadMost ≡ size = omega arith in
+    ap (λ (k : ℕ). take k (drop (at * payloadMost) payloads)) e ∙ sym (take-take size payloadMost (drop (at * payloadMost) payloads) h)
+
+pub place-laid : (h : Header) (payloads : List ℕ) (at size room : ℕ) {r : ℕ} {x y : List ℕ} → size ≤ payloadMost
+    → Laid (writeOf h (take (at * payloadMost + size - at * payloadMost) (drop (at * payloadMost) payloads)) room .bytes) r x y
+    → Laid (writeOf h (take size (partOf payloads at)) room .bytes) r x y
+place-laid h payloads at size room {r} {x} {y} short l = subst (λ (p : List ℕ). Laid (writeOf h p room .bytes) r x y) (place-bytes payloads at size short) l
+
+-- the broadcast of the message in a place
+module _ (group : ℕ) (floor number : SequenceNumber) (at : ℕ) (kept originators lengths payloads : List ℕ) (inside : at < length kept) where
+  abbrev placed : Message
+  placed = messageIn (getD kept at 0) (getD originators at 0) (getD lengths at 0) (partOf payloads at)
+
+  placed-is : getD (messagesIn kept originators lengths payloads) at blank ≡ placed
+  placed-is = message-in kept originators lengths payloads at inside
+
+  pub may-send : MayBroadcast number floor (getD (messagesIn kept originators lengths payloads) at blank) → MayBroadcast number floor placed
+  may-send h = subst (λ (x : Message). MayBroadcast number floor x) placed-is h
+
+  pub broadcast-laid : (room : ℕ) {size : ℕ} {x y : List ℕ} → MayBroadcast number floor (getD (messagesIn kept originators lengths payloads) at blank) → longestPacket ≤ room
+      → Laid (writeOf (fieldsOf group (Broadcast (record { 0 = getD originators at 0 }) number (getD kept at 0) floor)) (take (getD lengths at 0) (partOf payloads at)) room .bytes) size x y
+      → let m = getD (messagesIn kept originators lengths payloads) at blank in
+      Laid (packetOf (fieldsOf group (Broadcast (m .originator) number (m .count) floor)) (payloadOf m)) size x y
+  unfolding payloadOf
+  broadcast-laid room {size} {x} {y} h enough l =
+      let may = may-send h in
+      subst (λ (m : Message). Laid (packetOf (fieldsOf group (Broadcast (m .originator) number (m .count) floor)) (payloadOf m)) size x y) (sym placed-is)
+      (laid-whole _ (payloadOf placed) room
+      (broadcast-fields group (placed .originator) number floor (placed .count) (length (payloadOf placed)) (may .1) (may .2))
+      (payload-short placed (may .0)) enough l)
+
+-- a fresh state
+pub fresh-view : (group : Group)
+    → viewOf
+    (whole (record { group = group; top = record { 0 = 0 }; floor = record { 0 = 0 } }) (replicate membersMost 0) (replicate membersMost 0) (replicate membersMost 0)
+    (replicate placesMost 0) (replicate placesMost 0) (replicate placesMost 0) (replicate (placesMost * payloadMost) 0))
+    ≡ freshSequencer group
+unfolding viewOf freshSequencer
+fresh-view group =
+    λ i. record { group = group; acknowledgements = table-none membersMost i; top = record { 0 = 0 }; floor = record { 0 = 0 }; history = messages-none placesMost i }

@@ -1,0 +1,55 @@
+-- What the functions below the calls promise, and what they are owed by the questions before them.
+use mathlib.Core.Path.{_≡_}
+use mathlib.Core.Bool.{true}
+use Prim.Native.Nat.{ℕ, _≤_, _<_}
+use Rattle.group.specs.Limits.{payloadMost, longestPacket, largestNumber}
+use Rattle.group.specs.declared.Refusal.{Refusal}
+use Rattle.group.specs.declared.SequenceNumber.{SequenceNumber}
+use Rattle.group.specs.declared.Verdict.{Verdict}
+use Rattle.message.specs.Message.{Message}
+use Rattle.packet.specs.declared.Packet.{Packet}
+use Rattle.packet.specs.declared.Packet.the-variants.{Request, Broadcast, Gap, Status, Poll}
+use Rattle.history.specs.Ask.{contentVerdict}
+use Rattle.sequencer.specs.Sound.{soundOf}
+use Rattle.sequencer.specs.declared.Answer.{Answer}
+use Rattle.sequencer.specs.declared.Answer.the-variants.{Old, Again, Full, Numbered, Noted, Wanted, Sent}
+use Rattle.sequencer.specs.State.{Sequencer}
+use Rattle.sequencer.specs.declared.Reply.{Reply}
+
+-- a refusal, which writes nothing
+pub record Refuses (refusal : Refusal) (reply : Reply) : Type 0 where
+  pub answer : reply ≡ record { answer = Answer.Refused refusal; written = 0 }
+
+-- a message that may be broadcast with a number and a floor
+abbrev pub MayBroadcast : SequenceNumber → SequenceNumber → Message → Type 0
+MayBroadcast number floor m = (m .length ≤ payloadMost) × (1 ≤ m .count) × (floor .0 < number .0)
+
+-- what an answer comes with may be written
+abbrev pub MaySend : Answer → SequenceNumber → SequenceNumber → Message → Type 0
+MaySend (Answer.Refused refusal) top floor m = Unit {0}
+MaySend Old top floor m = Unit {0}
+MaySend (Again number) top floor m = MayBroadcast number floor m
+MaySend Full top floor m = floor .0 ≤ top .0
+MaySend (Numbered number) top floor m = MayBroadcast number floor m
+MaySend Noted top floor m = Unit {0}
+MaySend (Wanted first last) top floor m = Unit {0}
+MaySend Sent top floor m = Unit {0}
+
+-- of a packet that is to be asked: the state is sound, and payload and lent output have the sizes that a packet wants
+pub record Sized (s : Sequencer) (size room : ℕ) : Type 0 where
+  pub sound : soundOf s ≡ true
+  pub payload : size ≤ payloadMost
+  pub output : longestPacket ≤ room
+
+-- of a packet that is to be answered: the same, and it was accepted
+pub record Due (s : Sequencer) (packet : Packet) (size room : ℕ) : Type 0 where
+  pub sizes : Sized s size room
+  pub accepted : contentVerdict (s .group .n) (s .acknowledgements) (s .top .0) packet ≡ Verdict.Accepted
+
+-- a next number is left where a request wants one
+abbrev pub Left : Packet → ℕ → ℕ → Type 0
+Left (Request sender taken count) last top = last < count → top < largestNumber
+Left (Broadcast originator number count floor) last top = Unit {0}
+Left (Gap sender taken first to) last top = Unit {0}
+Left (Status sender taken) last top = Unit {0}
+Left (Poll t floor) last top = Unit {0}

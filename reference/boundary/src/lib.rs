@@ -1,14 +1,17 @@
 //! The proved library from Rust, and beside it the same rounds of calls on
 //! the reference.
 //!
-//! [`proved`] wraps every function that crosses the boundary in a safe one;
-//! [`reference`] has a function of the same shape for each. Both sum up the
-//! answers in the same way, so equal sums mean equal answers.
+//! [`proved`] wraps every function that crosses the boundary in a safe one,
+//! and has the states of both ends, which the caller owns; [`reference`] has a
+//! function of the same shape for each, and [`ends`] one text for the ends of
+//! both. Both sides sum up the answers in the same way, so equal sums mean
+//! equal answers.
 
 use model::jobs::Job;
 use model::journal::{self, Message};
 use model::limits::PAYLOAD;
 
+pub mod ends;
 pub mod proved;
 pub mod reference;
 pub mod shrink;
@@ -137,4 +140,19 @@ pub fn messages<'a>(messages: impl IntoIterator<Item = Message<'a>>) -> Vec<u8> 
         list.extend(&message.payload[..size.into()]);
     }
     list
+}
+
+/// Takes a value into a running sum.
+pub(crate) fn mix(sum: u64, value: u64) -> u64 {
+    sum.wrapping_mul(3).wrapping_add(value)
+}
+
+/// The packets of a list, up to one that is cut off.
+pub(crate) fn packets(mut list: &[u8]) -> impl Iterator<Item = &[u8]> {
+    std::iter::from_fn(move || {
+        let (&size, rest) = list.split_first_chunk()?;
+        let (packet, rest) = rest.split_at_checked(u16::from_be_bytes(size).into())?;
+        list = rest;
+        Some(packet)
+    })
 }

@@ -4,13 +4,282 @@
 //! No function keeps an address, and each is proved to read and write within
 //! the slices that it is lent.
 
-use crate::{LOAD_LINE, Member, Sequencer, Writer};
+use crate::ends::{self, Membership, Sequencing, Table, Told, places};
+use crate::{LOAD_LINE, Member, Writer, feeds, mix};
+use model::limits::{HISTORY, PAYLOAD, WAITING, WINDOW};
 use model::packet::Header;
+use model::{member, sequencer};
+
+/// A sequencer as the proved library lays it in memory.
+#[repr(C)]
+#[derive(Clone, Debug, PartialEq, Eq)]
+pub struct SequencerState {
+    /// Members of the group.
+    pub n: u8,
+    /// The group number.
+    pub group: u32,
+    /// The last number given.
+    pub top: u32,
+    /// The smallest number that all have taken.
+    pub floor: u32,
+    /// For each member the last number known taken.
+    pub taken: Table,
+    /// For each member the last own count numbered.
+    pub counts: Table,
+    /// For each member how often it repeated itself.
+    pub repeats: Table,
+    /// Of each place of the history the count of its message, 0 for none.
+    pub kept: [u32; HISTORY],
+    /// Its originator.
+    pub originators: [u8; HISTORY],
+    /// How many bytes its payload has.
+    pub lengths: [u8; HISTORY],
+    /// Its payload, zeros behind it.
+    pub payloads: [[u8; PAYLOAD]; HISTORY],
+}
+
+const _: () = assert!(size_of::<SequencerState>() == 8080);
+
+/// A member as the proved library lays it in memory.
+#[repr(C)]
+#[derive(Clone, Debug, PartialEq, Eq)]
+pub struct MemberState {
+    /// Members of the group.
+    pub n: u8,
+    /// The group number.
+    pub group: u32,
+    /// This member's number.
+    pub number: u8,
+    /// The last number taken.
+    pub taken: u32,
+    /// How many messages it has submitted.
+    pub submitted: u32,
+    /// How many of them wait.
+    pub waiting: u32,
+    /// Of each place of the waiting messages the count, 0 for none.
+    pub queued: [u32; WAITING],
+    /// Of each place of the window the count, 0 for none.
+    pub held: [u32; WINDOW],
+    /// Originators of the waiting messages.
+    pub queued_originators: [u8; WAITING],
+    /// Lengths of the waiting messages.
+    pub queued_lengths: [u8; WAITING],
+    /// Originators of the held messages.
+    pub held_originators: [u8; WINDOW],
+    /// Lengths of the held messages.
+    pub held_lengths: [u8; WINDOW],
+    /// Payloads of the waiting messages, zeros behind each.
+    pub queued_payloads: [[u8; PAYLOAD]; WAITING],
+    /// Payloads of the held messages, zeros behind each.
+    pub held_payloads: [[u8; PAYLOAD]; WINDOW],
+}
+
+const _: () = assert!(size_of::<MemberState>() == 3224);
+
+impl SequencerState {
+    /// All zero: closed.
+    pub const CLOSED: SequencerState = SequencerState {
+        n: 0,
+        group: 0,
+        top: 0,
+        floor: 0,
+        taken: [0; _],
+        counts: [0; _],
+        repeats: [0; _],
+        kept: [0; _],
+        originators: [0; _],
+        lengths: [0; _],
+        payloads: [[0; _]; _],
+    };
+
+    /// Opens it.
+    pub fn open(&mut self, n: u8, group: u32) -> Told {
+        // SAFETY: the state lives through the call.
+        unsafe { ffi::warghytes_sequencer_open(self, n, group) }
+    }
+
+    /// The same state of the reference.
+    pub fn as_reference(&self) -> sequencer::Sequencer {
+        sequencer::Sequencer {
+            n: self.n,
+            group: self.group,
+            acknowledged: self.taken,
+            counts: self.counts,
+            repeats: self.repeats,
+            top: self.top,
+            floor: self.floor,
+            history: places(&self.kept, &self.originators, &self.lengths, &self.payloads),
+        }
+    }
+
+    /// The repeat counts added up, held at the largest number.
+    pub fn all_repeats(&self) -> u32 {
+        // SAFETY: the table lives through the call.
+        unsafe { ffi::rounds_repeats(&self.repeats) }
+    }
+}
+
+impl Sequencing for SequencerState {
+    fn opened(n: u8, group: u32) -> Self {
+        let mut state = SequencerState::CLOSED;
+        state.open(n, group);
+        state
+    }
+    fn receive(&mut self, packet: &[u8], out: &mut [u8]) -> Told {
+        let (lent, room) = (out.as_mut_ptr(), out.len());
+        // SAFETY: state and slices live through the call, and none of the lent ones is another.
+        unsafe { ffi::warghytes_sequencer_receive(self, packet.as_ptr(), packet.len(), lent, room) }
+    }
+    fn poll(&self, out: &mut [u8]) -> Told {
+        // SAFETY: as above.
+        unsafe { ffi::warghytes_sequencer_poll(self, out.as_mut_ptr(), out.len()) }
+    }
+    fn copy(&self, number: u32, out: &mut [u8]) -> Told {
+        // SAFETY: as above.
+        unsafe { ffi::warghytes_sequencer_copy(self, number, out.as_mut_ptr(), out.len()) }
+    }
+}
+
+impl MemberState {
+    /// All zero: closed.
+    pub const CLOSED: MemberState = MemberState {
+        n: 0,
+        group: 0,
+        number: 0,
+        taken: 0,
+        submitted: 0,
+        waiting: 0,
+        queued: [0; _],
+        held: [0; _],
+        queued_originators: [0; _],
+        queued_lengths: [0; _],
+        held_originators: [0; _],
+        held_lengths: [0; _],
+        queued_payloads: [[0; _]; _],
+        held_payloads: [[0; _]; _],
+    };
+
+    /// Opens it.
+    pub fn open(&mut self, n: u8, number: u8, group: u32) -> Told {
+        // SAFETY: the state lives through the call.
+        unsafe { ffi::warghytes_member_open(self, n, number, group) }
+    }
+
+    /// The same state of the reference, whose number of waiting messages is a
+    /// byte: 255 of them are as unsound as any more.
+    pub fn as_reference(&self) -> member::Member {
+        let held = self.held.iter().rev();
+        member::Member {
+            n: self.n,
+            number: self.number,
+            group: self.group,
+            taken: self.taken,
+            submitted: self.submitted,
+            waiting: self.waiting.try_into().unwrap_or(u8::MAX),
+            queue: places(
+                &self.queued,
+                &self.queued_originators,
+                &self.queued_lengths,
+                &self.queued_payloads,
+            ),
+            held: held.fold(0, |bits, &count| bits << 1 | u8::from(count != 0)),
+            places: places(
+                &self.held,
+                &self.held_originators,
+                &self.held_lengths,
+                &self.held_payloads,
+            ),
+        }
+    }
+}
+
+impl Membership for MemberState {
+    fn opened(n: u8, number: u8, group: u32) -> Self {
+        let mut state = MemberState::CLOSED;
+        state.open(n, number, group);
+        state
+    }
+    fn submit(&mut self, payload: &[u8], out: &mut [u8]) -> Told {
+        let (lent, room) = (out.as_mut_ptr(), out.len());
+        // SAFETY: state and slices live through the call, and none of the lent ones is another.
+        unsafe { ffi::warghytes_member_submit(self, payload.as_ptr(), payload.len(), lent, room) }
+    }
+    fn receive(&mut self, packet: &[u8], out: &mut [u8]) -> Told {
+        let (lent, room) = (out.as_mut_ptr(), out.len());
+        // SAFETY: as above.
+        unsafe { ffi::warghytes_member_receive(self, packet.as_ptr(), packet.len(), lent, room) }
+    }
+    fn take(&mut self, out: &mut [u8]) -> Told {
+        // SAFETY: as above.
+        unsafe { ffi::warghytes_member_take(self, out.as_mut_ptr(), out.len()) }
+    }
+    fn repeat(&self, out: &mut [u8]) -> Told {
+        // SAFETY: as above.
+        unsafe { ffi::warghytes_member_repeat(self, out.as_mut_ptr(), out.len()) }
+    }
+    fn status(&self, out: &mut [u8]) -> Told {
+        // SAFETY: as above.
+        unsafe { ffi::warghytes_member_status(self, out.as_mut_ptr(), out.len()) }
+    }
+}
 
 mod ffi {
+    use super::{MemberState, SequencerState};
     use crate::LOAD_LINE;
+    use crate::ends::{Table, Told};
 
     unsafe extern "C" {
+        pub fn warghytes_sequencer_open(state: *mut SequencerState, n: u8, group: u32) -> Told;
+        pub fn warghytes_sequencer_receive(
+            state: *mut SequencerState,
+            packet: *const u8,
+            size: usize,
+            out: *mut u8,
+            room: usize,
+        ) -> Told;
+        pub fn warghytes_sequencer_poll(
+            state: *const SequencerState,
+            out: *mut u8,
+            room: usize,
+        ) -> Told;
+        pub fn warghytes_sequencer_copy(
+            state: *const SequencerState,
+            number: u32,
+            out: *mut u8,
+            room: usize,
+        ) -> Told;
+        pub fn warghytes_member_open(
+            state: *mut MemberState,
+            n: u8,
+            number: u8,
+            group: u32,
+        ) -> Told;
+        pub fn warghytes_member_submit(
+            state: *mut MemberState,
+            payload: *const u8,
+            size: usize,
+            out: *mut u8,
+            room: usize,
+        ) -> Told;
+        pub fn warghytes_member_receive(
+            state: *mut MemberState,
+            packet: *const u8,
+            size: usize,
+            out: *mut u8,
+            room: usize,
+        ) -> Told;
+        pub fn warghytes_member_take(state: *mut MemberState, out: *mut u8, room: usize) -> Told;
+        pub fn warghytes_member_repeat(
+            state: *const MemberState,
+            out: *mut u8,
+            room: usize,
+        ) -> Told;
+        pub fn warghytes_member_status(
+            state: *const MemberState,
+            out: *mut u8,
+            room: usize,
+        ) -> Told;
+        pub fn rounds_repeats(table: *const Table) -> u32;
         pub fn boundary_read(packet: *const u8, size: usize, fields: *mut [u32; 6]) -> u8;
         pub fn boundary_write(
             kind: u8,
@@ -69,137 +338,12 @@ mod ffi {
             out: *mut u8,
             room: usize,
         ) -> u64;
-        pub fn rounds_sequencer_receive(
-            n: u8,
-            group: u32,
-            heard: *const u8,
-            heard_size: usize,
-            packets: *const u8,
-            size: usize,
-            rounds: u32,
-            out: *mut u8,
-            room: usize,
-        ) -> u64;
-        pub fn rounds_sequencer_poll(
-            n: u8,
-            group: u32,
-            heard: *const u8,
-            heard_size: usize,
-            rounds: u32,
-            out: *mut u8,
-            room: usize,
-        ) -> u64;
-        pub fn rounds_sequencer_copy(
-            n: u8,
-            group: u32,
-            heard: *const u8,
-            heard_size: usize,
-            number: u32,
-            rounds: u32,
-            out: *mut u8,
-            room: usize,
-        ) -> u64;
-        pub fn rounds_sequencer_repeats(
-            n: u8,
-            group: u32,
-            heard: *const u8,
-            heard_size: usize,
-            out: *mut u8,
-            room: usize,
-        ) -> u64;
-        pub fn rounds_member_receive(
-            n: u8,
-            number: u8,
-            group: u32,
-            heard: *const u8,
-            heard_size: usize,
-            takes: u32,
-            packets: *const u8,
-            size: usize,
-            rounds: u32,
-            out: *mut u8,
-            room: usize,
-        ) -> u64;
-        pub fn rounds_member_submit(
-            n: u8,
-            number: u8,
-            group: u32,
-            heard: *const u8,
-            heard_size: usize,
-            takes: u32,
-            payload: *const u8,
-            size: usize,
-            rounds: u32,
-            out: *mut u8,
-            room: usize,
-        ) -> u64;
-        pub fn rounds_member_repeat(
-            n: u8,
-            number: u8,
-            group: u32,
-            heard: *const u8,
-            heard_size: usize,
-            takes: u32,
-            payload: *const u8,
-            size: usize,
-            rounds: u32,
-            out: *mut u8,
-            room: usize,
-        ) -> u64;
-        pub fn rounds_member_queue(
-            n: u8,
-            number: u8,
-            group: u32,
-            payload: *const u8,
-            size: usize,
-            waiting: u32,
-            heard: *const u8,
-            heard_size: usize,
-            takes: u32,
-            submits: u32,
-            rounds: u32,
-            out: *mut u8,
-            room: usize,
-        ) -> u64;
-        pub fn rounds_member_take(
-            n: u8,
-            number: u8,
-            group: u32,
-            heard: *const u8,
-            heard_size: usize,
-            takes: u32,
-            calls: u32,
-            rounds: u32,
-            out: *mut u8,
-            room: usize,
-        ) -> u64;
-        pub fn rounds_member_status(
-            n: u8,
-            number: u8,
-            group: u32,
-            heard: *const u8,
-            heard_size: usize,
-            takes: u32,
-            rounds: u32,
-            out: *mut u8,
-            room: usize,
-        ) -> u64;
         pub fn rounds_feeds(
             records: *const u8,
             records_size: usize,
             feeds: *const u8,
             size: usize,
             rounds: u32,
-        ) -> u64;
-        pub fn rounds_terminal_take(
-            n: u8,
-            number: u8,
-            group: u32,
-            heard: *const u8,
-            heard_size: usize,
-            calls: u32,
-            out: *mut u8,
-            room: usize,
         ) -> u64;
     }
 }
@@ -314,199 +458,6 @@ pub fn read_rounds(packets: &[u8], rounds: u32) -> u64 {
     })
 }
 
-/// Rounds of handing a sequencer a list of packets, each time in the same state.
-pub fn sequencer_receive(end: Sequencer<'_>, packets: &[u8], rounds: u32, out: &mut [u8]) -> u64 {
-    // SAFETY: the slices live through the call, and the lent one is not another.
-    unsafe {
-        ffi::rounds_sequencer_receive(
-            end.n,
-            end.group,
-            end.heard.as_ptr(),
-            end.heard.len(),
-            packets.as_ptr(),
-            packets.len(),
-            rounds,
-            out.as_mut_ptr(),
-            out.len(),
-        )
-    }
-}
-
-/// Rounds of the poll call.
-pub fn sequencer_poll(end: Sequencer<'_>, rounds: u32, out: &mut [u8]) -> u64 {
-    // SAFETY: as above.
-    unsafe {
-        ffi::rounds_sequencer_poll(
-            end.n,
-            end.group,
-            end.heard.as_ptr(),
-            end.heard.len(),
-            rounds,
-            out.as_mut_ptr(),
-            out.len(),
-        )
-    }
-}
-
-/// Rounds of the copy call.
-pub fn sequencer_copy(end: Sequencer<'_>, number: u32, rounds: u32, out: &mut [u8]) -> u64 {
-    // SAFETY: as above.
-    unsafe {
-        ffi::rounds_sequencer_copy(
-            end.n,
-            end.group,
-            end.heard.as_ptr(),
-            end.heard.len(),
-            number,
-            rounds,
-            out.as_mut_ptr(),
-            out.len(),
-        )
-    }
-}
-
-/// The repeat count of each member, and that of all.
-pub fn sequencer_repeats(end: Sequencer<'_>, out: &mut [u8]) -> u64 {
-    // SAFETY: as above.
-    unsafe {
-        ffi::rounds_sequencer_repeats(
-            end.n,
-            end.group,
-            end.heard.as_ptr(),
-            end.heard.len(),
-            out.as_mut_ptr(),
-            out.len(),
-        )
-    }
-}
-
-/// Rounds of handing a member a list of packets, each time in the same state.
-pub fn member_receive(end: Member<'_>, packets: &[u8], rounds: u32, out: &mut [u8]) -> u64 {
-    // SAFETY: the slices live through the call, and the lent one is not another.
-    unsafe {
-        ffi::rounds_member_receive(
-            end.n,
-            end.number,
-            end.group,
-            end.heard.as_ptr(),
-            end.heard.len(),
-            end.takes,
-            packets.as_ptr(),
-            packets.len(),
-            rounds,
-            out.as_mut_ptr(),
-            out.len(),
-        )
-    }
-}
-
-/// Rounds of the submit call, each time in the same state; then a status call.
-pub fn member_submit(end: Member<'_>, payload: &[u8], rounds: u32, out: &mut [u8]) -> u64 {
-    // SAFETY: as above.
-    unsafe {
-        ffi::rounds_member_submit(
-            end.n,
-            end.number,
-            end.group,
-            end.heard.as_ptr(),
-            end.heard.len(),
-            end.takes,
-            payload.as_ptr(),
-            payload.len(),
-            rounds,
-            out.as_mut_ptr(),
-            out.len(),
-        )
-    }
-}
-
-/// Submits once, then rounds of the repeat call.
-pub fn member_repeat(end: Member<'_>, payload: &[u8], rounds: u32, out: &mut [u8]) -> u64 {
-    // SAFETY: as above.
-    unsafe {
-        ffi::rounds_member_repeat(
-            end.n,
-            end.number,
-            end.group,
-            end.heard.as_ptr(),
-            end.heard.len(),
-            end.takes,
-            payload.as_ptr(),
-            payload.len(),
-            rounds,
-            out.as_mut_ptr(),
-            out.len(),
-        )
-    }
-}
-
-/// Rounds of take calls and then submit calls, each time of a member that has
-/// submitted and then heard; then a repeat call.
-pub fn member_queue(
-    end: Member<'_>,
-    payload: &[u8],
-    waiting: u32,
-    submits: u32,
-    rounds: u32,
-    out: &mut [u8],
-) -> u64 {
-    // SAFETY: as above.
-    unsafe {
-        ffi::rounds_member_queue(
-            end.n,
-            end.number,
-            end.group,
-            payload.as_ptr(),
-            payload.len(),
-            waiting,
-            end.heard.as_ptr(),
-            end.heard.len(),
-            end.takes,
-            submits,
-            rounds,
-            out.as_mut_ptr(),
-            out.len(),
-        )
-    }
-}
-
-/// Rounds of so many take calls, each round in the same state.
-pub fn member_take(end: Member<'_>, calls: u32, rounds: u32, out: &mut [u8]) -> u64 {
-    // SAFETY: as above.
-    unsafe {
-        ffi::rounds_member_take(
-            end.n,
-            end.number,
-            end.group,
-            end.heard.as_ptr(),
-            end.heard.len(),
-            end.takes,
-            calls,
-            rounds,
-            out.as_mut_ptr(),
-            out.len(),
-        )
-    }
-}
-
-/// Rounds of the status call.
-pub fn member_status(end: Member<'_>, rounds: u32, out: &mut [u8]) -> u64 {
-    // SAFETY: as above.
-    unsafe {
-        ffi::rounds_member_status(
-            end.n,
-            end.number,
-            end.group,
-            end.heard.as_ptr(),
-            end.heard.len(),
-            end.takes,
-            rounds,
-            out.as_mut_ptr(),
-            out.len(),
-        )
-    }
-}
-
 /// Rounds of feeding a work list, each time the same; then what is left.
 pub fn feed_rounds(records: &[u8], feeds: &[u8], rounds: u32) -> u64 {
     // SAFETY: the slices live through the call.
@@ -521,21 +472,18 @@ pub fn feed_rounds(records: &[u8], feeds: &[u8], rounds: u32) -> u64 {
     }
 }
 
-/// Takes of a member, which feed a work list; then the list.
+/// Takes of a member, each of which feeds a work list; then the list.
 pub fn terminal_take(end: Member<'_>, calls: u32, out: &mut [u8]) -> u64 {
-    // SAFETY: the slices live through the call, and the lent one is not the other.
-    unsafe {
-        ffi::rounds_terminal_take(
-            end.n,
-            end.number,
-            end.group,
-            end.heard.as_ptr(),
-            end.heard.len(),
-            calls,
-            out.as_mut_ptr(),
-            out.len(),
-        )
+    let mut state: MemberState = ends::member(end, out);
+    let (mut sum, mut taken) = (0, Vec::new());
+    for _ in 0..calls {
+        let told = state.take(out);
+        sum = told.summed(sum);
+        if told.code == Told::TOOK {
+            taken.push((told.numbers[1] as u8, out[..told.written].to_vec()));
+        }
     }
+    mix(sum, feed_rounds(&[], &feeds(&taken), 1))
 }
 
 /// Rounds of reading a journal.

@@ -1,65 +1,17 @@
 //! The same rounds of calls on the reference. The state stands behind a
 //! black box at each call, so that no work is drawn out of a loop.
 
-use crate::{LOAD_LINE, Member, SHUTDOWN, Sequencer, Writer};
+use crate::ends::{self, Told};
+use crate::{LOAD_LINE, Member, SHUTDOWN, Writer, mix, packets};
 use model::answer::Refusal;
 use model::jobs::{Fed, Job, List};
 use model::journal::{self, BLOCK, Message, Tail};
 use model::limits::JOB;
 use model::load::{self, Generator, Load};
 use model::packet::{self, Header};
-use model::{Answer, member, plan, sequencer};
+use model::{Answer, member, plan};
 use std::hint::black_box;
 use std::io::Write;
-
-/// Takes a value into a running sum.
-fn mix(sum: u64, value: u64) -> u64 {
-    sum.wrapping_mul(3).wrapping_add(value)
-}
-
-/// An answer as a number.
-fn code(answer: Answer) -> u64 {
-    match answer {
-        Answer::Refused(refusal) => refusal.number().into(),
-        Answer::Old => 32,
-        Answer::Full => 33,
-        Answer::Noted => 34,
-        Answer::Sent => 35,
-        Answer::Queued(count) => mix(56, count.into()),
-        Answer::Again(number) => mix(36, number.into()),
-        Answer::Numbered(number) => mix(37, number.into()),
-        Answer::Wanted(first, last) => mix(mix(38, first.into()), last.into()),
-        Answer::Kept => 48,
-        Answer::KeptGap => 49,
-        Answer::Beyond => 50,
-        Answer::BeyondGap => 51,
-        Answer::Gap => 52,
-        Answer::Status => 53,
-        Answer::None => 54,
-        Answer::Took {
-            number,
-            originator,
-            count,
-            more,
-        } => [number, originator.into(), count, more.into()]
-            .iter()
-            .fold(55, |sum, &value| mix(sum, value.into())),
-    }
-}
-
-fn summed(sum: u64, (answer, written): (Answer, usize)) -> u64 {
-    mix(mix(sum, code(answer)), written as u64)
-}
-
-/// The packets of a list, up to one that is cut off.
-fn packets(mut list: &[u8]) -> impl Iterator<Item = &[u8]> {
-    std::iter::from_fn(move || {
-        let (&size, rest) = list.split_first_chunk()?;
-        let (packet, rest) = rest.split_at_checked(u16::from_be_bytes(size).into())?;
-        list = rest;
-        Some(packet)
-    })
-}
 
 /// Reads a packet: its fields, or the number of the refusal.
 #[inline(never)]
@@ -133,153 +85,6 @@ pub fn read_rounds(packets: &[u8], rounds: u32) -> u64 {
     (0..rounds).fold(0, |sum, _| read_list(sum, black_box(packets)))
 }
 
-fn sequencer_state(end: Sequencer<'_>, out: &mut [u8]) -> sequencer::Sequencer {
-    let mut state = sequencer::Sequencer::fresh(end.n.into(), end.group).unwrap();
-    for packet in packets(end.heard) {
-        state.receive(packet, out);
-    }
-    state
-}
-
-/// Rounds of handing a sequencer a list of packets, each time in the same state.
-#[inline(never)]
-pub fn sequencer_receive(end: Sequencer<'_>, list: &[u8], rounds: u32, out: &mut [u8]) -> u64 {
-    let start = sequencer_state(end, out);
-    let mut state = start.clone();
-    let mut sum = 0;
-    for _ in 0..rounds {
-        state.clone_from(&start);
-        for packet in packets(list) {
-            sum = summed(sum, black_box(&mut state).receive(packet, out));
-        }
-    }
-    sum
-}
-
-/// Rounds of the poll call.
-#[inline(never)]
-pub fn sequencer_poll(end: Sequencer<'_>, rounds: u32, out: &mut [u8]) -> u64 {
-    let state = sequencer_state(end, out);
-    (0..rounds).fold(0, |sum, _| summed(sum, black_box(&state).poll(out)))
-}
-
-/// Rounds of the copy call.
-#[inline(never)]
-pub fn sequencer_copy(end: Sequencer<'_>, number: u32, rounds: u32, out: &mut [u8]) -> u64 {
-    let state = sequencer_state(end, out);
-    (0..rounds).fold(0, |sum, _| summed(sum, black_box(&state).copy(number, out)))
-}
-
-/// The repeat count of each member, and that of all.
-pub fn sequencer_repeats(end: Sequencer<'_>, out: &mut [u8]) -> u64 {
-    let state = sequencer_state(end, out);
-    let all = state.all_repeats();
-    let counts = state.repeats.into_iter().chain([all]);
-    counts.fold(0, |sum, repeats| mix(sum, repeats.into()))
-}
-
-fn member_state(end: Member<'_>, out: &mut [u8]) -> member::Member {
-    let (n, number) = (end.n.into(), end.number.into());
-    let mut state = member::Member::fresh(n, number, end.group).unwrap();
-    for packet in packets(end.heard) {
-        state.receive(packet, out);
-    }
-    for _ in 0..end.takes {
-        state.take(out);
-    }
-    state
-}
-
-/// Rounds of handing a member a list of packets, each time in the same state.
-#[inline(never)]
-pub fn member_receive(end: Member<'_>, list: &[u8], rounds: u32, out: &mut [u8]) -> u64 {
-    let start = member_state(end, out);
-    let mut state = start.clone();
-    let mut sum = 0;
-    for _ in 0..rounds {
-        state.clone_from(&start);
-        for packet in packets(list) {
-            sum = summed(sum, black_box(&mut state).receive(packet, out));
-        }
-    }
-    sum
-}
-
-/// Rounds of the submit call, each time in the same state; then a status call.
-#[inline(never)]
-pub fn member_submit(end: Member<'_>, payload: &[u8], rounds: u32, out: &mut [u8]) -> u64 {
-    let start = member_state(end, out);
-    let mut state = start.clone();
-    let mut sum = 0;
-    for _ in 0..rounds {
-        state.clone_from(&start);
-        sum = summed(sum, black_box(&mut state).submit(payload, out));
-    }
-    summed(sum, state.status(out))
-}
-
-/// Submits once, then rounds of the repeat call.
-#[inline(never)]
-pub fn member_repeat(end: Member<'_>, payload: &[u8], rounds: u32, out: &mut [u8]) -> u64 {
-    let mut state = member_state(end, out);
-    state.submit(payload, out);
-    (0..rounds).fold(0, |sum, _| summed(sum, black_box(&state).repeat(out)))
-}
-
-/// Rounds of take calls and then submit calls, each time of a member that has
-/// submitted and then heard; then a repeat call.
-#[inline(never)]
-pub fn member_queue(
-    end: Member<'_>,
-    payload: &[u8],
-    waiting: u32,
-    submits: u32,
-    rounds: u32,
-    out: &mut [u8],
-) -> u64 {
-    let mut start = member::Member::fresh(end.n.into(), end.number.into(), end.group).unwrap();
-    for _ in 0..waiting {
-        start.submit(payload, out);
-    }
-    for packet in packets(end.heard) {
-        start.receive(packet, out);
-    }
-    let mut state = start.clone();
-    let mut sum = 0;
-    for _ in 0..rounds {
-        state.clone_from(&start);
-        for _ in 0..end.takes {
-            sum = summed(sum, black_box(&mut state).take(out));
-        }
-        for _ in 0..submits {
-            sum = summed(sum, black_box(&mut state).submit(payload, out));
-        }
-    }
-    summed(sum, state.repeat(out))
-}
-
-/// Rounds of so many take calls, each round in the same state.
-#[inline(never)]
-pub fn member_take(end: Member<'_>, calls: u32, rounds: u32, out: &mut [u8]) -> u64 {
-    let start = member_state(end, out);
-    let mut state = start.clone();
-    let mut sum = 0;
-    for _ in 0..rounds {
-        state.clone_from(&start);
-        for _ in 0..calls {
-            sum = summed(sum, black_box(&mut state).take(out));
-        }
-    }
-    sum
-}
-
-/// Rounds of the status call.
-#[inline(never)]
-pub fn member_status(end: Member<'_>, rounds: u32, out: &mut [u8]) -> u64 {
-    let state = member_state(end, out);
-    (0..rounds).fold(0, |sum, _| summed(sum, black_box(&state).status(out)))
-}
-
 fn fed(sum: u64, answer: Fed) -> u64 {
     let code = match answer {
         Fed::Refused(refusal) => refusal.number().into(),
@@ -341,20 +146,19 @@ pub fn feed_rounds(records: &[u8], feeds: &[u8], rounds: u32) -> u64 {
     list_sum(sum, &list)
 }
 
-/// Takes of a member, which feed a work list; then the list.
+/// Takes of a member, each of which feeds a work list; then the list.
 pub fn terminal_take(end: Member<'_>, calls: u32, out: &mut [u8]) -> u64 {
-    let mut state = member_state(end, out);
+    let mut state: member::Member = ends::member(end, out);
     let mut list = List::empty();
-    let mut sum = 0;
+    let (mut sum, mut feeding) = (0, 0);
     for _ in 0..calls {
         let (answer, written) = state.take(out);
-        sum = summed(sum, (answer, written));
-        sum = match answer {
-            Answer::Took { originator, .. } => fed(sum, list.feed(originator, &out[..written])),
-            _ => mix(sum, 67),
-        };
+        sum = Told::of((answer, written)).summed(sum);
+        if let Answer::Took { originator, .. } = answer {
+            feeding = fed(feeding, list.feed(originator, &out[..written]));
+        }
     }
-    list_sum(sum, &list)
+    mix(sum, list_sum(feeding, &list))
 }
 
 #[inline(never)]

@@ -1,5 +1,7 @@
 //! What crosses the boundary is what the other side sees.
 
+use boundary::ends::{self, Membership, Sequencing, Told};
+use boundary::proved::{MemberState, SequencerState};
 use boundary::{
     FINISH, LOAD_LINE, Member, Sequencer, Writer, feeds, list, messages, proved, records, reference,
 };
@@ -7,6 +9,7 @@ use model::jobs::{ADD, FETCH, List};
 use model::journal::{BLOCK, Message};
 use model::limits::{PACKET, PAYLOAD};
 use model::packet::Header;
+use model::{member, sequencer};
 
 const HEADER: Header = Header {
     kind: 1,
@@ -78,8 +81,8 @@ fn odd_slices() {
         &[255, 255],
     ] {
         assert_eq!(
-            proved::sequencer_receive(end, packets, 3, &mut []),
-            reference::sequencer_receive(end, packets, 3, &mut [])
+            ends::sequencer_receive::<SequencerState>(end, packets, 3, &mut []),
+            ends::sequencer_receive::<sequencer::Sequencer>(end, packets, 3, &mut [])
         );
         assert_eq!(
             proved::read_rounds(packets, 3),
@@ -87,7 +90,9 @@ fn odd_slices() {
         );
     }
     // Refused by question 2, which says 2 and writes nothing.
-    assert_eq!(proved::sequencer_poll(end, 1, &mut []), 3 * 2);
+    let refused = told(2, [0; 3], 0);
+    let sequencer: SequencerState = ends::sequencer(end, &mut []);
+    assert_eq!(sequencer.poll(&mut []), refused);
 }
 
 /// A length needs both its bytes: the packet behind a long one is read too.
@@ -115,22 +120,51 @@ fn packets_over_255_bytes() {
             proved::read_rounds(&packets, 1),
             reference::read_rounds(&packets, 1)
         );
-        // Numbered 1 with a broadcast of as many bytes, and the second refused by 4.
-        let sum = 3 * (3 * 37 + 1) + size as u64;
-        let sum = 3 * (3 * sum + 4);
-        assert_eq!(proved::sequencer_receive(end, &packets, 1, &mut out), sum);
+        // Numbered 1 with a broadcast of as many bytes.
+        let mut sequencer: SequencerState = ends::sequencer(end, &mut out);
+        let packet = out;
+        let numbered = told(37, [1, 0, 0], size);
+        assert_eq!(sequencer.receive(&packet[..size], &mut out), numbered);
     }
 }
 
-/// The same answers and the same lent bytes of both sides.
+/// What a call tells.
+fn told(code: u32, numbers: [u32; 3], written: usize) -> Told {
+    Told {
+        code,
+        numbers,
+        more: 0,
+        written,
+    }
+}
+
+/// The same answers and the same lent bytes of two functions.
+macro_rules! equal {
+    ($here:expr, $there:expr, ($($word:expr),*)) => {
+        let (mut here, mut there) = ([0xaa; PACKET + 4], [0xaa; PACKET + 4]);
+        assert_eq!($here($($word,)* &mut here), $there($($word,)* &mut there));
+        assert_eq!(here, there);
+    };
+}
+
+/// Of both sides.
 macro_rules! same {
     ($call:ident($($word:expr),*)) => {
-        let (mut here, mut there) = ([0xaa; PACKET + 4], [0xaa; PACKET + 4]);
-        assert_eq!(
-            proved::$call($($word,)* &mut here),
-            reference::$call($($word,)* &mut there)
-        );
-        assert_eq!(here, there);
+        equal!(proved::$call, reference::$call, ($($word),*));
+    };
+}
+
+/// Of the sequencers of both sides.
+macro_rules! same_sequencer {
+    ($call:ident($($word:expr),*)) => {
+        equal!(ends::$call::<SequencerState>, ends::$call::<sequencer::Sequencer>, ($($word),*));
+    };
+}
+
+/// Of the members of both sides.
+macro_rules! same_member {
+    ($call:ident($($word:expr),*)) => {
+        equal!(ends::$call::<MemberState>, ends::$call::<member::Member>, ($($word),*));
     };
 }
 
@@ -150,20 +184,19 @@ fn rounds_of_every_call() {
     let (n, number, group) = (2, 1, 7);
     let heard = &requests[..];
     let end = Sequencer { n, group, heard };
-    same!(sequencer_poll(end, 5));
-    same!(sequencer_copy(end, 1, 5));
-    same!(sequencer_copy(end, 2, 5));
-    same!(sequencer_receive(end, heard, 5));
-    same!(sequencer_repeats(end));
+    same_sequencer!(sequencer_poll(end, 5));
+    same_sequencer!(sequencer_copy(end, 1, 5));
+    same_sequencer!(sequencer_copy(end, 2, 5));
+    same_sequencer!(sequencer_receive(end, heard, 5));
 
     // The second and the third are Again: member 1's count and the sum are 2.
     let heard = &[heard, heard, heard].concat()[..];
     let end = Sequencer { n, group, heard };
-    same!(sequencer_repeats(end));
-    assert_eq!(
-        proved::sequencer_repeats(end, &mut out),
-        2 * 3u64.pow(15) + 2
-    );
+    let sequencer: SequencerState = ends::sequencer(end, &mut out);
+    let other: sequencer::Sequencer = ends::sequencer(end, &mut out);
+    assert_eq!(sequencer.as_reference(), other);
+    assert_eq!(sequencer.repeats[..2], [0, 2]);
+    assert_eq!((sequencer.all_repeats(), other.all_repeats()), (2, 2));
 
     let heard = &broadcasts[..];
     let end = Member {
@@ -174,19 +207,62 @@ fn rounds_of_every_call() {
         takes: 0,
     };
     let taken = Member { takes: 1, ..end };
-    same!(member_receive(taken, heard, 5));
-    same!(member_take(taken, 3, 5));
-    same!(member_status(taken, 5));
-    same!(member_receive(end, heard, 5));
-    same!(member_submit(end, b"c", 5));
-    same!(member_repeat(end, b"c", 5));
-    same!(member_queue(taken, b"c", 3, 4, 5));
-    same!(member_take(end, 3, 5));
+    same_member!(member_receive(taken, heard, 5));
+    same_member!(member_take(taken, 3, 5));
+    same_member!(member_status(taken, 5));
+    same_member!(member_receive(end, heard, 5));
+    same_member!(member_submit(end, b"c", 1, 5));
+    same_member!(member_repeat(end, b"c", 5));
+    same_member!(member_queue(taken, b"c", 3, 4, 5));
+    same_member!(member_take(end, 3, 5));
     same!(terminal_take(end, 3));
-    same!(member_status(end, 5));
+    same_member!(member_status(end, 5));
     for kind in 0..7 {
         same!(write(&Header { kind, ..HEADER }, b"ab"));
     }
+}
+
+/// The numbers and the code of a take, and a state that is left by a refusal.
+#[test]
+fn what_is_told() {
+    let mut out = [0; PACKET];
+    let mut member = MemberState::CLOSED;
+    assert_eq!(member.open(0, 0, 7), told(18, [0; 3], 0));
+    assert_eq!(member.status(&mut out), told(1, [0; 3], 0));
+    assert_eq!(member, MemberState::CLOSED);
+    assert_eq!(member.open(2, 1, 7), told(39, [0; 3], 0));
+    assert_eq!(member.submit(b"ab", &mut out), told(35, [0; 3], 22));
+    assert_eq!(member.submit(b"cd", &mut out), told(56, [2, 0, 0], 0));
+
+    let mut sequencer = SequencerState::CLOSED;
+    assert_eq!(sequencer.open(17, 7), told(18, [0; 3], 0));
+    assert_eq!(sequencer.open(2, 7), told(39, [0; 3], 0));
+    member.repeat(&mut out);
+    let request = out;
+    assert_eq!(
+        sequencer.receive(&request[..22], &mut out),
+        told(37, [1, 0, 0], 22)
+    );
+    assert_eq!(
+        member.receive(&out[..22], &mut [0; PACKET]),
+        told(48, [0; 3], 0)
+    );
+    let took = member.take(&mut out);
+    assert_eq!(took, told(55, [1, 1, 1], 2));
+    assert_eq!(out[..2], *b"ab");
+    assert_eq!(sequencer.copy(2, &mut out), told(17, [0; 3], 0));
+    assert_eq!(sequencer.copy(1, &mut out), told(35, [0; 3], 22));
+    assert_eq!(sequencer.poll(&mut out), told(35, [0; 3], 20));
+
+    // One byte behind a payload: every call says 1 and leaves the state.
+    let mut unsound = sequencer.clone();
+    unsound.payloads[1][2] = 1;
+    let before = unsound.clone();
+    assert_eq!(
+        unsound.receive(&request[..22], &mut out),
+        told(1, [0; 3], 0)
+    );
+    assert_eq!(unsound, before);
 }
 
 /// A work list: feeds that are cut off, records that are missing, and a list

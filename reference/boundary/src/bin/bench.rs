@@ -1,14 +1,17 @@
 //! Times every call of the proved library beside the same call of the
 //! reference, in turns, and prints the medians.
 
+use boundary::proved::{MemberState, SequencerState};
 use boundary::{
-    FINISH, LINE, Member, Sequencer, Writer, feeds, list, messages, proved, records, reference,
+    FINISH, LINE, Member, Sequencer, Writer, ends, feeds, list, messages, proved, records,
+    reference,
 };
 use model::jobs::{ADD, FETCH, List};
 use model::journal::{BLOCK, Message};
 use model::limits::{HISTORY, JOBS, PACKET, PAYLOAD, UNITS, WAITING, WINDOW};
 use model::packet::{self, BROADCAST, GAP, Header, POLL, REQUEST, STATUS};
 use model::plan::SET;
+use model::{member, sequencer};
 use std::collections::BTreeMap;
 use std::hint::black_box;
 use std::process::ExitCode;
@@ -39,15 +42,54 @@ macro_rules! on {
     };
 }
 
-/// Rounds of a call: how many, and a lent output; the sum of the answers.
-type Rounds = Box<dyn Fn(Side, u32, &mut [u8]) -> u64>;
+/// A call of a sequencer of a side.
+macro_rules! on_sequencer {
+    ($side:expr, $call:ident($($word:expr),*)) => {
+        match $side {
+            Side::Here => ends::$call::<SequencerState>($($word),*),
+            Side::There => ends::$call::<sequencer::Sequencer>($($word),*),
+        }
+    };
+}
+
+/// A call of a member of a side.
+macro_rules! on_member {
+    ($side:expr, $call:ident($($word:expr),*)) => {
+        match $side {
+            Side::Here => ends::$call::<MemberState>($($word),*),
+            Side::There => ends::$call::<member::Member>($($word),*),
+        }
+    };
+}
+
+/// Rounds, with their calls or without: what is timed is the difference.
+#[derive(Clone, Copy)]
+struct Rounds {
+    many: u32,
+    idle: bool,
+}
+
+impl Rounds {
+    /// So many, none where idle: what comes before the first round is left.
+    fn calls(self) -> u32 {
+        if self.idle { 0 } else { self.many }
+    }
+
+    /// So many calls of a round, none where idle: the copy of the state is left.
+    fn each<T: Default>(self, calls: T) -> T {
+        if self.idle { T::default() } else { calls }
+    }
+}
+
+/// Rounds of a call, and a lent output; the sum of the answers.
+type Run = Box<dyn Fn(Side, Rounds, &mut [u8]) -> u64>;
 
 struct Case {
     call: &'static str,
     with: String,
     /// Calls of a round.
     calls: usize,
-    rounds: Rounds,
+    rounds: Run,
 }
 
 struct Options {
@@ -158,16 +200,23 @@ struct Times {
 impl Case {
     /// The medians of samples taken in turns.
     fn times(&self, samples: usize) -> Times {
-        let sums = [Side::Here, Side::There].map(|side| (self.rounds)(side, 3, &mut [0; PACKET]));
+        let rounds = Rounds {
+            many: 3,
+            idle: false,
+        };
+        let sums =
+            [Side::Here, Side::There].map(|side| (self.rounds)(side, rounds, &mut [0; PACKET]));
         assert_eq!(
             sums[0], sums[1],
             "{} {}: other answers",
             self.call, self.with
         );
-        let sides = [Side::Here, Side::There].map(|side| (side, self.enough(side)));
+        let sides = [Side::Here, Side::There];
+        let many = sides.map(|side| self.enough(side)).into_iter().max();
+        let many = many.unwrap_or(1);
         let mut times: [Vec<f64>; 3] = Default::default();
         for _ in 0..samples {
-            let [here, there] = sides.map(|(side, many)| self.sample(side, many));
+            let [here, there] = sides.map(|side| self.sample(side, many));
             for (times, time) in times.iter_mut().zip([here, there, here / there]) {
                 times.push(time);
             }
@@ -176,23 +225,25 @@ impl Case {
         Times { here, there, ratio }
     }
 
-    fn time(&self, side: Side, many: u32) -> Duration {
+    fn time(&self, side: Side, many: u32, idle: bool) -> Duration {
         let mut out = [0; PACKET];
+        let rounds = black_box(Rounds { many, idle });
         let start = Instant::now();
-        black_box((self.rounds)(side, black_box(many), black_box(&mut out)));
+        black_box((self.rounds)(side, rounds, black_box(&mut out)));
         start.elapsed()
     }
 
-    /// So many rounds that they take long enough, also beside what comes
-    /// before the first. The shortest of a few times counts: a longer one may
-    /// have been held up.
+    /// So many rounds that their calls take long enough, also beside what is
+    /// no call. The shortest of a few times counts: a longer one may have been
+    /// held up.
     fn enough(&self, side: Side) -> u32 {
-        let shortest = |many| (0..4).map(|_| self.time(side, many)).min();
+        let shortest = |many, idle| (0..4).map(|_| self.time(side, many, idle)).min();
         let mut many = 1;
         while many < 1 << 24 {
-            let before = shortest(0).unwrap_or_default();
-            let all = shortest(many).unwrap_or_default();
-            if all.saturating_sub(before) >= SAMPLE.max(2 * before) {
+            let begun = shortest(0, true).unwrap_or_default();
+            let before = shortest(many, true).unwrap_or_default();
+            let all = shortest(many, false).unwrap_or_default();
+            if all.saturating_sub(before) >= SAMPLE.max(2 * begun) {
                 break;
             }
             many *= 2;
@@ -200,10 +251,11 @@ impl Case {
         many
     }
 
-    /// Nanoseconds of a call, without what comes before the first round.
+    /// Nanoseconds of a call, without what comes before the first round and
+    /// without the copies of the state.
     fn sample(&self, side: Side, many: u32) -> f64 {
-        let before = self.time(side, 0);
-        let all = self.time(side, many).saturating_sub(before);
+        let before = self.time(side, many, true);
+        let all = self.time(side, many, false).saturating_sub(before);
         all.as_nanos() as f64 / f64::from(many) / self.calls as f64
     }
 }
@@ -239,7 +291,9 @@ fn packets() -> Vec<Case> {
             call,
             with: with.into(),
             calls: SAME,
-            rounds: Box::new(move |side, rounds, _| on!(side, read_rounds(&packets, rounds))),
+            rounds: Box::new(move |side, rounds, _| {
+                on!(side, read_rounds(&packets, rounds.calls()))
+            }),
         });
     };
     for length in LENGTHS {
@@ -264,7 +318,7 @@ fn packets() -> Vec<Case> {
             calls: 1,
             rounds: Box::new(move |side, rounds, out| {
                 let [b, c] = fields;
-                (0..rounds).fold(0, |sum, a| {
+                (0..rounds.calls()).fold(0, |sum, a| {
                     let header = Header {
                         kind,
                         member: 0,
@@ -315,7 +369,7 @@ fn work_lists() -> Vec<Case> {
                 with: format!("{jobs} jobs"),
                 calls: SAME,
                 rounds: Box::new(move |side, rounds, _| {
-                    on!(side, feed_rounds(&start, &feeds, rounds))
+                    on!(side, feed_rounds(&start, &feeds, rounds.calls()))
                 }),
             });
         }
@@ -366,7 +420,10 @@ fn sequencer(n: u8, length: usize, kept: usize) -> Vec<Case> {
             calls,
             heard,
             Box::new(move |side, end, rounds, out| {
-                on!(side, sequencer_receive(end, &packets, rounds, out))
+                on_sequencer!(
+                    side,
+                    sequencer_receive(end, rounds.each(&packets[..]), rounds.many, out)
+                )
             }),
         );
     };
@@ -401,7 +458,9 @@ fn sequencer(n: u8, length: usize, kept: usize) -> Vec<Case> {
         "sequencer.poll",
         1,
         &heard,
-        Box::new(|side, end, rounds, out| on!(side, sequencer_poll(end, rounds, out))),
+        Box::new(|side, end, rounds, out| {
+            on_sequencer!(side, sequencer_poll(end, rounds.calls(), out))
+        }),
     );
     let copy = if kept > 0 {
         "sequencer.copy"
@@ -412,15 +471,17 @@ fn sequencer(n: u8, length: usize, kept: usize) -> Vec<Case> {
         copy,
         1,
         &heard,
-        Box::new(move |side, end, rounds, out| on!(side, sequencer_copy(end, top, rounds, out))),
+        Box::new(move |side, end, rounds, out| {
+            on_sequencer!(side, sequencer_copy(end, top, rounds.calls(), out))
+        }),
     );
     cases
 }
 
 /// Rounds of a sequencer's call.
-type SequencerRounds = Box<dyn Fn(Side, Sequencer<'_>, u32, &mut [u8]) -> u64>;
+type SequencerRounds = Box<dyn Fn(Side, Sequencer<'_>, Rounds, &mut [u8]) -> u64>;
 /// Rounds of a member's call.
-type MemberRounds = Box<dyn Fn(Side, Member<'_>, u32, &mut [u8]) -> u64>;
+type MemberRounds = Box<dyn Fn(Side, Member<'_>, Rounds, &mut [u8]) -> u64>;
 
 /// Every call of a member that holds so many messages from number 1 on.
 fn member(n: u8, length: usize, held: usize) -> Vec<Case> {
@@ -460,7 +521,10 @@ fn member(n: u8, length: usize, held: usize) -> Vec<Case> {
             call,
             calls,
             Box::new(move |side, end, rounds, out| {
-                on!(side, member_receive(end, &packets, rounds, out))
+                on_member!(
+                    side,
+                    member_receive(end, rounds.each(&packets[..]), rounds.many, out)
+                )
             }),
         );
     };
@@ -489,7 +553,10 @@ fn member(n: u8, length: usize, held: usize) -> Vec<Case> {
             SAME,
             Box::new(move |side, end, rounds, out| {
                 let end = Member { takes: 1, ..end };
-                on!(side, member_receive(end, &first, rounds, out))
+                on_member!(
+                    side,
+                    member_receive(end, rounds.each(&first[..]), rounds.many, out)
+                )
             }),
         );
     }
@@ -498,7 +565,10 @@ fn member(n: u8, length: usize, held: usize) -> Vec<Case> {
         "member.submit",
         1,
         Box::new(move |side, end, rounds, out| {
-            on!(side, member_submit(end, &submitted, rounds, out))
+            on_member!(
+                side,
+                member_submit(end, &submitted, rounds.each(1), rounds.many, out)
+            )
         }),
     );
     let (queued, typed) = (text.clone(), text.clone());
@@ -506,18 +576,25 @@ fn member(n: u8, length: usize, held: usize) -> Vec<Case> {
         "member.submit queued",
         1,
         Box::new(move |side, end, rounds, out| {
-            on!(side, member_queue(end, &queued, 4, 1, rounds, out))
+            on_member!(
+                side,
+                member_queue(end, &queued, 4, rounds.each(1), rounds.many, out)
+            )
         }),
     );
     case(
         "member.repeat",
         1,
-        Box::new(move |side, end, rounds, out| on!(side, member_repeat(end, &text, rounds, out))),
+        Box::new(move |side, end, rounds, out| {
+            on_member!(side, member_repeat(end, &text, rounds.calls(), out))
+        }),
     );
     case(
         "member.status",
         1,
-        Box::new(|side, end, rounds, out| on!(side, member_status(end, rounds, out))),
+        Box::new(|side, end, rounds, out| {
+            on_member!(side, member_status(end, rounds.calls(), out))
+        }),
     );
     if held > 0 {
         let most = last.min(WAITING as u32);
@@ -525,13 +602,13 @@ fn member(n: u8, length: usize, held: usize) -> Vec<Case> {
             "member.take own",
             last as usize,
             Box::new(move |side, end, rounds, out| {
-                let (heard, takes) = (&owns[..], last);
+                let (heard, takes) = (&owns[..], rounds.each(last));
                 let end = Member {
                     heard,
                     takes,
                     ..end
                 };
-                on!(side, member_queue(end, &typed, most, 0, rounds, out))
+                on_member!(side, member_queue(end, &typed, most, 0, rounds.many, out))
             }),
         );
     }
@@ -543,7 +620,9 @@ fn member(n: u8, length: usize, held: usize) -> Vec<Case> {
     case(
         take,
         calls as usize,
-        Box::new(move |side, end, rounds, out| on!(side, member_take(end, calls, rounds, out))),
+        Box::new(move |side, end, rounds, out| {
+            on_member!(side, member_take(end, rounds.each(calls), rounds.many, out))
+        }),
     );
     cases
 }
@@ -559,7 +638,7 @@ fn schedules() -> Vec<Case> {
             calls: events,
             rounds: Box::new(move |side, rounds, _| {
                 let mut out = vec![0; LINE * (events + 2)];
-                (0..rounds).fold(0, |sum, _| {
+                (0..rounds.calls()).fold(0, |sum, _| {
                     let length = on!(side, play(black_box(&text), &mut out));
                     sum + length as u64 + u64::from(out[length / 2])
                 })
@@ -588,13 +667,13 @@ fn loads() -> Vec<Case> {
         call: "generator.step, output",
         with: "seed 42".into(),
         calls: 1,
-        rounds: Box::new(|side, rounds, _| on!(side, generator(42, rounds))),
+        rounds: Box::new(|side, rounds, _| on!(side, generator(42, rounds.calls()))),
     }];
     cases.extend([1, 4, 16].map(|n| Case {
         call: "load.next",
         with: format!("seed 42, n {n}"),
         calls: 1,
-        rounds: Box::new(move |side, rounds, _| on!(side, load_lines(42, n, rounds))),
+        rounds: Box::new(move |side, rounds, _| on!(side, load_lines(42, n, rounds.calls()))),
     }));
     cases
 }
@@ -621,7 +700,7 @@ fn journals(length: usize) -> Vec<Case> {
         call: "journal.read, a block",
         with: with.clone(),
         calls: BLOCKS,
-        rounds: Box::new(move |side, rounds, _| on!(side, journal_read(&journal, rounds))),
+        rounds: Box::new(move |side, rounds, _| on!(side, journal_read(&journal, rounds.calls()))),
     }];
     let mut writing = |call, calls: usize, list: Vec<u8>| {
         cases.push(Case {
@@ -629,7 +708,7 @@ fn journals(length: usize) -> Vec<Case> {
             with: with.clone(),
             calls,
             rounds: Box::new(move |side, rounds, out| {
-                on!(side, journal_write(fresh, &list, rounds, out))
+                on!(side, journal_write(fresh, &list, rounds.calls(), out))
             }),
         });
     };
@@ -664,7 +743,7 @@ fn plans(units: usize) -> Vec<Case> {
     reference::journal_write(Writer::after(0, true), &list, 1, &mut journal);
     let with = format!("{units} units");
     let mut cases = Vec::new();
-    let mut case = |call, rounds: Rounds| {
+    let mut case = |call, rounds: Run| {
         cases.push(Case {
             call,
             with: with.clone(),
@@ -677,16 +756,20 @@ fn plans(units: usize) -> Vec<Case> {
     let read = journal.clone();
     case(
         "journal.read, a block",
-        Box::new(move |side, rounds, _| on!(side, journal_read(&read, rounds))),
+        Box::new(move |side, rounds, _| on!(side, journal_read(&read, rounds.calls()))),
     );
     let planned = journal.clone();
     case(
         "plan, a block",
-        Box::new(move |side, rounds, _| on!(side, plan(&planned, rounds, &mut vec![0; room]))),
+        Box::new(move |side, rounds, _| {
+            on!(side, plan(&planned, rounds.calls(), &mut vec![0; room]))
+        }),
     );
     case(
         "rewrite, a block",
-        Box::new(move |side, rounds, _| on!(side, rewrite(&journal, rounds, &mut vec![0; room]))),
+        Box::new(move |side, rounds, _| {
+            on!(side, rewrite(&journal, rounds.calls(), &mut vec![0; room]))
+        }),
     );
     cases
 }

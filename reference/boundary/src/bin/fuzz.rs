@@ -2,16 +2,18 @@
 //! journals through the proved library and through the reference. A difference
 //! is printed with its seed, shrunk.
 
+use boundary::ends::{self, Membership, Sequencing, Told};
+use boundary::proved::{MemberState, SequencerState};
 use boundary::shrink::{plain, shrink};
 use boundary::{
     FINISH, LINE, Member, Sequencer, Writer, feeds, list, messages, proved, records, reference,
 };
 use model::jobs::{ADD, FETCH, Fed, GIVEN, Job, List, WAITING};
 use model::journal::{self, BLOCK, COMPACT, MARK, Message, NUMBER, RECORDS, SUM, Tail};
-use model::limits::{HEADER, JOB, JOBS, LARGEST, MEMBERS, PACKET, PAYLOAD, UNITS};
+use model::limits::{HEADER, HISTORY, JOB, JOBS, LARGEST, MEMBERS, PACKET, PAYLOAD, UNITS, WINDOW};
 use model::packet::{self, Header};
 use model::plan::SET;
-use model::sequencer;
+use model::{limits, member, sequencer};
 use schedules::random::Random;
 use std::collections::BTreeMap;
 use std::process::ExitCode;
@@ -97,6 +99,8 @@ fn main() -> ExitCode {
     run("lists to a member", options.lists, |seed| {
         (0, membership(seed))
     });
+    run("sequencers of any bytes", options.lists, forged_sequencer);
+    run("members of any bytes", options.lists, forged_member);
     run("feeds of a work list", options.lists, feeding);
     run("takes that feed a work list", options.lists, |seed| {
         (0, terminal(seed))
@@ -330,16 +334,19 @@ fn sequencing(seed: u64) -> Option<String> {
         let (mut here, mut there) = (lent.clone(), lent.clone());
         let heard = &[];
         let end = Sequencer { n, group, heard };
-        let sum = proved::sequencer_receive(end, &list, 1, &mut here);
-        let other = reference::sequencer_receive(end, &list, 1, &mut there);
-        // Every member's repeat count and that of all, in the state after the list.
+        let sum = ends::sequencer_receive::<SequencerState>(end, &list, 1, &mut here);
+        let other = ends::sequencer_receive::<sequencer::Sequencer>(end, &list, 1, &mut there);
+        // The state after the list, and all repeat counts added up.
         let after = Sequencer {
             heard: &list,
             ..end
         };
-        let repeats = proved::sequencer_repeats(after, &mut here);
-        let others = reference::sequencer_repeats(after, &mut there);
-        sum != other || repeats != others || here != there
+        let left: SequencerState = ends::sequencer(after, &mut here);
+        let others: sequencer::Sequencer = ends::sequencer(after, &mut there);
+        sum != other
+            || here != there
+            || left.as_reference() != others
+            || left.all_repeats() != others.all_repeats()
     };
     // Every list that ends earlier too, for a few ends.
     let cut = random.below(packets.len() + 1);
@@ -424,23 +431,28 @@ fn membership(seed: u64) -> Option<String> {
         let (fresh, after, taken) = (end(&[], 0), end(&list, 0), end(&first, takes));
         macro_rules! differs {
             ($call:ident($($word:expr),*)) => {{
-                let sum = proved::$call($($word,)* &mut here);
-                sum != reference::$call($($word,)* &mut there) || here != there
+                let sum = ends::$call::<MemberState>($($word,)* &mut here);
+                sum != ends::$call::<member::Member>($($word,)* &mut there) || here != there
             }};
         }
         // The list, each other call in the state after it, and both where a row is held, of which
         // some were taken.
         differs!(member_receive(fresh, &list, 1))
             || differs!(member_receive(taken, &list, 1))
-            || differs!(member_submit(taken, &text, 1))
+            || differs!(member_submit(taken, &text, 1, 1))
             || differs!(member_repeat(taken, &text, 1))
             || differs!(member_status(taken, 1))
             || differs!(member_queue(end(&owns, takes), &text, waiting, submits, 1))
             || differs!(member_queue(end(&list, takes), &text, waiting, submits, 1))
             || differs!(member_take(after, 9, 1))
-            || differs!(member_submit(after, &text, 1))
+            || differs!(member_submit(after, &text, 1, 1))
             || differs!(member_repeat(after, &text, 1))
             || differs!(member_status(after, 1))
+            || {
+                let left: MemberState = ends::member(after, &mut here);
+                let other: member::Member = ends::member(after, &mut there);
+                left.as_reference() != other
+            }
     };
     if !differs(&packets) {
         return None;
@@ -449,6 +461,283 @@ fn membership(seed: u64) -> Option<String> {
     Some(format!(
         "n {n}, member {number_of}, group {group}, {takes} taken, packets {fewer:02x?}"
     ))
+}
+
+/// A call of a sequencer.
+#[derive(Clone, Debug)]
+enum SequencerCall {
+    Receive(Vec<u8>),
+    Poll,
+    Copy(u32),
+}
+
+fn ask_sequencer<S: Sequencing>(state: &mut S, asked: &SequencerCall, out: &mut [u8]) -> Told {
+    match asked {
+        SequencerCall::Receive(packet) => state.receive(packet, out),
+        SequencerCall::Poll => state.poll(out),
+        SequencerCall::Copy(number) => state.copy(*number, out),
+    }
+}
+
+/// A call of a member.
+#[derive(Clone, Debug)]
+enum MemberCall {
+    Submit(Vec<u8>),
+    Receive(Vec<u8>),
+    Take,
+    Repeat,
+    Status,
+}
+
+fn ask_member<M: Membership>(state: &mut M, asked: &MemberCall, out: &mut [u8]) -> Told {
+    match asked {
+        MemberCall::Submit(payload) => state.submit(payload, out),
+        MemberCall::Receive(packet) => state.receive(packet, out),
+        MemberCall::Take => state.take(out),
+        MemberCall::Repeat => state.repeat(out),
+        MemberCall::Status => state.status(out),
+    }
+}
+
+/// A number that differs from one, mostly by little.
+fn other_number(random: &mut Random, number: u32) -> u32 {
+    match random.below(5) {
+        0 => number.wrapping_add(1),
+        1 => number.wrapping_sub(1),
+        2 => number ^ 1 << random.below(32),
+        3 => 0,
+        _ => random.bits() as u32,
+    }
+}
+
+fn other_byte(random: &mut Random, byte: u8) -> u8 {
+    match random.below(4) {
+        0 => byte.wrapping_add(1),
+        1 => byte ^ 1 << random.below(8),
+        2 => 0,
+        _ => random.bits() as u8,
+    }
+}
+
+fn change_number(random: &mut Random, number: &mut u32) {
+    *number = other_number(random, *number);
+}
+
+fn change_byte(random: &mut Random, byte: &mut u8) {
+    *byte = other_byte(random, *byte);
+}
+
+/// Changes one number or byte of a sequencer.
+fn change_sequencer(random: &mut Random, state: &mut SequencerState) {
+    let (member, place) = (random.below(MEMBERS), random.below(HISTORY));
+    let at = random.below(PAYLOAD);
+    match random.below(12) {
+        0 => change_byte(random, &mut state.n),
+        1 => change_number(random, &mut state.group),
+        2 => change_number(random, &mut state.top),
+        3 => change_number(random, &mut state.floor),
+        4 => change_number(random, &mut state.taken[member]),
+        5 => change_number(random, &mut state.counts[member]),
+        6 => change_number(random, &mut state.repeats[member]),
+        7 => change_number(random, &mut state.kept[place]),
+        8 => change_byte(random, &mut state.originators[place]),
+        9 => change_byte(random, &mut state.lengths[place]),
+        _ => change_byte(random, &mut state.payloads[place][at]),
+    }
+}
+
+/// Changes one number or byte of a member.
+fn change_member(random: &mut Random, state: &mut MemberState) {
+    let (queued, held) = (random.below(limits::WAITING), random.below(WINDOW));
+    let at = random.below(PAYLOAD);
+    match random.below(15) {
+        0 => change_byte(random, &mut state.n),
+        1 => change_number(random, &mut state.group),
+        2 => change_byte(random, &mut state.number),
+        3 => change_number(random, &mut state.taken),
+        4 => change_number(random, &mut state.submitted),
+        5 => change_number(random, &mut state.waiting),
+        6 => change_number(random, &mut state.queued[queued]),
+        7 => change_byte(random, &mut state.queued_originators[queued]),
+        8 => change_byte(random, &mut state.queued_lengths[queued]),
+        9 => change_number(random, &mut state.held[held]),
+        10 => change_byte(random, &mut state.held_originators[held]),
+        11 => change_byte(random, &mut state.held_lengths[held]),
+        12 => change_byte(random, &mut state.queued_payloads[queued][at]),
+        _ => change_byte(random, &mut state.held_payloads[held][at]),
+    }
+}
+
+/// A state of any bytes.
+fn any_sequencer(random: &mut Random) -> SequencerState {
+    let mut state = SequencerState::CLOSED;
+    state.n = random.bits() as u8;
+    for number in [&mut state.group, &mut state.top, &mut state.floor] {
+        *number = random.bits() as u32;
+    }
+    let tables = [&mut state.taken, &mut state.counts, &mut state.repeats];
+    for number in tables.into_iter().flatten().chain(&mut state.kept) {
+        *number = random.bits() as u32;
+    }
+    let bytes = state.originators.iter_mut().chain(&mut state.lengths);
+    for byte in bytes.chain(state.payloads.iter_mut().flatten()) {
+        *byte = random.bits() as u8;
+    }
+    state
+}
+
+/// A state of any bytes.
+fn any_member(random: &mut Random) -> MemberState {
+    let mut state = MemberState::CLOSED;
+    (state.n, state.number) = (random.bits() as u8, random.bits() as u8);
+    let numbers = [
+        &mut state.group,
+        &mut state.taken,
+        &mut state.submitted,
+        &mut state.waiting,
+    ];
+    let counts = state.queued.iter_mut().chain(&mut state.held);
+    for number in numbers.into_iter().chain(counts) {
+        *number = random.bits() as u32;
+    }
+    let heads = [&mut state.queued_originators, &mut state.queued_lengths];
+    let heads = heads.into_iter().flatten();
+    let places = [&mut state.held_originators, &mut state.held_lengths];
+    let payloads = state.queued_payloads.iter_mut().flatten();
+    let bytes = heads.chain(places.into_iter().flatten()).chain(payloads);
+    for byte in bytes.chain(state.held_payloads.iter_mut().flatten()) {
+        *byte = random.bits() as u8;
+    }
+    state
+}
+
+/// Calls of a sequencer in a state that others led to, mostly with a few
+/// numbers or bytes changed, or of any bytes: what is told, the state that is
+/// left and the output are the reference's, and a refusal leaves the state.
+fn forged_sequencer(seed: u64) -> (u8, Option<String>) {
+    let random = &mut Random::seeded(seed);
+    let n = 1 + random.below(16) as u8;
+    let group = number(random);
+    let packets = requests(random, n, group);
+    let mut start = if random.percent(5) {
+        any_sequencer(random)
+    } else {
+        let heard = &list(&packets)[..];
+        ends::sequencer(Sequencer { n, group, heard }, &mut [0; PACKET])
+    };
+    for _ in 0..random.one(&[0, 1, 1, 1, 2, 3]) {
+        change_sequencer(random, &mut start);
+    }
+    let lent = lent(random);
+    let member = random.below(usize::from(n)) as u8;
+    let count = near(random, start.counts[usize::from(member)].wrapping_add(1));
+    let taken = near(random, start.floor);
+    let again = packets.last().cloned().unwrap_or_default();
+    let calls = [
+        SequencerCall::Receive(laid(1, member, group, [taken, count, 0], &payload(random))),
+        SequencerCall::Receive(laid(4, member, group, [near(random, start.top), 0, 0], &[])),
+        SequencerCall::Receive(again),
+        SequencerCall::Receive(bytes(random)),
+        SequencerCall::Poll,
+        SequencerCall::Copy(near(random, start.top)),
+    ];
+    let mut refusal = 0;
+    for call in calls {
+        let (mut here, mut there) = (start.clone(), start.as_reference());
+        let (mut out, mut other) = (lent.clone(), lent.clone());
+        let told = ask_sequencer(&mut here, &call, &mut out);
+        let said = ask_sequencer(&mut there, &call, &mut other);
+        let kept = said.code >= 32 || here == start;
+        if told != said || out != other || here.as_reference() != there || !kept {
+            let difference = format!("{call:02x?} tells {told:?}, in the reference {said:?}");
+            return (refusal, Some(difference));
+        }
+        if matches!(call, SequencerCall::Poll) {
+            refusal = if said.code < 32 { said.code as u8 } else { 0 };
+        }
+    }
+    // Opening: whatever stood there, the state is fresh, or closed.
+    let (n, mut opened) = (random.below(20) as u8, start);
+    let told = opened.open(n, group);
+    let expected = match sequencer::Sequencer::fresh(n.into(), group) {
+        Ok(fresh) => told.code == 39 && opened.as_reference() == fresh,
+        Err(refused) => told.code == refused.number().into() && opened == SequencerState::CLOSED,
+    };
+    let difference = (!expected).then(|| format!("opened with {n}: {told:?}"));
+    (refusal, difference)
+}
+
+/// The same of a member.
+fn forged_member(seed: u64) -> (u8, Option<String>) {
+    let random = &mut Random::seeded(seed);
+    let n = 1 + random.below(16) as u8;
+    let number_of = random.below(usize::from(n)) as u8;
+    let group = number(random);
+    let mut start = if random.percent(5) {
+        any_member(random)
+    } else {
+        let mut state = MemberState::opened(n, number_of, group);
+        let heard = if random.percent(50) {
+            broadcasts(random, n, group)
+        } else {
+            own(random, n, number_of, group)
+        };
+        let out = &mut [0; PACKET];
+        for _ in 0..random.below(7) {
+            state.submit(&payload(random), out);
+        }
+        for packet in heard {
+            state.receive(&packet, out);
+        }
+        for _ in 0..random.below(5) {
+            state.take(out);
+        }
+        state
+    };
+    // Numbers near the largest.
+    if random.percent(10) {
+        start.taken = LARGEST - random.below(10) as u32;
+    }
+    for _ in 0..random.one(&[0, 1, 1, 1, 2, 3]) {
+        change_member(random, &mut start);
+    }
+    let lent = lent(random);
+    let from = random.below(usize::from(n)) as u8;
+    let ahead = start.taken.wrapping_add(random.below(11) as u32);
+    let fields = [ahead.max(1), near(random, 1).max(1), 0];
+    let calls = [
+        MemberCall::Submit(payload(random)),
+        MemberCall::Receive(laid(2, from, group, fields, &payload(random))),
+        MemberCall::Receive(laid(5, 0, group, [near(random, ahead), 0, 0], &[])),
+        MemberCall::Receive(bytes(random)),
+        MemberCall::Take,
+        MemberCall::Repeat,
+        MemberCall::Status,
+    ];
+    let mut refusal = 0;
+    for call in calls {
+        let (mut here, mut there) = (start.clone(), start.as_reference());
+        let (mut out, mut other) = (lent.clone(), lent.clone());
+        let told = ask_member(&mut here, &call, &mut out);
+        let said = ask_member(&mut there, &call, &mut other);
+        let kept = said.code >= 32 || here == start;
+        if told != said || out != other || (said.code != 1 && here.as_reference() != there) || !kept
+        {
+            let difference = format!("{call:02x?} tells {told:?}, in the reference {said:?}");
+            return (refusal, Some(difference));
+        }
+        if matches!(call, MemberCall::Status) {
+            refusal = if said.code < 32 { said.code as u8 } else { 0 };
+        }
+    }
+    let (n, number_of, mut opened) = (random.below(20) as u8, random.below(20) as u8, start);
+    let told = opened.open(n, number_of, group);
+    let expected = match member::Member::fresh(n.into(), number_of.into(), group) {
+        Ok(fresh) => told.code == 39 && opened.as_reference() == fresh,
+        Err(refused) => told.code == refused.number().into() && opened == MemberState::CLOSED,
+    };
+    let difference = (!expected).then(|| format!("opened with {n}, {number_of}: {told:?}"));
+    (refusal, difference)
 }
 
 /// A message that a work list might be fed.

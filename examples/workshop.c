@@ -178,8 +178,9 @@ static size_t message(int i, uint32_t k, uint8_t *payload)
         payload[0] = 2;
         return 1;
     }
-    int n = i == 0 ? sprintf((char *)payload, "\1board %u", (unsigned)k) : sprintf((char *)payload, "\3%c%cstep %u", 1, (int)(k % 5 + 1), (unsigned)k);
-    return (size_t)n;
+    if (i == 0)
+        return (size_t)sprintf((char *)payload, "\1board %u", (unsigned)k);
+    return (size_t)sprintf((char *)payload, "\3%c%cstep %u of the chair", 1, (int)(k % 5 + 1), (unsigned)k);
 }
 
 static void works(int i)
@@ -231,15 +232,28 @@ static int run(void)
     return ROUNDS;
 }
 
-static int same_orders(void)
+static int same_message(const struct taken *x, const struct taken *y)
 {
-    for (int i = 1; i < TERMINALS; i++) {
-        if (terminals[i].took != terminals[0].took || memcmp(terminals[i].order, terminals[0].order, sizeof terminals[0].order) != 0)
+    return x->number == y->number && x->originator == y->originator && x->count == y->count && x->length == y->length
+        && memcmp(x->payload, y->payload, x->length) == 0;
+}
+
+static int same_job(const struct warghytes_job *x, const struct warghytes_job *y)
+{
+    return x->state == y->state && x->member == y->member && x->length == y->length && memcmp(x->bytes, y->bytes, sizeof x->bytes) == 0;
+}
+
+static int same_at(const struct terminal *x, const struct terminal *y)
+{
+    if (x->took != TERMINALS * MESSAGES || y->took != x->took)
+        return 0;
+    for (size_t k = 0; k < x->took; k++)
+        if (!same_message(&x->order[k], &y->order[k]))
             return 0;
-        if (memcmp(terminals[i].jobs, terminals[0].jobs, sizeof terminals[0].jobs) != 0)
+    for (size_t k = 0; k < WARGHYTES_JOBS; k++)
+        if (!same_job(&x->jobs[k], &y->jobs[k]))
             return 0;
-    }
-    return terminals[0].took == TERMINALS * MESSAGES;
+    return 1;
 }
 
 static void show_jobs(void)
@@ -296,10 +310,11 @@ int main(int argc, char **argv)
     printf("%d rounds: %zu packets sent, %zu lost, %zu doubled, %zu slept through, %zu requests again, %zu times full\n", rounds, sent, lost, doubled, slept_through, again, full);
     show_jobs();
     restart(name);
-    if (!same_orders()) {
-        printf("the orders differ\n");
-        return 1;
-    }
+    for (int i = 1; i < TERMINALS; i++)
+        if (!same_at(&terminals[0], &terminals[i])) {
+            printf("the orders of terminals 0 and %d differ\n", i);
+            return 1;
+        }
     printf("every terminal took the same %zu messages in the same order\n", terminals[0].took);
     return 0;
 }

@@ -1,0 +1,166 @@
+//! The library's functions and structs, as `include/warghytes.h` declares them.
+
+use crate::{BLOCK, HELD, JOB, MEMBERS, PAYLOAD, PLACES, WAITING};
+
+#[repr(C)]
+#[derive(Clone)]
+pub struct Sequencer {
+    pub n: u8,
+    pub group: u32,
+    pub top: u32,
+    pub floor: u32,
+    pub taken: [u32; MEMBERS],
+    pub counts: [u32; MEMBERS],
+    pub repeats: [u32; MEMBERS],
+    pub kept: [u32; PLACES],
+    pub originators: [u8; PLACES],
+    pub lengths: [u8; PLACES],
+    pub payloads: [u8; PLACES * PAYLOAD],
+}
+
+#[repr(C)]
+#[derive(Clone)]
+pub struct Member {
+    pub n: u8,
+    pub group: u32,
+    pub number: u8,
+    pub taken: u32,
+    pub submitted: u32,
+    pub waiting: u32,
+    pub queued: [u32; WAITING],
+    pub held: [u32; HELD],
+    pub queued_originators: [u8; WAITING],
+    pub queued_lengths: [u8; WAITING],
+    pub held_originators: [u8; HELD],
+    pub held_lengths: [u8; HELD],
+    pub queued_payloads: [u8; WAITING * PAYLOAD],
+    pub held_payloads: [u8; HELD * PAYLOAD],
+}
+
+#[repr(C)]
+#[derive(Clone, Copy, PartialEq, Eq)]
+pub struct Job {
+    pub state: u8,
+    pub member: u8,
+    pub length: usize,
+    pub bytes: [u8; JOB],
+}
+
+#[repr(C)]
+#[derive(Clone, Copy, Debug, PartialEq, Eq)]
+pub struct Writer {
+    pub last: u32,
+    pub free: u32,
+    pub first: u32,
+    pub records: u32,
+    pub used: u32,
+}
+
+#[repr(C)]
+pub struct Told {
+    pub code: u32,
+    pub first: u32,
+    pub second: u32,
+    pub third: u32,
+    pub more: u32,
+    pub written: usize,
+}
+
+#[repr(C)]
+pub struct Answer {
+    pub code: u32,
+    pub number: usize,
+}
+
+#[repr(C)]
+pub struct Found {
+    pub code: u32,
+    pub blocks: usize,
+    pub messages: usize,
+}
+
+#[repr(C)]
+pub struct Record {
+    pub code: u32,
+    pub number: u32,
+    pub originator: u32,
+    pub count: u32,
+    pub start: usize,
+    pub length: usize,
+}
+
+#[repr(C)]
+#[derive(Default)]
+pub struct Fields {
+    pub kind: u32,
+    pub member: u32,
+    pub group: u32,
+    pub a: u32,
+    pub b: u32,
+    pub c: u32,
+}
+
+/// The sizes for which the library was built.
+const _: () = {
+    assert!(size_of::<Sequencer>() == 8080);
+    assert!(size_of::<Member>() == 3224);
+    assert!(size_of::<Job>() == 256);
+    assert!(size_of::<Writer>() == 20);
+    assert!(size_of::<Told>() == 32);
+    assert!(size_of::<Answer>() == 16);
+    assert!(size_of::<Found>() == 24);
+    assert!(size_of::<Record>() == 32);
+    assert!(size_of::<Fields>() == 24);
+};
+
+pub mod code {
+    pub const OLD: u32 = 32;
+    pub const FULL: u32 = 33;
+    pub const NOTED: u32 = 34;
+    pub const SENT: u32 = 35;
+    pub const AGAIN: u32 = 36;
+    pub const NUMBERED: u32 = 37;
+    pub const WANTED: u32 = 38;
+    pub const ACCEPTED: u32 = 39;
+    pub const KEPT: u32 = 48;
+    pub const KEPT_GAP: u32 = 49;
+    pub const BEYOND: u32 = 50;
+    pub const BEYOND_GAP: u32 = 51;
+    pub const GAP: u32 = 52;
+    pub const STATUS: u32 = 53;
+    pub const NONE: u32 = 54;
+    pub const TOOK: u32 = 55;
+    pub const QUEUED: u32 = 56;
+    pub const CLOSED: u32 = 57;
+    pub const BYTES: u32 = 58;
+    pub const FIELDS: u32 = 59;
+    pub const READ: u32 = 60;
+    pub const RIGHT: u32 = 61;
+    pub const WRONG: u32 = 62;
+    pub const ADDED: u32 = 64;
+    pub const GIVEN: u32 = 65;
+}
+
+#[rustfmt::skip]
+unsafe extern "C" {
+    pub fn warghytes_sequencer_open(s: *mut Sequencer, n: u8, group: u32) -> Told;
+    pub fn warghytes_sequencer_receive(s: *mut Sequencer, packet: *const u8, size: usize, out: *mut u8, room: usize) -> Told;
+    pub fn warghytes_sequencer_poll(s: *const Sequencer, out: *mut u8, room: usize) -> Told;
+    pub fn warghytes_sequencer_copy(s: *const Sequencer, number: u32, out: *mut u8, room: usize) -> Told;
+    pub fn warghytes_member_open(m: *mut Member, n: u8, number: u8, group: u32) -> Told;
+    pub fn warghytes_member_submit(m: *mut Member, payload: *const u8, size: usize, out: *mut u8, room: usize) -> Told;
+    pub fn warghytes_member_receive(m: *mut Member, packet: *const u8, size: usize, out: *mut u8, room: usize) -> Told;
+    pub fn warghytes_member_take(m: *mut Member, out: *mut u8, room: usize) -> Told;
+    pub fn warghytes_member_repeat(m: *const Member, out: *mut u8, room: usize) -> Told;
+    pub fn warghytes_member_status(m: *const Member, out: *mut u8, room: usize) -> Told;
+    pub fn warghytes_packet_read(packet: *const u8, size: usize, fields: *mut Fields) -> u32;
+    pub fn warghytes_packet_write(kind: u8, member: u8, group: u32, a: u32, b: u32, c: u32, payload: *const u8, size: usize, out: *mut u8, room: usize) -> Answer;
+    pub fn warghytes_jobs_feed(jobs: *mut Job, count: usize, originator: u8, payload: *const u8, size: usize) -> Answer;
+    pub fn warghytes_journal_read(journal: *const u8, size: usize, writer: *mut Writer) -> Found;
+    pub fn warghytes_journal_next(writer: *mut Writer, block: *const u8, size: usize) -> Found;
+    pub fn warghytes_journal_record(block: *const u8, size: usize, at: usize, number: u32) -> Record;
+    pub fn warghytes_journal_write(writer: *mut Writer, number: u32, originator: u8, count: u32, payload: *const u8, size: usize, hand: *mut [u8; BLOCK], out: *mut [u8; BLOCK]) -> Answer;
+    pub fn warghytes_journal_finish(writer: *mut Writer, hand: *const [u8; BLOCK], out: *mut [u8; BLOCK]) -> Answer;
+    pub fn warghytes_plan(journal: *const u8, size: usize, out: *mut u8, room: usize) -> Answer;
+    pub fn warghytes_rewrite(journal: *const u8, size: usize, out: *mut u8, room: usize) -> Answer;
+}

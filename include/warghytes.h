@@ -79,7 +79,7 @@ enum {
     WARGHYTES_OLD = 32,         /* nothing new */
     WARGHYTES_FULL = 33,        /* sequencer: no place in the history; a poll was written, for every member */
     WARGHYTES_NOTED = 34,       /* sequencer: an acknowledgement */
-    WARGHYTES_SENT = 35,        /* a packet was written: a member's request, for the sequencer; a poll or a copy, for every member */
+    WARGHYTES_SENT = 35,        /* a packet was written: a member's, for the sequencer; the sequencer's, for every member */
     WARGHYTES_AGAIN = 36,       /* sequencer: a request again; first: its number; its broadcast was written again */
     WARGHYTES_NUMBERED = 37,    /* sequencer: first: the number that the message got; its broadcast was written, for every member */
     WARGHYTES_WANTED = 38,      /* sequencer: a member misses the numbers first to second: copy each */
@@ -89,7 +89,7 @@ enum {
     WARGHYTES_BEYOND = 50,      /* member: no place for that number yet */
     WARGHYTES_BEYOND_GAP = 51,  /* member: the same, and a gap stands before it: a packet was written, for the sequencer */
     WARGHYTES_GAP = 52,         /* member: a poll shows a gap: a packet was written, for the sequencer */
-    WARGHYTES_STATUS = 53,      /* member: its status was written, for the sequencer */
+    WARGHYTES_STATUS = 53,      /* member: a poll: its status was written, for the sequencer */
     WARGHYTES_NONE = 54,        /* nothing to take; no job to give */
     WARGHYTES_TOOK = 55,        /* member: first: number, second: originator, third: count, more; the payload was written */
     WARGHYTES_QUEUED = 56,      /* member: first: the count under which the message waits behind others */
@@ -256,7 +256,7 @@ struct warghytes_told warghytes_member_take(struct warghytes_member *m, uint8_t 
 /* SENT: the request of the first message that waits, again; behind a take this sends the next one. */
 struct warghytes_told warghytes_member_repeat(const struct warghytes_member *m, uint8_t *out, size_t room);
 
-/* STATUS: what it has, acknowledged. */
+/* SENT: what it has, acknowledged. */
 struct warghytes_told warghytes_member_status(const struct warghytes_member *m, uint8_t *out, size_t room);
 
 /* ---- packets ---- */

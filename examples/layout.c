@@ -1,0 +1,170 @@
+/*
+ * Holds the header to the library: a call writes the whole of a state and nothing behind it, and what a few calls leave stands in the
+ * fields that the header names.
+ */
+#include "warghytes.h"
+#include <stdio.h>
+#include <stdlib.h>
+#include <string.h>
+
+static int failures;
+
+static void check(int holds, const char *what)
+{
+    if (!holds) {
+        printf("not so: %s\n", what);
+        failures++;
+    }
+}
+
+#define CHECK(holds) check(holds, #holds)
+
+/* The end of what an opening writes, by what is left of two fillings; it is rounded up to the alignment of a number. */
+static size_t end_of(const uint8_t *x, const uint8_t *y, size_t room)
+{
+    size_t end = room;
+    while (end > 0 && x[end - 1] == 0xaa && y[end - 1] == 0x55)
+        end--;
+    return (end + 3) / 4 * 4;
+}
+
+static uint8_t *filled(int byte, size_t room)
+{
+    uint8_t *bytes = malloc(room);
+    if (bytes == NULL)
+        exit(1);
+    memset(bytes, byte, room);
+    return bytes;
+}
+
+static void sizes(void)
+{
+    enum { ROOM = 16384 };
+    uint8_t *x = filled(0xaa, ROOM), *y = filled(0x55, ROOM);
+    warghytes_sequencer_open((struct warghytes_sequencer *)(void *)x, 3, 7);
+    warghytes_sequencer_open((struct warghytes_sequencer *)(void *)y, 3, 7);
+    CHECK(end_of(x, y, ROOM) == sizeof(struct warghytes_sequencer));
+    memset(x, 0xaa, ROOM);
+    memset(y, 0x55, ROOM);
+    warghytes_member_open((struct warghytes_member *)(void *)x, 3, 2, 7);
+    warghytes_member_open((struct warghytes_member *)(void *)y, 3, 2, 7);
+    CHECK(end_of(x, y, ROOM) == sizeof(struct warghytes_member));
+    free(x);
+    free(y);
+}
+
+static uint8_t request[WARGHYTES_PACKET], broadcast[WARGHYTES_PACKET], out[WARGHYTES_PACKET];
+static struct warghytes_sequencer s;
+static struct warghytes_member m;
+
+static void opened(void)
+{
+    memset(&s, 0xaa, sizeof s);
+    memset(&m, 0xaa, sizeof m);
+    struct warghytes_told told = warghytes_sequencer_poll(&s, out, sizeof out);
+    CHECK(told.code == WARGHYTES_UNSOUND_STATE && told.written == 0);
+    told = warghytes_member_take(&m, out, sizeof out);
+    CHECK(told.code == WARGHYTES_UNSOUND_STATE && m.n == 0xaa && m.held_payloads[WARGHYTES_HELD * WARGHYTES_PAYLOAD - 1] == 0xaa);
+    CHECK(warghytes_sequencer_open(&s, 3, 0x01020304).code == WARGHYTES_ACCEPTED);
+    CHECK(s.n == 3 && s.group == 0x01020304 && s.top == 0 && s.payloads[sizeof s.payloads - 1] == 0);
+    CHECK(warghytes_member_open(&m, 3, 3, 0x01020304).code == WARGHYTES_OPENING);
+    CHECK(warghytes_member_open(&m, 3, 2, 0x01020304).code == WARGHYTES_ACCEPTED);
+    CHECK(m.n == 3 && m.group == 0x01020304 && m.number == 2 && m.submitted == 0 && m.held_payloads[sizeof m.held_payloads - 1] == 0);
+}
+
+static void member_fields(void)
+{
+    struct warghytes_told told = warghytes_member_submit(&m, (const uint8_t *)"saw", 3, request, sizeof request);
+    CHECK(told.code == WARGHYTES_SENT && told.written == 23 && m.submitted == 1 && m.waiting == 1);
+    told = warghytes_member_submit(&m, (const uint8_t *)"board", 5, out, sizeof out);
+    CHECK(told.code == WARGHYTES_QUEUED && told.first == 2 && told.written == 0 && m.submitted == 2 && m.waiting == 2);
+    CHECK(m.queued[1] == 1 && m.queued_originators[1] == 2 && m.queued_lengths[1] == 3 && memcmp(m.queued_payloads + WARGHYTES_PAYLOAD, "saw", 4) == 0);
+    CHECK(m.queued[2] == 2 && m.queued_lengths[2] == 5 && memcmp(m.queued_payloads + 2 * WARGHYTES_PAYLOAD, "board", 6) == 0);
+}
+
+static void sequencer_fields(void)
+{
+    struct warghytes_told told = warghytes_sequencer_receive(&s, request, 23, broadcast, sizeof broadcast);
+    CHECK(told.code == WARGHYTES_NUMBERED && told.first == 1 && told.written == 23 && s.top == 1 && s.counts[2] == 1);
+    CHECK(s.kept[1] == 1 && s.originators[1] == 2 && s.lengths[1] == 3 && memcmp(s.payloads + WARGHYTES_PAYLOAD, "saw", 4) == 0);
+    told = warghytes_sequencer_receive(&s, request, 23, out, sizeof out);
+    CHECK(told.code == WARGHYTES_AGAIN && told.first == 1 && s.repeats[2] == 1);
+    told = warghytes_member_receive(&m, broadcast, 23, out, sizeof out);
+    CHECK(told.code == WARGHYTES_KEPT && m.held[1] == 1 && m.held_originators[1] == 2 && m.held_lengths[1] == 3);
+    CHECK(memcmp(m.held_payloads + WARGHYTES_PAYLOAD, "saw", 4) == 0);
+    told = warghytes_member_take(&m, out, sizeof out);
+    CHECK(told.code == WARGHYTES_TOOK && told.first == 1 && told.second == 2 && told.third == 1 && told.more == 0 && told.written == 3);
+    CHECK(m.taken == 1 && m.waiting == 1 && memcmp(out, "saw", 3) == 0);
+    told = warghytes_member_status(&m, out, sizeof out);
+    CHECK(told.code == WARGHYTES_SENT && warghytes_sequencer_receive(&s, out, told.written, request, sizeof request).code == WARGHYTES_NOTED);
+    CHECK(s.taken[2] == 1 && s.floor == 0);
+}
+
+static void packet_fields(void)
+{
+    struct warghytes_fields fields = { 0 };
+    CHECK(warghytes_packet_read(broadcast, 22, &fields) == WARGHYTES_PAYLOAD_LENGTH && fields.kind == 0);
+    CHECK(warghytes_packet_read(broadcast, 23, &fields) == WARGHYTES_FIELDS);
+    CHECK(fields.kind == WARGHYTES_KIND_BROADCAST && fields.member == 2 && fields.group == 0x01020304);
+    struct warghytes_answer written = warghytes_packet_write((uint8_t)fields.kind, (uint8_t)fields.member, fields.group, fields.a, fields.b, fields.c, broadcast + 20, 3, out, sizeof out);
+    CHECK(written.code == WARGHYTES_BYTES && written.number == 23 && memcmp(out, broadcast, 23) == 0);
+}
+
+static void job_fields(void)
+{
+    static struct warghytes_job jobs[WARGHYTES_JOBS + 1];
+    struct warghytes_answer fed = warghytes_jobs_feed(jobs, WARGHYTES_JOBS, 1, (const uint8_t *)"\1saw", 4);
+    CHECK(fed.code == WARGHYTES_ADDED && jobs[0].state == 1 && jobs[0].length == 3 && memcmp(jobs[0].bytes, "saw", 4) == 0);
+    fed = warghytes_jobs_feed(jobs, WARGHYTES_JOBS, 1, (const uint8_t *)"\1board", 6);
+    CHECK(fed.code == WARGHYTES_ADDED && jobs[1].state == 1 && jobs[1].length == 5);
+    fed = warghytes_jobs_feed(jobs, WARGHYTES_JOBS, 4, (const uint8_t *)"\2", 1);
+    CHECK(fed.code == WARGHYTES_GIVEN && fed.number == 0 && jobs[0].state == 2 && jobs[0].member == 4);
+    fed = warghytes_jobs_feed(jobs, WARGHYTES_JOBS, 5, (const uint8_t *)"\2", 1);
+    CHECK(fed.code == WARGHYTES_GIVEN && fed.number == 1);
+    CHECK(warghytes_jobs_feed(jobs, WARGHYTES_JOBS, 5, (const uint8_t *)"\2", 1).code == WARGHYTES_NONE && jobs[1].state == 0);
+    CHECK(warghytes_jobs_feed(jobs, WARGHYTES_JOBS, 5, (const uint8_t *)"\3", 1).code == WARGHYTES_NOT_FOR_LIST);
+    CHECK(warghytes_jobs_feed(jobs, WARGHYTES_JOBS + 1, 5, (const uint8_t *)"\2", 1).code == WARGHYTES_UNSOUND_STATE);
+}
+
+static void journal_fields(void)
+{
+    struct warghytes_writer w = WARGHYTES_WRITER_FRESH, after = WARGHYTES_WRITER_FRESH;
+    uint8_t hand[WARGHYTES_BLOCK], block[WARGHYTES_BLOCK];
+    struct warghytes_answer kept = warghytes_journal_write(&w, 4, 2, 1, (const uint8_t *)"\3\0\7saw", 6, hand, block);
+    CHECK(kept.code == WARGHYTES_KEPT && kept.number == 0 && w.last == 4 && w.free == 0 && w.first == 4 && w.records == 1 && w.used == 23);
+    CHECK(warghytes_journal_write(&w, 6, 2, 1, (const uint8_t *)"saw", 3, hand, block).code == WARGHYTES_WRONG_JOURNAL && w.last == 4);
+    kept = warghytes_journal_finish(&w, hand, block);
+    CHECK(kept.code == WARGHYTES_CLOSED && kept.number == WARGHYTES_BLOCK && w.records == 0 && w.used == 10);
+    struct warghytes_found found = warghytes_journal_read(block, sizeof block, &after);
+    CHECK(found.code == WARGHYTES_READ && found.blocks == 1 && found.messages == 1 && memcmp(&after, &w, sizeof w) == 0);
+    struct warghytes_writer next = WARGHYTES_WRITER_FRESH;
+    found = warghytes_journal_next(&next, block, sizeof block);
+    CHECK(found.code == WARGHYTES_RIGHT && found.blocks == 1 && found.messages == 1 && memcmp(&next, &w, sizeof w) == 0);
+    CHECK(warghytes_journal_next(&next, block, sizeof block).code == WARGHYTES_WRONG);
+    struct warghytes_record record = warghytes_journal_record(block, sizeof block, 10, 4);
+    CHECK(record.code == WARGHYTES_RIGHT && record.number == 4 && record.originator == 2 && record.count == 1 && record.start == 17 && record.length == 6);
+    CHECK(warghytes_journal_record(block, sizeof block, 508, 4).code == WARGHYTES_WRONG);
+    next.free = 2;
+    CHECK(warghytes_journal_finish(&next, hand, block).code == WARGHYTES_UNSOUND_STATE && next.free == 2);
+    CHECK(warghytes_journal_next(&next, block, sizeof block).code == WARGHYTES_UNSOUND_STATE);
+    uint8_t laid[WARGHYTES_BLOCK];
+    struct warghytes_answer plan = warghytes_plan(block, sizeof block, laid, sizeof laid);
+    CHECK(plan.code == WARGHYTES_BYTES && plan.number == 7 && memcmp(laid, "\0\7\0\3saw", 7) == 0);
+    CHECK(warghytes_plan(block, sizeof block, laid, 6).code == WARGHYTES_NO_ROOM);
+    CHECK(warghytes_rewrite(block, sizeof block, laid, sizeof laid).number == WARGHYTES_BLOCK);
+    CHECK(warghytes_rewrite(block, 511, laid, sizeof laid).code == WARGHYTES_WRONG_JOURNAL);
+}
+
+int main(void)
+{
+    sizes();
+    opened();
+    member_fields();
+    sequencer_fields();
+    packet_fields();
+    job_fields();
+    journal_fields();
+    if (failures == 0)
+        printf("the header is the library's\n");
+    return failures == 0 ? 0 : 1;
+}

@@ -27,6 +27,8 @@
 #![deny(unsafe_op_in_unsafe_fn)]
 
 mod ffi;
+#[cfg(test)]
+mod header;
 mod jobs;
 mod journal;
 mod member;

@@ -16,6 +16,7 @@ ghost use Rattle.jobs.specs.Feed.{refused as refusedOf};
 ghost use Rattle.jobs.specs.Wording.{wordingOf};
 
 // A record of the list: it is unused, or its job waits, or it is given to a member.
+#[repr(C)]
 pub struct Job {
     pub state: u8,
     pub member: MemberNumber,

@@ -1,0 +1,4 @@
+pub mod Codes
+pub mod Packets
+pub mod Lists
+pub mod Journals

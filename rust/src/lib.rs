@@ -26,6 +26,8 @@
 #![no_std]
 #![deny(unsafe_op_in_unsafe_fn)]
 
+#[cfg(test)]
+mod bytes;
 mod ffi;
 #[cfg(test)]
 mod header;

@@ -31,9 +31,9 @@ pub struct SequencerOpening {
     pub verdict: Verdict,
 }
 
-// Opens a member: question 18.
-pub fn open_member(n: u8, number: MemberNumber, group: u32) -> MemberOpening
-    ensures { λ r. ⌜ memberPromise.Opens (memberCalls.freshOf n number group) (r .verdict) (r .member) ⌝ }
+// Opens a member: questions 18 and 24.
+pub fn open_member(n: u8, number: MemberNumber, group: u32, resilience: u8) -> MemberOpening
+    ensures { λ r. ⌜ memberPromise.Opens (memberCalls.freshOf n number group resilience) (r .verdict) (r .member) ⌝ }
 {
     let closed = Member::closed();
     let mut queued = closed.queued;
@@ -57,6 +57,7 @@ pub fn open_member(n: u8, number: MemberNumber, group: u32) -> MemberOpening
         n,
         number,
         group,
+        resilience,
     );
     let head = done.head;
     let verdict = done.verdict;
@@ -257,7 +258,7 @@ pub fn status_member(member: Member, out: &mut [u8]) -> member::Reply
     )
 }
 
-// The last number through which a member has everything.
+// The last number through which a member has everything, offered messages included.
 pub fn row_end_member(member: Member) -> SequenceNumber
     ensures { λ r. ⌜ memberPromise.Ended member r ⌝ }
 {
@@ -282,15 +283,16 @@ pub fn row_end_member(member: Member) -> SequenceNumber
     )
 }
 
-// Opens a sequencer: question 18.
-pub fn open_sequencer(n: u8, group: u32) -> SequencerOpening
-    ensures { λ r. ⌜ sequencerPromise.Starts (sequencerCalls.freshOf n group) (r .verdict) (r .sequencer) ⌝ }
+// Opens a sequencer: questions 18 and 24.
+pub fn open_sequencer(n: u8, group: u32, resilience: u8) -> SequencerOpening
+    ensures { λ r. ⌜ sequencerPromise.Starts (sequencerCalls.freshOf n group resilience) (r .verdict) (r .sequencer) ⌝ }
 {
     let closed = Sequencer::closed();
     let mut taken = closed.taken;
     let mut counts = closed.counts;
     let mut repeats = closed.repeats;
     let mut kept = closed.kept;
+    let mut marks = closed.marks;
     let mut originators = closed.originators;
     let mut lengths = closed.lengths;
     let mut payloads = closed.payloads;
@@ -300,11 +302,13 @@ pub fn open_sequencer(n: u8, group: u32) -> SequencerOpening
         &mut counts,
         &mut repeats,
         &mut kept,
+        &mut marks,
         &mut originators,
         &mut lengths,
         &mut payloads,
         n,
         group,
+        resilience,
     );
     let head = done.head;
     let verdict = done.verdict;
@@ -314,6 +318,7 @@ pub fn open_sequencer(n: u8, group: u32) -> SequencerOpening
         counts,
         repeats,
         kept,
+        marks,
         originators,
         lengths,
         payloads,
@@ -329,6 +334,7 @@ pub fn receive_sequencer(sequencer: Sequencer, packet: &[u8], out: &mut [u8]) ->
     let mut counts = sequencer.counts;
     let mut repeats = sequencer.repeats;
     let mut kept = sequencer.kept;
+    let mut marks = sequencer.marks;
     let mut originators = sequencer.originators;
     let mut lengths = sequencer.lengths;
     let mut payloads = sequencer.payloads;
@@ -338,6 +344,7 @@ pub fn receive_sequencer(sequencer: Sequencer, packet: &[u8], out: &mut [u8]) ->
         &mut counts,
         &mut repeats,
         &mut kept,
+        &mut marks,
         &mut originators,
         &mut lengths,
         &mut payloads,
@@ -352,6 +359,7 @@ pub fn receive_sequencer(sequencer: Sequencer, packet: &[u8], out: &mut [u8]) ->
         counts,
         repeats,
         kept,
+        marks,
         originators,
         lengths,
         payloads,
@@ -370,6 +378,7 @@ pub fn poll_sequencer(sequencer: Sequencer, out: &mut [u8]) -> sequencer::Reply
     let counts = sequencer.counts;
     let repeats = sequencer.repeats;
     let kept = sequencer.kept;
+    let marks = sequencer.marks;
     let originators = sequencer.originators;
     let lengths = sequencer.lengths;
     let payloads = sequencer.payloads;
@@ -379,6 +388,7 @@ pub fn poll_sequencer(sequencer: Sequencer, out: &mut [u8]) -> sequencer::Reply
         &counts,
         &repeats,
         &kept,
+        &marks,
         &originators,
         &lengths,
         &payloads,
@@ -398,6 +408,7 @@ pub fn copy_sequencer(
     let counts = sequencer.counts;
     let repeats = sequencer.repeats;
     let kept = sequencer.kept;
+    let marks = sequencer.marks;
     let originators = sequencer.originators;
     let lengths = sequencer.lengths;
     let payloads = sequencer.payloads;
@@ -407,6 +418,7 @@ pub fn copy_sequencer(
         &counts,
         &repeats,
         &kept,
+        &marks,
         &originators,
         &lengths,
         &payloads,

@@ -44,6 +44,7 @@ numbersIn (Value.number n ∷ rest) = n ∷ numbersIn rest
 numbersIn (Value.payload ∷ rest) = numbersIn rest
 numbersIn (Value.more m ∷ rest) = numbersIn rest
 numbersIn (Value.packet ∷ rest) = numbersIn rest
+numbersIn (Value.anyPacket ∷ rest) = numbersIn rest
 
 unfoldable pub numbersOf : Wording → List ℕ
 numbersOf (Wording.refusal k) = []

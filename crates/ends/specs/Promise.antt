@@ -37,9 +37,9 @@ abbrev MemberLeaves : member.Outcome → Told → Member → List ℕ → List �
 MemberLeaves o told s before after = MemberTells o told before after × (MemberView.viewOf s ≡ o .member)
 
 -- the sequencer's calls: the state and what it is handed at entry, what it tells, the state and the lent output at exit
-abbrev pub SequencerOpens : Sequencer → ℕ → ℕ → Told → Sequencer → Type 0
-SequencerOpens s n group told s′ =
-    (told ≡ toldOf (verdictWording (sequencer.freshOf n group .verdict)) 0) × (SequencerView.viewOf s′ ≡ sequencer.freshOf n group .sequencer)
+abbrev pub SequencerOpens : Sequencer → ℕ → ℕ → ℕ → Told → Sequencer → Type 0
+SequencerOpens s n group resilience told s′ =
+    (told ≡ toldOf (verdictWording (sequencer.freshOf n group resilience .verdict)) 0) × (SequencerView.viewOf s′ ≡ sequencer.freshOf n group resilience .sequencer)
 
 abbrev pub SequencerReceives : Sequencer → List ℕ → List ℕ → Told → Sequencer → List ℕ → Type 0
 SequencerReceives s packet before told s′ after = SequencerLeaves (sequencer.receiveOf (SequencerView.viewOf s) packet (length before)) told s′ before after
@@ -52,10 +52,10 @@ SequencerCopies s number before told after =
     SequencerTells (sequencer.copyOf (SequencerView.viewOf s) (record { 0 = number }) (length before)) told before after
 
 -- a member's calls
-abbrev pub MemberOpens : Member → ℕ → ℕ → ℕ → Told → Member → Type 0
-MemberOpens s n number group told s′ =
-    (told ≡ toldOf (verdictWording (member.freshOf n (record { 0 = number }) group .verdict)) 0)
-    × (MemberView.viewOf s′ ≡ member.freshOf n (record { 0 = number }) group .member)
+abbrev pub MemberOpens : Member → ℕ → ℕ → ℕ → ℕ → Told → Member → Type 0
+MemberOpens s n number group resilience told s′ =
+    (told ≡ toldOf (verdictWording (member.freshOf n (record { 0 = number }) group resilience .verdict)) 0)
+    × (MemberView.viewOf s′ ≡ member.freshOf n (record { 0 = number }) group resilience .member)
 
 abbrev pub MemberSubmits : Member → List ℕ → List ℕ → Told → Member → List ℕ → Type 0
 MemberSubmits s payload before told s′ after = MemberLeaves (member.submitOf (MemberView.viewOf s) payload (length before)) told s′ before after

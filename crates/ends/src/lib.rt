@@ -9,8 +9,8 @@ ghost use Rattle.group.specs.Codes.{flagOf};
 ghost use Rattle.ends.specs.Telling.{sequencerTold, memberTold, openingTold};
 ghost use Rattle.ends.specs.Promise.{SequencerOpens, SequencerReceives, SequencerPolls, SequencerCopies, MemberOpens, MemberSubmits, MemberReceives, MemberTakes, MemberRepeats, MemberReports};
 
-// What a call tells: the code of its answer, the answer's numbers in their order, whether the following number is held (1) or not (0), and how many
-// bytes lie at the front of the lent output. A number that the answer does not have is 0.
+// What a call tells: the code of its answer, the answer's numbers in their order, whether the following number may be taken too (1)
+// or not (0), and how many bytes lie at the front of the lent output. A number that the answer does not have is 0.
 #[repr(C)]
 pub struct Told {
     pub code: u32,
@@ -38,6 +38,8 @@ impl Told {
     pub const WANTED: u32 = 38;
 
     pub const ACCEPTED: u32 = 39;
+
+    pub const MARKED: u32 = 40;
 
     pub const KEPT: u32 = 48;
 
@@ -110,6 +112,8 @@ pub fn sequencer_tells(reply: sequencer::Reply) -> Told
             numbered(Told::WANTED, first.0, last.0, written)
         }
         sequencer::Answer::Sent => word(Told::SENT, written),
+        sequencer::Answer::Marked => word(Told::MARKED, written),
+        sequencer::Answer::Accepted => word(Told::ACCEPTED, written),
     }
 }
 
@@ -131,6 +135,7 @@ pub fn member_tells(reply: member::Reply) -> Told
         member::Answer::Gap => word(Told::GAP, written),
         member::Answer::Status => word(Told::STATUS, written),
         member::Answer::None => word(Told::NONE, written),
+        member::Answer::Noted => word(Told::NOTED, written),
         member::Answer::Took {
             number,
             originator,
@@ -157,12 +162,17 @@ pub fn opening_tells(verdict: Verdict) -> Told
     }
 }
 
-// The sequencer of n members in the group with that number, fresh. A refusal leaves it closed.
+// The sequencer of n members in the group with that number and resilience degree, fresh. A refusal leaves it closed.
 #[no_mangle]
-pub extern "C" fn warghytes_sequencer_open(s: &mut Sequencer, n: u8, group: u32) -> Told
-    ensures { λ r. ⌜ SequencerOpens (now (s .entry)) n group r (now (s .exit)) ⌝ }
+pub extern "C" fn warghytes_sequencer_open(
+    s: &mut Sequencer,
+    n: u8,
+    group: u32,
+    resilience: u8,
+) -> Told
+    ensures { λ r. ⌜ SequencerOpens (now (s .entry)) n group resilience r (now (s .exit)) ⌝ }
 {
-    let verdict = s.open(n, group);
+    let verdict = s.open(n, group, resilience);
     opening_tells(verdict)
 }
 
@@ -188,7 +198,7 @@ pub extern "C" fn warghytes_sequencer_poll(s: &Sequencer, out: &mut [u8]) -> Tol
     sequencer_tells(reply)
 }
 
-// The broadcast of a number again.
+// The broadcast of a number again, or its offer if it is not accepted.
 #[no_mangle]
 pub extern "C" fn warghytes_sequencer_copy(s: &Sequencer, number: u32, out: &mut [u8]) -> Told
     ensures { λ r. ⌜ SequencerCopies (now (s .entry)) number (now (out .entry)) r (now (out .exit)) ⌝ }
@@ -197,12 +207,18 @@ pub extern "C" fn warghytes_sequencer_copy(s: &Sequencer, number: u32, out: &mut
     sequencer_tells(reply)
 }
 
-// Member `number` of n in the group with that number, fresh. A refusal leaves it closed.
+// Member `number` of n in the group with that number and resilience degree, fresh. A refusal leaves it closed.
 #[no_mangle]
-pub extern "C" fn warghytes_member_open(s: &mut Member, n: u8, number: u8, group: u32) -> Told
-    ensures { λ r. ⌜ MemberOpens (now (s .entry)) n number group r (now (s .exit)) ⌝ }
+pub extern "C" fn warghytes_member_open(
+    s: &mut Member,
+    n: u8,
+    number: u8,
+    group: u32,
+    resilience: u8,
+) -> Told
+    ensures { λ r. ⌜ MemberOpens (now (s .entry)) n number group resilience r (now (s .exit)) ⌝ }
 {
-    let verdict = s.open(n, MemberNumber(number), group);
+    let verdict = s.open(n, MemberNumber(number), group, resilience);
     opening_tells(verdict)
 }
 

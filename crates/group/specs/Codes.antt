@@ -14,6 +14,7 @@ numbersIn (Value.number n ∷ rest) = n ∷ numbersIn rest
 numbersIn (Value.payload ∷ rest) = numbersIn rest
 numbersIn (Value.more m ∷ rest) = numbersIn rest
 numbersIn (Value.packet ∷ rest) = numbersIn rest
+numbersIn (Value.anyPacket ∷ rest) = numbersIn rest
 
 unfoldable pub flagOf : Bool → ℕ
 flagOf true = 1
@@ -26,6 +27,7 @@ moreIn (Value.number n ∷ rest) = moreIn rest
 moreIn (Value.payload ∷ rest) = moreIn rest
 moreIn (Value.more m ∷ rest) = flagOf m
 moreIn (Value.packet ∷ rest) = moreIn rest
+moreIn (Value.anyPacket ∷ rest) = moreIn rest
 
 -- the code of a word that a call of an end answers with, above the numbers of all refusals; 0 for any other word, whose values say all
 unfoldable pub wordCode : String → ℕ
@@ -38,6 +40,7 @@ wordCode w =
     if eqt w "numbered" then 37 else
     if eqt w "wanted" then 38 else
     if eqt w "accepted" then 39 else
+    if eqt w "marked" then 40 else
     if eqt w "kept" then 48 else
     if eqt w "keptgap" then 49 else
     if eqt w "beyond" then 50 else

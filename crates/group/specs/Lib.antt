@@ -2,8 +2,10 @@ pub mod Limits
 pub mod Choice
 pub mod Refusal
 pub mod Opening
+pub mod Members
 pub mod Question
 pub mod Lent
 pub mod Fold
 pub mod Wording
 pub mod Codes
+pub mod Laws

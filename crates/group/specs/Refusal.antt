@@ -1,7 +1,7 @@
 -- The paper's number of each refusal: that of the question that said no, or the one that document 02 gives.
 use Prim.Native.Nat.{ℕ}
 use Rattle.group.specs.declared.Refusal.{Refusal}
-use Rattle.group.specs.declared.Refusal.the-variants.{UnsoundState, ShortOutput, PacketSize, UnknownKind, PayloadLength, ForbiddenFields, OtherGroup, OtherEnd, UnknownMember, AcknowledgedAhead, CountAhead, WantedAhead, LongPayload, AlreadyWaiting, NothingWaiting, NumbersUsedUp, NotInHistory, Opening, NotForList, ListFull, WrongJournal, ManyUnits, NoRoom}
+use Rattle.group.specs.declared.Refusal.the-variants.{UnsoundState, ShortOutput, PacketSize, UnknownKind, PayloadLength, ForbiddenFields, OtherGroup, OtherEnd, UnknownMember, AcknowledgedAhead, CountAhead, WantedAhead, LongPayload, AlreadyWaiting, NothingWaiting, NumbersUsedUp, NotInHistory, Opening, NotForList, ListFull, WrongJournal, ManyUnits, NoRoom, Resilience, NotExpected}
 
 abbrev pub numberOf : Refusal → ℕ
 -- Is the state sound?
@@ -10,11 +10,11 @@ numberOf UnsoundState = 1
 numberOf ShortOutput = 2
 -- Is the packet at least a header and at most the longest packet?
 numberOf PacketSize = 3
--- Is its kind 1 to 5?
+-- Is its kind 1 to 8?
 numberOf UnknownKind = 4
--- Is its length that of its header and L, and L zero for kinds 3 to 5?
+-- Is its length that of its header and L, and L zero but for kinds 1, 2 and 6?
 numberOf PayloadLength = 5
--- Do A, B, C (and byte 1 of a poll) obey the kind?
+-- Do A, B, C (and byte 1 of kinds 5 and 8) obey the kind?
 numberOf ForbiddenFields = 6
 -- Is the group number ours?
 numberOf OtherGroup = 7
@@ -22,7 +22,7 @@ numberOf OtherGroup = 7
 numberOf OtherEnd = 8
 -- Is byte 1 below n?
 numberOf UnknownMember = 9
--- At the sequencer, is A at most top?
+-- At the sequencer, is A at most the last accepted number, or of kind 7 at most top?
 numberOf AcknowledgedAhead = 10
 -- Is a request's count at most the last count and one?
 numberOf CountAhead = 11
@@ -50,3 +50,7 @@ numberOf WrongJournal = 21
 numberOf ManyUnits = 22
 -- Has the lent output room for the plan, or for the rewritten blocks?
 numberOf NoRoom = 23
+-- On opening, is the resilience degree below n?
+numberOf Resilience = 24
+-- Is a confirmation of a number that is not accepted from a member that is expected to answer?
+numberOf NotExpected = 25

@@ -10,12 +10,13 @@ use Rattle.group.specs.declared.Refusal.{Refusal}
 use Rattle.group.specs.declared.Verdict.{Verdict}
 
 -- a number (of a message, a member, a count, ..), the payload that was handed out, whether the following number is held, and
--- the packet that was written; payload and packet lie at the front of the lent output
+-- the packet that was written, or the one that was written if one was; payload and packet lie at the front of the lent output
 pub data Value : Type 0 where
   number : ℕ → Value
   payload : Value
   more : Bool → Value
   packet : Value
+  anyPacket : Value
 
 pub data Wording : Type 0 where
   refusal : ℕ → Wording
@@ -30,7 +31,7 @@ unfoldable pub verdictWording : Verdict → Wording
 verdictWording Verdict.Accepted = word "accepted" []
 verdictWording (Verdict.Refused r) = refusedWording r
 
--- what opening a group answers: n and the group number
+-- what opening a group answers: n, the group number and the resilience degree
 unfoldable pub openedWording : Opened → Wording
-openedWording (Opened.Open group) = word "open" (number (group .n) ∷ number (group .number) ∷ [])
+openedWording (Opened.Open group) = word "open" (number (group .n) ∷ number (group .number) ∷ number (group .resilience) ∷ [])
 openedWording (Opened.Refused r) = refusedWording r

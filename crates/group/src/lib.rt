@@ -1,8 +1,10 @@
 // The group's own description: its limits, its two kinds of number, and what may be refused.
 ghost use mathlib.Core.Path.{_≡_};
+ghost use Prim.Native.Nat.{_≤_, _<_};
 ghost use Rattle.group.specs.Limits.{membersMost, placesMost, payloadMost, heldMost, waitingMost, headerSize, longestPacket, largestNumber, jobsMost, jobMost};
 ghost use Rattle.group.specs.Refusal.{numberOf};
 ghost use Rattle.group.specs.Opening.{openOf};
+ghost use Rattle.group.specs.Members.{onlyOf, isIn, isWithin, lowestOf, expectedOf};
 ghost use Rattle.group.specs.Wording.{openedWording};
 
 // A sequence number: the place of a message in the order, from 1. 0 means none yet.
@@ -38,6 +40,8 @@ pub enum Refusal {
     WrongJournal,
     ManyUnits,
     NoRoom,
+    Resilience,
+    NotExpected,
 }
 
 impl Refusal {
@@ -69,6 +73,8 @@ impl Refusal {
             Refusal::WrongJournal => 21,
             Refusal::ManyUnits => 22,
             Refusal::NoRoom => 23,
+            Refusal::Resilience => 24,
+            Refusal::NotExpected => 25,
         }
     }
 }
@@ -79,10 +85,11 @@ pub enum Verdict {
     Refused(Refusal),
 }
 
-// A group of n members under its number.
+// A group of n members under its number, and how many members other than the sequencer's must have a message before it is taken.
 #[repr(C)]
 pub struct Group {
     pub n: u8,
+    pub resilience: u8,
     pub number: u32,
 }
 
@@ -132,20 +139,94 @@ impl Group {
     // The most bytes of a job: the payload that adds it has one byte before them.
     pub const JOB: usize = Group::PAYLOAD - 1;
 
-    // Question 18 of a group: is n 1 to 16?
-    pub fn fresh(n: u8, number: u32) -> Opened
-        ensures answer { λ r. ⌜ r ≡ openOf n number ⌝ }
-        ensures wording { λ r. ⌜ openedWording r ≡ openedWording (openOf n number) ⌝ }
+    // Question 18 of a group: is n 1 to 16? Then 24: is the resilience degree below n?
+    pub fn fresh(n: u8, number: u32, resilience: u8) -> Opened
+        ensures answer { λ r. ⌜ r ≡ openOf n number resilience ⌝ }
+        ensures wording { λ r. ⌜ openedWording r ≡ openedWording (openOf n number resilience) ⌝ }
     {
         if n < 1 {
             return Opened::Refused(Refusal::Opening);
         }
-        if (n as usize) <= Group::MEMBERS {
-            Opened::Open(Group { n, number })
+        if Group::MEMBERS < (n as usize) {
+            return Opened::Refused(Refusal::Opening);
+        }
+        if resilience < n {
+            Opened::Open(Group {
+                n,
+                resilience,
+                number,
+            })
         } else {
-            Opened::Refused(Refusal::Opening)
+            Opened::Refused(Refusal::Resilience)
         }
     }
+
+    // The members that are expected to confirm an offer, one bit a member.
+    pub fn expected(self) -> u16
+        requires { ⌜ self .n ≤ membersMost ⌝ }
+        ensures { λ r. ⌜ r ≡ expectedOf self ⌝ }
+    {
+        if self.n < 1 {
+            return 0;
+        }
+        let all = (1u32 << (self.n as u32)) - 1;
+        let others = all - 1;
+        lowest_of(self.resilience, others as u16)
+    }
+
+    // Is the member expected to confirm an offer?
+    pub fn expects(self, member: MemberNumber) -> bool
+        requires { ⌜ self .n ≤ membersMost ⌝ }
+        ensures { λ r. ⌜ r ≡ isIn (expectedOf self) (member .0) ⌝ }
+    {
+        let expected = self.expected();
+        is_in(expected, member)
+    }
+}
+
+// The k lowest members of a mask; all of them where it has fewer.
+fn lowest_of(k: u8, mask: u16) -> u16
+    ensures { λ r. ⌜ r ≡ lowestOf k mask ⌝ }
+{
+    let mut found: u16 = 0;
+    let mut rest: u16 = mask;
+    let mut left: u8 = k;
+    while 0 < left {
+        if rest == 0 {
+            return found;
+        }
+        let lowest = 1u16 << u16::trailing_zeros(rest);
+        found = found | lowest;
+        rest = rest & (rest - 1);
+        left = left - 1;
+    }
+    found
+}
+
+// The mask of one member.
+pub fn only(member: MemberNumber) -> u16
+    requires { ⌜ member .0 < membersMost ⌝ }
+    ensures { λ r. ⌜ r ≡ onlyOf member ⌝ }
+{
+    1u16 << (member.0 as u32)
+}
+
+// Is the member in the mask?
+pub fn is_in(mask: u16, member: MemberNumber) -> bool
+    ensures { λ r. ⌜ r ≡ isIn mask (member .0) ⌝ }
+{
+    if (member.0 as usize) < Group::MEMBERS {
+        (mask >> (member.0 as u32)) % 2 == 1
+    } else {
+        false
+    }
+}
+
+// Is every member of the mask in the other?
+pub fn is_within(mask: u16, other: u16) -> bool
+    ensures { λ r. ⌜ r ≡ isWithin mask other ⌝ }
+{
+    mask & other == mask
 }
 
 // The limits of specs/ are these constants.

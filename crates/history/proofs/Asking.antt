@@ -8,13 +8,15 @@ use Rattle.group.proofs.Choice.{if-was}
 use Rattle.group.proofs.Question.{accepted≢}
 use Rattle.group.specs.Choice.{if_then_else_, _<?_, _≤?_}
 use Rattle.group.specs.Limits.{largestNumber}
+use Rattle.group.specs.Members.{isIn, expectedOf}
+use Rattle.group.specs.declared.Group.{Group}
 use Rattle.group.specs.declared.MemberNumber.{MemberNumber}
 use Rattle.group.specs.Question.{judged}
 use Rattle.group.specs.declared.Refusal.{Refusal}
-use Rattle.group.specs.declared.Refusal.the-variants.{UnknownMember, AcknowledgedAhead, CountAhead, NumbersUsedUp}
+use Rattle.group.specs.declared.Refusal.the-variants.{UnknownMember, AcknowledgedAhead, CountAhead, NumbersUsedUp, NotExpected}
 use Rattle.group.specs.declared.SequenceNumber.{SequenceNumber}
 use Rattle.group.specs.declared.Verdict.{Verdict}
-use Rattle.history.specs.Ask.{senderVerdict, countVerdict}
+use Rattle.history.specs.Ask.{senderVerdict, countVerdict, expectedVerdict}
 
 pub sender-was : (n top : ℕ) (sender : MemberNumber) (taken : SequenceNumber) → senderVerdict n top sender taken ≡ Verdict.Accepted
     → (sender .0 < n) × (taken .0 ≤ top)
@@ -30,6 +32,13 @@ count-was last top count e =
     let a = if-was (count ≤? last + 1) _ _ Verdict.Accepted e (accepted≢ CountAhead) in
     let b = if-was (if count ≤? last then true else top <? largestNumber) _ _ Verdict.Accepted (a .1) (accepted≢ NumbersUsedUp) in
     (leb-true count (last + 1) (a .0), λ h. ltb-true top largestNumber (rw (lt-leb count last h) at (b .0)))
+
+pub expected-was : (group : Group) (accepted : ℕ) (sender : MemberNumber) (number : SequenceNumber) → expectedVerdict group accepted sender number ≡ Verdict.Accepted
+    → accepted < number .0 → isIn (expectedOf group) (sender .0) ≡ true
+unfolding expectedVerdict if_then_else_
+expected-was group accepted sender number e h =
+    rw (lt-leb (number .0) accepted h) at
+    (if-was (if number .0 ≤? accepted then true else isIn (expectedOf group) (sender .0)) _ _ Verdict.Accepted e (accepted≢ NotExpected) .0)
 
 -- a verdict that is known
 module _ {A : Type 0} (v : Verdict) (f : Refusal → A) (x : A) where

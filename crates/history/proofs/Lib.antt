@@ -7,3 +7,5 @@ pub mod Repeating
 pub mod Finding
 pub mod Asking
 pub mod Sizes
+pub mod Marks
+pub mod Marking

@@ -16,7 +16,7 @@ use Rattle.group.specs.declared.Group.{Group}
 use Rattle.group.specs.declared.MemberNumber.{MemberNumber}
 use Rattle.message.specs.Message.{Message, blank, isEmpty}
 use Rattle.packet.specs.declared.Packet.{Packet}
-use Rattle.packet.specs.declared.Packet.the-variants.{Request, Broadcast, Gap, Status, Poll}
+use Rattle.packet.specs.declared.Packet.the-variants.{Request, Broadcast, Gap, Status, Poll, Offer, Confirm, Accept}
 use Rattle.store.specs.Places.{messageIn, messagesIn, partOf}
 use Rattle.store.proofs.Places.{message-in}
 use Rattle.history.specs.Ask.{requestVerdict, contentVerdict, packetVerdict}
@@ -129,9 +129,10 @@ pub floor-taken : (n : ℕ) (taken counts repeats : List ℕ) → floorOf n (tak
 unfolding floorOf
 floor-taken n taken counts repeats = least-taken largestNumber taken [] [] counts repeats n
 
-pub frame-taken : (n : ℕ) (taken counts repeats : List ℕ) (floor top : ℕ) → frameSound n (takenOnly taken) floor top ≡ frameSound n (tableIn taken counts repeats) floor top
+pub frame-taken : (group : Group) (taken counts repeats : List ℕ) (floor accepted top : ℕ)
+    → frameSound group (takenOnly taken) floor accepted top ≡ frameSound group (tableIn taken counts repeats) floor accepted top
 unfolding frameSound
-frame-taken n taken counts repeats floor top = rw (floor-taken n taken counts repeats)
+frame-taken group taken counts repeats floor accepted top = rw (floor-taken (group .n) taken counts repeats)
 
 -- the counts
 count-in : (taken counts repeats : List ℕ) (i : ℕ) → length counts ≡ length taken → getD (tableIn taken counts repeats) i noAcknowledgement .count ≡ getD counts i 0
@@ -156,18 +157,22 @@ module _ (taken counts repeats : List ℕ) (sizes : length counts ≡ length tak
   unfolding placeSound
   places-only n history top = λ i number. if number ≤? top then kept-only n (messageAt history number) i else isEmpty (messageAt history number)
 
-  pub content-only : (n top : ℕ) (packet : Packet) → contentVerdict n (countsOnly counts) top packet ≡ contentVerdict n (tableIn taken counts repeats) top packet
+  pub content-only : (group : Group) (accepted top : ℕ) (packet : Packet)
+      → contentVerdict group (countsOnly counts) accepted top packet ≡ contentVerdict group (tableIn taken counts repeats) accepted top packet
   unfolding contentVerdict requestVerdict
-  content-only n top (Request sender taken′ count) = rw (count-only sender)
-  content-only n top (Broadcast originator number count floor) = refl
-  content-only n top (Gap sender taken′ first last) = refl
-  content-only n top (Status sender taken′) = refl
-  content-only n top (Poll p floor) = refl
+  content-only group accepted top (Request sender taken′ count) = rw (count-only sender)
+  content-only group accepted top (Broadcast originator number count floor) = refl
+  content-only group accepted top (Gap sender taken′ first last) = refl
+  content-only group accepted top (Status sender taken′) = refl
+  content-only group accepted top (Poll p floor) = refl
+  content-only group accepted top (Offer originator number count floor) = refl
+  content-only group accepted top (Confirm sender number) = refl
+  content-only group accepted top (Accept number) = refl
 
-  pub packet-only : (group : Group) (top number : ℕ) (packet : Packet)
-      → packetVerdict group (countsOnly counts) top number packet ≡ packetVerdict group (tableIn taken counts repeats) top number packet
+  pub packet-only : (group : Group) (accepted top number : ℕ) (packet : Packet)
+      → packetVerdict group (countsOnly counts) accepted top number packet ≡ packetVerdict group (tableIn taken counts repeats) accepted top number packet
   unfolding packetVerdict
-  packet-only group top number packet = rw (content-only (group .n) top packet)
+  packet-only group accepted top number packet = rw (content-only group accepted top packet)
 
 -- the repeat counts
 sum-in : (taken counts repeats : List ℕ) (taken′ counts′ : List ℕ) → length repeats ≡ length taken → length repeats ≡ length taken′

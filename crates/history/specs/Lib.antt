@@ -4,3 +4,4 @@ pub mod Note
 pub mod Repeat
 pub mod Ask
 pub mod View
+pub mod Marks

@@ -4,6 +4,7 @@ use mathlib.Core.List.{List}
 use Prim.Native.Nat.{ℕ, _-_}
 use Rattle.group.specs.Choice.{if_then_else_, _and_, _<?_, _≤?_, _=?_}
 use Rattle.group.specs.Limits.{membersMost, placesMost, payloadMost}
+use Rattle.group.specs.declared.Group.{Group}
 use Rattle.message.specs.Message.{Message, zeroBehind, isEmpty}
 use Rattle.history.specs.State.{Acknowledgement, acknowledgementOf, messageAt, floorOf}
 
@@ -30,11 +31,14 @@ placeSound n table history top number =
     if number ≤? top then keptSound n table (messageAt history number) else
     isEmpty (messageAt history number)
 
--- n is 1 to 16, floor is the smallest of the n acknowledgements and at most top, and top - floor is at most 32
-unfoldable pub frameSound : ℕ → List Acknowledgement → ℕ → ℕ → Bool
-frameSound n table floor top =
-    1 ≤? n
-    and n ≤? membersMost
-    and floorOf n table =? floor
-    and floor ≤? top
+-- n is 1 to 16, r is below n, floor is the smallest of the n acknowledgements and at most the last accepted number, that is at most
+-- top, and top - floor is at most 32
+unfoldable pub frameSound : Group → List Acknowledgement → ℕ → ℕ → ℕ → Bool
+frameSound group table floor accepted top =
+    1 ≤? group .n
+    and group .n ≤? membersMost
+    and group .resilience <? group .n
+    and floorOf (group .n) table =? floor
+    and floor ≤? accepted
+    and accepted ≤? top
     and top - floor ≤? placesMost

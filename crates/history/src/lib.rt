@@ -9,17 +9,20 @@ ghost use mathlib.Core.Bool.{true};
 ghost use mathlib.Core.List.{[]};
 ghost use mathlib.Core.Path.{_≡_};
 ghost use Prim.Native.Nat.{_-_, _<_, _≤_};
-ghost use Rattle.group.specs.Choice.{if_then_else_, _<?_, _≤?_};
+ghost use lib.Count.{ones};
+ghost use Rattle.group.specs.Choice.{if_then_else_, _and_, _<?_, _≤?_, _=?_};
 ghost use Rattle.group.specs.Fold.{all, allAbove};
 ghost use lib.ListN.{length, getD, set};
 ghost use Rattle.group.specs.Limits.{membersMost, placesMost, payloadMost, largestNumber};
+ghost use Rattle.group.specs.Members.{isIn, isWithin, expectedOf};
 ghost use Rattle.message.specs.Message.{messageOf, isEmpty};
 ghost use Rattle.store.specs.Places.{messageIn, messagesIn, partOf, maskOf, Lies};
 ghost use Rattle.history.specs.State.{placeOf, messageAt, floorOf};
 ghost use Rattle.history.specs.Sound.{entrySound, keptSound, placeSound, frameSound};
+ghost use Rattle.history.specs.Marks.{markedOf, enoughOf, unmarkedOf, markSound};
 ghost use Rattle.history.specs.Note.{largerOf, clearedOf};
 ghost use Rattle.history.specs.Repeat.{oneMore, repeatsOf, isOf, findOf};
-ghost use Rattle.history.specs.Ask.{senderVerdict, countVerdict, wantedVerdict, requestVerdict, gapVerdict, packetVerdict, senderOf};
+ghost use Rattle.history.specs.Ask.{senderVerdict, countVerdict, wantedVerdict, expectedVerdict, requestVerdict, gapVerdict, confirmVerdict, packetVerdict, senderOf};
 ghost use Rattle.history.specs.View.{Entries, Places, entryIn, tableIn, takenOnly, countsOnly, repeatsOnly, listed};
 
 // Who sent a packet, and the number that it acknowledges.
@@ -207,27 +210,134 @@ pub fn history_sound(
     true
 }
 
-pub fn frame_sound(
-    n: u8,
-    floor: SequenceNumber,
-    top: SequenceNumber,
-    taken: &[u32; Group::MEMBERS],
-) -> bool
-    ensures { λ r. ⌜ r ≡ frameSound n (takenOnly (now (taken .entry))) (floor .0) (top .0) ⌝ }
+// Whether the last accepted number lies from floor to top, and these have at most the history's places between them.
+fn span_sound(floor: SequenceNumber, accepted: SequenceNumber, top: SequenceNumber) -> bool
+    ensures { λ r. ⌜ r ≡ (floor .0 ≤? accepted .0 and accepted .0 ≤? top .0 and top .0 - floor .0 ≤? placesMost) ⌝ }
 {
-    if n < 1 {
+    if accepted.0 < floor.0 {
         return false;
     }
-    if Group::MEMBERS < (n as usize) {
-        return false;
-    }
-    if smallest(n, *taken).0 != floor.0 {
-        return false;
-    }
-    if top.0 < floor.0 {
+    if top.0 < accepted.0 {
         return false;
     }
     ((top.0 - floor.0) as usize) <= Group::PLACES
+}
+
+pub fn frame_sound(
+    group: Group,
+    floor: SequenceNumber,
+    accepted: SequenceNumber,
+    top: SequenceNumber,
+    taken: &[u32; Group::MEMBERS],
+) -> bool
+    ensures { λ r. ⌜ r ≡ frameSound group (takenOnly (now (taken .entry))) (floor .0) (accepted .0) (top .0) ⌝ }
+{
+    if group.n < 1 {
+        return false;
+    }
+    if Group::MEMBERS < (group.n as usize) {
+        return false;
+    }
+    if group.n <= group.resilience {
+        return false;
+    }
+    if smallest(group.n, *taken).0 != floor.0 {
+        return false;
+    }
+    span_sound(floor, accepted, top)
+}
+
+// Whether the mark of a number has expected members' bits only, where the number is above the last accepted, up to top, and else is zero.
+fn mark_sound(
+    expected: u16,
+    accepted: SequenceNumber,
+    top: SequenceNumber,
+    number: u64,
+    mark: u16,
+) -> bool
+    ensures { λ r. ⌜ r ≡ (if accepted .0 <? number and number ≤? top .0 then isWithin mark expected else mark =? 0) ⌝ }
+{
+    if (accepted.0 as u64) < number {
+        if number <= (top.0 as u64) {
+            return group::is_within(mark, expected);
+        }
+        return mark == 0;
+    }
+    mark == 0
+}
+
+// Whether the marks of the 32 numbers above floor are sound.
+pub fn marks_sound(
+    expected: u16,
+    floor: SequenceNumber,
+    accepted: SequenceNumber,
+    top: SequenceNumber,
+    marks: &[u16],
+) -> bool
+    requires { ⌜ length (now marks) ≡ placesMost ⌝ }
+    ensures { λ r. ⌜ r ≡ allAbove (markSound expected (now (marks .entry)) (accepted .0) (top .0)) (floor .0) placesMost ⌝ }
+{
+    let mut i: usize = 0;
+    while i < Group::PLACES {
+        let number = (floor.0 as u64) + (i as u64) + 1;
+        let at = place(number);
+        if mark_sound(expected, accepted, top, number, marks[at]) {
+            i += 1;
+        } else {
+            return false;
+        }
+    }
+    true
+}
+
+// Marks that a member confirmed the numbers above one, up to another.
+pub fn mark(marks: &mut [u16], member: MemberNumber, from: SequenceNumber, to: SequenceNumber)
+    requires { ⌜ (length (now marks) ≡ placesMost) × (member .0 < membersMost) ⌝ }
+    ensures { λ _. ⌜ now (marks .exit) ≡ markedOf (now (marks .entry)) member (from .0) (to .0 - from .0) ⌝ }
+{
+    let mut confirmed = from.0;
+    while confirmed < to.0 {
+        confirmed += 1;
+        let at = place(confirmed as u64);
+        let bit = group::only(member);
+        marks[at] = marks[at] | bit;
+    }
+}
+
+// Whether a mark has at least so many members.
+fn has_enough(mark: u16, needed: u8) -> bool
+    ensures { λ r. ⌜ r ≡ (needed ≤? ones mark) ⌝ }
+{
+    (needed as u32) <= u16::count_ones(mark)
+}
+
+// The highest number above one, up to another, with at least so many marks; 0: there is none.
+pub fn enough(marks: &[u16], needed: u8, from: SequenceNumber, to: SequenceNumber) -> SequenceNumber
+    requires { ⌜ length (now marks) ≡ placesMost ⌝ }
+    ensures { λ r. ⌜ r .0 ≡ enoughOf (now (marks .entry)) needed (from .0) (to .0 - from .0) ⌝ }
+{
+    let mut last = to.0;
+    while from.0 < last {
+        let at = place(last as u64);
+        if has_enough(marks[at], needed) {
+            return SequenceNumber(last);
+        }
+        last -= 1;
+    }
+    SequenceNumber(0)
+}
+
+// Clears the marks of the numbers above one, up to another.
+pub fn unmark(marks: &mut [u16], from: SequenceNumber, to: SequenceNumber)
+    requires { ⌜ length (now marks) ≡ placesMost ⌝ }
+    ensures { λ _. ⌜ now (marks .exit) ≡ unmarkedOf (now (marks .entry)) (from .0) (to .0 - from .0) ⌝ }
+{
+    let mut passed = from.0;
+    while passed < to.0 {
+        passed += 1;
+        let at = place(passed as u64);
+        marks[at] = 0;
+    }
 }
 
 pub fn larger(a: u32, b: u32) -> u32
@@ -371,14 +481,14 @@ pub fn repeats(repeats: &[u32]) -> u32
     }
 }
 
-// Questions 9 and 10 of a sender and the number it acknowledges.
-fn ask_sender(n: u8, top: SequenceNumber, sender: MemberNumber, taken: SequenceNumber) -> Verdict
-    ensures { λ r. ⌜ r ≡ senderVerdict n (top .0) sender taken ⌝ }
+// Questions 9 and 10 of a sender and its number A, which is at most `most`.
+fn ask_sender(n: u8, most: SequenceNumber, sender: MemberNumber, a: SequenceNumber) -> Verdict
+    ensures { λ r. ⌜ r ≡ senderVerdict n (most .0) sender a ⌝ }
 {
     if n <= sender.0 {
         return Verdict::Refused(Refusal::UnknownMember);
     }
-    if top.0 < taken.0 {
+    if most.0 < a.0 {
         return Verdict::Refused(Refusal::AcknowledgedAhead);
     }
     Verdict::Accepted
@@ -421,15 +531,16 @@ fn ask_wanted(top: SequenceNumber, last: SequenceNumber) -> Verdict
 fn ask_request(
     n: u8,
     counts: &[u32],
+    accepted: SequenceNumber,
     top: SequenceNumber,
     sender: MemberNumber,
     taken: SequenceNumber,
     count: u32,
 ) -> Verdict
     requires { ⌜ (n ≤ membersMost) × (length (now counts) ≡ membersMost) ⌝ }
-    ensures { λ r. ⌜ r ≡ requestVerdict n (countsOnly (now (counts .entry))) (top .0) sender taken count ⌝ }
+    ensures { λ r. ⌜ r ≡ requestVerdict n (countsOnly (now (counts .entry))) (accepted .0) (top .0) sender taken count ⌝ }
 {
-    let v = ask_sender(n, top, sender, taken);
+    let v = ask_sender(n, accepted, sender, taken);
     match v {
         Verdict::Accepted => {
             let at = sender.0 as usize;
@@ -442,30 +553,83 @@ fn ask_request(
 // Questions 9, 10 and 12 of a gap.
 fn ask_gap(
     n: u8,
+    accepted: SequenceNumber,
     top: SequenceNumber,
     sender: MemberNumber,
     taken: SequenceNumber,
     last: SequenceNumber,
 ) -> Verdict
-    ensures { λ r. ⌜ r ≡ gapVerdict n (top .0) sender taken last ⌝ }
+    ensures { λ r. ⌜ r ≡ gapVerdict n (accepted .0) (top .0) sender taken last ⌝ }
 {
-    let v = ask_sender(n, top, sender, taken);
+    let v = ask_sender(n, accepted, sender, taken);
     match v {
         Verdict::Accepted => ask_wanted(top, last),
         Verdict::Refused(q) => Verdict::Refused(q),
     }
 }
 
-// Questions 7 to 12, and 16, of a packet from the group of a number: kinds 1, 3 and 4 are for this end.
+// Whether a confirmation's number is accepted, or its sender is expected.
+fn may_confirm(
+    group: Group,
+    accepted: SequenceNumber,
+    sender: MemberNumber,
+    number: SequenceNumber,
+) -> bool
+    requires { ⌜ (1 ≤ group .n) × (group .n ≤ membersMost) ⌝ }
+    ensures { λ r. ⌜ r ≡ (if number .0 ≤? accepted .0 then true else isIn (expectedOf group) (sender .0)) ⌝ }
+{
+    if number.0 <= accepted.0 {
+        return true;
+    }
+    let expected = group.expected();
+    group::is_in(expected, sender)
+}
+
+// Question 25 of a confirmation.
+fn ask_expected(
+    group: Group,
+    accepted: SequenceNumber,
+    sender: MemberNumber,
+    number: SequenceNumber,
+) -> Verdict
+    requires { ⌜ (1 ≤ group .n) × (group .n ≤ membersMost) ⌝ }
+    ensures { λ r. ⌜ r ≡ expectedVerdict group (accepted .0) sender number ⌝ }
+{
+    if may_confirm(group, accepted, sender, number) {
+        return Verdict::Accepted;
+    }
+    Verdict::Refused(Refusal::NotExpected)
+}
+
+// Questions 9, 10 and 25 of a confirmation.
+fn ask_confirm(
+    group: Group,
+    accepted: SequenceNumber,
+    top: SequenceNumber,
+    sender: MemberNumber,
+    number: SequenceNumber,
+) -> Verdict
+    requires { ⌜ (1 ≤ group .n) × (group .n ≤ membersMost) ⌝ }
+    ensures { λ r. ⌜ r ≡ confirmVerdict group (accepted .0) (top .0) sender number ⌝ }
+{
+    let v = ask_sender(group.n, top, sender, number);
+    match v {
+        Verdict::Accepted => ask_expected(group, accepted, sender, number),
+        Verdict::Refused(q) => Verdict::Refused(q),
+    }
+}
+
+// Questions 7 to 12, 25, and 16, of a packet from the group of a number: kinds 1, 3, 4 and 7 are for this end.
 pub fn ask_packet(
     group: Group,
     counts: &[u32],
+    accepted: SequenceNumber,
     top: SequenceNumber,
     number: u32,
     packet: Packet,
 ) -> Verdict
-    requires { ⌜ (group .n ≤ membersMost) × (length (now counts) ≡ membersMost) ⌝ }
-    ensures { λ r. ⌜ r ≡ packetVerdict group (countsOnly (now (counts .entry))) (top .0) number packet ⌝ }
+    requires { ⌜ (1 ≤ group .n) × (group .n ≤ membersMost) × (length (now counts) ≡ membersMost) ⌝ }
+    ensures { λ r. ⌜ r ≡ packetVerdict group (countsOnly (now (counts .entry))) (accepted .0) (top .0) number packet ⌝ }
 {
     if number != group.number {
         return Verdict::Refused(Refusal::OtherGroup);
@@ -476,7 +640,7 @@ pub fn ask_packet(
             sender,
             taken,
             count,
-        } => ask_request(n, counts, top, sender, taken, count),
+        } => ask_request(n, counts, accepted, top, sender, taken, count),
         Packet::Broadcast {
             originator: _,
             number: _,
@@ -488,9 +652,17 @@ pub fn ask_packet(
             taken,
             first: _,
             last,
-        } => ask_gap(n, top, sender, taken, last),
-        Packet::Status { sender, taken } => ask_sender(n, top, sender, taken),
+        } => ask_gap(n, accepted, top, sender, taken, last),
+        Packet::Status { sender, taken } => ask_sender(n, accepted, sender, taken),
         Packet::Poll { top: _, floor: _ } => Verdict::Refused(Refusal::OtherEnd),
+        Packet::Offer {
+            originator: _,
+            number: _,
+            count: _,
+            floor: _,
+        } => Verdict::Refused(Refusal::OtherEnd),
+        Packet::Confirm { sender, number } => ask_confirm(group, accepted, top, sender, number),
+        Packet::Accept { number: _ } => Verdict::Refused(Refusal::OtherEnd),
     }
 }
 
@@ -530,6 +702,23 @@ pub fn sender_of(packet: Packet) -> Sender
             taken,
         },
         Packet::Poll { top: _, floor: _ } => Sender {
+            member: MemberNumber(0),
+            taken: SequenceNumber(0),
+        },
+        Packet::Offer {
+            originator: _,
+            number: _,
+            count: _,
+            floor: _,
+        } => Sender {
+            member: MemberNumber(0),
+            taken: SequenceNumber(0),
+        },
+        Packet::Confirm { sender, number: _ } => Sender {
+            member: sender,
+            taken: SequenceNumber(0),
+        },
+        Packet::Accept { number: _ } => Sender {
             member: MemberNumber(0),
             taken: SequenceNumber(0),
         },

@@ -4,7 +4,7 @@ use Prim.Native.Nat.{ℕ, zero, suc, _+_, _*_}
 use lib.ListN.{length, getD}
 use Rattle.group.specs.Limits.{membersMost}
 use Rattle.history.specs.State.{Acknowledgement, noAcknowledgement}
-use Rattle.member.specs.State.{Member, rowEndOf}
+use Rattle.member.specs.State.{Member, reachOf}
 use Rattle.member.specs.View.{viewOf}
 use Rattle.member.specs.declared.Member.{Member as Stored}
 use Rattle.model.specs.World.{Group, noMember}
@@ -18,10 +18,10 @@ use Rattle.inspection.specs.Lists.{listsOf}
 abbrev pub columns : List (List ℕ)
 columns = textOf "terminal" ∷ textOf "taken" ∷ textOf "row" ∷ textOf "submitted" ∷ textOf "waiting" ∷ textOf "repeats" ∷ []
 
--- a terminal's numbers behind its own: the last that it took, the end of the row that it took or holds, its submissions so far,
--- how many of them wait, and its repeats at the sequencer
+-- a terminal's numbers behind its own: the last that it took, the end of the row that it took or holds, offered messages included,
+-- its submissions so far, how many of them wait, and its repeats at the sequencer
 unfoldable pub rowOf : Member → ℕ → List ℕ
-rowOf m repeats = m .taken .0 ∷ rowEndOf m ∷ m .submitted ∷ m .waiting ∷ repeats ∷ []
+rowOf m repeats = m .taken .0 ∷ reachOf m ∷ m .submitted ∷ m .waiting ∷ repeats ∷ []
 
 abbrev pub rowIn : List Member → List Acknowledgement → ℕ → List ℕ
 rowIn members table i = rowOf (getD members i noMember) (getD table i noAcknowledgement .repeats)

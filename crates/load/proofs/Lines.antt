@@ -10,14 +10,14 @@ use lib.Seq.{length-take-le, take-at}
 use Rattle.descriptor.specs.Descriptor.{Takes}
 use Rattle.descriptor.specs.declared.Sink.{Sink}
 use Rattle.descriptor.proofs.Laws.{takes-none, takes-both, takes-as, takes-nothing}
-use Rattle.group.specs.Choice.{_and_, _≤?_}
+use Rattle.group.specs.Choice.{ask_or_then_, _and_, _<?_, _≤?_}
 use Rattle.group.specs.Lent.{front}
 use Rattle.group.specs.Limits.{membersMost}
 use Rattle.group.specs.Opening as group
 use Rattle.group.specs.declared.Group.{Group}
 use Rattle.group.specs.declared.Opened.{Opened}
 use Rattle.group.specs.declared.Refusal.{Refusal}
-use Rattle.group.specs.declared.Refusal.the-variants.{Opening}
+use Rattle.group.specs.declared.Refusal.the-variants.{Opening, Resilience}
 use Rattle.group.proofs.Choice.{if-was, both-first, both-then}
 use Rattle.group.proofs.Lists.{le-or}
 use Rattle.text.specs.LaidAt.{LaidAt}
@@ -111,11 +111,12 @@ refused-not : {refusal : Refusal} → Answer.Refused refusal ≡ Answer.Written 
 refused-not e = let z : _≡_ {A = ℕ} 0 1 = cc in omega arith
 
 -- a group that is open has 1 to 16 members
-open-within : (n number : ℕ) (g : Group) → group.openOf n number ≡ Opened.Open g → (1 ≤ g .n) × (g .n ≤ membersMost)
+open-within : (n number : ℕ) (g : Group) → group.openOf n number 0 ≡ Opened.Open g → (1 ≤ g .n) × (g .n ≤ membersMost)
 unfolding group.openOf
 open-within n number g e =
-    let w = if-was (1 ≤? n and n ≤? membersMost) (Opened.Open (group.descriptionOf n number)) (Opened.Refused Opening) (Opened.Open g) e (λ z. let a : _≡_ {A = ℕ} 0 1 = cc in omega arith) in
-    let d = w .1 in
+    let w = if-was (1 ≤? n and n ≤? membersMost) (ask 0 <? n or Opened.Refused Resilience then Opened.Open (group.descriptionOf n number 0)) (Opened.Refused Opening) (Opened.Open g) e (λ z. let a : _≡_ {A = ℕ} 0 1 = cc in omega arith) in
+    let d = if-was (0 <? n) (Opened.Open (group.descriptionOf n number 0)) (Opened.Refused Resilience) (Opened.Open g) (w .1) (λ z. let a : _≡_ {A = ℕ} 0 1 = cc in omega arith) in
+    let f = d .1 in
     let m : n ≡ g .n = cc in
     let h = leb-true 1 n (both-first (1 ≤? n) (n ≤? membersMost) (w .0)) in
     let l = leb-true n membersMost (both-then (1 ≤? n) (n ≤? membersMost) (w .0)) in
@@ -129,10 +130,10 @@ module _ (seed n number events : ℕ) (sink : Sink) where
   prints-whole {step} {first} {last} s w f l =
       record {
         answer = ap (λ (x : Step). x .answer) s;
-        takes = go (group.openOf n number) refl (sym (ap (λ (x : Step). x .answer) s) ∙ w) f (takes-as (ap (λ (x : Step). linesFrom (x .load) events) s) l);
+        takes = go (group.openOf n number 0) refl (sym (ap (λ (x : Step). x .answer) s) ∙ w) f (takes-as (ap (λ (x : Step). linesFrom (x .load) events) s) l);
       }
     where
-      go : (o : Opened) → group.openOf n number ≡ o → opened seed o .answer ≡ Answer.Written → Takes sink (opened seed o .bytes) first → Takes first (linesFrom (opened seed o .load) events) last
+      go : (o : Opened) → group.openOf n number 0 ≡ o → opened seed o .answer ≡ Answer.Written → Takes sink (opened seed o .bytes) first → Takes first (linesFrom (opened seed o .load) events) last
           → Takes sink (printedOf seed events o) last
       go (Opened.Open g) e a f l = let k = open-within n number g e in takes-both f (takes-as (lines-events (g .n) (k .0) (k .1) seed events) l)
       go (Opened.Refused refusal) e a f l = absurd (refused-not a)
@@ -141,7 +142,7 @@ module _ (seed n number events : ℕ) (sink : Sink) where
       → Prints seed n number events sink (record { answer = step .answer; sink = sink })
   unfolding opened printedOf
   prints-nothing {step} {refusal} s w =
-      record { answer = ap (λ (x : Step). x .answer) s; takes = go (group.openOf n number) (sym (ap (λ (x : Step). x .answer) s) ∙ w) }
+      record { answer = ap (λ (x : Step). x .answer) s; takes = go (group.openOf n number 0) (sym (ap (λ (x : Step). x .answer) s) ∙ w) }
     where
       go : (o : Opened) → opened seed o .answer ≡ Answer.Refused refusal → Takes sink (printedOf seed events o) sink
       go (Opened.Open g) a = absurd (refused-not (sym a))

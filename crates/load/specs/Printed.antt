@@ -18,4 +18,4 @@ printedOf seed events (Opened.Refused refusal) = []
 -- the sink took that, and the answer is the opening's
 pub record Prints (seed n number events : ℕ) (sink : Sink) (r : Printed) : Type 0 where
   pub answer : r .answer ≡ openOf seed n number .answer
-  pub takes : Takes sink (printedOf seed events (group.openOf n number)) (r .sink)
+  pub takes : Takes sink (printedOf seed events (group.openOf n number 0)) (r .sink)

@@ -38,7 +38,7 @@ submitPast m payload =
 
 abbrev takePast : Member → member.Outcome
 takePast m =
-    if isHeld (m .held) (m .taken .0 + 1) then member.tookOf m (messageAt (m .held) (m .taken .0 + 1)) else
+    if member.isReady m (m .taken .0 + 1) then member.tookOf m (messageAt (m .held) (m .taken .0 + 1)) else
     member.answered m memberAnswer.Answer.None
 
 abbrev statusPast : Member → member.Outcome
@@ -106,7 +106,7 @@ module _ (group : description.Group) where
     g = w .group
 
     sound : (i : ℕ) → (i <? length (g .members)) ≡ true → memberSound.soundOf (getD (g .members) i noMember) ≡ true
-    sound i t = let z = ltb-true i (length (g .members)) t in let y = v .members in v .terminal i (omega arith) .sound
+    sound i t = let z = ltb-true i (length (g .members)) t in let y = v .members in v .terminal i (omega arith) .content .sound
 
     at-past : (i : ℕ) (call call′ : Member → member.Outcome) → ((m : Member) → memberSound.soundOf m ≡ true → call m ≡ call′ m) → atMember g i call ≡ atMember g i call′
     at-past i call call′ h =

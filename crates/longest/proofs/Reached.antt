@@ -18,7 +18,7 @@ use Rattle.history.specs.State.{floorOf}
 use Rattle.longest.proofs.Quick.{past, leaves, run-leaves}
 use Rattle.longest.specs.Slowest.{rounds, hands, holders, lasts, slowest, Reached}
 use Rattle.member.specs.Calls as member
-use Rattle.member.specs.State.{rowEndOf, acknowledgedOf, freshMember}
+use Rattle.member.specs.State.{reachOf, acknowledgedOf, freshMember}
 use Rattle.message.specs.Message.{messageOf, emptyMessage, payloadOf}
 use Rattle.model.proofs.Step.{fresh-inv}
 use Rattle.model.specs.Closing.{takeRow, closeMember, closeFrom}
@@ -32,12 +32,12 @@ use Rattle.window.specs.Places as window
 
 -- how long the closing round of a group is
 abbrev lengthOf : Group → ℕ
-lengthOf g = length (closeFrom (g .members) 0 (g .sequencer .top .0) (length (g .packets)))
+lengthOf g = length (closeFrom (g .members) 0 (g .sequencer .accepted .0) (length (g .packets)))
 
 -- whether the list of n leads to the figure, computed with all that the line names
 unfoldable leads : ℕ → Bool
-unfolding if_then_else_ least openOf judged member.answered rowEndOf acknowledgedOf member.requestPacket member.statusPacket member.submitVerdict member.withWaiting member.withHeld member.gapUpTo member.keptOf member.broadcastOf window.smallerOf member.contentStep member.readStep member.isOwn member.withTaken member.tookOf member.openedOf member.freshOf window.lowestMissing window.rowEnd freshMember messageOf emptyMessage payloadOf takeRow closeMember closeFrom freshMembers fresh numberAt bytesOf headerOf knownKind payloadFits obeys fieldsVerdict readOf headerBytes packetOf contentOf fieldsOf written sequencer.answered sequencer.broadcastOf sequencer.withMessage sequencer.numberedOf sequencer.requestOf senderVerdict countVerdict sequencer.contentStep sequencer.readStep sequencer.openedOf sequencer.freshOf largerOf tableNoted clearedOf withTable noteOf floorOf freshSequencer rounds hands holders lasts slowest past leaves
-leads n = lengthOf (leaves (fresh n 7 .group) (slowest n)) =? longestClosing n
+unfolding if_then_else_ least openOf judged member.answered reachOf acknowledgedOf member.requestPacket member.statusPacket member.submitVerdict member.withWaiting member.withAccepted member.withHeld member.gapUpTo member.keptOf member.messageStep member.broadcastOf window.largerOf window.smallerOf member.contentStep member.readStep member.isOwn member.withTaken member.isReady member.tookOf member.openedOf member.freshOf window.lowestMissing window.rowEnd freshMember messageOf emptyMessage payloadOf takeRow closeMember closeFrom freshMembers fresh numberAt bytesOf headerOf knownKind payloadFits obeys fieldsVerdict readOf headerBytes packetOf contentOf fieldsOf written sequencer.answered sequencer.announced sequencer.broadcastOf sequencer.withMessage sequencer.numberedOf sequencer.requestOf senderVerdict countVerdict sequencer.contentStep sequencer.readStep sequencer.openedOf sequencer.freshOf largerOf tableNoted clearedOf withTable noteOf floorOf freshSequencer rounds hands holders lasts slowest past leaves
+leads n = lengthOf (leaves (fresh n 7 0 .group) (slowest n)) =? longestClosing n
 
 -- eight at a time: the steps that one declaration may take have a limit
 low : allAbove leads 0 8 ≡ true
@@ -48,11 +48,11 @@ high : allAbove leads 8 8 ≡ true
 unfolding leads allAbove
 high = refl
 
-leads-there : (n : ℕ) → leads n ≡ true → lengthOf (leaves (fresh n 7 .group) (slowest n)) ≡ longestClosing n
+leads-there : (n : ℕ) → leads n ≡ true → lengthOf (leaves (fresh n 7 0 .group) (slowest n)) ≡ longestClosing n
 unfolding leads
-leads-there n e = eqb-true (lengthOf (leaves (fresh n 7 .group) (slowest n))) (longestClosing n) e
+leads-there n e = eqb-true (lengthOf (leaves (fresh n 7 0 .group) (slowest n))) (longestClosing n) e
 
 pub reached : Reached
 reached n lo hi =
-    ap lengthOf (run-leaves (descriptionOf n 7) hi (omega arith) (fresh n 7) (slowest n) (fresh-inv n 7 lo hi (omega arith)))
+    ap lengthOf (run-leaves (descriptionOf n 7 0) hi (omega arith) (fresh n 7 0) (slowest n) (fresh-inv n 7 0 (record { least = lo; most = hi; resilient = lo; fits = omega arith })))
     ∙ leads-there n (le-or n 8 (λ le. above-each leads 0 8 low n lo le) (λ lt. above-each leads 8 8 high n lt hi))

@@ -40,7 +40,7 @@ slowest n =
 
 -- a closing round after it takes exactly as many events as one can
 abbrev pub Reaches : ℕ → Type 0
-Reaches n = length (closing (run (fresh n 7) (slowest n))) ≡ longestClosing n
+Reaches n = length (closing (run (fresh n 7 0) (slowest n))) ≡ longestClosing n
 
 abbrev pub Reached : Type 0
 Reached = (n : ℕ) → 1 ≤ n → n ≤ membersMost → Reaches n

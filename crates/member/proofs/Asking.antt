@@ -7,25 +7,27 @@ use Prim.Native.Nat.{ℕ, zero, suc, _+_, _-_, _≤_}
 use native.Mathlib.Omega.{arith}
 use borrow.Author.Tests.{lt-ltb}
 use lib.ListN.{length}
-use Rattle.group.specs.Choice.{if_then_else_, ask_or_then_, _<?_, _≤?_, _=?_}
+use Rattle.group.specs.Choice.{if_then_else_, ask_or_then_, _and_, _<?_, _≤?_, _=?_}
 use Rattle.group.specs.Limits.{heldMost, waitingMost, payloadMost, largestNumber}
+use Rattle.group.specs.Members.{isIn, expectedOf}
 use Rattle.group.specs.Question.{Question, firstNo, judged}
+use Rattle.group.specs.declared.MemberNumber.{MemberNumber}
 use Rattle.group.specs.declared.Refusal.{Refusal}
 use Rattle.group.specs.declared.Verdict.{Verdict}
 use Rattle.group.proofs.Choice.{says}
 use Rattle.group.proofs.Lists.{if-elim}
 use Rattle.group.proofs.Question.{judged-ask, judged-append, judged-same}
 use Rattle.packet.specs.Laws.{readQuestions}
-use Rattle.packet.specs.Packet.{broadcastKind, pollKind, headerOf, knownKind, obeys, contentOf, payloadAt, readOf}
+use Rattle.packet.specs.Packet.{broadcastKind, pollKind, offerKind, acceptKind, headerOf, knownKind, obeys, contentOf, payloadAt, readOf}
 use Rattle.packet.specs.declared.Header.{Header}
 use Rattle.packet.specs.declared.Reading.{Reading}
 use Rattle.packet.proofs.Laws.{read-first-no}
 use Rattle.packet.proofs.Verdicts.{askable, readable}
-use Rattle.member.specs.Calls.{Outcome, answered, refused, requestPacket, statusPacket, callVerdict, submitVerdict, withWaiting, submitOf, repeatOf, statusOf, gapUpTo, keptOf, broadcastOf, pollOf, contentStep, readStep, receiveOf, tookOf, takeOf}
+use Rattle.member.specs.Calls.{Outcome, answered, refused, requestPacket, statusPacket, callVerdict, submitVerdict, withWaiting, submitOf, repeatOf, statusOf, withAccepted, gapUpTo, keptOf, messageStep, broadcastOf, confirms, noneMissing, confirmedOf, offerOf, pollOf, contentStep, readStep, receiveOf, isReady, tookOf, takeOf}
 use Rattle.member.specs.Laws.{callQuestions, fieldsQuestions, submitQuestions, repeatQuestions, receiveQuestions, FirstNo, SubmitFirstNo, RepeatFirstNo, StatusFirstNo, TakeFirstNo, ReceiveFirstNo}
 use Rattle.window.specs.Places.{isHeld, lowestMissing}
 use Rattle.member.specs.declared.Answer.{Answer}
-use Rattle.member.specs.declared.Answer.the-variants.{Refused, Sent, Queued, Old, Kept, KeptGap, Beyond, BeyondGap, Gap, Status, None, Took}
+use Rattle.member.specs.declared.Answer.the-variants.{Refused, Sent, Queued, Old, Kept, KeptGap, Beyond, BeyondGap, Gap, Status, None, Noted, Took}
 use Rattle.member.specs.State.{Member}
 use Rattle.member.proofs.Laws.{call-sound}
 use Rattle.member.proofs.Soundness.{Sound, sound-of}
@@ -43,6 +45,7 @@ refuses BeyondGap = false
 refuses Gap = false
 refuses Status = false
 refuses None = false
+refuses Noted = false
 refuses (Took number originator count more) = false
 
 record Accepts (o : Outcome) : Type 0 where
@@ -79,7 +82,7 @@ pub take-first-no : TakeFirstNo
 unfolding takeOf tookOf answered firstNo judged
 take-first-no m room =
     asked m (callQuestions m room) _ _ (call-asked m room [] _ _ (λ _. refl))
-    (if-elim Accepts (isHeld (m .held) (m .taken .0 + 1))
+    (if-elim Accepts (isReady m (m .taken .0 + 1))
     (λ _. record { no = refl })
     (λ _. record { no = refl }))
 
@@ -106,29 +109,46 @@ submit-first-no m payload room =
     (λ _. record { no = refl })
     (λ _. record { no = refl }))
 
--- what a packet that passes all questions does: a broadcast or a poll
+-- what a packet that passes all questions does: a broadcast, a poll, an offer or an acceptance
 abbrev acceptedStep : Member → Header → List ℕ → Outcome
-acceptedStep m h payload = if h .kind =? broadcastKind then broadcastOf m (h .member) (h .a) (h .b) payload else pollOf m (record { 0 = h .a })
+acceptedStep m h payload =
+    if h .kind =? broadcastKind then broadcastOf m (h .member) (h .a) (h .b) payload else
+    if h .kind =? pollKind then pollOf m (record { 0 = h .a }) else
+    if h .kind =? offerKind then offerOf m (h .member) (h .a) (h .b) payload else
+    answered (withAccepted m (h .a)) Answer.Noted
 
 gap-accepts : (m : Member) (last : ℕ) (gapped : Answer) {whole : Outcome} → refuses gapped ≡ false → Accepts whole → Accepts (gapUpTo m last gapped whole)
 unfolding gapUpTo
 gap-accepts m last gapped f rest = if-elim Accepts (lowestMissing (m .held) (m .taken .0) (last - m .taken .0) =? 0) (λ _. rest) (λ _. record { no = f })
 
+message-accepts : (m : Member) (originator : MemberNumber) (number count : ℕ) (payload : List ℕ) → Accepts (messageStep m originator number count payload)
+unfolding messageStep keptOf answered
+message-accepts m originator number count payload =
+    if-elim Accepts (number ≤? m .taken .0) (λ _. record { no = refl })
+    (λ _. if-elim Accepts (number ≤? m .taken .0 + heldMost)
+    (λ _. if-elim Accepts (isHeld (m .held) number) (λ _. record { no = refl })
+    (λ _. gap-accepts _ (number - 1) Answer.KeptGap refl (record { no = refl })))
+    (λ _. gap-accepts m (m .taken .0 + heldMost) Answer.BeyondGap refl (record { no = refl })))
+
+-- a confirmation leaves the answer
+confirmed-accepts : (o : Outcome) (number : ℕ) → Accepts o → Accepts (confirmedOf o number)
+unfolding confirmedOf
+confirmed-accepts o number a =
+    if-elim Accepts (confirms (o .answer) and noneMissing (o .member) number and isIn (expectedOf (o .member .group)) (o .member .number .0))
+    (λ _. record { no = a .no }) (λ _. a)
+
 step-accepts : (m : Member) (h : Header) (payload : List ℕ) → Accepts (acceptedStep m h payload)
-unfolding broadcastOf keptOf pollOf answered
+unfolding broadcastOf offerOf pollOf answered
 step-accepts m h payload =
-    if-elim Accepts (h .kind =? broadcastKind)
-    (λ _. if-elim Accepts (h .a ≤? m .taken .0) (λ _. record { no = refl })
-    (λ _. if-elim Accepts (h .a ≤? m .taken .0 + heldMost)
-    (λ _. if-elim Accepts (isHeld (m .held) (h .a)) (λ _. record { no = refl })
-    (λ _. gap-accepts _ (h .a - 1) Answer.KeptGap refl (record { no = refl })))
-    (λ _. gap-accepts m (m .taken .0 + heldMost) Answer.BeyondGap refl (record { no = refl }))))
-    (λ _. gap-accepts m _ Answer.Gap refl (record { no = refl }))
+    if-elim Accepts (h .kind =? broadcastKind) (λ _. message-accepts _ (h .member) (h .a) (h .b) payload)
+    (λ _. if-elim Accepts (h .kind =? pollKind) (λ _. gap-accepts m _ Answer.Gap refl (record { no = refl }))
+    (λ _. if-elim Accepts (h .kind =? offerKind) (λ _. confirmed-accepts _ (h .a) (message-accepts m (h .member) (h .a) (h .b) payload))
+    (λ _. record { no = refl })))
 
 -- questions 8 and 9 of fields that obey their kind: the kind decides
 abbrev endQuestions : Member → Header → List Question
 endQuestions m h =
-    record { yes = if h .kind =? broadcastKind then true else h .kind =? pollKind; refusal = Refusal.OtherEnd }
+    record { yes = if h .kind =? broadcastKind then true else if h .kind =? pollKind then true else if h .kind =? offerKind then true else h .kind =? acceptKind; refusal = Refusal.OtherEnd }
     ∷ record { yes = h .member .0 <? m .group .n; refusal = Refusal.UnknownMember }
     ∷ []
 
@@ -147,8 +167,15 @@ content-asked m (suc (suc (suc (suc (suc zero))))) member group a b c payload so
     let x : member ≡ 0 = search says in
     let y : (member <? m .group .n) ≡ true = lt-ltb member (m .group .n) (omega arith) in
     rw y
-content-asked m (suc (suc (suc (suc (suc (suc kind)))))) member group a b c payload some known obey =
-    let z : suc (suc (suc (suc (suc (suc kind))))) ≤ 5 = search says in
+content-asked m (suc (suc (suc (suc (suc (suc zero)))))) member group a b c payload some known obey =
+    judged-ask (refused m) (offerOf m (record { 0 = member }) a b payload) (member <? m .group .n) Refusal.UnknownMember []
+content-asked m (suc (suc (suc (suc (suc (suc (suc zero))))))) member group a b c payload some known obey = refl
+content-asked m (suc (suc (suc (suc (suc (suc (suc (suc zero)))))))) member group a b c payload some known obey =
+    let x : member ≡ 0 = search says in
+    let y : (member <? m .group .n) ≡ true = lt-ltb member (m .group .n) (omega arith) in
+    rw y
+content-asked m (suc (suc (suc (suc (suc (suc (suc (suc (suc kind))))))))) member group a b c payload some known obey =
+    let z : suc (suc (suc (suc (suc (suc (suc (suc (suc kind)))))))) ≤ 8 = search says in
     absurd (omega arith)
 
 -- a reading that is a verdict is received as that verdict

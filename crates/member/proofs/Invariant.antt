@@ -9,16 +9,17 @@ use native.Mathlib.Omega.{arith}
 use lib.ListN.{length, take, drop, take-append-drop}
 use Rattle.group.proofs.Lists.{at, at-taken, at-take, All}
 use Rattle.group.specs.Limits.{heldMost, payloadMost}
+use Rattle.group.specs.Members.{neededOf}
 use Rattle.group.specs.declared.Group.{Group}
 use Rattle.message.proofs.Owning.{Owns, own-grows, owns-take}
 use Rattle.message.proofs.Kept.{kept-payload}
 use Rattle.message.specs.Message.{messageOf, payloadOf}
 use Rattle.message.specs.Order.{Ordered, ownOf}
-use Rattle.packet.proofs.Facts.{KnownBy}
+use Rattle.packet.proofs.Facts.{Voice, Louder, KnownBy}
 use Rattle.member.specs.Calls.{Outcome, firstWaiting}
 use Rattle.member.specs.Laws.{Typed}
 use Rattle.member.specs.Sound.{soundOf}
-use Rattle.member.specs.State.{Member, acknowledgedOf, firstCount}
+use Rattle.member.specs.State.{Member, reachOf, acknowledgedOf, firstCount}
 use Rattle.window.specs.Places.{messageAt, queuedAt}
 use Rattle.member.proofs.Soundness.{sound-of}
 
@@ -26,14 +27,17 @@ use Rattle.member.proofs.Soundness.{sound-of}
 abbrev pub requestedBy : Member → List (List ℕ) → List (List ℕ)
 requestedBy m submitted = take (firstCount m) submitted
 
--- terminal i of the group: `acknowledged` is what the sequencer knows that it acknowledged, `took` what it took, `submitted` the
--- payloads that it submitted
-pub record Terminal (group : Group) (i acknowledged : ℕ) (m : Member) (order took : List Ordered) (submitted : List (List ℕ)) : Type 0 where
-  pub group-is : m .group ≡ group
-  pub number-is : m .number .0 ≡ i
+-- what a member can say of itself, where `requested` are the submissions that it requested
+abbrev pub voiceWith : Member → List (List ℕ) → Voice
+voiceWith m requested = record { row = acknowledgedOf m .0; reach = reachOf m; submitted = requested }
+
+abbrev pub voiceOf : Member → List (List ℕ) → Voice
+voiceOf m submitted = voiceWith m (requestedBy m submitted)
+
+-- what terminal i has of an order, where `took` is what it took and `submitted` the payloads that it submitted
+pub record Content (i : ℕ) (m : Member) (order took : List Ordered) (submitted : List (List ℕ)) : Type 0 where
   pub typed : Typed m
   pub sound : soundOf m ≡ true
-  pub acknowledged-le : acknowledged ≤ acknowledgedOf m .0
   pub taken-le : m .taken .0 ≤ length order
   -- what it took is the first t of the order
   pub took-is : took ≡ take (m .taken .0) order
@@ -52,15 +56,28 @@ pub record Terminal (group : Group) (i acknowledged : ℕ) (m : Member) (order t
   pub own-is : Owns i order submitted
   pub payload-ok : (c : ℕ) (payload : List ℕ) → at submitted c ≡ some payload → length payload ≤ payloadMost
 
+-- its seat in the group: `acknowledged` is what the sequencer knows that it acknowledged, `accepted` the sequencer's last accepted number
+pub record Seat (group : Group) (i acknowledged accepted : ℕ) (m : Member) : Type 0 where
+  pub group-is : m .group ≡ group
+  pub number-is : m .number .0 ≡ i
+  pub acknowledged-le : acknowledged ≤ acknowledgedOf m .0
+  pub accepted-le : m .accepted .0 ≤ accepted
+  -- where none has to confirm, all that it holds is accepted
+  pub plain : neededOf group ≡ 0 → (k : ℕ) → m .taken .0 < k → k ≤ m .taken .0 + heldMost → 1 ≤ messageAt (m .held) k .count → k ≤ m .accepted .0
+
+-- terminal i of the group
+pub record Terminal (group : Group) (i acknowledged accepted : ℕ) (m : Member) (order took : List Ordered) (submitted : List (List ℕ)) : Type 0 where
+  pub content : Content i m order took submitted
+  pub seat : Seat group i acknowledged accepted m
+
 -- what a call of terminal i's member owes, where m is the member before it, took′ and submitted′ what the terminal took and
 -- submitted by then, and `packets` what was written
-pub record MemberGood (group : Group) (i acknowledged : ℕ) (order : List Ordered) (submitted : List (List ℕ)) (m : Member) (took′ : List Ordered) (submitted′ packets : List (List ℕ)) (o : Outcome) : Type 0 where
-  pub terminal : Terminal group i acknowledged (o .member) order took′ submitted′
-  pub up : acknowledgedOf m .0 ≤ acknowledgedOf (o .member) .0
-  pub grown : (c : ℕ) (payload : List ℕ) → at (requestedBy m submitted) c ≡ some payload → at (requestedBy (o .member) submitted′) c ≡ some payload
-  pub known : All (KnownBy (group .number) i (acknowledgedOf (o .member) .0) (requestedBy (o .member) submitted′)) packets
+pub record MemberGood (group : Group) (i acknowledged accepted : ℕ) (order : List Ordered) (submitted : List (List ℕ)) (m : Member) (took′ : List Ordered) (submitted′ packets : List (List ℕ)) (o : Outcome) : Type 0 where
+  pub terminal : Terminal group i acknowledged accepted (o .member) order took′ submitted′
+  pub louder : Louder (voiceOf m submitted) (voiceOf (o .member) submitted′)
+  pub known : All (KnownBy (group .number) (neededOf group) i (voiceOf (o .member) submitted′)) packets
 
-module _ {group : Group} {i acknowledged : ℕ} {m : Member} {order took : List Ordered} {submitted : List (List ℕ)} (h : Terminal group i acknowledged m order took submitted) where
+module _ {i : ℕ} {m : Member} {order took : List Ordered} {submitted : List (List ℕ)} (h : Content i m order took submitted) where
   -- the last count numbered lies from u - w to u - w + 1: what it took of its own, and perhaps the first that waits
   pub numbered-near : (m .submitted - m .waiting ≤ length (ownOf i order)) × (length (ownOf i order) ≤ m .submitted - m .waiting + 1)
   numbered-near =
@@ -83,7 +100,7 @@ module _ {group : Group} {i acknowledged : ℕ} {m : Member} {order took : List 
       at-take (firstCount m) submitted (firstCount m) (le-refl _) (z .1 ∙ ap some (sym p))
 
   -- what was requested grows with what it took and submitted
-  pub requested-grows : {m′ : Member} {order′ took′ : List Ordered} {submitted′ : List (List ℕ)} → Terminal group i acknowledged m′ order′ took′ submitted′
+  pub requested-grows : {m′ : Member} {order′ took′ : List Ordered} {submitted′ : List (List ℕ)} → Content i m′ order′ took′ submitted′
       → length (ownOf i took) ≤ length (ownOf i took′) → ((c : ℕ) (payload : List ℕ) → at submitted c ≡ some payload → at submitted′ c ≡ some payload)
       → (c : ℕ) (payload : List ℕ) → at (requestedBy m submitted) c ≡ some payload → at (requestedBy m′ submitted′) c ≡ some payload
   requested-grows {m′ = m′} {submitted′ = submitted′} h′ le more c payload e =

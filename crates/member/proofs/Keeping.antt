@@ -14,12 +14,13 @@ use Rattle.group.proofs.Choice.{says}
 use Rattle.group.proofs.Lists.{if-elim}
 use Rattle.message.specs.Message.{Message, messageOf, emptyMessage, blank}
 use Rattle.message.proofs.Kept.{kept-zero, empty-zero}
-use Rattle.member.specs.Calls.{withWaiting, withHeld, withTaken, isOwn}
+use Rattle.member.specs.Calls.{withWaiting, withAccepted, withHeld, withTaken, isOwn}
 use Rattle.member.specs.Laws.{Typed}
 use Rattle.window.specs.Places.{placeOf, messageAt, queuePlace, queuedAt}
 use Rattle.member.specs.State.{Member, firstCount, freshMember}
 use Rattle.window.proofs.Keeping.{empty-none, held-places, taken-places, queue-length, queued-each, waiting-more, waiting-less}
 use Rattle.window.proofs.Missing.{set-length}
+use Rattle.window.proofs.Row.{larger-le, le-larger}
 use Rattle.window.proofs.Soundness.{HeldSound, WaitingSound}
 use Rattle.member.proofs.Soundness.{Sound}
 
@@ -32,7 +33,7 @@ module _ (m : Member) (typed : Typed m) where
   -- a message waits
   pub waiting-typed : (payload : List ℕ) → m .submitted < largestNumber → Typed (withWaiting m payload)
   unfolding withWaiting
-  waiting-typed payload left = record { group = typed .group; taken = typed .taken; submitted = omega arith; queue = queue-length (m .queue) (typed .queue) (m .submitted + 1) _; held = typed .held }
+  waiting-typed payload left = record { group = typed .group; taken = typed .taken; accepted = typed .accepted; submitted = omega arith; queue = queue-length (m .queue) (typed .queue) (m .submitted + 1) _; held = typed .held }
 
   pub waiting-sound : (payload : List ℕ) → length payload ≤ payloadMost → m .waiting < waitingMost → Sound m → Sound (withWaiting m payload)
   unfolding withWaiting messageOf
@@ -40,18 +41,40 @@ module _ (m : Member) (typed : Typed m) where
       record {
         n-pos = s .n-pos;
         n-most = s .n-most;
+        resilient = s .resilient;
         number-lt = s .number-lt;
+        taken-le = s .taken-le;
         waiting =
             waiting-more (m .number .0) (m .submitted) (m .waiting) (m .queue) (typed .queue) (s .waiting) (messageOf (m .number) (m .submitted + 1) payload) less
             (record { originator-is = refl; count-is = refl; short = short; zero-behind = kept-zero (m .number) (m .submitted + 1) payload });
         places = s .places;
       }
 
+  -- all up to number k are accepted
+  module _ (k : ℕ) where
+    pub accepted-typed : k ≤ largestNumber → Typed (withAccepted m k)
+    unfolding withAccepted
+    accepted-typed fits =
+        record { group = typed .group; taken = typed .taken; accepted = le-larger (m .accepted .0) k largestNumber (typed .accepted) fits; submitted = typed .submitted; queue = typed .queue; held = typed .held }
+
+    pub accepted-sound : Sound m → Sound (withAccepted m k)
+    unfolding withAccepted
+    accepted-sound s =
+        record {
+          n-pos = s .n-pos;
+          n-most = s .n-most;
+          resilient = s .resilient;
+          number-lt = s .number-lt;
+          taken-le = (let z = larger-le (m .accepted .0) k .0 in let y = s .taken-le in omega arith);
+          waiting = s .waiting;
+          places = s .places;
+        }
+
   -- a message is held under number k
   module _ (k : ℕ) (x : Message) where
     pub held-typed : Typed (withHeld m k x)
     unfolding withHeld
-    held-typed = record { group = typed .group; taken = typed .taken; submitted = typed .submitted; queue = typed .queue; held = set-length (m .held) (typed .held) k x }
+    held-typed = record { group = typed .group; taken = typed .taken; accepted = typed .accepted; submitted = typed .submitted; queue = typed .queue; held = set-length (m .held) (typed .held) k x }
 
     pub held-sound : m .taken .0 < k → k ≤ m .taken .0 + heldMost → 1 ≤ x .count → HeldSound (m .group .n) k x → Sound m → Sound (withHeld m k x)
     unfolding withHeld
@@ -59,7 +82,9 @@ module _ (m : Member) (typed : Typed m) where
         record {
           n-pos = s .n-pos;
           n-most = s .n-most;
+          resilient = s .resilient;
           number-lt = s .number-lt;
+          taken-le = s .taken-le;
           waiting = s .waiting;
           places = held-places (m .group .n) (m .taken .0) (m .held) (typed .held) (s .places) k x lo hi some h;
         }
@@ -78,6 +103,7 @@ module _ (m : Member) (typed : Typed m) where
         record {
           group = typed .group;
           taken = omega arith;
+          accepted = typed .accepted;
           submitted = typed .submitted;
           queue =
               if-elim (λ (q : List Message). length q ≡ waitingMost) (isOwn m message)
@@ -86,13 +112,15 @@ module _ (m : Member) (typed : Typed m) where
           held = set-length (m .held) (typed .held) (m .taken .0 + 1) emptyMessage;
         }
 
-    pub taken-sound : Sound m → Sound (withTaken m message)
+    pub taken-sound : Sound m → m .taken .0 + 1 ≤ m .accepted .0 → Sound (withTaken m message)
     unfolding withTaken
-    taken-sound s =
+    taken-sound s ready =
         record {
           n-pos = s .n-pos;
           n-most = s .n-most;
+          resilient = s .resilient;
           number-lt = s .number-lt;
+          taken-le = ready;
           waiting = own-waiting (isOwn m message) (λ e. own-first m message e .0) (s .waiting);
           places = taken-places (m .group .n) (m .taken .0) (m .held) (typed .held) (s .places);
         }
@@ -106,15 +134,17 @@ module _ (group : Group) (number : MemberNumber) where
 
   pub fresh-typed : group .number ≤ largestNumber → Typed (freshMember group number)
   unfolding freshMember
-  fresh-typed h = record { group = h; taken = omega arith; submitted = omega arith; queue = length-replicate waitingMost emptyMessage; held = length-replicate heldMost emptyMessage }
+  fresh-typed h = record { group = h; taken = omega arith; accepted = omega arith; submitted = omega arith; queue = length-replicate waitingMost emptyMessage; held = length-replicate heldMost emptyMessage }
 
-  pub fresh-sound : 1 ≤ group .n → group .n ≤ membersMost → number .0 < group .n → Sound (freshMember group number)
+  pub fresh-sound : 1 ≤ group .n → group .n ≤ membersMost → group .resilience < group .n → number .0 < group .n → Sound (freshMember group number)
   unfolding freshMember
-  fresh-sound lo hi inside =
+  fresh-sound lo hi resilient inside =
       record {
         n-pos = lo;
         n-most = hi;
+        resilient = resilient;
         number-lt = inside;
+        taken-le = omega arith;
         waiting =
             record {
               most = omega arith;

@@ -10,9 +10,11 @@ use borrow.Author.Tests.{leb-true, ltb-true}
 use lib.ListN.{length}
 use Rattle.group.specs.Choice.{if_then_else_, _<?_, _≤?_, _=?_}
 use Rattle.group.specs.Limits.{headerSize, payloadMost, waitingMost, largestNumber}
+use Rattle.group.specs.Members.{neededOf}
+use Rattle.group.specs.declared.MemberNumber.{MemberNumber}
 use Rattle.group.specs.declared.Refusal.{Refusal}
 use Rattle.group.specs.declared.Verdict.{Verdict}
-use Rattle.group.proofs.Choice.{if-was, says}
+use Rattle.group.proofs.Choice.{if-was, both-first, both-then, says}
 use Rattle.group.proofs.Question.{accepted≢}
 use Rattle.group.proofs.Lists.{if-elim, judged-elim, All}
 use Rattle.message.specs.Message.{messageOf, payloadOf}
@@ -21,19 +23,20 @@ use Rattle.packet.specs.Laws.{Allowed}
 use Rattle.packet.specs.Packet.{headerOf, obeys, contentOf, fieldsOf, packetOf, payloadAt, readOf, written}
 use Rattle.packet.specs.declared.Header.{Header}
 use Rattle.packet.specs.declared.Packet.{Packet}
-use Rattle.packet.specs.declared.Packet.the-variants.{Request, Broadcast, Gap, Status, Poll}
+use Rattle.packet.specs.declared.Packet.the-variants.{Request, Broadcast, Gap, Status, Poll, Offer, Confirm, Accept}
 use Rattle.packet.specs.declared.Reading.{Reading}
 use Rattle.packet.proofs.Facts.{KnownBy}
 use Rattle.packet.proofs.Laws.{read-written, fields-content}
 use Rattle.packet.proofs.Verdicts.{readable, askable}
-use Rattle.member.specs.Calls.{Outcome, answered, firstWaiting, requestPacket, statusPacket, callVerdict, submitVerdict, withWaiting, submitOf, repeatOf, statusOf, readStep, receiveOf, withTaken, tookOf, takeOf}
+use Rattle.member.specs.Calls.{Outcome, answered, firstWaiting, requestPacket, statusPacket, callVerdict, submitVerdict, withWaiting, submitOf, repeatOf, statusOf, readStep, receiveOf, withAccepted, withHeld, withTaken, isReady, tookOf, takeOf}
 use Rattle.member.specs.Laws.{Typed, Keeps, WritesPacket, SubmitKeeps, RepeatKeeps, StatusKeeps, ReceiveKeeps, TakeKeeps}
 use Rattle.member.specs.Sound.{soundOf}
 use Rattle.window.specs.Places.{messageAt, isHeld}
 use Rattle.member.specs.State.{Member, acknowledgedOf, firstCount}
 use Rattle.member.specs.declared.Answer.{Answer}
-use Rattle.member.proofs.Keeping.{waiting-typed, waiting-sound, held-typed, held-sound, taken-typed, taken-sound}
-use Rattle.member.proofs.Receiving.{Keepable, read-heard}
+use Rattle.member.proofs.Keeping.{waiting-typed, waiting-sound, accepted-typed, accepted-sound, held-typed, held-sound, taken-typed, taken-sound}
+use Rattle.member.proofs.Invariant.{voiceWith}
+use Rattle.member.proofs.Receiving.{Holdable, Keepable, read-heard}
 use Rattle.member.proofs.Soundness.{Sound, sound-of, of-sound}
 use Rattle.member.proofs.Writes.{Own, request-allowed, status-allowed}
 
@@ -111,14 +114,16 @@ status-keeps m room typed =
     ))
 
 pub take-keeps : TakeKeeps
-unfolding takeOf tookOf answered
+unfolding takeOf isReady tookOf answered
 take-keeps m room typed =
     judged-elim Took (callVerdict m room) (λ r _. none (Answer.Refused r))
-    (λ e. if-elim Took (isHeld (m .held) (m .taken .0 + 1))
-    (λ f. let s = sound-of m (call-sound m room e) in
+    (λ e. if-elim Took (isReady m (m .taken .0 + 1))
+    (λ t. let f = both-first (isHeld (m .held) (m .taken .0 + 1)) _ t in
+    let ready = leb-true (m .taken .0 + 1) (m .accepted .0) (both-then (isHeld (m .held) (m .taken .0 + 1)) _ t) in
+    let s = sound-of m (call-sound m room e) in
     let x = messageAt (m .held) (m .taken .0 + 1) in
     let h = s .places .holds (m .taken .0 + 1) (omega arith) (omega arith) (ltb-true 0 (x .count) f) in
-    (kept m typed (withTaken m x) _ _ (taken-typed m typed x (let z = h .number-le in omega arith)) (taken-sound m typed x s), payload-short x (h .short)))
+    (kept m typed (withTaken m x) _ _ (taken-typed m typed x (let z = h .number-le in omega arith)) (taken-sound m typed x s ready), payload-short x (h .short)))
     (λ _. none Answer.None))
   where
     Took : Outcome → Type 0
@@ -131,31 +136,46 @@ take-keeps m room typed =
 abbrev pub Right : Member → Type 0
 Right m = Typed m × Sound m
 
--- a broadcast that was read may be held
-keepable : (m : Member) (g : ℕ) (content : Packet) (payload : List ℕ) → obeys (fieldsOf g content) ≡ true → fieldsOf g content .a ≤ largestNumber
-    → length payload ≤ payloadMost → Right m → Keepable Right m content payload
-unfolding fieldsOf obeys if_then_else_ messageOf
-keepable m g (Request sender taken count) payload obey most short right = tt
-keepable m g (Broadcast originator number count floor) payload obey most short (typed, s) =
+-- a message that was read may be held
+holdable : (m : Member) (originator : MemberNumber) (number count : ℕ) (payload : List ℕ) → 1 ≤ count → number ≤ largestNumber → length payload ≤ payloadMost → Right m
+    → Holdable Right m originator number count payload
+unfolding messageOf
+holdable m originator number count payload least most short (typed, s) =
     λ a lo hi _. (
-      held-typed m typed (number .0) (messageOf originator count payload),
-      held-sound m typed (number .0) (messageOf originator count payload) lo hi (search says)
+      held-typed m typed number (messageOf originator count payload),
+      held-sound m typed number (messageOf originator count payload) lo hi least
           (record { originator-lt = a; short = short; zero-behind = kept-zero originator count payload; number-le = most }) s,
     )
+
+-- and all up to a number that was read may be accepted
+acceptable : (m : Member) (number : ℕ) → number ≤ largestNumber → Right m → Right (withAccepted m number)
+acceptable m number most (typed, s) = (accepted-typed m typed number most, accepted-sound m typed number s)
+
+keepable : (m : Member) (g : ℕ) (content : Packet) (payload : List ℕ) → obeys (fieldsOf g content) ≡ true → fieldsOf g content .a ≤ largestNumber
+    → length payload ≤ payloadMost → Right m → Keepable Right m content payload
+unfolding fieldsOf obeys if_then_else_
+keepable m g (Request sender taken count) payload obey most short right = tt
+keepable m g (Broadcast originator number count floor) payload obey most short right =
+    let right′ = acceptable m (number .0) most right in
+    (right′, holdable (withAccepted m (number .0)) originator (number .0) count payload (search says) most short right′)
 keepable m g (Gap sender taken first last) payload obey most short right = tt
 keepable m g (Status sender taken) payload obey most short right = tt
 keepable m g (Poll top floor) payload obey most short right = tt
+keepable m g (Offer originator number count floor) payload obey most short right =
+    (search says, holdable m originator (number .0) count payload (search says) most short right)
+keepable m g (Confirm sender number) payload obey most short right = tt
+keepable m g (Accept number) payload obey most short right = acceptable m (number .0) most right
 
 -- packets that a member wrote are packets that reading accepts
 own-writes : (o : Outcome) → Own [] o → WritesPacket o
 unfolding written
 own-writes o = go (o .bytes) refl
   where
-    go : (bytes : List ℕ) → o .bytes ≡ bytes → All (KnownBy (o .member .group .number) (o .member .number .0) (acknowledgedOf (o .member) .0) []) (written bytes) → WritesPacket o
+    go : (bytes : List ℕ) → o .bytes ≡ bytes → All (KnownBy (o .member .group .number) (neededOf (o .member .group)) (o .member .number .0) (voiceWith (o .member) [])) (written bytes) → WritesPacket o
     go [] e k = inl e
     go (b ∷ rest) e (k, _) = writes (o .bytes) (o .member .group .number) (k .content) (k .payload) (e ∙ k .bytes-are) (k .allowed)
 
--- what was read of a packet may be held, if it is a broadcast
+-- what was read of a packet may be held, if it is a message
 pub read-keepable : (m : Member) (packet : List ℕ) → headerOf packet .a ≤ largestNumber → Right m → (h : Header) → readOf packet ≡ Reading.Fields h
     → (fieldsOf (h .group) (contentOf h) .a ≤ largestNumber) × Keepable Right m (contentOf h) (payloadAt packet)
 read-keepable m packet most right h e =

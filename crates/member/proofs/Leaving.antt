@@ -35,7 +35,7 @@ view-whole s t a b e =
     (record { counts-size = b .held-size; originators-size = b .held-originators-size; lengths-size = b .held-lengths-size; bytes-size = b .held-payloads-size })
     (ap (λ (m : Member). m .held) e) in
     λ i. record {
-      head = record { group = e i .group; number = e i .number; taken = e i .taken; submitted = e i .submitted; waiting = e i .waiting };
+      head = record { group = e i .group; number = e i .number; taken = e i .taken; accepted = e i .accepted; submitted = e i .submitted; waiting = e i .waiting };
       queued = queue .0 i;
       held = held .0 i;
       «queued_originators» = queue .1 i;

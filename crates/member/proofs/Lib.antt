@@ -5,6 +5,7 @@ pub mod Acknowledged
 pub mod Writes
 pub mod Receiving
 pub mod Laws
+pub mod More
 pub mod Asking
 pub mod Leaving
 pub mod Ordering
@@ -14,4 +15,5 @@ pub mod View
 pub mod Opening
 pub mod Lends
 pub mod Outcomes
+pub mod Confirming
 pub mod Submitting

@@ -17,7 +17,7 @@ use Rattle.member.specs.declared.Head.{Head}
 use Rattle.member.specs.declared.Member.{Member as Stored}
 
 abbrev pub idleHead : Group → MemberNumber → Head
-idleHead group number = record { group = group; number = number; taken = record { 0 = 0 }; submitted = 0; waiting = 0 }
+idleHead group number = record { group = group; number = number; taken = record { 0 = 0 }; accepted = record { 0 = 0 }; submitted = 0; waiting = 0 }
 
 abbrev pub zeroed : Head → Stored
 zeroed head =

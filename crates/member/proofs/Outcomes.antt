@@ -9,7 +9,7 @@ use lib.ListN.{length, getD, set}
 use Rattle.group.specs.Choice.{if_then_else_, _and_, _≤?_, _<?_, _=?_}
 use Rattle.group.specs.Fold.{allAbove}
 use Rattle.group.specs.Lent.{Laid}
-use Rattle.group.specs.Limits.{heldMost, waitingMost, payloadMost, longestPacket, largestNumber}
+use Rattle.group.specs.Limits.{heldMost, headerSize, waitingMost, payloadMost, longestPacket, largestNumber}
 use Rattle.group.specs.Question.{judged}
 use Rattle.group.specs.declared.Refusal.{Refusal}
 use Rattle.group.specs.declared.SequenceNumber.{SequenceNumber}
@@ -17,22 +17,27 @@ use Rattle.group.specs.declared.Verdict.{Verdict}
 use Rattle.group.specs.declared.Verdict.the-variants.{Accepted, Refused}
 use Rattle.group.proofs.Choice.{if-true, if-eq, if-ne, if-was, both-first, both-then, says}
 use Rattle.message.specs.Message.{Message, emptyMessage, payloadOf, blank}
-use Rattle.packet.specs.Packet.{contentOf, fieldsOf, packetOf}
+use Rattle.packet.specs.Packet.{obeys, contentOf, fieldsOf, packetOf, readOf}
 use Rattle.packet.specs.declared.Header.{Header}
 use Rattle.packet.specs.declared.Packet.{Packet}
 use Rattle.packet.specs.declared.Reading.{Reading}
 use Rattle.packet.specs.declared.Reading.the-variants.{Fields}
-use Rattle.window.specs.Places.{placeOf, messageAt, queuePlace, lowestMissing}
+use Rattle.packet.proofs.Laws.{fields-content}
+use Rattle.packet.proofs.Verdicts.{readable, askable}
+use Rattle.window.specs.Places.{placeOf, messageAt, queuePlace, lowestMissing, smallerOf}
 use Rattle.window.specs.Sound.{placeSound}
+use Rattle.window.specs.Steps.{Counted}
 use Rattle.window.proofs.Row.{lowest-reached, lowest-behind}
-use Rattle.member.specs.Calls.{Outcome, answered, gapPacket, callVerdict, refused, submitVerdict, gapUpTo, isOwn, withTaken, tookOf, contentStep, readStep}
+use Rattle.member.specs.Calls.{Outcome, answered, gapPacket, callVerdict, refused, submitVerdict, gapUpTo, isOwn, withTaken, isReady, tookOf, contentStep, readStep}
 use Rattle.member.specs.Promise.{replyOf, Changed, Told}
 use Rattle.member.specs.Sound.{soundOf}
-use Rattle.member.specs.State.{Member, rowEndOf, acknowledgedOf, firstCount}
-use Rattle.member.specs.Steps.{Spoken, Replied}
+use Rattle.member.specs.State.{Member, reachOf, acknowledgedOf, firstCount}
+use Rattle.member.specs.Steps.{Spoken, Replied, memberOf}
 use Rattle.member.specs.View.{viewOf}
 use Rattle.member.specs.Wording.{wordingOf}
 use Rattle.member.specs.declared.Answer.{Answer}
+use Rattle.member.specs.declared.Done.{Done}
+use Rattle.member.specs.declared.Head.{Head}
 use Rattle.member.specs.declared.Member.{Member as Stored}
 use Rattle.member.specs.declared.Reply.{Reply}
 use Rattle.member.proofs.Acknowledged.{left, in-left}
@@ -70,6 +75,12 @@ unfolding answered
 quiet m answer r x e =
     record { same = refl; spoken = record { answer-is = ap (λ (r : Reply). r .answer) e; written-is = ap (λ (r : Reply). r .written) e; lent = refl } }
 
+-- the same of what the work of a call gives back
+pub quiet-done : (head : Head) (queue held : List Message) (answer : Answer) (d : Done) (x : List ℕ) → d ≡ record { head = head; reply = record { answer = answer; written = 0 } }
+    → Replied (memberOf (d .head) queue held) (answered (memberOf head queue held) answer) (d .reply) x x
+quiet-done head queue held answer d x e =
+    left-as (ap (λ (d : Done). memberOf (d .head) queue held) (sym e)) (quiet (memberOf head queue held) answer (d .reply) x (ap (λ (d : Done). d .reply) e))
+
 -- an answer with bytes that were laid
 pub sent : (m : Member) (answer : Answer) (bytes : List ℕ) (written : ℕ) (x y : List ℕ) → Laid bytes written x y
     → Replied m (record { member = m; answer = answer; bytes = bytes }) (record { answer = answer; written = written }) x y
@@ -80,24 +91,24 @@ pub laid-as : {bytes other : List ℕ} {written : ℕ} {x y : List ℕ} → byte
 laid-as {written = written} {x = x} {y = y} e l = subst (λ (b : List ℕ). Laid b written x y) e l
 
 -- what the row's end decides of a gap up to `last`
-module _ (m : Member) (last : ℕ) (end : SequenceNumber) (e : end .0 ≡ rowEndOf m) (near : last ≤ m .taken .0 + heldMost) (fits : last ≤ largestNumber) (gapped : Answer) (whole : Outcome) where
+module _ (m : Member) (last : ℕ) (end : SequenceNumber) (e : end .0 ≡ reachOf m) (near : last ≤ m .taken .0 + heldMost) (fits : last ≤ largestNumber) (gapped : Answer) (whole : Outcome) where
   pub none-missing : last ≤ end .0 → whole ≡ gapUpTo m last gapped whole
-  unfolding gapUpTo rowEndOf
+  unfolding gapUpTo reachOf
   none-missing h =
-      let z : last ≤ rowEndOf m = rw e at h in
+      let z : last ≤ reachOf m = rw e at h in
       if-eq (lowestMissing (m .held) (m .taken .0) (last - m .taken .0)) 0 _ _ _ (lowest-reached (m .held) (m .taken .0) (left (m .taken .0)) last (in-left (m .taken .0) last near fits) z) refl
 
   pub some-missing : end .0 < last
-      → record { member = m; answer = gapped; bytes = packetOf (fieldsOf (m .group .number) (Packet.Gap (m .number) end (record { 0 = end .0 + 1 }) (record { 0 = last }))) [] } ≡ gapUpTo m last gapped whole
-  unfolding gapUpTo gapPacket acknowledgedOf rowEndOf
+      → record { member = m; answer = gapped; bytes = packetOf (fieldsOf (m .group .number) (Packet.Gap (m .number) (record { 0 = smallerOf (end .0) (m .accepted .0) }) (record { 0 = end .0 + 1 }) (record { 0 = last }))) [] } ≡ gapUpTo m last gapped whole
+  unfolding gapUpTo gapPacket acknowledgedOf reachOf
   some-missing h =
-      let y : rowEndOf m < last = rw e at h in
-      let z : lowestMissing (m .held) (m .taken .0) (last - m .taken .0) ≡ rowEndOf m + 1 = lowest-behind (m .held) (m .taken .0) (left (m .taken .0)) last (in-left (m .taken .0) last near fits) y in
+      let y : reachOf m < last = rw e at h in
+      let z : lowestMissing (m .held) (m .taken .0) (last - m .taken .0) ≡ reachOf m + 1 = lowest-behind (m .held) (m .taken .0) (left (m .taken .0)) last (in-left (m .taken .0) last near fits) y in
       if-ne (lowestMissing (m .held) (m .taken .0) (last - m .taken .0)) 0 _ _ _ (λ q. absurd (omega arith))
       (λ j. record {
         member = m;
         answer = gapped;
-        bytes = packetOf (fieldsOf (m .group .number) (Packet.Gap (m .number) (record { 0 = e j }) (record { 0 = (ap (λ (k : ℕ). k + 1) e ∙ sym z) j }) (record { 0 = last }))) [];
+        bytes = packetOf (fieldsOf (m .group .number) (Packet.Gap (m .number) (record { 0 = smallerOf (e j) (m .accepted .0) }) (record { 0 = (ap (λ (k : ℕ). k + 1) e ∙ sym z) j }) (record { 0 = last }))) [];
       })
 
 module _ {A : Type 0} (v : Verdict) (refused : Refusal → A) (accepted : A) where
@@ -158,19 +169,31 @@ own-count m originator count r e t = eqb-true count (firstCount m) (both-then _ 
 module _ (m : Member) (message : Message) (held : List Message) (h : held ≡ set (m .held) (placeOf (m .taken .0 + 1)) emptyMessage) where
   pub taken-own : (queue : List Message) → queue ≡ set (m .queue) (queuePlace (message .count)) emptyMessage → isOwn m message ≡ true
       → withTaken m message
-      ≡ record { group = m .group; number = m .number; taken = record { 0 = m .taken .0 + 1 }; submitted = m .submitted; waiting = m .waiting - 1; queue = queue; held = held }
+      ≡ record { group = m .group; number = m .number; taken = record { 0 = m .taken .0 + 1 }; accepted = m .accepted; submitted = m .submitted; waiting = m .waiting - 1; queue = queue; held = held }
   unfolding withTaken if_then_else_
   taken-own queue f o = let q : message .count ≡ firstCount m = own-first m message o .2 in rw (h, o, f, q)
 
   pub taken-other : isOwn m message ≡ false
       → withTaken m message
-      ≡ record { group = m .group; number = m .number; taken = record { 0 = m .taken .0 + 1 }; submitted = m .submitted; waiting = m .waiting; queue = m .queue; held = held }
+      ≡ record { group = m .group; number = m .number; taken = record { 0 = m .taken .0 + 1 }; accepted = m .accepted; submitted = m .submitted; waiting = m .waiting; queue = m .queue; held = held }
   unfolding withTaken if_then_else_
   taken-other o = rw (h, o)
 
--- what a take comes to: the message's numbers and payload, and whether the number after it is held
+-- what the code asks of a number's count and of the number before it is whether it may be taken
+pub ready-is : (m : Member) (counts : List ℕ) → Counted counts (m .held) → (at before number : ℕ) (r : Bool) → at ≡ placeOf number → before + 1 ≡ number
+    → r ≡ (0 <? getD counts at 0 and before + 1 ≤? m .accepted .0) → r ≡ isReady m number
+unfolding isReady
+ready-is m counts c at before number r a n e =
+    e ∙ λ i. 0 <? (ap (λ (k : ℕ). getD counts k 0) a ∙ c (placeOf number)) i and n i ≤? m .accepted .0
+
+-- a number that may be taken is held
+pub ready-held : (m : Member) (number : ℕ) → isReady m number ≡ true → 0 < messageAt (m .held) number .count
+unfolding isReady
+ready-held m number e = ltb-true 0 (messageAt (m .held) number .count) (both-first _ _ e)
+
+-- what a take comes to: the message's numbers and payload, and whether the number after it may be taken
 pub took : (m m′ : Member) (message : Message) (more : Bool) (written : ℕ) (x y : List ℕ) → withTaken m message ≡ m′
-    → more ≡ (0 <? messageAt (m .held) (m .taken .0 + 2) .count) → Laid (payloadOf message) written x y
+    → more ≡ isReady m (m .taken .0 + 2) → Laid (payloadOf message) written x y
     → Replied m′ (tookOf m message) (record { answer = Answer.Took (record { 0 = m .taken .0 + 1 }) (message .originator) (message .count) more; written = written }) x y
 unfolding tookOf
 took m m′ message more written x y e n l =
@@ -178,6 +201,14 @@ took m m′ message more written x y e n l =
       same = e;
       spoken = record { answer-is = ap (λ (b : Bool). Answer.Took (record { 0 = m .taken .0 + 1 }) (message .originator) (message .count) b) n; written-is = l .size; lent = l .lent };
     }
+
+-- of a packet that was read the fields of its content obey their kind
+pub read-obeys : (packet : List ℕ) (h : Header) (g : ℕ) (content : Packet) → readOf packet ≡ Fields h → h .group ≡ g → content ≡ contentOf h → obeys (fieldsOf g content) ≡ true
+read-obeys packet h g content e n z =
+    let r = readable packet h e in
+    let f = fields-content h (length packet - headerSize) (length packet - headerSize) (r .fields) in
+    let y : fieldsOf g content ≡ h = (λ i. fieldsOf (sym n i) (z i)) ∙ f in
+    ap obeys y ∙ askable h (length packet - headerSize) (length packet - headerSize) (r .fields) .obey
 
 module _ (m : Member) (reading : Reading) (h : Header) (payload : List ℕ) (e : reading ≡ Fields h) where
   -- fields that were read are of our group, or they are not

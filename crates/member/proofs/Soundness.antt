@@ -15,7 +15,9 @@ use Rattle.window.proofs.Soundness.{WaitingSound, PlacesSound, waiting-of, of-w
 pub record Sound (m : Member) : Type 0 where
   pub n-pos : 1 ≤ m .group .n
   pub n-most : m .group .n ≤ membersMost
+  pub resilient : m .group .resilience < m .group .n
   pub number-lt : m .number .0 < m .group .n
+  pub taken-le : m .taken .0 ≤ m .accepted .0
   pub waiting : WaitingSound (m .number .0) (m .submitted) (m .waiting) (m .queue)
   pub places : PlacesSound (m .group .n) (m .taken .0) (m .held)
 
@@ -27,7 +29,9 @@ sound-of m e =
     record {
       n-pos = search says;
       n-most = search says;
+      resilient = search says;
       number-lt = search says;
+      taken-le = search says;
       waiting = waiting-of (m .number) (m .submitted) (m .queue) (m .waiting) w;
       places = places-of (m .group .n) (m .held) (m .taken .0) p;
     }
@@ -35,6 +39,9 @@ sound-of m e =
 pub of-sound : (m : Member) → Sound m → soundOf m ≡ true
 unfolding soundOf frameSound
 of-sound m s =
-    both-hold _ _ (both-hold _ _ (le-leb _ _ (s .n-pos)) (both-hold _ _ (le-leb _ _ (s .n-most)) (lt-ltb _ _ (s .number-lt))))
+    both-hold _ _
+    (both-hold _ _ (le-leb _ _ (s .n-pos))
+    (both-hold _ _ (le-leb _ _ (s .n-most))
+    (both-hold _ _ (lt-ltb _ _ (s .resilient)) (both-hold _ _ (lt-ltb _ _ (s .number-lt)) (le-leb _ _ (s .taken-le))))))
     (both-hold _ _ (of-waiting (m .number) (m .submitted) (m .queue) (m .waiting) (s .waiting))
     (of-places (m .group .n) (m .held) (m .taken .0) (s .places)))

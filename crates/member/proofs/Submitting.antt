@@ -25,7 +25,7 @@ use Rattle.member.proofs.View.{request-is}
 -- the head after it
 abbrev pub grown : Head → Head
 grown head =
-    record { group = head .group; number = head .number; taken = head .taken; submitted = head .submitted + 1; waiting = head .waiting + 1 }
+    record { group = head .group; number = head .number; taken = head .taken; accepted = head .accepted; submitted = head .submitted + 1; waiting = head .waiting + 1 }
 
 module _ (head : Head) (queue held queue′ : List Message) (payload : List ℕ)
     (e : queue′ ≡ set queue (queuePlace (head .submitted + 1)) (messageOf (head .number) (head .submitted + 1) payload)) where
@@ -35,10 +35,10 @@ module _ (head : Head) (queue held queue′ : List Message) (payload : List ℕ)
 
   -- the head where none waits before it
   abbrev first : Head
-  first = record { group = head .group; number = head .number; taken = head .taken; submitted = head .submitted + 1; waiting = 1 }
+  first = record { group = head .group; number = head .number; taken = head .taken; accepted = head .accepted; submitted = head .submitted + 1; waiting = 1 }
 
   first-is : head .waiting ≡ 0 → memberOf (grown head) queue′ held ≡ memberOf first queue′ held
-  first-is z = let e : head .waiting + 1 ≡ 1 = omega arith in λ j. record { group = head .group; number = head .number; taken = head .taken; submitted = head .submitted + 1; waiting = e j; queue = queue′; held = held }
+  first-is z = let e : head .waiting + 1 ≡ 1 = omega arith in λ j. record { group = head .group; number = head .number; taken = head .taken; accepted = head .accepted; submitted = head .submitted + 1; waiting = e j; queue = queue′; held = held }
 
   count-is : head .submitted + 1 - 1 + 1 ≡ head .submitted + 1
   count-is = omega arith

@@ -9,20 +9,22 @@ use native.Mathlib.Nat.{le-refl}
 use native.Mathlib.Omega.{arith}
 use lib.ListN.{length}
 use Rattle.group.specs.Limits.{payloadMost, longestPacket, largestNumber}
+use Rattle.group.specs.Members.{neededOf}
 use Rattle.group.proofs.Lists.{at, All}
 use Rattle.message.proofs.Kept.{payload-short}
 use Rattle.message.specs.Message.{payloadOf}
 use Rattle.packet.specs.Laws.{Allowed}
 use Rattle.packet.specs.Packet.{fieldsOf, headerBytes, packetOf, written}
-use Rattle.packet.specs.declared.Packet.the-variants.{Request, Gap, Status}
+use Rattle.packet.specs.declared.Packet.the-variants.{Request, Gap, Status, Confirm}
 use Rattle.packet.proofs.Facts.{KnownBy}
-use Rattle.packet.proofs.Permitted.{request-fields, gap-fields, status-fields}
+use Rattle.packet.proofs.Permitted.{request-fields, gap-fields, status-fields, confirm-fields}
 use Rattle.packet.proofs.Verdicts.{accepted}
-use Rattle.member.specs.Calls.{Outcome, firstWaiting, requestPacket, gapPacket, statusPacket}
+use Rattle.member.specs.Calls.{Outcome, firstWaiting, requestPacket, gapPacket, statusPacket, confirmPacket}
 use Rattle.member.specs.Laws.{Typed}
-use Rattle.member.specs.State.{Member, acknowledgedOf, firstCount}
+use Rattle.member.specs.State.{Member, reachOf, acknowledgedOf, firstCount}
 use Rattle.member.specs.declared.Answer.{Answer}
 use Rattle.member.proofs.Acknowledged.{acknowledged-fits}
+use Rattle.member.proofs.Invariant.{voiceWith}
 use Rattle.member.proofs.Soundness.{Sound}
 
 module _ (m : Member) (typed : Typed m) (s : Sound m) where
@@ -54,9 +56,17 @@ module _ (m : Member) (typed : Typed m) (s : Sound m) where
     accepted _ 0 longestPacket (record { enough = omega arith; fields = status-fields (m .group .number) (m .number) (acknowledgedOf m); short = omega arith }),
   )
 
--- the packets that a call wrote are its member's, and acknowledge no more than it does
+  pub confirm-allowed : (number : ℕ) → 1 ≤ number → number ≤ largestNumber → Allowed (fieldsOf (m .group .number) (Confirm (m .number) (record { 0 = number }))) []
+  unfolding fieldsOf
+  confirm-allowed number least most = (
+    record { kind = omega arith; member = omega arith; group = typed .group; a = most; b = omega arith; c = omega arith },
+    accepted _ 0 longestPacket (record { enough = omega arith; fields = confirm-fields (m .group .number) (m .number) (record { 0 = number }) least; short = omega arith }),
+  )
+
+-- the packets that a call wrote are its member's, and acknowledge and confirm no more than it does
 abbrev pub Own : List (List ℕ) → Outcome → Type 0
-Own submitted o = All (KnownBy (o .member .group .number) (o .member .number .0) (acknowledgedOf (o .member) .0) submitted) (written (o .bytes))
+Own requested o =
+    All (KnownBy (o .member .group .number) (neededOf (o .member .group)) (o .member .number .0) (voiceWith (o .member) requested)) (written (o .bytes))
 
 module _ (m : Member) (typed : Typed m) (sound : Sound m) (submitted : List (List ℕ)) where
   pub gap-own : (first last : ℕ) (answer : Answer) → acknowledgedOf m .0 < first → first ≤ last → last ≤ largestNumber
@@ -77,6 +87,20 @@ module _ (m : Member) (typed : Typed m) (sound : Sound m) (submitted : List (Lis
   unfolding statusPacket packetOf headerBytes fieldsOf written
   status-own answer =
       (record { content = Status (m .number) (acknowledgedOf m); payload = []; bytes-are = refl; allowed = status-allowed m typed sound; says = (refl, le-refl _) }, tt)
+
+  pub confirm-own : (number : ℕ) (answer : Answer) → 1 ≤ number → number ≤ largestNumber → number ≤ reachOf m → 1 ≤ neededOf (m .group)
+      → Own submitted (record { member = m; answer = answer; bytes = confirmPacket m number })
+  unfolding confirmPacket packetOf headerBytes fieldsOf written
+  confirm-own number answer least most has some-needed = (
+    record {
+      content = Confirm (m .number) (record { 0 = number });
+      payload = [];
+      bytes-are = refl;
+      allowed = confirm-allowed m typed sound number least most;
+      says = (refl, has, some-needed);
+    },
+    tt,
+  )
 
   pub request-own : (answer : Answer) → 1 ≤ m .waiting → at submitted (firstCount m) ≡ some (payloadOf (firstWaiting m))
       → Own submitted (record { member = m; answer = answer; bytes = requestPacket m })

@@ -1,6 +1,6 @@
 -- What is proved of the member's meaning. `proofs/` has a proof of each statement.
 use mathlib.Core.Path.{_≡_}
-use mathlib.Core.Bool.{true, false}
+use mathlib.Core.Bool.{Bool, true, false}
 use mathlib.Core.List.{List, [], _∷_, _++_}
 use mathlib.Core.Logic.{_⊎_}
 use Prim.Native.Nat.{ℕ, _≤_}
@@ -11,7 +11,7 @@ use Rattle.group.specs.Question.{Question, firstNo}
 use Rattle.group.specs.declared.Refusal.{Refusal}
 use Rattle.group.specs.declared.Verdict.{Verdict}
 use Rattle.packet.specs.Laws.{readQuestions}
-use Rattle.packet.specs.Packet.{broadcastKind, pollKind, headerOf, readOf}
+use Rattle.packet.specs.Packet.{broadcastKind, pollKind, offerKind, acceptKind, headerOf, readOf}
 use Rattle.packet.specs.declared.Header.{Header}
 use Rattle.packet.specs.declared.Reading.{Reading}
 use Rattle.member.specs.Calls.{Outcome, refused, submitOf, repeatOf, statusOf, takeOf, receiveOf}
@@ -34,7 +34,7 @@ callQuestions m room =
 abbrev pub fieldsQuestions : Member → Header → List Question
 fieldsQuestions m h =
     record { yes = h .group =? m .group .number; refusal = Refusal.OtherGroup }
-    ∷ record { yes = if h .kind =? broadcastKind then true else h .kind =? pollKind; refusal = Refusal.OtherEnd }
+    ∷ record { yes = if h .kind =? broadcastKind then true else if h .kind =? pollKind then true else if h .kind =? offerKind then true else h .kind =? acceptKind; refusal = Refusal.OtherEnd }
     ∷ record { yes = h .member .0 <? m .group .n; refusal = Refusal.UnknownMember }
     ∷ []
 
@@ -78,6 +78,7 @@ ReceiveFirstNo = (m : Member) (packet : List ℕ) (room : ℕ) → FirstNo m (re
 pub record Typed (m : Member) : Type 0 where
   pub group : m .group .number ≤ largestNumber
   pub taken : m .taken .0 ≤ largestNumber
+  pub accepted : m .accepted .0 ≤ largestNumber
   pub submitted : m .submitted ≤ largestNumber
   pub queue : length (m .queue) ≡ waitingMost
   pub held : length (m .held) ≡ heldMost
@@ -104,6 +105,41 @@ abbrev pub ReceiveKeeps : Type 0
 ReceiveKeeps =
     (m : Member) (packet : List ℕ) (room : ℕ) → headerOf packet .a ≤ largestNumber → Typed m
     → Keeps m (receiveOf m packet room) × WritesPacket (receiveOf m packet room)
+
+-- whether a take handed out a message, and what it says of the next one
+unfoldable pub isTook : Answer → Bool
+isTook (Answer.Refused refusal) = false
+isTook Answer.Sent = false
+isTook (Answer.Queued count) = false
+isTook Answer.Old = false
+isTook Answer.Kept = false
+isTook Answer.KeptGap = false
+isTook Answer.Beyond = false
+isTook Answer.BeyondGap = false
+isTook Answer.Gap = false
+isTook Answer.Status = false
+isTook Answer.None = false
+isTook Answer.Noted = false
+isTook (Answer.Took number originator count more) = true
+
+unfoldable pub moreOf : Answer → Bool
+moreOf (Answer.Refused refusal) = false
+moreOf Answer.Sent = false
+moreOf (Answer.Queued count) = false
+moreOf Answer.Old = false
+moreOf Answer.Kept = false
+moreOf Answer.KeptGap = false
+moreOf Answer.Beyond = false
+moreOf Answer.BeyondGap = false
+moreOf Answer.Gap = false
+moreOf Answer.Status = false
+moreOf Answer.None = false
+moreOf Answer.Noted = false
+moreOf (Answer.Took number originator count more) = more
+
+-- more says whether a take that follows hands out a message
+abbrev pub MoreSays : Type 0
+MoreSays = (m : Member) (room : ℕ) → Typed m → moreOf (takeOf m room .answer) ≡ isTook (takeOf (takeOf m room .member) room .answer)
 
 -- a take writes a payload: at most the limit's bytes
 abbrev pub TakeKeeps : Type 0

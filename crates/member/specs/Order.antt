@@ -3,7 +3,7 @@ use mathlib.Core.List.{List, [], _∷_}
 use Prim.Native.Nat.{ℕ}
 use Rattle.message.specs.Order.{Ordered}
 use Rattle.member.specs.declared.Answer.{Answer}
-use Rattle.member.specs.declared.Answer.the-variants.{Refused, Sent, Queued, Old, Kept, KeptGap, Beyond, BeyondGap, Gap, Status, None, Took}
+use Rattle.member.specs.declared.Answer.the-variants.{Refused, Sent, Queued, Old, Kept, KeptGap, Beyond, BeyondGap, Gap, Status, None, Noted, Took}
 
 -- the message that a take handed out: number, originator and count of its answer, and the payload that it wrote
 unfoldable pub tookBy : Answer → List ℕ → List Ordered
@@ -18,6 +18,7 @@ tookBy BeyondGap bytes = []
 tookBy Gap bytes = []
 tookBy Status bytes = []
 tookBy None bytes = []
+tookBy Noted bytes = []
 tookBy (Took number originator count more) bytes =
     record { number = number .0; originator = originator .0; count = count; payload = bytes } ∷ []
 
@@ -34,4 +35,5 @@ acceptedBy BeyondGap payload = payload ∷ []
 acceptedBy Gap payload = payload ∷ []
 acceptedBy Status payload = payload ∷ []
 acceptedBy None payload = payload ∷ []
+acceptedBy Noted payload = payload ∷ []
 acceptedBy (Took number originator count more) payload = payload ∷ []

@@ -9,7 +9,7 @@ use Rattle.group.specs.declared.MemberNumber.{MemberNumber}
 use Rattle.group.specs.declared.SequenceNumber.{SequenceNumber}
 use Rattle.group.specs.declared.Verdict.{Verdict}
 use Rattle.member.specs.Calls.{Outcome, Opening, submitOf, repeatOf, statusOf, takeOf, receiveOf, freshOf}
-use Rattle.member.specs.State.{rowEndOf}
+use Rattle.member.specs.State.{reachOf}
 use Rattle.member.specs.View.{viewOf}
 use Rattle.member.specs.Wording.{wordingOf}
 use Rattle.member.specs.declared.Member.{Member as Stored}
@@ -39,8 +39,8 @@ pub record Opens (o : Opening) (verdict : Verdict) (left : Stored) : Type 0 wher
   pub wording : verdictWording verdict ≡ verdictWording (o .verdict)
 
 -- each call: the state and what it is handed at entry, its result, the state and the lent output at exit
-abbrev pub Begins : Stored → ℕ → MemberNumber → ℕ → Verdict → Stored → Type 0
-Begins s n number group verdict s′ = Opens (freshOf n number group) verdict s′
+abbrev pub Begins : Stored → ℕ → MemberNumber → ℕ → ℕ → Verdict → Stored → Type 0
+Begins s n number group resilience verdict s′ = Opens (freshOf n number group resilience) verdict s′
 
 abbrev pub Submitted : Stored → List ℕ → List ℕ → Reply → Stored → List ℕ → Type 0
 Submitted s payload before reply s′ after = Changed (submitOf (viewOf s) payload (length before)) reply s′ before after
@@ -57,6 +57,6 @@ Repeated s before reply after = Told (repeatOf (viewOf s) (length before)) reply
 abbrev pub Reported : Stored → List ℕ → Reply → List ℕ → Type 0
 Reported s before reply after = Told (statusOf (viewOf s) (length before)) reply before after
 
--- the end of its row
+-- the end of its row, offered messages included
 abbrev pub Ended : Stored → SequenceNumber → Type 0
-Ended s end = end .0 ≡ rowEndOf (viewOf s)
+Ended s end = end .0 ≡ reachOf (viewOf s)

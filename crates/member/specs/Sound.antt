@@ -9,6 +9,6 @@ use Rattle.member.specs.State.{Member}
 -- its numbers, its waiting messages and its 8 places are sound
 unfoldable pub soundOf : Member → Bool
 soundOf m =
-    frameSound (m .group .n) (m .number)
+    frameSound (m .group) (m .number) (m .taken .0) (m .accepted .0)
     and waitingSound (m .number) (m .submitted) (m .waiting) (m .queue)
     and allAbove (placeSound (m .group .n) (m .held)) (m .taken .0) heldMost

@@ -1,17 +1,20 @@
 -- What the steps inside the code promise, in terms of the meaning. No call's promise speaks of these.
 use mathlib.Core.Path.{_≡_}
+use mathlib.Core.Bool.{Bool}
 use mathlib.Core.List.{List, []}
-use Prim.Native.Nat.{ℕ, _+_}
+use Prim.Native.Nat.{ℕ, _+_, _-_}
 use lib.ListN.{length}
+use Rattle.group.specs.Choice.{_and_, _=?_}
 use Rattle.group.specs.Lent.{front}
 use Rattle.group.specs.Limits.{heldMost, largestNumber}
+use Rattle.group.specs.Members.{isIn, expectedOf}
 use Rattle.group.specs.declared.Verdict.{Verdict}
 use Rattle.message.specs.Message.{Message}
 use Rattle.packet.specs.Packet.{fieldsOf, packetOf}
 use Rattle.packet.specs.declared.Packet.{Packet}
-use Rattle.window.specs.Places.{messageAt, smallerOf}
-use Rattle.window.specs.Steps.{Counted, rowCounted}
-use Rattle.member.specs.Calls.{Outcome, callVerdict, submitVerdict, submitOf, tookOf}
+use Rattle.window.specs.Places.{messageAt, smallerOf, largerOf}
+use Rattle.window.specs.Steps.{Counted, lowestUncounted, rowCounted}
+use Rattle.member.specs.Calls.{Outcome, callVerdict, submitVerdict, submitOf, tookOf, confirms}
 use Rattle.member.specs.State.{Member}
 use Rattle.member.specs.declared.Answer.{Answer}
 use Rattle.member.specs.declared.Done.{Done}
@@ -36,6 +39,7 @@ memberOf head queue held =
       group = head .group;
       number = head .number;
       taken = head .taken;
+      accepted = head .accepted;
       submitted = head .submitted;
       waiting = head .waiting;
       queue = queue;
@@ -45,11 +49,28 @@ memberOf head queue held =
 abbrev pub emptyHanded : Head → Member
 emptyHanded head = memberOf head [] []
 
+-- a head in which all up to a number are accepted
+abbrev pub accepting : Head → ℕ → Head
+accepting head number =
+    record {
+      group = head .group;
+      number = head .number;
+      taken = head .taken;
+      accepted = record { 0 = largerOf (head .accepted .0) number };
+      submitted = head .submitted;
+      waiting = head .waiting;
+    }
+
+-- whether an answer to an offer of a number is confirmed, by a head and the counts of the places
+unfoldable pub confirmsBy : Head → List ℕ → ℕ → Answer → Bool
+confirmsBy head counts number answer =
+    confirms answer and lowestUncounted counts (head .taken .0) (number - head .taken .0) =? 0 and isIn (expectedOf (head .group)) (head .number .0)
+
 -- the request of a count and a payload, by a head and the counts of the places
 unfoldable pub requestIn : Head → List ℕ → ℕ → List ℕ → List ℕ
 requestIn head counts count payload =
     packetOf
-    (fieldsOf (head .group .number) (Packet.Request (head .number) (record { 0 = rowCounted counts (head .taken .0) (smallerOf largestNumber (head .taken .0 + heldMost)) }) count))
+    (fieldsOf (head .group .number) (Packet.Request (head .number) (record { 0 = smallerOf (rowCounted counts (head .taken .0) (smallerOf largestNumber (head .taken .0 + heldMost))) (head .accepted .0) }) count))
     payload
 
 -- a step that looks at the head and at the counts of the places alone, and leaves the state as it is
@@ -57,10 +78,10 @@ abbrev pub Tells : Head → List ℕ → (Member → Outcome) → Reply → List
 Tells head counts step r before after =
     (queue held : List Message) → Counted counts held → Replied (memberOf head queue held) (step (memberOf head queue held)) r before after
 
--- a step that leaves the state but for the messages that are held, whatever waits
-abbrev pub Hears : Head → List Message → List Message → (Member → Outcome) → Reply → List ℕ → List ℕ → Type 0
-Hears head held held′ step r before after =
-    (queue : List Message) → Replied (memberOf head queue held′) (step (memberOf head queue held)) r before after
+-- a step that leaves the state but for its head and the messages that are held, whatever waits
+abbrev pub Hears : Head → List Message → Head → List Message → (Member → Outcome) → Reply → List ℕ → List ℕ → Type 0
+Hears head held head′ held′ step r before after =
+    (queue : List Message) → Replied (memberOf head′ queue held′) (step (memberOf head queue held)) r before after
 
 -- a submission that no question refuses, whatever is held with those counts
 abbrev pub Submits : Head → List ℕ → List Message → List Message → List ℕ → Done → List ℕ → List ℕ → Type 0

@@ -30,6 +30,7 @@ viewOf s =
       group = s .head .group;
       number = s .head .number;
       taken = s .head .taken;
+      accepted = s .head .accepted;
       submitted = s .head .submitted;
       waiting = s .head .waiting;
       queue = messagesIn (s .queued) (s .«queued_originators») (s .«queued_lengths») (s .«queued_payloads»);

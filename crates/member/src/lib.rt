@@ -9,21 +9,22 @@ use group::Verdict;
 use packet::Packet;
 use packet::Reading;
 ghost use mathlib.Core.Path.{_≡_};
+ghost use mathlib.Core.Bool.{true};
 ghost use mathlib.Core.List.{[]};
 ghost use Prim.Native.Nat.{_+_, _-_, _*_, _≤_, _<_};
 ghost use lib.ListN.{length, take, getD};
 ghost use Rattle.group.specs.Lent.{Laid};
-ghost use Rattle.group.specs.Limits.{heldMost, waitingMost, payloadMost, longestPacket, largestNumber};
+ghost use Rattle.group.specs.Limits.{membersMost, heldMost, waitingMost, payloadMost, longestPacket, largestNumber};
 ghost use Rattle.group.specs.Opening.{descriptionOf};
-ghost use Rattle.packet.specs.Packet.{fieldsVerdict, fieldsOf, packetOf};
+ghost use Rattle.packet.specs.Packet.{obeys, fieldsVerdict, fieldsOf, packetOf};
 ghost use Rattle.store.specs.Places.{partOf, messagesIn};
-ghost use Rattle.window.specs.Places.{placeOf, queuePlace};
+ghost use Rattle.window.specs.Places.{placeOf, queuePlace, smallerOf};
 ghost use Rattle.member.specs.State.{freshMember};
 ghost use Rattle.member.specs.Sound.{soundOf};
-ghost use Rattle.member.specs.Calls.{answered, callVerdict, submitVerdict, gapUpTo, keptOf, broadcastOf, pollOf, contentStep};
+ghost use Rattle.member.specs.Calls.{answered, callVerdict, submitVerdict, gapUpTo, keptOf, messageStep, broadcastOf, confirms, offerOf, pollOf, contentStep};
 ghost use Rattle.member.specs.View.{Sized, whole, viewOf};
 ghost use Rattle.member.specs.Promise.{Begins, Submitted, Received, Taken, Repeated, Reported, Ended};
-ghost use Rattle.member.specs.Steps.{emptyHanded, requestIn, Tells, Hears, Submits, Hands};
+ghost use Rattle.member.specs.Steps.{emptyHanded, accepting, confirmsBy, requestIn, Tells, Hears, Submits, Hands};
 
 // The numbers of a member: they go by value.
 #[repr(C)]
@@ -31,6 +32,7 @@ pub struct Head {
     pub group: Group,
     pub number: MemberNumber,
     pub taken: SequenceNumber,
+    pub accepted: SequenceNumber,
     pub submitted: u32,
     pub waiting: u32,
 }
@@ -63,6 +65,7 @@ pub enum Answer {
     Gap,
     Status,
     None,
+    Noted,
     Took {
         number: SequenceNumber,
         originator: MemberNumber,
@@ -108,6 +111,14 @@ fn refused(refusal: Refusal) -> Reply
     }
 }
 
+// A no of the work of a call: the head stays.
+fn declined(head: Head, refusal: Refusal) -> Done
+    ensures { λ r. ⌜ r ≡ record { head = head; reply = record { answer = Answer.Refused refusal; written = 0 } } ⌝ }
+{
+    let reply = refused(refusal);
+    Done { head, reply }
+}
+
 // Question 1.
 fn sound(
     head: Head,
@@ -124,7 +135,7 @@ fn sound(
     ensures { λ r. ⌜ r ≡ soundOf (viewOf (whole head (now (queued .entry)) (now (held .entry)) (now («queued_originators» .entry)) (now («queued_lengths» .entry)) (now («held_originators» .entry)) (now («held_lengths» .entry)) (now («queued_payloads» .entry)) (now («held_payloads» .entry)))) ⌝ }
 {
     let number = head.number;
-    if window::frame_sound(head.group.n, number) {
+    if window::frame_sound(head.group, number, head.taken, head.accepted) {
         let mask = store::mask();
         if window::waiting_sound(
             number,
@@ -202,7 +213,7 @@ fn ask_submission(head: Head, size: usize) -> Verdict
     Verdict::Refused(Refusal::NumbersUsedUp)
 }
 
-// Lays a request with a payload at the front of the output, and gives its length. It acknowledges the row's end.
+// Lays a request with a payload at the front of the output, and gives its length. It acknowledges the accepted of the row.
 fn put_request(
     head: Head,
     held: &[u32; Group::HELD],
@@ -214,7 +225,8 @@ fn put_request(
     ensures { λ r. ⌜ Laid (requestIn head (now (held .entry)) count (now (payload .entry))) r (now (out .entry)) (now (out .exit)) ⌝ }
 {
     let sender = head.number;
-    let taken = window::row_end(held, head.taken);
+    let end = window::row_end(held, head.taken);
+    let taken = window::earlier(end, head.accepted);
     let packet = Packet::Request {
         sender,
         taken,
@@ -242,29 +254,41 @@ fn put_first(
     put_request(head, held, count, &payloads[base..end], out)
 }
 
-// Lays a status packet at the front of the output, and gives its length.
+// Lays a status packet at the front of the output, and gives its length. It acknowledges the accepted of the row that ends there.
 fn put_status(head: Head, end: SequenceNumber, out: &mut [u8]) -> usize
     requires { ⌜ longestPacket ≤ length (now out) ⌝ }
-    ensures { λ r. ⌜ Laid (packetOf (fieldsOf (head .group .number) (Packet.Status (head .number) end)) []) r (now (out .entry)) (now (out .exit)) ⌝ }
+    ensures { λ r. ⌜ Laid (packetOf (fieldsOf (head .group .number) (Packet.Status (head .number) (record { 0 = smallerOf (end .0) (head .accepted .0) }))) []) r (now (out .entry)) (now (out .exit)) ⌝ }
 {
     let sender = head.number;
-    let packet = Packet::Status { sender, taken: end };
+    let taken = window::earlier(end, head.accepted);
+    let packet = Packet::Status { sender, taken };
     put_bare(packet, head.group.number, out)
 }
 
 // Lays a gap packet from the number behind the row's end up to `last` at the front of the output, and gives its length.
 fn put_gap(head: Head, end: SequenceNumber, last: SequenceNumber, out: &mut [u8]) -> usize
     requires { ⌜ (end .0 < last .0) × (longestPacket ≤ length (now out)) ⌝ }
-    ensures { λ r. ⌜ Laid (packetOf (fieldsOf (head .group .number) (Packet.Gap (head .number) end (record { 0 = end .0 + 1 }) last)) []) r (now (out .entry)) (now (out .exit)) ⌝ }
+    ensures { λ r. ⌜ Laid (packetOf (fieldsOf (head .group .number) (Packet.Gap (head .number) (record { 0 = smallerOf (end .0) (head .accepted .0) }) (record { 0 = end .0 + 1 }) last)) []) r (now (out .entry)) (now (out .exit)) ⌝ }
 {
     let sender = head.number;
+    let taken = window::earlier(end, head.accepted);
     let first = SequenceNumber(end.0 + 1);
     let packet = Packet::Gap {
         sender,
-        taken: end,
+        taken,
         first,
         last,
     };
+    put_bare(packet, head.group.number, out)
+}
+
+// Lays the confirmation of an offered number at the front of the output, and gives its length.
+fn put_confirm(head: Head, number: SequenceNumber, out: &mut [u8]) -> usize
+    requires { ⌜ (1 ≤ number .0) × (longestPacket ≤ length (now out)) ⌝ }
+    ensures { λ r. ⌜ Laid (packetOf (fieldsOf (head .group .number) (Packet.Confirm (head .number) number)) []) r (now (out .entry)) (now (out .exit)) ⌝ }
+{
+    let sender = head.number;
+    let packet = Packet::Confirm { sender, number };
     put_bare(packet, head.group.number, out)
 }
 
@@ -329,7 +353,7 @@ fn kept(
     out: &mut [u8],
 ) -> Reply
     requires { ⌜ (head .taken .0 < number .0) × (number .0 ≤ head .taken .0 + heldMost) × (length (now payload) ≤ payloadMost) × (longestPacket ≤ length (now out)) ⌝ }
-    ensures { λ r. ⌜ Hears head (messagesIn (now (held .entry)) (now («held_originators» .entry)) (now («held_lengths» .entry)) (now («held_payloads» .entry))) (messagesIn (now (held .exit)) (now («held_originators» .exit)) (now («held_lengths» .exit)) (now («held_payloads» .exit))) (λ m. keptOf m originator (number .0) count (now (payload .entry))) r (now (out .entry)) (now (out .exit)) ⌝ }
+    ensures { λ r. ⌜ Hears head (messagesIn (now (held .entry)) (now («held_originators» .entry)) (now («held_lengths» .entry)) (now («held_payloads» .entry))) head (messagesIn (now (held .exit)) (now («held_originators» .exit)) (now («held_lengths» .exit)) (now («held_payloads» .exit))) (λ m. keptOf m originator (number .0) count (now (payload .entry))) r (now (out .entry)) (now (out .exit)) ⌝ }
 {
     let at = window::place(number, 0);
     window::keep(
@@ -346,8 +370,8 @@ fn kept(
     gap_up_to(head, held, last, Answer::KeptGap, Answer::Kept, out)
 }
 
-// A broadcast. Its floor is read and not yet acted on.
-fn broadcast(
+// The message of a broadcast or of an offer. Its floor is read and not yet acted on.
+fn message_step(
     head: Head,
     held: &mut [u32; Group::HELD],
     held_originators: &mut [u8; Group::HELD],
@@ -360,7 +384,7 @@ fn broadcast(
     out: &mut [u8],
 ) -> Reply
     requires { ⌜ (length (now payload) ≤ payloadMost) × (longestPacket ≤ length (now out)) ⌝ }
-    ensures { λ r. ⌜ Hears head (messagesIn (now (held .entry)) (now («held_originators» .entry)) (now («held_lengths» .entry)) (now («held_payloads» .entry))) (messagesIn (now (held .exit)) (now («held_originators» .exit)) (now («held_lengths» .exit)) (now («held_payloads» .exit))) (λ m. broadcastOf m originator (number .0) count (now (payload .entry))) r (now (out .entry)) (now (out .exit)) ⌝ }
+    ensures { λ r. ⌜ Hears head (messagesIn (now (held .entry)) (now («held_originators» .entry)) (now («held_lengths» .entry)) (now («held_payloads» .entry))) head (messagesIn (now (held .exit)) (now («held_originators» .exit)) (now («held_lengths» .exit)) (now («held_payloads» .exit))) (λ m. messageStep m originator (number .0) count (now (payload .entry))) r (now (out .entry)) (now (out .exit)) ⌝ }
 {
     let taken = head.taken;
     if number.0 <= taken.0 {
@@ -394,6 +418,135 @@ fn broadcast(
     )
 }
 
+// All up to a number are accepted.
+fn accept_up_to(mut head: Head, number: SequenceNumber) -> Head
+    ensures { λ r. ⌜ r ≡ accepting head (number .0) ⌝ }
+{
+    let accepted = window::later(head.accepted, number);
+    head.accepted = accepted;
+    head
+}
+
+// A broadcast: it accepts all up to its number, also where a gap packet is written.
+fn broadcast(
+    head: Head,
+    held: &mut [u32; Group::HELD],
+    held_originators: &mut [u8; Group::HELD],
+    held_lengths: &mut [u8; Group::HELD],
+    held_payloads: &mut [u8; Group::HELD_BYTES],
+    originator: MemberNumber,
+    number: SequenceNumber,
+    count: u32,
+    payload: &[u8],
+    out: &mut [u8],
+) -> Done
+    requires { ⌜ (length (now payload) ≤ payloadMost) × (longestPacket ≤ length (now out)) ⌝ }
+    ensures { λ r. ⌜ Hears head (messagesIn (now (held .entry)) (now («held_originators» .entry)) (now («held_lengths» .entry)) (now («held_payloads» .entry))) (r .head) (messagesIn (now (held .exit)) (now («held_originators» .exit)) (now («held_lengths» .exit)) (now («held_payloads» .exit))) (λ m. broadcastOf m originator (number .0) count (now (payload .entry))) (r .reply) (now (out .entry)) (now (out .exit)) ⌝ }
+{
+    let next = accept_up_to(head, number);
+    let reply = message_step(
+        next,
+        held,
+        held_originators,
+        held_lengths,
+        held_payloads,
+        originator,
+        number,
+        count,
+        payload,
+        out,
+    );
+    Done { head: next, reply }
+}
+
+// Whether an offer with that answer is confirmed, if nothing is missing: the message is held, or was taken.
+fn has(answer: Answer) -> bool
+    ensures { λ r. ⌜ r ≡ confirms answer ⌝ }
+{
+    match answer {
+        Answer::Refused(_) => false,
+        Answer::Sent => false,
+        Answer::Queued(_) => false,
+        Answer::Old => true,
+        Answer::Kept => true,
+        Answer::KeptGap => false,
+        Answer::Beyond => false,
+        Answer::BeyondGap => false,
+        Answer::Gap => false,
+        Answer::Status => false,
+        Answer::None => false,
+        Answer::Noted => false,
+        Answer::Took {
+            number: _,
+            originator: _,
+            count: _,
+            more: _,
+        } => false,
+    }
+}
+
+// Whether an offer with that answer is confirmed: nothing up to its number is missing, and the member is expected to confirm.
+fn confirmed(head: Head, held: &[u32; Group::HELD], number: SequenceNumber, answer: Answer) -> bool
+    requires { ⌜ head .group .n ≤ membersMost ⌝ }
+    ensures { λ r. ⌜ r ≡ confirmsBy head (now (held .entry)) (number .0) answer ⌝ }
+{
+    if has(answer) {
+        let first = window::lowest_missing(held, head.taken, number);
+        if first.0 == 0 {
+            let group = head.group;
+            return group.expects(head.number);
+        }
+        return false;
+    }
+    false
+}
+
+// An offer: it accepts nothing.
+fn offer(
+    head: Head,
+    held: &mut [u32; Group::HELD],
+    held_originators: &mut [u8; Group::HELD],
+    held_lengths: &mut [u8; Group::HELD],
+    held_payloads: &mut [u8; Group::HELD_BYTES],
+    originator: MemberNumber,
+    number: SequenceNumber,
+    count: u32,
+    payload: &[u8],
+    out: &mut [u8],
+) -> Reply
+    requires { ⌜ (head .group .n ≤ membersMost) × (1 ≤ number .0) × (length (now payload) ≤ payloadMost) × (longestPacket ≤ length (now out)) ⌝ }
+    ensures { λ r. ⌜ Hears head (messagesIn (now (held .entry)) (now («held_originators» .entry)) (now («held_lengths» .entry)) (now («held_payloads» .entry))) head (messagesIn (now (held .exit)) (now («held_originators» .exit)) (now («held_lengths» .exit)) (now («held_payloads» .exit))) (λ m. offerOf m originator (number .0) count (now (payload .entry))) r (now (out .entry)) (now (out .exit)) ⌝ }
+{
+    let reply = message_step(
+        head,
+        held,
+        held_originators,
+        held_lengths,
+        held_payloads,
+        originator,
+        number,
+        count,
+        payload,
+        out,
+    );
+    let answer = reply.answer;
+    if confirmed(head, held, number, answer) {
+        let written = put_confirm(head, number, out);
+        return Reply { answer, written };
+    }
+    reply
+}
+
+// An acceptance.
+fn noted(head: Head, number: SequenceNumber) -> Done
+    ensures { λ r. ⌜ r ≡ record { head = accepting head (number .0); reply = record { answer = Answer.Noted; written = 0 } } ⌝ }
+{
+    let next = accept_up_to(head, number);
+    let answer = Answer::Noted;
+    let reply = Reply { answer, written: 0 };
+    Done { head: next, reply }
+}
+
 // What a packet of our group says: questions 8 and 9.
 fn content(
     head: Head,
@@ -404,9 +557,9 @@ fn content(
     packet: Packet,
     payload: &[u8],
     out: &mut [u8],
-) -> Reply
-    requires { ⌜ (length (now payload) ≤ payloadMost) × (longestPacket ≤ length (now out)) ⌝ }
-    ensures { λ r. ⌜ Hears head (messagesIn (now (held .entry)) (now («held_originators» .entry)) (now («held_lengths» .entry)) (now («held_payloads» .entry))) (messagesIn (now (held .exit)) (now («held_originators» .exit)) (now («held_lengths» .exit)) (now («held_payloads» .exit))) (λ m. contentStep m packet (now (payload .entry))) r (now (out .entry)) (now (out .exit)) ⌝ }
+) -> Done
+    requires { ⌜ (head .group .n ≤ membersMost) × (obeys (fieldsOf (head .group .number) packet) ≡ true) × (length (now payload) ≤ payloadMost) × (longestPacket ≤ length (now out)) ⌝ }
+    ensures { λ r. ⌜ Hears head (messagesIn (now (held .entry)) (now («held_originators» .entry)) (now («held_lengths» .entry)) (now («held_payloads» .entry))) (r .head) (messagesIn (now (held .exit)) (now («held_originators» .exit)) (now («held_lengths» .exit)) (now («held_payloads» .exit))) (λ m. contentStep m packet (now (payload .entry))) (r .reply) (now (out .entry)) (now (out .exit)) ⌝ }
 {
     match packet {
         Packet::Broadcast {
@@ -429,24 +582,55 @@ fn content(
                     out,
                 );
             }
-            refused(Refusal::UnknownMember)
+            declined(head, Refusal::UnknownMember)
         }
-        Packet::Poll { top, floor: _ } => poll(head, held, top, out),
+        Packet::Poll { top, floor: _ } => {
+            let reply = poll(head, held, top, out);
+            Done { head, reply }
+        }
+        Packet::Offer {
+            originator,
+            number,
+            count,
+            floor: _,
+        } => {
+            if originator.0 < head.group.n {
+                let reply = offer(
+                    head,
+                    held,
+                    held_originators,
+                    held_lengths,
+                    held_payloads,
+                    originator,
+                    number,
+                    count,
+                    payload,
+                    out,
+                );
+                return Done { head, reply };
+            }
+            declined(head, Refusal::UnknownMember)
+        }
+        Packet::Accept { number } => noted(head, number),
         Packet::Request {
             sender: _,
             taken: _,
             count: _,
-        } => refused(Refusal::OtherEnd),
+        } => declined(head, Refusal::OtherEnd),
         Packet::Gap {
             sender: _,
             taken: _,
             first: _,
             last: _,
-        } => refused(Refusal::OtherEnd),
+        } => declined(head, Refusal::OtherEnd),
         Packet::Status {
             sender: _,
             taken: _,
-        } => refused(Refusal::OtherEnd),
+        } => declined(head, Refusal::OtherEnd),
+        Packet::Confirm {
+            sender: _,
+            number: _,
+        } => declined(head, Refusal::OtherEnd),
     }
 }
 
@@ -510,12 +694,12 @@ fn hand_out(
 {
     let at = window::place(head.taken, 1);
     let next = window::place(head.taken, 2);
-    let more = 0 < held[next];
+    let number = SequenceNumber(head.taken.0 + 1);
+    let more = window::ready(held[next], number, head.accepted);
     let count = held[at];
     let originator = MemberNumber(held_originators[at]);
     let written = window::put_payload(held_payloads, at, held_lengths[at], out);
     window::clear(held, held_originators, held_lengths, held_payloads, at);
-    let number = SequenceNumber(head.taken.0 + 1);
     let answer = Answer::Took {
         number,
         originator,
@@ -541,12 +725,13 @@ fn hand_out(
 
 // The head of a member that has taken and submitted nothing.
 fn idle(group: Group, number: MemberNumber) -> Head
-    ensures { λ r. ⌜ r ≡ record { group = group; number = number; taken = record { 0 = 0 }; submitted = 0; waiting = 0 } ⌝ }
+    ensures { λ r. ⌜ r ≡ record { group = group; number = number; taken = record { 0 = 0 }; accepted = record { 0 = 0 }; submitted = 0; waiting = 0 } ⌝ }
 {
     Head {
         group,
         number,
         taken: SequenceNumber(0),
+        accepted: SequenceNumber(0),
         submitted: 0,
         waiting: 0,
     }
@@ -554,9 +739,13 @@ fn idle(group: Group, number: MemberNumber) -> Head
 
 // An opening that is refused.
 fn unopened(refusal: Refusal) -> Begun
-    ensures { λ r. ⌜ r ≡ record { head = record { group = descriptionOf 0 0; number = record { 0 = 0 }; taken = record { 0 = 0 }; submitted = 0; waiting = 0 }; verdict = Verdict.Refused refusal } ⌝ }
+    ensures { λ r. ⌜ r ≡ record { head = record { group = descriptionOf 0 0 0; number = record { 0 = 0 }; taken = record { 0 = 0 }; accepted = record { 0 = 0 }; submitted = 0; waiting = 0 }; verdict = Verdict.Refused refusal } ⌝ }
 {
-    let none = Group { n: 0, number: 0 };
+    let none = Group {
+        n: 0,
+        resilience: 0,
+        number: 0,
+    };
     let head = idle(none, MemberNumber(0));
     Begun {
         head,
@@ -564,7 +753,7 @@ fn unopened(refusal: Refusal) -> Begun
     }
 }
 
-// The work of opening: question 18. Where it is refused, the state is all zero.
+// The work of opening: questions 18 and 24. Where it is refused, the state is all zero.
 pub fn open_on(
     head: Head,
     queued: &mut [u32; Group::WAITING],
@@ -578,8 +767,9 @@ pub fn open_on(
     n: u8,
     number: MemberNumber,
     group: u32,
+    resilience: u8,
 ) -> Begun
-    ensures { λ r. ⌜ Begins (whole head (now (queued .entry)) (now (held .entry)) (now («queued_originators» .entry)) (now («queued_lengths» .entry)) (now («held_originators» .entry)) (now («held_lengths» .entry)) (now («queued_payloads» .entry)) (now («held_payloads» .entry))) n number group (r .verdict) (whole (r .head) (now (queued .exit)) (now (held .exit)) (now («queued_originators» .exit)) (now («queued_lengths» .exit)) (now («held_originators» .exit)) (now («held_lengths» .exit)) (now («queued_payloads» .exit)) (now («held_payloads» .exit))) ⌝ }
+    ensures { λ r. ⌜ Begins (whole head (now (queued .entry)) (now (held .entry)) (now («queued_originators» .entry)) (now («queued_lengths» .entry)) (now («held_originators» .entry)) (now («held_lengths» .entry)) (now («queued_payloads» .entry)) (now («held_payloads» .entry))) n number group resilience (r .verdict) (whole (r .head) (now (queued .exit)) (now (held .exit)) (now («queued_originators» .exit)) (now («queued_lengths» .exit)) (now («held_originators» .exit)) (now («held_lengths» .exit)) (now («queued_payloads» .exit)) (now («held_payloads» .exit))) ⌝ }
 {
     *queued = [0u32; Group::WAITING];
     *held = [0u32; Group::HELD];
@@ -589,17 +779,17 @@ pub fn open_on(
     *held_lengths = [0u8; Group::HELD];
     *queued_payloads = [0u8; Group::WAITING_BYTES];
     *held_payloads = [0u8; Group::HELD_BYTES];
-    let opened = Group::fresh(n, group);
+    if n <= number.0 {
+        return unopened(Refusal::Opening);
+    }
+    let opened = Group::fresh(n, group, resilience);
     match opened {
         Opened::Open(g) => {
-            if number.0 < g.n {
-                let head = idle(g, number);
-                return Begun {
-                    head,
-                    verdict: Verdict::Accepted,
-                };
+            let head = idle(g, number);
+            Begun {
+                head,
+                verdict: Verdict::Accepted,
             }
-            unopened(Refusal::Opening)
         }
         Opened::Refused(q) => unopened(q),
     }
@@ -695,7 +885,7 @@ pub fn receive_on(
                 Reading::Fields(h) => {
                     if h.group == head.group.number {
                         let end = Group::HEADER + packet::payload_length(packet);
-                        let reply = content(
+                        return content(
                             head,
                             held,
                             held_originators,
@@ -705,7 +895,6 @@ pub fn receive_on(
                             &packet[Group::HEADER..end],
                             out,
                         );
-                        return Done { head, reply };
                     }
                     let reply = refused(Refusal::OtherGroup);
                     Done { head, reply }
@@ -753,7 +942,7 @@ pub fn take_on(
     match v {
         Verdict::Accepted => {
             let following = window::place(head.taken, 1);
-            if 0 < held[following] {
+            if window::ready(held[following], head.taken, head.accepted) {
                 return hand_out(
                     head,
                     queued,
@@ -860,7 +1049,7 @@ pub fn status_on(
     }
 }
 
-// The last number through which the member has everything, taken or held.
+// The last number through which the member has everything, taken or held, offered messages included.
 pub fn row_end_on(
     head: Head,
     queued: &[u32; Group::WAITING],
@@ -880,9 +1069,13 @@ pub fn row_end_on(
 impl Member {
     // The member that is not opened, all zero: no call accepts it.
     pub fn closed() -> Self
-        ensures { λ r. ⌜ viewOf r ≡ freshMember (descriptionOf 0 0) (record { 0 = 0 }) ⌝ }
+        ensures { λ r. ⌜ viewOf r ≡ freshMember (descriptionOf 0 0 0) (record { 0 = 0 }) ⌝ }
     {
-        let none = Group { n: 0, number: 0 };
+        let none = Group {
+            n: 0,
+            resilience: 0,
+            number: 0,
+        };
         let head = idle(none, MemberNumber(0));
         Member {
             head,
@@ -897,9 +1090,9 @@ impl Member {
         }
     }
 
-    // Opens a member: question 18. Where it is refused, the state is all zero.
-    pub fn open(&mut self, n: u8, number: MemberNumber, group: u32) -> Verdict
-        ensures { λ r. ⌜ Begins (now (self .entry)) n number group r (now (self .exit)) ⌝ }
+    // Opens a member: questions 18 and 24. Where it is refused, the state is all zero.
+    pub fn open(&mut self, n: u8, number: MemberNumber, group: u32, resilience: u8) -> Verdict
+        ensures { λ r. ⌜ Begins (now (self .entry)) n number group resilience r (now (self .exit)) ⌝ }
     {
         let done = open_on(
             self.head,
@@ -914,6 +1107,7 @@ impl Member {
             n,
             number,
             group,
+            resilience,
         );
         self.head = done.head;
         done.verdict
@@ -961,7 +1155,7 @@ impl Member {
         done.reply
     }
 
-    // Hands out the following number, if it is held: its place is cleared, and if it is the member's own that waits first, the
+    // Hands out the following number, if it is held and accepted: its place is cleared, and if it is the member's own that waits first, the
     // next is first.
     pub fn take(&mut self, out: &mut [u8]) -> Reply
         ensures { λ r. ⌜ Taken (now (self .entry)) (now (out .entry)) r (now (self .exit)) (now (out .exit)) ⌝ }
@@ -1018,7 +1212,7 @@ impl Member {
         )
     }
 
-    // The last number through which the member has everything, taken or held.
+    // The last number through which the member has everything, taken or held, offered messages included.
     pub fn row_end(&self) -> SequenceNumber
         ensures { λ r. ⌜ Ended (now (self .entry)) r ⌝ }
     {

@@ -4,6 +4,8 @@ pub mod Step
 pub mod Whole
 pub mod Round
 pub mod Theorem
+pub mod Plain
+pub mod Resilient
 pub mod Sums
 pub mod Longest
 pub mod Refusals

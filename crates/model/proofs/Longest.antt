@@ -10,11 +10,11 @@ use lib.ListN.{length, getD, take, drop, length-append}
 use lib.Seq.{length-take-le, take-add}
 use Rattle.group.proofs.Lists.{none≢some, at, at-taken}
 use Rattle.group.specs.Choice.{if_then_else_}
-use Rattle.group.specs.Limits.{membersMost, largestNumber}
 use Rattle.group.specs.Opening.{descriptionOf}
 use Rattle.group.specs.declared.Group as description
 use Rattle.member.proofs.Acknowledged.{acknowledged-least, acknowledged-near, acknowledged-most}
 use Rattle.member.proofs.Invariant.{numbered-near}
+use Rattle.member.proofs.Soundness as member
 use Rattle.member.specs.State.{Member, acknowledgedOf}
 use Rattle.message.proofs.Owning.{own-grows}
 use Rattle.message.specs.Order.{Ordered, ownOf}
@@ -23,7 +23,7 @@ use Rattle.model.proofs.Step.{run-keeps, fresh-inv}
 use Rattle.model.proofs.Sums.{sum-first, sum-none, sum-more, sum-near, sum-one, largest-of}
 use Rattle.model.proofs.Theorem.{row-length, member-length}
 use Rattle.model.proofs.Whole.{floor-le}
-use Rattle.model.specs.Claim.{sum}
+use Rattle.model.specs.Claim.{sum, Opens}
 use Rattle.model.specs.Closing.{takeRow, closeMember, closeFrom, closing, closingMost}
 use Rattle.model.specs.Log.{order}
 use Rattle.model.specs.Longest.{longestClosing, Figure, AtMost, lastTaken, FewLeft}
@@ -32,7 +32,7 @@ use Rattle.sequencer.proofs.Soundness.{sound-of}
 
 -- the part of a closing round that is member m's: its row, three events for each number above it, a status and its handing over
 abbrev partOf : ℕ → Member → ℕ
-partOf top m = (acknowledgedOf m .0 - m .taken .0) + 3 * (top - acknowledgedOf m .0) + 2
+partOf last m = (acknowledgedOf m .0 - m .taken .0) + 3 * (last - acknowledgedOf m .0) + 2
 
 -- a closing round is the sum of these parts
 from-parts : (ms : List Member) (i top b : ℕ) → length (closeFrom ms i top b) ≡ sum (length ms) (λ k. partOf top (getD ms k noMember))
@@ -46,8 +46,8 @@ from-parts (m ∷ ms) i top b =
     let s = sum-first (length ms) (λ k. partOf top (getD (m ∷ ms) k noMember)) in
     simp length-append (omega arith)
 
-pub closing-length : (w : World) → length (closing w) ≡ sum (length (w .group .members)) (λ k. partOf (w .group .sequencer .top .0) (getD (w .group .members) k noMember))
-closing-length w = from-parts (w .group .members) 0 (w .group .sequencer .top .0) (length (w .group .packets))
+pub closing-length : (w : World) → length (closing w) ≡ sum (length (w .group .members)) (λ k. partOf (w .group .sequencer .accepted .0) (getD (w .group .members) k noMember))
+closing-length w = from-parts (w .group .members) 0 (w .group .sequencer .accepted .0) (length (w .group .packets))
 
 at-behind : (m : Ordered) (l : List Ordered) (s : ℕ) {x : Ordered} → at l s ≡ some x → at (m ∷ l) (suc s) ≡ some x
 at-behind m l zero e = absurd (none≢some e)
@@ -71,7 +71,7 @@ module _ (group : description.Group) (w : World) (v : WorldInv group w) where
       let ord : List Ordered = order (w .log) in
       let t : ℕ = lastTaken w k in
       let up : t + (lastTaken w j - t) ≡ lastTaken w j = omega arith in
-      let h = v .terminal k bk in
+      let h = v .terminal k bk .content in
       let most = numbered-near h .1 in
       let has = h .own-taken in
       let took : length (ownOf k (take t ord)) ≡ _ = ap (λ (l : List Ordered). length (ownOf k l)) (sym (h .took-is)) ∙ has in
@@ -88,29 +88,32 @@ module _ (group : description.Group) (w : World) (v : WorldInv group w) where
       let top = s .top-is in
       let all = sum-own (group .n) ord (s .originator-ok) in
       let below = sum-own (group .n) (take t ord) (λ k m e. s .originator-ok k m (at-taken t ord k e .1)) in
-      let size = length-take-le t ord (v .terminal j bj .taken-le) in
+      let size = length-take-le t ord (v .terminal j bj .content .taken-le) in
       let near = sum-near (group .n) (λ k. length (ownOf k ord)) (λ k. length (ownOf k (take t ord))) (λ k b. own-near j k bj b (most k b)) in
       omega arith
 
   -- a terminal's part is at most 106
-  part-most : (k : ℕ) → k < group .n → partOf (w .group .sequencer .top .0) (getD (w .group .members) k noMember) ≤ closingMost
+  part-most : (k : ℕ) → k < group .n → partOf (w .group .sequencer .accepted .0) (getD (w .group .members) k noMember) ≤ closingMost
   part-most k b =
       let m : Member = getD (w .group .members) k noMember in
       let near = acknowledged-near m in
       let f = floor-le group w k v b in
       let x = sound-of (w .group .sequencer) (v .sequencer .sound) in
+      let wide = x .window in
+      let high = x .accepted-le in
       omega arith
 
   short : 1 ≤ group .n → length (closing w) ≤ longestClosing (group .n)
   short lo =
       let n : ℕ = group .n in
-      let top : ℕ = w .group .sequencer .top .0 in
-      let part : ℕ → ℕ = λ k. partOf top (getD (w .group .members) k noMember) in
+      let last : ℕ = w .group .sequencer .accepted .0 in
+      let part : ℕ → ℕ = λ k. partOf last (getD (w .group .members) k noMember) in
       let best = largest-of n (lastTaken w) lo in
       let j : ℕ = best .0 in
       let m : Member = getD (w .group .members) j noMember in
       let left = few j (best .1) (best .2) in
-      let least = acknowledged-least m in
+      let least = acknowledged-least m (member.sound-of m (v .terminal j (best .1) .content .sound)) in
+      let high = sound-of (w .group .sequencer) (v .sequencer .sound) .accepted-le in
       let most = acknowledged-most (v .terminal j (best .1)) in
       let top-is = v .sequencer .top-is in
       let one : part j ≤ 3 * n + 2 = omega arith in
@@ -118,15 +121,17 @@ module _ (group : description.Group) (w : World) (v : WorldInv group w) where
       let e : length (closing w) ≡ sum n part = subst (λ (k : ℕ). length (closing w) ≡ sum k part) (v .members) (closing-length w) in
       omega arith
 
-reached : (n number : ℕ) → 1 ≤ n → n ≤ membersMost → number ≤ largestNumber → (events : List Event) → WorldInv (descriptionOf n number) (run (fresh n number) events)
-reached n number lo hn hg events = run-keeps (descriptionOf n number) hn hg (fresh n number) events (fresh-inv n number lo hn hg)
+reached : (n number resilience : ℕ) → Opens n number resilience → (events : List Event) → WorldInv (descriptionOf n number resilience) (run (fresh n number resilience) events)
+reached n number resilience o events =
+    run-keeps (descriptionOf n number resilience) (o .most) (o .fits) (fresh n number resilience) events (fresh-inv n number resilience o)
 
 pub at-most : AtMost
-at-most n number lo hn hg events = short (descriptionOf n number) (run (fresh n number) events) (reached n number lo hn hg events) lo
+at-most n number resilience o events =
+    short (descriptionOf n number resilience) (run (fresh n number resilience) events) (reached n number resilience o events) (o .least)
 
 pub few-left : FewLeft
-few-left n number lo hn hg events j b most =
-    let z = few (descriptionOf n number) (run (fresh n number) events) (reached n number lo hn hg events) j b most in
+few-left n number resilience o events j b most =
+    let z = few (descriptionOf n number resilience) (run (fresh n number resilience) events) (reached n number resilience o events) j b most in
     omega arith
 
 pub figure : Figure

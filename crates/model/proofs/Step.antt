@@ -7,7 +7,7 @@ use mathlib.Core.List.{List, [], _∷_, _++_, append-nil, append-assoc}
 use Prim.Native.Nat.{ℕ, zero, suc, _+_, _≤_, _<_}
 use native.Mathlib.Nat.{not-suc-le-zero, le-of-suc-le-suc, zero-add}
 use native.Mathlib.Omega.{arith}
-use borrow.Author.Tests.{ltb-true, ltb-false, eq-eqb, ne-eqb}
+use borrow.Author.Tests.{lt-ltb, ltb-true, eq-eqb, ne-eqb}
 use borrow.Author.Needs.{needs}
 use lib.ListN.{length, getD, getElem?, replicate, getD-replicate, length-take}
 use Rattle.group.proofs.Choice.{choices, tests, if-true, if-false}
@@ -25,10 +25,10 @@ use Rattle.member.proofs.Taking.{take-good}
 use Rattle.member.specs.Calls as member
 use Rattle.member.specs.Order.{tookBy, acceptedBy}
 use Rattle.member.specs.State.{freshMember}
-use Rattle.member.specs.Calls.{Opening}
 use Rattle.message.proofs.Owning.{Owns}
 use Rattle.message.specs.Order.{Ordered}
-use Rattle.model.proofs.Invariant.{Inv, WorldInv, acknowledgedIn, requestedIn}
+use Rattle.model.proofs.Invariant.{Inv, WorldInv, acknowledgedIn, reachIn, voiceIn}
+use Rattle.model.specs.Claim.{Opens}
 use Rattle.model.proofs.Keep.{keep-sequencer, keep-member}
 use Rattle.model.specs.Log.{gather, numberedIn, order, tookIn, acceptedIn, tookAt, submittedAt, taken, submitted}
 use Rattle.model.specs.World.{Event, submit, repeat, status, poll, copy, handMember, handSequencer, absent, bySequencer, byMember, Group, Happened, missing, withMember, withSequencer, noMember, atMember, takeAt, handToMember, handToSequencer, happen, World, step, run, freshMembers, fresh}
@@ -91,7 +91,7 @@ module _ (group : description.Group) (w : Group) (ord : List Ordered) (tk : ℕ 
 
   abbrev Owes : ℕ → List Ordered → List (List ℕ) → List (List ℕ) → member.Outcome → Type 0
   Owes i tk′ sb′ packets o =
-      MemberGood group i (takenIn (w .sequencer .acknowledgements) i) ord (sb i) (getD (w .members) i noMember) tk′ sb′ packets o
+      MemberGood group i (takenIn (w .sequencer .acknowledgements) i) (w .sequencer .accepted .0) ord (sb i) (getD (w .members) i noMember) tk′ sb′ packets o
 
   -- an event of member i
   member-kept : (i : ℕ) (e : Event) (o : member.Outcome) (packets : List (List ℕ)) (x : List Ordered) (y : List (List ℕ)) → i < group .n
@@ -123,7 +123,7 @@ module _ (group : description.Group) (w : Group) (ord : List Ordered) (tk : ℕ 
       if-elim (Kept (submit i p)) (i <? length (w .members))
       (λ b. let m = getD (w .members) i noMember in let o = member.submitOf m p longestPacket in
       member-kept i (submit i p) o (written (o .bytes)) [] (acceptedBy (o .answer) p) (inside i b) refl (if-same i _ _) (λ j q. refl) (λ j q. if-other i j _ _ q)
-      (rw (append-nil (tk i)) (memberOrdering.submit-good group i _ ord (tk i) (sb i) m (v .terminal i (inside i b)) p)))
+      (rw (append-nil (tk i)) (memberOrdering.submit-good group i _ _ ord (tk i) (sb i) m (v .terminal i (inside i b)) p)))
       (λ b. absent-kept (submit i p))
 
   -- a message's count is at most the number of its originator's messages
@@ -133,7 +133,7 @@ module _ (group : description.Group) (w : Group) (ord : List Ordered) (tk : ℕ 
       if-elim (Kept (world.take i)) (i <? length (w .members))
       (λ b. let m = getD (w .members) i noMember in let o = member.takeOf m longestPacket in
       member-kept i (world.take i) o [] (tookBy (o .answer) (o .bytes)) [] (inside i b) (if-same i _ _) refl (λ j q. if-other i j _ _ q) (λ j q. refl)
-      (rw (append-nil (sb i)) (take-good group i _ ord (tk i) (sb i) m (v .terminal i (inside i b)) (v .sequencer .number-is))))
+      (rw (append-nil (sb i)) (take-good group i _ _ ord (tk i) (sb i) m (v .terminal i (inside i b)) (v .sequencer .number-is))))
       (λ b. absent-kept (world.take i))
 
   repeat-kept : (i : ℕ) → Kept (repeat i) (atMember w i (λ m. member.repeatOf m longestPacket))
@@ -141,7 +141,7 @@ module _ (group : description.Group) (w : Group) (ord : List Ordered) (tk : ℕ 
   repeat-kept i =
       if-elim (Kept (repeat i)) (i <? length (w .members))
       (λ b. still-kept i (repeat i) _ _ (inside i b) (λ j. refl) (λ j. refl)
-      (memberOrdering.repeat-good group i _ ord (tk i) (sb i) (getD (w .members) i noMember) (v .terminal i (inside i b))))
+      (memberOrdering.repeat-good group i _ _ ord (tk i) (sb i) (getD (w .members) i noMember) (v .terminal i (inside i b))))
       (λ b. absent-kept (repeat i))
 
   status-kept : (i : ℕ) → Kept (status i) (atMember w i (λ m. member.statusOf m longestPacket))
@@ -149,7 +149,7 @@ module _ (group : description.Group) (w : Group) (ord : List Ordered) (tk : ℕ 
   status-kept i =
       if-elim (Kept (status i)) (i <? length (w .members))
       (λ b. still-kept i (status i) _ _ (inside i b) (λ j. refl) (λ j. refl)
-      (memberOrdering.status-good group i _ ord (tk i) (sb i) (getD (w .members) i noMember) (v .terminal i (inside i b))))
+      (memberOrdering.status-good group i _ _ ord (tk i) (sb i) (getD (w .members) i noMember) (v .terminal i (inside i b))))
       (λ b. absent-kept (status i))
 
   hand-kept : (k i : ℕ) → Kept (handMember k i) (handToMember w i (getElem? (w .packets) k))
@@ -160,7 +160,7 @@ module _ (group : description.Group) (w : Group) (ord : List Ordered) (tk : ℕ 
       at-i p e =
           if-elim (Kept (handMember k i)) (i <? length (w .members))
           (λ b. still-kept i (handMember k i) _ _ (inside i b) (λ j. refl) (λ j. refl)
-          (memberOrdering.receive-good group i _ ord (tk i) (sb i) (getD (w .members) i noMember) (v .terminal i (inside i b)) (acknowledgedIn (w .members)) (requestedIn (w .members) sb) p (all-get _ (w .packets) k (v .packets) e)))
+          (memberOrdering.receive-good group i _ _ ord (tk i) (sb i) (getD (w .members) i noMember) (v .terminal i (inside i b)) (voiceIn (w .members) sb) p (all-get _ (w .packets) k (v .packets) e)))
           (λ b. absent-kept (handMember k i))
 
       go : (x : Option (List ℕ)) → getElem? (w .packets) k ≡ x → Kept (handMember k i) (handToMember w i x)
@@ -170,22 +170,22 @@ module _ (group : description.Group) (w : Group) (ord : List Ordered) (tk : ℕ 
   -- an event of the sequencer
   sequencer-kept : (e : Event) (o : sequencer.Outcome)
       → ((j : ℕ) → tookAt j e (bySequencer (o .answer) (o .bytes)) ≡ []) → ((j : ℕ) → submittedAt j e (bySequencer (o .answer) (o .bytes)) ≡ [])
-      → SequencerGood group ord (acknowledgedIn (w .members)) (requestedIn (w .members) sb) (written (o .bytes)) o → Kept e (withSequencer w o)
+      → SequencerGood group ord (w .sequencer .accepted .0) (voiceIn (w .members) sb) (written (o .bytes)) o → Kept e (withSequencer w o)
   unfolding numberedIn
   sequencer-kept e o ot os h =
       inv-ext group _ _ _ tk _ sb _ refl (λ j. rw (ot j) (append-nil (tk j))) (λ j. rw (os j) (append-nil (sb j))) (keep-sequencer group w ord tk sb o v h)
 
   acked : (i : ℕ) → i < group .n → takenIn (w .sequencer .acknowledgements) i ≤ acknowledgedIn (w .members) i
-  acked i b = v .terminal i b .acknowledged-le
+  acked i b = v .terminal i b .seat .acknowledged-le
 
-  t-le : (i : ℕ) → i < group .n → acknowledgedIn (w .members) i ≤ length ord
-  t-le i b = acknowledged-most (v .terminal i b)
+  rows : (i : ℕ) → i < group .n → acknowledgedIn (w .members) i ≤ w .sequencer .accepted .0
+  rows i b = acknowledged-most (v .terminal i b)
 
-  sizes : (i : ℕ) → i < group .n → length (requestedIn (w .members) sb i) ≤ largestNumber
-  sizes i b = let z = v .terminal i b .typed .submitted in let y = v .terminal i b .submitted-is in simp length-take (omega arith)
+  sizes : (i : ℕ) → i < group .n → length (voiceIn (w .members) sb i .submitted) ≤ largestNumber
+  sizes i b = let h = v .terminal i b .content in let z = h .typed .submitted in let y = h .submitted-is in simp length-take (omega arith)
 
-  owns : (i : ℕ) → i < group .n → Owns i ord (requestedIn (w .members) sb i)
-  owns i b = requested-owns (v .terminal i b)
+  owns : (i : ℕ) → i < group .n → Owns i ord (voiceIn (w .members) sb i .submitted)
+  owns i b = requested-owns (v .terminal i b .content)
 
   hand-sequencer-kept : (k : ℕ) → Kept (handSequencer k) (handToSequencer w (getElem? (w .packets) k))
   unfolding tookAt submittedAt
@@ -195,7 +195,7 @@ module _ (group : description.Group) (w : Group) (ord : List Ordered) (tk : ℕ 
       go none e = absent-kept (handSequencer k)
       go (some p) e =
           sequencer-kept (handSequencer k) _ (λ j. refl) (λ j. refl)
-          (sequencerOrdering.receive-good group ord (w .sequencer) (v .sequencer) (acknowledgedIn (w .members)) (requestedIn (w .members) sb) acked t-le sizes owns p (all-get _ (w .packets) k (v .packets) e))
+          (sequencerOrdering.receive-good group ord (w .sequencer) (v .sequencer) (voiceIn (w .members) sb) acked rows sizes owns (v .confirmed) p (all-get _ (w .packets) k (v .packets) e))
 
   pub step-keeps : (e : Event) → Kept e (happen w e)
   unfolding happen tookAt submittedAt
@@ -204,10 +204,10 @@ module _ (group : description.Group) (w : Group) (ord : List Ordered) (tk : ℕ 
   step-keeps (world.take i) = take-kept i
   step-keeps (status i) = status-kept i
   step-keeps poll =
-      sequencer-kept poll _ (λ j. refl) (λ j. refl) (sequencerOrdering.poll-good group ord (w .sequencer) (v .sequencer) (acknowledgedIn (w .members)) (requestedIn (w .members) sb) acked t-le sizes owns)
+      sequencer-kept poll _ (λ j. refl) (λ j. refl) (sequencerOrdering.poll-good group ord (w .sequencer) (v .sequencer) (voiceIn (w .members) sb) acked rows sizes owns (v .confirmed))
   step-keeps (copy number) =
       sequencer-kept (copy number) _ (λ j. refl) (λ j. refl)
-      (sequencerOrdering.copy-good group ord (w .sequencer) (v .sequencer) (acknowledgedIn (w .members)) (requestedIn (w .members) sb) acked t-le sizes owns (record { 0 = number }))
+      (sequencerOrdering.copy-good group ord (w .sequencer) (v .sequencer) (voiceIn (w .members) sb) acked rows sizes owns (v .confirmed) (record { 0 = number }))
   step-keeps (handMember k i) = hand-kept k i
   step-keeps (handSequencer k) = hand-sequencer-kept k
 
@@ -229,42 +229,48 @@ module _ (group : description.Group) (hn : group .n ≤ membersMost) (hg : group
   run-keeps w (e ∷ es) v = run-keeps (step w e) es (next-keeps w e v)
 
 -- a fresh group
-open-group : (n g : ℕ) → 1 ≤ n → n ≤ membersMost → openOf n g ≡ Opened.Open (descriptionOf n g)
-unfolding openOf
-open-group n g lo hi = sym (search (choices, tests, needs) depth 9)
+module _ (n g r : ℕ) (o : Opens n g r) where
+  open-group : openOf n g r ≡ Opened.Open (descriptionOf n g r)
+  unfolding openOf
+  open-group =
+      let a = o .least in
+      let b = o .most in
+      let c = o .resilient in
+      sym (search (choices, tests, needs) depth 9)
 
-open-sequencer : (n g : ℕ) → 1 ≤ n → n ≤ membersMost → sequencer.freshOf n g .sequencer ≡ freshSequencer (descriptionOf n g)
-unfolding sequencer.freshOf sequencer.openedOf
-open-sequencer n g lo hi = rw (open-group n g lo hi)
+  open-sequencer : sequencer.freshOf n g r .sequencer ≡ freshSequencer (descriptionOf n g r)
+  unfolding sequencer.freshOf sequencer.openedOf
+  open-sequencer = rw open-group
 
-open-member : (n g i : ℕ) → 1 ≤ n → n ≤ membersMost → i < n
-    → member.freshOf n (record { 0 = i }) g .member ≡ freshMember (descriptionOf n g) (record { 0 = i })
-unfolding member.freshOf member.openedOf
-open-member n g i lo hi b = rw (open-group n g lo hi) (if-elim (λ (o : Opening). o .member ≡ freshMember (descriptionOf n g) (record { 0 = i })) (i <? n) (λ t. refl) (λ f. absurd (let z = ltb-false i n f in omega arith)))
+  open-member : (i : ℕ) → i < n → member.freshOf n (record { 0 = i }) g r .member ≡ freshMember (descriptionOf n g r) (record { 0 = i })
+  unfolding member.freshOf member.openedOf if_then_else_
+  open-member i b = rw (lt-ltb i n b, open-group)
 
-members-length : (n g i k : ℕ) → length (freshMembers n g i k) ≡ k
+members-length : (n g r i k : ℕ) → length (freshMembers n g r i k) ≡ k
 unfolding freshMembers
-members-length n g i zero = refl
-members-length n g i (suc k) = ap suc (members-length n g (i + 1) k)
+members-length n g r i zero = refl
+members-length n g r i (suc k) = ap suc (members-length n g r (i + 1) k)
 
-members-at : (n g i k j : ℕ) → j < k → getD (freshMembers n g i k) j noMember ≡ member.freshOf n (record { 0 = i + j }) g .member
+members-at : (n g r i k j : ℕ) → j < k → getD (freshMembers n g r i k) j noMember ≡ member.freshOf n (record { 0 = i + j }) g r .member
 unfolding freshMembers
-members-at n g i zero j h = absurd (not-suc-le-zero h)
-members-at n g i (suc k) zero h = let e : i ≡ i + 0 = omega arith in ap (λ (x : ℕ). member.freshOf n (record { 0 = x }) g .member) e
-members-at n g i (suc k) (suc j) h =
+members-at n g r i zero j h = absurd (not-suc-le-zero h)
+members-at n g r i (suc k) zero h = let e : i ≡ i + 0 = omega arith in ap (λ (x : ℕ). member.freshOf n (record { 0 = x }) g r .member) e
+members-at n g r i (suc k) (suc j) h =
     let e : i + 1 + j ≡ i + suc j = omega arith in
-    members-at n g (i + 1) k j (le-of-suc-le-suc h) ∙ ap (λ (x : ℕ). member.freshOf n (record { 0 = x }) g .member) e
+    members-at n g r (i + 1) k j (le-of-suc-le-suc h) ∙ ap (λ (x : ℕ). member.freshOf n (record { 0 = x }) g r .member) e
 
-pub fresh-inv : (n g : ℕ) → 1 ≤ n → n ≤ membersMost → g ≤ largestNumber → WorldInv (descriptionOf n g) (fresh n g)
+pub fresh-inv : (n g r : ℕ) → Opens n g r → WorldInv (descriptionOf n g r) (fresh n g r)
 unfolding fresh freshSequencer gather
-fresh-inv n g lo hi hg =
+fresh-inv n g r o =
+    let group : description.Group = descriptionOf n g r in
     record {
-      sequencer = rw (open-sequencer n g lo hi) (histories.fresh-inv (descriptionOf n g) lo hi hg);
-      members = members-length n g 0 n;
+      sequencer = rw (open-sequencer n g r o) (histories.fresh-inv group (o .least) (o .most) (o .resilient) (o .fits));
+      confirmed = rw (open-sequencer n g r o) (histories.fresh-confirmed group (o .least) (o .most) (o .resilient) (o .fits) (reachIn (freshMembers n g r 0 n)));
+      members = members-length n g r 0 n;
       terminal = λ i b.
-          let z : getD (replicate membersMost noAcknowledgement) i noAcknowledgement ≡ noAcknowledgement = getD-replicate membersMost i noAcknowledgement noAcknowledgement (omega arith) in
-          let y : getD (freshMembers n g 0 n) i noMember ≡ freshMember (descriptionOf n g) (record { 0 = i }) =
-          members-at n g 0 n i b ∙ ap (λ (x : ℕ). member.freshOf n (record { 0 = x }) g .member) (zero-add i) ∙ open-member n g i lo hi b in
-          rw (open-sequencer n g lo hi, z, y) (fresh-terminal (descriptionOf n g) i lo hi b hg);
+          let z : getD (replicate membersMost noAcknowledgement) i noAcknowledgement ≡ noAcknowledgement = getD-replicate membersMost i noAcknowledgement noAcknowledgement (let y = o .most in omega arith) in
+          let y : getD (freshMembers n g r 0 n) i noMember ≡ freshMember group (record { 0 = i }) =
+          members-at n g r 0 n i b ∙ ap (λ (x : ℕ). member.freshOf n (record { 0 = x }) g r .member) (zero-add i) ∙ open-member n g r o i b in
+          rw (open-sequencer n g r o, z, y) (fresh-terminal group i (o .least) (o .most) (o .resilient) b (o .fits));
       packets = tt;
     }

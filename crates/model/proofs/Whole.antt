@@ -7,14 +7,15 @@ use native.Mathlib.Nat.{le-refl, le-trans, suc-mul, zero-mul}
 use native.Mathlib.Omega.{arith}
 use borrow.Author.Tests.{ltb-true, ltb-false}
 use lib.ListN.{length, getD, take, drop, take-append-drop, length-append, length-drop}
-use lib.Seq.{length-take-le, drop-drop, take-all, take-add}
-use Rattle.group.proofs.Lists.{if-elim, none≢some, at, at-nil, at-some, at-append, drop-at-suc}
+use lib.Seq.{length-take-le, drop-drop, take-all, take-add, take-take}
+use Rattle.group.proofs.Lists.{if-elim, none≢some, at, at-nil, at-some, at-append, at-take, drop-at-suc}
 use Rattle.group.specs.Choice.{if_then_else_, _<?_}
 use Rattle.group.specs.Limits.{waitingMost}
 use Rattle.group.specs.declared.Group as description
 use Rattle.member.proofs.Acknowledged.{acknowledged-least, acknowledged-near, acknowledged-holds, acknowledged-most}
-use Rattle.member.proofs.Invariant.{Terminal, numbered-near}
-use Rattle.member.proofs.Soundness.{sound-of}
+use Rattle.member.proofs.Invariant.{Content, Terminal, numbered-near}
+use Rattle.member.proofs.Soundness as member
+use Rattle.sequencer.proofs.Soundness.{sound-of}
 use Rattle.member.specs.State.{Member, acknowledgedOf}
 use Rattle.message.proofs.Kept.{kept-payload}
 use Rattle.message.proofs.Owning.{counted-length, own-most}
@@ -22,7 +23,7 @@ use Rattle.message.specs.Message.{Message, messageOf, payloadOf}
 use Rattle.message.specs.Order.{Ordered, Submission, ownOf, countedFrom}
 use Rattle.model.proofs.Invariant.{WorldInv, acknowledgedIn}
 use Rattle.model.specs.Claim.{sum, withoutLast}
-use Rattle.model.specs.Log.{order, taken, submitted, accepted, orderedAt, messagesAbove, historyOf, lastNumber, above, rowOf, owed}
+use Rattle.model.specs.Log.{order, taken, submitted, accepted, orderedAt, messagesAbove, historyOf, acceptedHistory, acceptedOrder, lastNumber, above, rowOf, owed}
 use Rattle.model.specs.World.{World, noMember}
 use Rattle.history.specs.State.{messageAt}
 use Rattle.sequencer.proofs.Ordering.{floor-below}
@@ -77,7 +78,7 @@ runs-drop b (suc f) [] h s m e = absurd (at-nil s e)
 runs-drop b (suc f) (x ∷ l) h s m e = let z = runs-drop (suc b) f l (runs-tail b x l h) s m e in omega arith
 
 -- a message that lies as the order has it
-ordered-of : (lies : ℕ → Message) (k : ℕ) (m : Ordered) → lies k ≡ messageOf (record { 0 = m .originator }) (m .count) (m .payload) → m .number ≡ k → orderedAt lies k ≡ m
+pub ordered-of : (lies : ℕ → Message) (k : ℕ) (m : Ordered) → lies k ≡ messageOf (record { 0 = m .originator }) (m .count) (m .payload) → m .number ≡ k → orderedAt lies k ≡ m
 unfolding messageOf
 ordered-of lies k m h e =
     let p : payloadOf (lies k) ≡ m .payload = ap payloadOf h ∙ kept-payload (record { 0 = m .originator }) (m .count) (m .payload) in
@@ -96,7 +97,7 @@ messages-are lies ord (suc k) f h =
     ap₂ (λ (m : Ordered) (l : List Ordered). m ∷ l) here rest ∙ ap (take (suc k)) (sym (drop-at-suc ord f (y .1)))
 
 -- the history is the order without its first floor
-history-is : (group : description.Group) (s : Sequencer) (ord : List Ordered) → SequencerInv group s ord → historyOf s ≡ drop (s .floor .0) ord
+pub history-is : (group : description.Group) (s : Sequencer) (ord : List Ordered) → SequencerInv group s ord → historyOf s ≡ drop (s .floor .0) ord
 history-is group s ord v =
     let top = v .top-is in
     let f : ℕ = s .floor .0 in
@@ -105,11 +106,30 @@ history-is group s ord v =
     (y .0, y .1, ordered-of (messageAt (s .history)) k (y .0) (v .history-is k (y .0) (y .1) lo) (v .number-is k (y .0) (y .1))))
     ∙ take-all (s .top .0 - f) (drop f ord) (simp length-drop (omega arith))
 
+-- the accepted messages of an order
+abbrev firstOf : Sequencer → List Ordered → List Ordered
+firstOf s ord = take (s .accepted .0) ord
+
+-- the history's accepted messages are these without the first floor
+accepted-is : (group : description.Group) (s : Sequencer) (ord : List Ordered) → SequencerInv group s ord → acceptedHistory s ≡ drop (s .floor .0) (firstOf s ord)
+accepted-is group s ord v =
+    let top = v .top-is in
+    let f : ℕ = s .floor .0 in
+    let a : ℕ = s .accepted .0 in
+    let sound = sound-of s (v .sound) in
+    let low = sound .floor-le in
+    let high = sound .accepted-le in
+    let size = length-take-le a ord (omega arith) in
+    messages-are (messageAt (s .history)) (firstOf s ord) (a - f) f
+    (λ k lo hi. let y = at-some ord k (omega arith) (omega arith) in
+    (y .0, at-take a ord k (omega arith) (y .1), ordered-of (messageAt (s .history)) k (y .0) (v .history-is k (y .0) (y .1) lo) (v .number-is k (y .0) (y .1))))
+    ∙ take-all (a - f) (drop f (firstOf s ord)) (simp length-drop (omega arith))
+
 -- a terminal's row is the order's messages above what it took, up to what it acknowledges
-row-is : (group : description.Group) (i a : ℕ) (m : Member) (ord took : List Ordered) (sb : List (List ℕ)) → Terminal group i a m ord took sb
+row-is : (i : ℕ) (m : Member) (ord took : List Ordered) (sb : List (List ℕ)) → Content i m ord took sb
     → ((k : ℕ) (x : Ordered) → at ord k ≡ some x → x .number ≡ k) → rowOf m ≡ take (acknowledgedOf m .0 - m .taken .0) (drop (m .taken .0) ord)
-row-is group i a m ord took sb h numbered =
-    let least = acknowledged-least m in
+row-is i m ord took sb h numbered =
+    let least = acknowledged-least m (member.sound-of m (h .sound)) in
     let near = acknowledged-near m in
     messages-are (window.messageAt (m .held)) ord (acknowledgedOf m .0 - m .taken .0) (m .taken .0)
     (λ k lo hi. let x = h .held-is k lo (omega arith) (acknowledged-holds m k lo (omega arith)) in
@@ -117,10 +137,10 @@ row-is group i a m ord took sb h numbered =
 
 -- floor is at most what each terminal acknowledges
 pub floor-le : (group : description.Group) (w : World) (i : ℕ) → WorldInv group w → i < group .n → w .group .sequencer .floor .0 ≤ acknowledgedIn (w .group .members) i
-floor-le group w i v b = le-trans (floor-below group _ (w .group .sequencer) (v .sequencer) i b) (v .terminal i b .acknowledged-le)
+floor-le group w i v b = le-trans (floor-below group _ (w .group .sequencer) (v .sequencer) i b) (v .terminal i b .seat .acknowledged-le)
 
 -- what a terminal took, and is owed
-pub whole : (group : description.Group) (w : World) (i : ℕ) → WorldInv group w → i < group .n → taken i (w .log) ++ owed w i ≡ order (w .log)
+pub whole : (group : description.Group) (w : World) (i : ℕ) → WorldInv group w → i < group .n → taken i (w .log) ++ owed w i ≡ acceptedOrder w
 whole group w i v b =
     let q : Sequencer = w .group .sequencer in
     let f : ℕ = q .floor .0 in
@@ -130,22 +150,30 @@ whole group w i v b =
     let a : ℕ = acknowledgedOf m .0 in
     let h = v .terminal i b in
     let s = v .sequencer in
-    let least = acknowledged-least m in
+    let first : List Ordered = firstOf q ord in
+    let sound = sound-of q (s .sound) in
+    let high = sound .accepted-le in
+    let top = s .top-is in
+    let most = acknowledged-most h in
+    let size = length-take-le (q .accepted .0) ord (omega arith) in
+    let least = acknowledged-least m (member.sound-of m (h .content .sound)) in
     let fle : f ≤ a = floor-le group w i v b in
     let row : List Ordered = rowOf m in
     let up : t + (a - t) ≡ a = omega arith in
     let cut : f + (a - f) ≡ a = omega arith in
-    let has : taken i (w .log) ++ row ≡ take a ord =
-    ap₂ (λ (x y : List Ordered). x ++ y) (h .took-is) (row-is group i _ m ord _ _ h (s .number-is)) ∙ sym (take-add t (a - t) ord) ∙ ap (λ (k : ℕ). take k ord) up in
+    let has : taken i (w .log) ++ row ≡ take a first =
+    ap₂ (λ (x y : List Ordered). x ++ y) (h .content .took-is) (row-is i m ord _ _ (h .content) (s .number-is))
+    ∙ sym (take-add t (a - t) ord) ∙ ap (λ (k : ℕ). take k ord) up ∙ sym (take-take a (q .accepted .0) ord most) in
+    let runs-first : Runs 0 first = runs-take 0 (q .accepted .0) ord (runs ord s) in
     let last : lastNumber (taken i (w .log) ++ row) ≡ a =
-    ap lastNumber has ∙ last-is (take a ord) (runs-take 0 a ord (runs ord s)) ∙ length-take-le a ord (acknowledged-most h) in
-    let rest : above (lastNumber (taken i (w .log) ++ row)) (historyOf q) ≡ drop a ord =
-    ap₂ above last (history-is group q ord s)
-    ∙ ap (λ (k : ℕ). above k (drop f ord)) (sym cut)
-    ∙ above-drop f (a - f) (drop f ord) (λ r x e. let z = runs-drop 0 f ord (runs ord s) r x e in omega arith)
-    ∙ drop-drop (a - f) f ord
-    ∙ ap (λ (k : ℕ). drop k ord) cut in
-    sym (append-assoc (taken i (w .log)) row _) ∙ ap₂ (λ (x y : List Ordered). x ++ y) has rest ∙ take-append-drop a ord
+    ap lastNumber has ∙ last-is (take a first) (runs-take 0 a first runs-first) ∙ length-take-le a first (omega arith) in
+    let rest : above (lastNumber (taken i (w .log) ++ row)) (acceptedHistory q) ≡ drop a first =
+    ap₂ above last (accepted-is group q ord s)
+    ∙ ap (λ (k : ℕ). above k (drop f first)) (sym cut)
+    ∙ above-drop f (a - f) (drop f first) (λ r x e. let z = runs-drop 0 f first runs-first r x e in omega arith)
+    ∙ drop-drop (a - f) f first
+    ∙ ap (λ (k : ℕ). drop k first) cut in
+    sym (append-assoc (taken i (w .log)) row _) ∙ ap₂ (λ (x y : List Ordered). x ++ y) has rest ∙ take-append-drop a first
   where
     runs : (ord : List Ordered) → SequencerInv group (w .group .sequencer) ord → Runs 0 ord
     runs ord s r x e = let z = s .number-is r x e in omega arith
@@ -159,9 +187,14 @@ sum-is (suc n) x f h =
     let y = h n (le-refl _) in
     rw (z, y) (sym (suc-mul n x))
 
-pub total : (group : description.Group) (w : World) → WorldInv group w → sum (group .n) (λ i. length (taken i (w .log)) + length (owed w i)) ≡ group .n * length (order (w .log))
+pub total : (group : description.Group) (w : World) → WorldInv group w → sum (group .n) (λ i. length (taken i (w .log)) + length (owed w i)) ≡ group .n * w .group .sequencer .accepted .0
 total group w v =
-    sum-is (group .n) (length (order (w .log))) _ (λ i b. sym (length-append (taken i (w .log)) (owed w i)) ∙ ap length (whole group w i v b))
+    let s = v .sequencer in
+    let q : Sequencer = w .group .sequencer in
+    let high = sound-of q (s .sound) .accepted-le in
+    let top = s .top-is in
+    let size = length-take-le (q .accepted .0) (order (w .log)) (omega arith) in
+    sum-is (group .n) (q .accepted .0) _ (λ i b. sym (length-append (taken i (w .log)) (owed w i)) ∙ ap length (whole group w i v b) ∙ size)
 
 -- a terminal's own messages
 counted-take : (a k : ℕ) (l : List (List ℕ)) → countedFrom a (take k l) ≡ take k (countedFrom a l)
@@ -173,7 +206,7 @@ counted-take a (suc k) (x ∷ l) = ap (λ (r : List Submission). record { count 
 pub owns : (group : description.Group) (w : World) (i : ℕ) → WorldInv group w → i < group .n
     → (k : ℕ) × (k ≤ waitingMost) × (ownOf i (order (w .log)) ≡ withoutLast k (accepted i (w .log)))
 owns group w i v b =
-    let h = v .terminal i b in
+    let h = v .terminal i b .content in
     let m : Member = getD (w .group .members) i noMember in
     let sb : List (List ℕ) = submitted i (w .log) in
     let p : ℕ = length (ownOf i (order (w .log))) in
@@ -182,7 +215,7 @@ owns group w i v b =
     let near = numbered-near h .0 in
     let le = own-most i (order (w .log)) sb (h .own-is) in
     let size = h .submitted-is in
-    let waits = sound-of m (h .sound) .waiting in
+    let waits = member.sound-of m (h .sound) .waiting in
     let most = waits .most in
     let enough = waits .enough in
     let y : p ≡ length (accepted i (w .log)) - (m .submitted - p) = omega arith in

@@ -41,12 +41,12 @@ statusOf i taken = packetOf (fieldsOf 7 (Packet.Status (record { 0 = i }) (recor
 
 -- the sequencer of n members of group 7 after member 1's requests with counts 1 to k, nothing taken
 unfoldable pub requested : ℕ → ℕ → Sequencer
-requested n zero = freshSequencer (descriptionOf n 7)
+requested n zero = freshSequencer (descriptionOf n 7 0)
 requested n (suc k) = sequencer.receiveOf (requested n k) (request 0 (suc k) []) longestPacket .sequencer
 
 -- member 0 of two in group 7 that holds numbers 1 to k
 unfoldable pub holding : ℕ → Member
-holding zero = freshMember (descriptionOf 2 7) (record { 0 = 0 })
+holding zero = freshMember (descriptionOf 2 7 0) (record { 0 = 0 })
 holding (suc k) = member.receiveOf (holding k) (broadcast (suc k)) longestPacket .member
 
 -- the repeat counts of members 0 and 1, and the old count
@@ -121,31 +121,31 @@ pub record Examples : Type 0 where
   pub at-top : sequencer.receiveOf (requested 2 1) (statusOf 0 1) longestPacket .answer ≡ sequencerAnswer.Answer.Noted
   pub over-top : sequencer.receiveOf (requested 2 1) (statusOf 0 2) longestPacket .answer ≡ sequencerAnswer.Answer.Refused Refusal.AcknowledgedAhead
   -- an empty payload is a message
-  pub empty-payload : order (run (fresh 1 7) alone .log) ≡ aloneMessage
+  pub empty-payload : order (run (fresh 1 7 0) alone .log) ≡ aloneMessage
   -- with n = 1, member 0's message is numbered, kept and taken,
-  pub alone-answers : answers (run (fresh 1 7) alone)
+  pub alone-answers : answers (run (fresh 1 7 0) alone)
       ≡ byMember memberAnswer.Answer.Sent (packetOf (fieldsOf 7 (Packet.Request (record { 0 = 0 }) (record { 0 = 0 }) 1)) [])
       ∷ bySequencer (sequencerAnswer.Answer.Numbered (record { 0 = 1 }))
       (packetOf (fieldsOf 7 (Packet.Broadcast (record { 0 = 0 }) (record { 0 = 1 }) 1 (record { 0 = 0 }))) [])
       ∷ byMember memberAnswer.Answer.Kept []
       ∷ byMember (memberAnswer.Answer.Took (record { 0 = 1 }) (record { 0 = 0 }) 1 mathlib.Core.Bool.false) []
       ∷ []
-  pub alone-taken : taken 0 (run (fresh 1 7) alone .log) ≡ aloneMessage
+  pub alone-taken : taken 0 (run (fresh 1 7 0) alone .log) ≡ aloneMessage
   -- and its status empties the history, which holds the message until then
-  pub alone-holds : historyOf (run (fresh 1 7) alone .group .sequencer) ≡ aloneMessage
-  pub alone-empties : historyOf (run (run (fresh 1 7) alone) aloneStatus .group .sequencer) ≡ []
+  pub alone-holds : historyOf (run (fresh 1 7 0) alone .group .sequencer) ≡ aloneMessage
+  pub alone-empties : historyOf (run (run (fresh 1 7 0) alone) aloneStatus .group .sequencer) ≡ []
   -- where it is held and not taken, it is owed once, and its status empties the history too,
-  pub asleep-owed : owed (run (fresh 1 7) asleep) 0 ≡ aloneMessage
-  pub asleep-empties : historyOf (run (run (fresh 1 7) asleep) aloneStatus .group .sequencer) ≡ []
-  pub asleep-still-owed : owed (run (run (fresh 1 7) asleep) aloneStatus) 0 ≡ aloneMessage
+  pub asleep-owed : owed (run (fresh 1 7 0) asleep) 0 ≡ aloneMessage
+  pub asleep-empties : historyOf (run (run (fresh 1 7 0) asleep) aloneStatus .group .sequencer) ≡ []
+  pub asleep-still-owed : owed (run (run (fresh 1 7 0) asleep) aloneStatus) 0 ≡ aloneMessage
   -- and a closing round of a take, a status and its handing over gives it
-  pub asleep-closing : length (closing (run (fresh 1 7) asleep)) ≡ 3
-  pub asleep-given : taken 0 (run (run (fresh 1 7) asleep) (closing (run (fresh 1 7) asleep)) .log) ≡ aloneMessage
+  pub asleep-closing : length (closing (run (fresh 1 7 0) asleep)) ≡ 3
+  pub asleep-given : taken 0 (run (run (fresh 1 7 0) asleep) (closing (run (fresh 1 7 0) asleep)) .log) ≡ aloneMessage
   -- group 7, member 1, first message "ab", in hexadecimal
   pub ab-written : request 0 1 (0x61 ∷ 0x62 ∷ []) ≡ ab
   pub ab-read : readOf ab ≡ Reading.Fields (fieldsOf 7 (Packet.Request (record { 0 = 1 }) (record { 0 = 0 }) 1))
   -- the schedule at the document's end: sent, numbered 1, kept, took 1 1 1 6162 last, none
-  pub schedule-answers : answers (run (fresh 2 7) schedule)
+  pub schedule-answers : answers (run (fresh 2 7 0) schedule)
       ≡ byMember memberAnswer.Answer.Sent ab
       ∷ bySequencer (sequencerAnswer.Answer.Numbered (record { 0 = 1 }))
       (packetOf (fieldsOf 7 (Packet.Broadcast (record { 0 = 1 }) (record { 0 = 1 }) 1 (record { 0 = 0 }))) (0x61 ∷ 0x62 ∷ []))
@@ -154,9 +154,9 @@ pub record Examples : Type 0 where
       ∷ byMember memberAnswer.Answer.None []
       ∷ []
   -- two packets were written, terminal 1 is owed nothing, and terminal 0 the message
-  pub schedule-packets : length (run (fresh 2 7) schedule .group .packets) ≡ 2
-  pub schedule-owed-1 : owed (run (fresh 2 7) schedule) 1 ≡ []
-  pub schedule-owed-0 : owed (run (fresh 2 7) schedule) 0 ≡ record { number = 1; originator = 1; count = 1; payload = 0x61 ∷ 0x62 ∷ [] } ∷ []
+  pub schedule-packets : length (run (fresh 2 7 0) schedule .group .packets) ≡ 2
+  pub schedule-owed-1 : owed (run (fresh 2 7 0) schedule) 1 ≡ []
+  pub schedule-owed-0 : owed (run (fresh 2 7 0) schedule) 0 ≡ record { number = 1; originator = 1; count = 1; payload = 0x61 ∷ 0x62 ∷ [] } ∷ []
   -- its closing round: three events for the number that terminal 0 lacks, and two for each terminal; it empties the history
-  pub schedule-closing : length (closing (run (fresh 2 7) schedule)) ≡ 7
-  pub schedule-closed : historyOf (run (run (fresh 2 7) schedule) (closing (run (fresh 2 7) schedule)) .group .sequencer) ≡ []
+  pub schedule-closing : length (closing (run (fresh 2 7 0) schedule)) ≡ 7
+  pub schedule-closed : historyOf (run (run (fresh 2 7 0) schedule) (closing (run (fresh 2 7 0) schedule)) .group .sequencer) ≡ []

@@ -2,6 +2,7 @@
 use mathlib.Core.List.{List, [], _∷_, _++_}
 use Prim.Native.Nat.{ℕ, zero, suc, _+_, _-_}
 use lib.ListN.{getD}
+use lib.ListN as list
 use Rattle.group.specs.Choice.{if_then_else_, _<?_, _=?_}
 use Rattle.member.specs.Order.{tookBy, acceptedBy}
 use Rattle.member.specs.State.{Member, acknowledgedOf}
@@ -91,6 +92,17 @@ messagesAbove lies f (suc k) = orderedAt lies (f + 1) ∷ messagesAbove lies (f 
 abbrev pub historyOf : Sequencer → List Ordered
 historyOf s = messagesAbove (messageAt (s .history)) (s .floor .0) (s .top .0 - s .floor .0)
 
+-- those that are accepted
+abbrev pub acceptedHistory : Sequencer → List Ordered
+acceptedHistory s = messagesAbove (messageAt (s .history)) (s .floor .0) (s .accepted .0 - s .floor .0)
+
+-- the accepted messages of the order, and the others
+abbrev pub acceptedOrder : World → List Ordered
+acceptedOrder w = list.take (w .group .sequencer .accepted .0) (order (w .log))
+
+abbrev pub offeredOrder : World → List Ordered
+offeredOrder w = list.drop (w .group .sequencer .accepted .0) (order (w .log))
+
 -- the number of the last message; 0: there is none
 unfoldable pub lastNumber : List Ordered → ℕ
 lastNumber [] = 0
@@ -102,7 +114,7 @@ unfoldable pub above : ℕ → List Ordered → List Ordered
 above number [] = []
 above number (m ∷ rest) = if number <? m .number then m ∷ above number rest else above number rest
 
--- the row that a member acknowledges above what it took: the messages that it holds from t + 1 on without a hole, lowest first
+-- the row that a member acknowledges above what it took: the accepted messages that it holds from t + 1 on without a hole, lowest first
 abbrev pub rowOf : Member → List Ordered
 rowOf m = messagesAbove (window.messageAt (m .held)) (m .taken .0) (acknowledgedOf m .0 - m .taken .0)
 
@@ -110,6 +122,6 @@ rowOf m = messagesAbove (window.messageAt (m .held)) (m .taken .0) (acknowledged
 abbrev pub owedAfter : List Ordered → List Ordered → List Ordered → List Ordered
 owedAfter took row history = row ++ above (lastNumber (took ++ row)) history
 
--- owed to a terminal are the row that its member holds, and the history's messages above that row
+-- owed to a terminal are the row that its member acknowledges, and the history's accepted messages above that row
 abbrev pub owed : World → ℕ → List Ordered
-owed w i = owedAfter (taken i (w .log)) (rowOf (getD (w .group .members) i noMember)) (historyOf (w .group .sequencer))
+owed w i = owedAfter (taken i (w .log)) (rowOf (getD (w .group .members) i noMember)) (acceptedHistory (w .group .sequencer))

@@ -4,7 +4,7 @@ use mathlib.Core.Path.{_≡_}
 use mathlib.Core.List.{List}
 use Prim.Native.Nat.{ℕ, _+_, _-_, _*_, _≤_, _<_}
 use lib.ListN.{length, getD}
-use Rattle.group.specs.Limits.{membersMost, largestNumber}
+use Rattle.model.specs.Claim.{Opens}
 use Rattle.model.specs.Closing.{closing, closingMost}
 use Rattle.model.specs.World.{Event, World, noMember, run, fresh}
 
@@ -18,8 +18,8 @@ Figure = (n : ℕ) → 1 ≤ n → longestClosing n ≡ 109 * n - 104
 
 -- after any list of events a closing round takes at most that many
 abbrev pub AtMost : Type 0
-AtMost = (n number : ℕ) → 1 ≤ n → n ≤ membersMost → number ≤ largestNumber → (events : List Event)
-    → length (closing (run (fresh n number) events)) ≤ longestClosing n
+AtMost = (n number resilience : ℕ) → Opens n number resilience → (events : List Event)
+    → length (closing (run (fresh n number resilience) events)) ≤ longestClosing n
 
 -- terminal i's t
 abbrev pub lastTaken : World → ℕ → ℕ
@@ -27,6 +27,6 @@ lastTaken w i = getD (w .group .members) i noMember .taken .0
 
 -- above the t of a terminal that took most lie at most n numbers: each terminal has at most one message of its own above its t
 abbrev pub FewLeft : Type 0
-FewLeft = (n number : ℕ) → 1 ≤ n → n ≤ membersMost → number ≤ largestNumber → (events : List Event)
-    → let w = run (fresh n number) events in
+FewLeft = (n number resilience : ℕ) → Opens n number resilience → (events : List Event)
+    → let w = run (fresh n number resilience) events in
     (j : ℕ) → j < n → ((i : ℕ) → i < n → lastTaken w i ≤ lastTaken w j) → w .group .sequencer .top .0 - lastTaken w j ≤ n

@@ -72,7 +72,7 @@ withSequencer g o =
 
 -- what a list of members is read as past its end
 abbrev pub noMember : Member
-noMember = freshMember (descriptionOf 0 0) (record { 0 = 0 })
+noMember = freshMember (descriptionOf 0 0 0) (record { 0 = 0 })
 
 -- a call of member i that writes packets, if there is such a member
 abbrev pub atMember : Group → ℕ → (Member → member.Outcome) → Happened
@@ -129,14 +129,20 @@ run w [] = w
 run w (event ∷ rest) = run (step w event) rest
 
 -- members i to i + k - 1, fresh
-unfoldable pub freshMembers : ℕ → ℕ → ℕ → ℕ → List Member
-freshMembers n number i zero = []
-freshMembers n number i (suc k) = member.freshOf n (record { 0 = i }) number .member ∷ freshMembers n number (i + 1) k
+unfoldable pub freshMembers : ℕ → ℕ → ℕ → ℕ → ℕ → List Member
+freshMembers n number resilience i zero = []
+freshMembers n number resilience i (suc k) =
+    member.freshOf n (record { 0 = i }) number resilience .member ∷ freshMembers n number resilience (i + 1) k
 
 -- a fresh group has its sequencer and members 0 to n - 1 fresh, opened alike but for the member number, and no packet yet
-unfoldable pub fresh : ℕ → ℕ → World
-fresh n number =
+unfoldable pub fresh : ℕ → ℕ → ℕ → World
+fresh n number resilience =
     record {
-      group = record { sequencer = sequencer.freshOf n number .sequencer; members = freshMembers n number 0 n; packets = [] };
+      group =
+          record {
+            sequencer = sequencer.freshOf n number resilience .sequencer;
+            members = freshMembers n number resilience 0 n;
+            packets = [];
+          };
       log = [];
     }

@@ -17,7 +17,7 @@ use Rattle.packet.specs.Laws.{Fits, ReadWritten, WriteRead, SameFieldsSa
 use Rattle.packet.specs.Packet.{headerOf, lengthAt, knownKind, payloadFits, obeys, fieldsVerdict, readOf, packetOf, writeVerdict, contentOf, fieldsOf}
 use Rattle.packet.specs.declared.Header.{Header}
 use Rattle.packet.specs.declared.Packet.{Packet}
-use Rattle.packet.specs.declared.Packet.the-variants.{Request, Broadcast, Gap, Status, Poll}
+use Rattle.packet.specs.declared.Packet.the-variants.{Request, Broadcast, Gap, Status, Poll, Offer, Confirm, Accept}
 use Rattle.packet.specs.declared.Reading.{Reading}
 use Rattle.packet.proofs.RoundTrip.{packet-length, payload-back, length-back, header-back, packet-bytes, header-fits, packet-back}
 use Rattle.packet.proofs.Verdicts.{read-by, accepted, writable, askable, readable}
@@ -74,6 +74,9 @@ content-fields group (Broadcast originator number count floor) = refl
 content-fields group (Gap sender taken first last) = refl
 content-fields group (Status sender taken) = refl
 content-fields group (Poll top floor) = refl
+content-fields group (Offer originator number count floor) = refl
+content-fields group (Confirm sender number) = refl
+content-fields group (Accept number) = refl
 
 -- the fields one by one: the kind decides which of them are zero
 fields-content-by : (kind member group a b c : ℕ)
@@ -92,8 +95,18 @@ fields-content-by (suc (suc (suc (suc (suc zero))))) member group a b c k o =
     let x : member ≡ 0 = search says in
     let y : b ≡ 0 = search says in
     rw (x, y)
-fields-content-by (suc (suc (suc (suc (suc (suc kind)))))) member group a b c k o =
-    let z : suc (suc (suc (suc (suc (suc kind))))) ≤ 5 = search says in
+fields-content-by (suc (suc (suc (suc (suc (suc zero)))))) member group a b c k o = refl
+fields-content-by (suc (suc (suc (suc (suc (suc (suc zero))))))) member group a b c k o =
+    let y : b ≡ 0 = search says in
+    let z : c ≡ 0 = search says in
+    rw (y, z)
+fields-content-by (suc (suc (suc (suc (suc (suc (suc (suc zero)))))))) member group a b c k o =
+    let x : member ≡ 0 = search says in
+    let y : b ≡ 0 = search says in
+    let z : c ≡ 0 = search says in
+    rw (x, y, z)
+fields-content-by (suc (suc (suc (suc (suc (suc (suc (suc (suc kind))))))))) member group a b c k o =
+    let z : suc (suc (suc (suc (suc (suc (suc (suc (suc kind)))))))) ≤ 8 = search says in
     absurd (omega arith)
 
 pub fields-content : FieldsContent
@@ -109,3 +122,6 @@ fields-group group (Broadcast originator number count floor) = refl
 fields-group group (Gap sender taken first last) = refl
 fields-group group (Status sender taken) = refl
 fields-group group (Poll top floor) = refl
+fields-group group (Offer originator number count floor) = refl
+fields-group group (Confirm sender number) = refl
+fields-group group (Accept number) = refl

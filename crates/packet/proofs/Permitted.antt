@@ -15,7 +15,7 @@ use Rattle.group.specs.declared.SequenceNumber.{SequenceNumber}
 use Rattle.group.specs.declared.Verdict.{Verdict}
 use Rattle.packet.specs.Packet.{knownKind, payloadFits, obeys, fieldsVerdict, packetOf, writeVerdict, writeOf, fieldsOf}
 use Rattle.packet.specs.declared.Header.{Header}
-use Rattle.packet.specs.declared.Packet.the-variants.{Request, Broadcast, Gap, Status, Poll}
+use Rattle.packet.specs.declared.Packet.the-variants.{Request, Broadcast, Gap, Status, Poll, Offer, Confirm, Accept}
 use Rattle.packet.specs.declared.Writing.{Writing}
 use Rattle.packet.proofs.RoundTrip.{packet-length}
 use Rattle.packet.proofs.Verdicts.{accepted, written, written-not}
@@ -32,6 +32,13 @@ module _ (g : ℕ) (member : MemberNumber) where
       let c : 1 ≤ number .0 = omega arith in
       rw (eq-eqb size size refl, le-leb 1 (number .0) c, le-leb 1 count a, lt-ltb (floor .0) (number .0) b)
 
+  pub offer-fields : (number floor : SequenceNumber) (count size : ℕ) → 1 ≤ count → floor .0 < number .0
+      → fieldsVerdict (fieldsOf g (Offer member number count floor)) size size ≡ Verdict.Accepted
+  unfolding fieldsVerdict knownKind payloadFits obeys fieldsOf if_then_else_
+  offer-fields number floor count size a b =
+      let c : 1 ≤ number .0 = omega arith in
+      rw (eq-eqb size size refl, le-leb 1 (number .0) c, le-leb 1 count a, lt-ltb (floor .0) (number .0) b)
+
   pub gap-fields : (taken first last : SequenceNumber) → taken .0 < first .0 → first .0 ≤ last .0 → fieldsVerdict (fieldsOf g (Gap member taken first last)) 0 0 ≡ Verdict.Accepted
   unfolding fieldsVerdict knownKind payloadFits obeys fieldsOf if_then_else_
   gap-fields taken first last a b = rw (lt-ltb (taken .0) (first .0) a, le-leb (first .0) (last .0) b)
@@ -40,9 +47,17 @@ module _ (g : ℕ) (member : MemberNumber) where
   unfolding fieldsVerdict knownKind payloadFits obeys fieldsOf if_then_else_
   status-fields taken = refl
 
+  pub confirm-fields : (number : SequenceNumber) → 1 ≤ number .0 → fieldsVerdict (fieldsOf g (Confirm member number)) 0 0 ≡ Verdict.Accepted
+  unfolding fieldsVerdict knownKind payloadFits obeys fieldsOf if_then_else_
+  confirm-fields number a = rw (le-leb 1 (number .0) a)
+
 pub poll-fields : (g : ℕ) (top floor : SequenceNumber) → floor .0 ≤ top .0 → fieldsVerdict (fieldsOf g (Poll top floor)) 0 0 ≡ Verdict.Accepted
 unfolding fieldsVerdict knownKind payloadFits obeys fieldsOf if_then_else_
 poll-fields g top floor a = rw (le-leb (floor .0) (top .0) a)
+
+pub accept-fields : (g : ℕ) (number : SequenceNumber) → 1 ≤ number .0 → fieldsVerdict (fieldsOf g (Accept number)) 0 0 ≡ Verdict.Accepted
+unfolding fieldsVerdict knownKind payloadFits obeys fieldsOf if_then_else_
+accept-fields g number a = rw (le-leb 1 (number .0) a)
 
 bytes-one : {size other : ℕ} → Writing.Bytes size ≡ Writing.Bytes other → size ≡ other
 bytes-one e = cc

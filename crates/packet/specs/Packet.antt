@@ -12,7 +12,7 @@ use Rattle.group.specs.declared.Verdict.{Verdict}
 use Rattle.big_endian.specs.Number.{numberAt, bytesOf}
 use Rattle.packet.specs.declared.Header.{Header}
 use Rattle.packet.specs.declared.Packet.{Packet}
-use Rattle.packet.specs.declared.Packet.the-variants.{Request, Broadcast, Gap, Status, Poll}
+use Rattle.packet.specs.declared.Packet.the-variants.{Request, Broadcast, Gap, Status, Poll, Offer, Confirm, Accept}
 use Rattle.packet.specs.declared.Reading.{Reading}
 use Rattle.packet.specs.declared.Writing.{Writing}
 
@@ -31,6 +31,15 @@ statusKind = 4
 
 abbrev pub pollKind : ℕ
 pollKind = 5
+
+abbrev pub offerKind : ℕ
+offerKind = 6
+
+abbrev pub confirmKind : ℕ
+confirmKind = 7
+
+abbrev pub acceptKind : ℕ
+acceptKind = 8
 
 -- the fields that stand in the first 20 bytes, but for L
 unfoldable pub headerOf : List ℕ → Header
@@ -52,23 +61,31 @@ lengthAt p = numberAt 2 p 2
 abbrev pub payloadAt : List ℕ → List ℕ
 payloadAt p = drop headerSize p
 
--- the kinds are 1 to 5
+-- the kinds are 1 to 8
 unfoldable pub knownKind : ℕ → Bool
-knownKind kind = requestKind ≤? kind and kind ≤? pollKind
+knownKind kind = requestKind ≤? kind and kind ≤? acceptKind
 
--- the payload is L bytes long, and L is zero in kinds 3, 4 and 5
+-- the payload is L bytes long, and L is zero in kinds 3, 4, 5, 7 and 8
 unfoldable pub payloadFits : ℕ → ℕ → ℕ → Bool
-payloadFits kind l size = size =? l and (if kind <? gapKind then true else l =? 0)
+payloadFits kind l size = size =? l and (if kind <? gapKind then true else if kind =? offerKind then true else l =? 0)
 
--- do A, B, C (and byte 1 of a poll) obey the kind? A request has a count from 1 and C zero; of a broadcast A and B are at
--- least 1 and C is below A; of a gap A < B ≤ C; of a status B and C are zero; of a poll byte 1 and B are zero and C ≤ A
+-- of a message's packet A and B are at least 1 and C is below A
+abbrev pub messageObeys : Header → Bool
+messageObeys h = 1 ≤? h .a and 1 ≤? h .b and h .c <? h .a
+
+-- do A, B, C (and byte 1 of kinds 5 and 8) obey the kind? A request has a count from 1 and C zero; a broadcast and an offer are a
+-- message's; of a gap A < B ≤ C; of a status B and C are zero; of a poll byte 1 and B are zero and C ≤ A; of a confirmation and of an
+-- acceptance A is at least 1, B and C are zero, and byte 1 of the latter
 unfoldable pub obeys : Header → Bool
 obeys h =
     if h .kind =? requestKind then 1 ≤? h .b and h .c =? 0 else
-    if h .kind =? broadcastKind then 1 ≤? h .a and 1 ≤? h .b and h .c <? h .a else
+    if h .kind =? broadcastKind then messageObeys h else
     if h .kind =? gapKind then h .a <? h .b and h .b ≤? h .c else
     if h .kind =? statusKind then h .b =? 0 and h .c =? 0 else
-    h .member .0 =? 0 and h .b =? 0 and h .c ≤? h .a
+    if h .kind =? pollKind then h .member .0 =? 0 and h .b =? 0 and h .c ≤? h .a else
+    if h .kind =? offerKind then messageObeys h else
+    if h .kind =? confirmKind then 1 ≤? h .a and h .b =? 0 and h .c =? 0 else
+    h .member .0 =? 0 and 1 ≤? h .a and h .b =? 0 and h .c =? 0
 
 -- questions 4, 5 and 6 of fields and L before `size` payload bytes
 unfoldable pub fieldsVerdict : Header → ℕ → ℕ → Verdict
@@ -94,7 +111,7 @@ unfoldable pub packetOf : Header → List ℕ → List ℕ
 packetOf h payload = headerBytes h (length payload) ++ payload
 
 -- writing a packet from its fields: questions 2, 4, 5, 6 and 13. L is the payload's length, so question 5 asks only that
--- kinds 3 to 5 have none
+-- kinds 3, 4, 5, 7 and 8 have none
 unfoldable pub writeVerdict : Header → ℕ → ℕ → Verdict
 writeVerdict h size room =
     ask longestPacket ≤? room or Verdict.Refused ShortOutput then
@@ -119,7 +136,10 @@ contentOf h =
     if h .kind =? broadcastKind then Broadcast (h .member) (record { 0 = h .a }) (h .b) (record { 0 = h .c }) else
     if h .kind =? gapKind then Gap (h .member) (record { 0 = h .a }) (record { 0 = h .b }) (record { 0 = h .c }) else
     if h .kind =? statusKind then Status (h .member) (record { 0 = h .a }) else
-    Poll (record { 0 = h .a }) (record { 0 = h .c })
+    if h .kind =? pollKind then Poll (record { 0 = h .a }) (record { 0 = h .c }) else
+    if h .kind =? offerKind then Offer (h .member) (record { 0 = h .a }) (h .b) (record { 0 = h .c }) else
+    if h .kind =? confirmKind then Confirm (h .member) (record { 0 = h .a }) else
+    Accept (record { 0 = h .a })
 
 -- the fields that mean it, in the group of that number
 unfoldable pub fieldsOf : ℕ → Packet → Header
@@ -133,6 +153,12 @@ fieldsOf group (Status sender taken) =
     record { kind = statusKind; member = sender; group = group; a = taken .0; b = 0; c = 0 }
 fieldsOf group (Poll top floor) =
     record { kind = pollKind; member = record { 0 = 0 }; group = group; a = top .0; b = 0; c = floor .0 }
+fieldsOf group (Offer originator number count floor) =
+    record { kind = offerKind; member = originator; group = group; a = number .0; b = count; c = floor .0 }
+fieldsOf group (Confirm sender number) =
+    record { kind = confirmKind; member = sender; group = group; a = number .0; b = 0; c = 0 }
+fieldsOf group (Accept number) =
+    record { kind = acceptKind; member = record { 0 = 0 }; group = group; a = number .0; b = 0; c = 0 }
 
 -- the packets that a call wrote, from the bytes that it laid at the front of its output: one, or none
 unfoldable pub written : List ℕ → List (List ℕ)

@@ -7,9 +7,10 @@ use group::Verdict;
 ghost use mathlib.Core.Path.{_≡_};
 ghost use Prim.Native.Nat.{_+_, _≤_};
 ghost use lib.ListN.{length};
+ghost use Rattle.group.specs.Choice.{_and_, _≤?_, _=?_};
 ghost use Rattle.group.specs.Limits.{headerSize, payloadMost};
 ghost use Rattle.group.specs.Lent.{front, Laid};
-ghost use Rattle.packet.specs.Packet.{headerOf, lengthAt, knownKind, payloadFits, obeys, fieldsVerdict, readOf, headerBytes, packetOf, writeVerdict, writeOf, contentOf, fieldsOf};
+ghost use Rattle.packet.specs.Packet.{headerOf, lengthAt, knownKind, payloadFits, messageObeys, obeys, fieldsVerdict, readOf, headerBytes, packetOf, writeVerdict, writeOf, contentOf, fieldsOf};
 ghost use Rattle.packet.specs.Wording.{readingWording, writingWording};
 
 // The fields of a header as they stand in its bytes. L is not among them: it is the payload's length.
@@ -61,6 +62,19 @@ pub enum Packet {
         top: SequenceNumber,
         floor: SequenceNumber,
     },
+    Offer {
+        originator: MemberNumber,
+        number: SequenceNumber,
+        count: u32,
+        floor: SequenceNumber,
+    },
+    Confirm {
+        sender: MemberNumber,
+        number: SequenceNumber,
+    },
+    Accept {
+        number: SequenceNumber,
+    },
 }
 
 fn header_at(packet: &[u8]) -> Header
@@ -102,7 +116,39 @@ impl Header {
 
     pub const POLL: u8 = 5;
 
-    // Question 6: do A, B, C (and byte 1 of a poll) obey the kind?
+    pub const OFFER: u8 = 6;
+
+    pub const CONFIRM: u8 = 7;
+
+    pub const ACCEPT: u8 = 8;
+
+    // Of a message's packet A and B are at least 1 and C is below A.
+    fn message_obeys(self) -> bool
+        ensures { λ r. ⌜ r ≡ messageObeys self ⌝ }
+    {
+        if self.a < 1 {
+            return false;
+        }
+        if self.b < 1 {
+            return false;
+        }
+        self.c < self.a
+    }
+
+    // Of a confirmation and of an acceptance A is at least 1, B and C are zero.
+    fn number_alone(self) -> bool
+        ensures { λ r. ⌜ r ≡ (1 ≤? self .a and self .b =? 0 and self .c =? 0) ⌝ }
+    {
+        if self.a < 1 {
+            return false;
+        }
+        if self.b != 0 {
+            return false;
+        }
+        self.c == 0
+    }
+
+    // Question 6: do A, B, C (and byte 1 of kinds 5 and 8) obey the kind?
     fn obeys(self) -> bool
         ensures { λ r. ⌜ r ≡ obeys self ⌝ }
     {
@@ -113,13 +159,7 @@ impl Header {
             return self.c == 0;
         }
         if self.kind == Header::BROADCAST {
-            if self.a < 1 {
-                return false;
-            }
-            if self.b < 1 {
-                return false;
-            }
-            return self.c < self.a;
+            return self.message_obeys();
         }
         if self.kind == Header::GAP {
             if self.b <= self.a {
@@ -133,27 +173,39 @@ impl Header {
             }
             return self.c == 0;
         }
+        if self.kind == Header::POLL {
+            if self.member.0 != 0 {
+                return false;
+            }
+            if self.b != 0 {
+                return false;
+            }
+            return self.c <= self.a;
+        }
+        if self.kind == Header::OFFER {
+            return self.message_obeys();
+        }
+        if self.kind == Header::CONFIRM {
+            return self.number_alone();
+        }
         if self.member.0 != 0 {
             return false;
         }
-        if self.b != 0 {
-            return false;
-        }
-        self.c <= self.a
+        self.number_alone()
     }
 }
 
-// Question 4: is the kind 1 to 5?
+// Question 4: is the kind 1 to 8?
 fn known(kind: u8) -> bool
     ensures { λ r. ⌜ r ≡ knownKind kind ⌝ }
 {
     if kind < Header::REQUEST {
         return false;
     }
-    kind <= Header::POLL
+    kind <= Header::ACCEPT
 }
 
-// Question 5: is the payload L bytes long, and L zero for kinds 3 to 5?
+// Question 5: is the payload L bytes long, and L zero in kinds 3, 4, 5, 7 and 8?
 fn fits(kind: u8, l: usize, size: usize) -> bool
     ensures { λ r. ⌜ r ≡ payloadFits kind l size ⌝ }
 {
@@ -161,6 +213,9 @@ fn fits(kind: u8, l: usize, size: usize) -> bool
         return false;
     }
     if kind < Header::GAP {
+        return true;
+    }
+    if kind == Header::OFFER {
         return true;
     }
     l == 0
@@ -316,9 +371,28 @@ impl Packet {
                 taken: SequenceNumber(h.a),
             };
         }
-        Packet::Poll {
-            top: SequenceNumber(h.a),
-            floor: SequenceNumber(h.c),
+        if h.kind == Header::POLL {
+            return Packet::Poll {
+                top: SequenceNumber(h.a),
+                floor: SequenceNumber(h.c),
+            };
+        }
+        if h.kind == Header::OFFER {
+            return Packet::Offer {
+                originator: member,
+                number: SequenceNumber(h.a),
+                count: h.b,
+                floor: SequenceNumber(h.c),
+            };
+        }
+        if h.kind == Header::CONFIRM {
+            return Packet::Confirm {
+                sender: member,
+                number: SequenceNumber(h.a),
+            };
+        }
+        Packet::Accept {
+            number: SequenceNumber(h.a),
         }
     }
 
@@ -380,6 +454,35 @@ impl Packet {
                 a: top.0,
                 b: 0,
                 c: floor.0,
+            },
+            Packet::Offer {
+                originator,
+                number,
+                count,
+                floor,
+            } => Header {
+                kind: Header::OFFER,
+                member: originator,
+                group,
+                a: number.0,
+                b: count,
+                c: floor.0,
+            },
+            Packet::Confirm { sender, number } => Header {
+                kind: Header::CONFIRM,
+                member: sender,
+                group,
+                a: number.0,
+                b: 0,
+                c: 0,
+            },
+            Packet::Accept { number } => Header {
+                kind: Header::ACCEPT,
+                member: MemberNumber(0),
+                group,
+                a: number.0,
+                b: 0,
+                c: 0,
             },
         }
     }

@@ -1,11 +1,13 @@
 -- The first line, a group that is opened, and the state of a player. Assumes nothing.
 use mathlib.Core.Path.{_≡_, refl, sym, ap, _∙_, subst}
+use mathlib.Core.Bool.{Bool, true, false}
 use mathlib.Core.List.{List, [], _++_}
 use Prim.Native.Nat.{ℕ, _+_, _≤_, _<_}
 use native.Mathlib.Omega.{arith}
 use borrow.Author.Tests.{lt-leb}
 use lib.ListN.{length, take}
-use Rattle.group.proofs.Choice.{if-eq, if-ne, if-false, then-fails}
+use Rattle.group.proofs.Choice.{if-eq, if-ne, if-lt, if-nlt, if-false, then-fails}
+use Rattle.group.proofs.Lists.{le-or}
 use Rattle.group.specs.Choice.{if_then_else_, _and_, _≤?_}
 use Rattle.group.specs.Limits.{membersMost}
 use Rattle.group.specs.Opening.{openOf}
@@ -25,7 +27,7 @@ use Rattle.player.specs.Play.{running, Told, refusedTold, openTold, line
 use Rattle.player.specs.Feed as feed
 use Rattle.player.specs.Feed.{State, keptOf, toldAs, fedUpTo, fedOf, endOf}
 use Rattle.player.specs.Player.{stageIn, phaseOf, stateOf, Does}
-use Rattle.player.specs.Steps.{Fits, Tells}
+use Rattle.player.specs.Steps.{Fits, degreeOf, Tells}
 use Rattle.player.specs.declared.Fed.{Fed}
 use Rattle.player.specs.declared.Phase.{Phase}
 use Rattle.player.specs.declared.Phase.the-variants.{Running}
@@ -33,40 +35,65 @@ use Rattle.player.specs.declared.Told as declared
 use Rattle.player.proofs.Telling.{phase-is}
 
 -- question 18 refuses more members than there can be
-many-refused : (n number : ℕ) → membersMost < n → freshOf n number .verdict ≡ Verdict.Refused Refusal.Opening
+many-refused : (n number resilience : ℕ) → membersMost < n → freshOf n number resilience .verdict ≡ Verdict.Refused Refusal.Opening
 unfolding freshOf openOf openedOf
-many-refused n number h =
-    let e : group.Opened.Refused Refusal.Opening ≡ openOf n number =
+many-refused n number resilience h =
+    let e : group.Opened.Refused Refusal.Opening ≡ openOf n number resilience =
     if-false (1 ≤? n and n ≤? membersMost) _ _ _ (then-fails (1 ≤? n) (n ≤? membersMost) (lt-leb n membersMost h)) refl in
     ap (λ (o : group.Opened). openedOf o .verdict) (sym e)
 
-module _ (n number : ℕ) where
-  pub told-refused : (refusal : Refusal) → freshOf n number .verdict ≡ Verdict.Refused refusal → refusedTold ≡ openTold (Opening.Group n number)
+module _ (n number resilience : ℕ) where
+  pub told-refused : (refusal : Refusal) → freshOf n number resilience .verdict ≡ Verdict.Refused refusal → refusedTold refusal ≡ openTold (Opening.Group n number resilience)
   unfolding openTold judged
-  told-refused refusal e = ap (λ (v : Verdict). judged v (λ (r : Refusal). refusedTold) (record { text = []; stage = running (fresh n number .group) 1 })) (sym e)
+  told-refused refusal e = ap (λ (v : Verdict). judged v refusedTold (record { text = []; stage = running (fresh n number resilience .group) 1 })) (sym e)
 
-  pub told-many : membersMost < n → refusedTold ≡ openTold (Opening.Group n number)
-  told-many h = told-refused Refusal.Opening (many-refused n number h)
+  pub told-many : membersMost < n → refusedTold Refusal.Opening ≡ openTold (Opening.Group n number resilience)
+  told-many h = told-refused Refusal.Opening (many-refused n number resilience h)
 
-  pub opened-refused : (r : Opened) (refusal : Refusal) → Opens n number r → r .verdict ≡ Verdict.Refused refusal → refusedTold ≡ openTold (Opening.Group n number)
+  pub opened-refused : (r : Opened) (refusal : Refusal) → Opens n number resilience r → r .verdict ≡ Verdict.Refused refusal → refusedTold refusal ≡ openTold (Opening.Group n number resilience)
   opened-refused r refusal o e = told-refused refusal (sym (o .verdict) ∙ e)
 
-  pub opened-group : (r : Opened) (told : declared.Told) (lent : List ℕ) → Opens n number r → r .verdict ≡ Verdict.Accepted
+  pub opened-group : (r : Opened) (told : declared.Told) (lent : List ℕ) → Opens n number resilience r → r .verdict ≡ Verdict.Accepted
       → told .whole ≡ r .whole → told .phase ≡ Running → told .number ≡ 1 → told .written ≡ 0
-      → Tells (openTold (Opening.Group n number)) told lent lent
+      → Tells (openTold (Opening.Group n number resilience)) told lent lent
   unfolding openTold judged stageIn
   opened-group r told lent o e w p k z =
       let fits : Fits (r .whole) = record { members = o .room .members; packets = let y = o .room .packets in omega arith } in
-      let v : freshOf n number .verdict ≡ Verdict.Accepted = sym (o .verdict) ∙ e in
-      let stage : stageIn (phaseOf (told .whole) (told .phase)) (groupOf (told .whole)) (told .number) ≡ running (fresh n number .group) 1 =
+      let v : freshOf n number resilience .verdict ≡ Verdict.Accepted = sym (o .verdict) ∙ e in
+      let stage : stageIn (phaseOf (told .whole) (told .phase)) (groupOf (told .whole)) (told .number) ≡ running (fresh n number resilience .group) 1 =
       ap (λ (x : Phase). stageIn (phaseOf (told .whole) x) (groupOf (told .whole)) (told .number)) p
       ∙ ap (λ (x : _). stageIn (phaseOf x Running) (groupOf x) (told .number)) w
       ∙ ap (λ (x : Phase). stageIn x (groupOf (r .whole)) (told .number)) (phase-is (r .whole) Running fits)
       ∙ ap (λ (g : Group). running g (told .number)) (o .group e)
-      ∙ ap (λ (j : ℕ). running (fresh n number .group) j) k in
-      let t : Tells (record { text = []; stage = running (fresh n number .group) 1 }) told lent lent = record { stage = stage; written = z; output = refl } in
+      ∙ ap (λ (j : ℕ). running (fresh n number resilience .group) j) k in
+      let t : Tells (record { text = []; stage = running (fresh n number resilience .group) 1 }) told lent lent = record { stage = stage; written = z; output = refl } in
       subst (λ (x : Told). Tells x told lent lent)
-      (ap (λ (x : Verdict). judged x (λ (r : Refusal). refusedTold) (record { text = []; stage = running (fresh n number .group) 1 })) (sym v)) t
+      (ap (λ (x : Verdict). judged x refusedTold (record { text = []; stage = running (fresh n number resilience .group) 1 })) (sym v)) t
+
+-- a resilience degree from n on is refused, unless n is
+module _ (n number : ℕ) where
+  abbrev first : Refusal
+  first = if 1 ≤? n and n ≤? membersMost then Refusal.Resilience else Refusal.Opening
+
+  degree-refused : (resilience : ℕ) → n ≤ resilience → freshOf n number resilience .verdict ≡ Verdict.Refused first
+  unfolding freshOf openOf openedOf if_then_else_
+  degree-refused resilience h =
+      ap (λ (o : group.Opened). openedOf (if 1 ≤? n and n ≤? membersMost then o else group.Opened.Refused Refusal.Opening) .verdict)
+      (sym (if-nlt resilience n (group.Opened.Refused Refusal.Resilience) _ _ h refl))
+      ∙ each (1 ≤? n and n ≤? membersMost)
+    where
+      each : (t : Bool) → openedOf (if t then group.Opened.Refused Refusal.Resilience else group.Opened.Refused Refusal.Opening) .verdict ≡ Verdict.Refused (if t then Refusal.Resilience else Refusal.Opening)
+      each true = refl
+      each false = refl
+
+  -- so a degree as a byte opens what the number opens
+  pub told-degree : (resilience d : ℕ) → n ≤ membersMost → d ≡ degreeOf resilience → openTold (Opening.Group n number d) ≡ openTold (Opening.Group n number resilience)
+  unfolding degreeOf
+  told-degree resilience d h is =
+      le-or membersMost resilience
+      (λ k. let e : d ≡ membersMost = is ∙ sym (if-nlt resilience membersMost membersMost resilience membersMost k refl) in
+      rw e (sym (told-refused n number membersMost first (degree-refused membersMost h)) ∙ told-refused n number resilience first (degree-refused resilience (omega arith))))
+      (λ k. ap (λ (r : ℕ). openTold (Opening.Group n number r)) (is ∙ sym (if-lt resilience membersMost resilience resilience membersMost k refl)))
 
 -- the end of the input
 module _ (s : State) (r : Fed) (lent after : List ℕ) where

@@ -5,6 +5,7 @@ use Prim.Native.Nat.{ℕ, _+_}
 use lib.ListN.{length}
 use Rattle.group.specs.Choice.{if_then_else_, _<?_}
 use Rattle.group.specs.Question.{judged}
+use Rattle.group.specs.declared.Refusal.{Refusal}
 use Rattle.model.specs.World.{Event, Group, happen, fresh}
 use Rattle.report.specs.Print.{lineOf, badLine, noSpace, badOpening, refusedOpening, lastLine}
 use Rattle.text.specs.Field.{linesOf}
@@ -32,15 +33,15 @@ pub record Told : Type 0 where
   pub text : List ℕ
   pub stage : Stage
 
--- a first line of another form prints `bad line`, a refused one `refused 18`, and nothing more
-abbrev pub refusedTold : Told
-refusedTold = record { text = refusedOpening; stage = closed }
+-- a first line of another form prints `bad line`, a refused one `refused 18` or `refused 24`, and nothing more
+abbrev pub refusedTold : Refusal → Told
+refusedTold refusal = record { text = refusedOpening refusal; stage = closed }
 
 unfoldable pub openTold : Opening → Told
 openTold Opening.Other = record { text = badOpening; stage = closed }
-openTold (Opening.Group n number) =
-    judged (freshOf n number .verdict) (λ refusal. refusedTold)
-    (record { text = []; stage = running (fresh n number .group) 1 })
+openTold (Opening.Group n number resilience) =
+    judged (freshOf n number resilience .verdict) refusedTold
+    (record { text = []; stage = running (fresh n number resilience .group) 1 })
 
 -- an event prints its number, its answer and the index of a packet written; a line of another form prints `bad line` and ends
 -- the events; with 200 packets written the next event prints `no space` and ends the events

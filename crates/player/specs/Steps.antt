@@ -4,6 +4,7 @@ use mathlib.Core.List.{List}
 use mathlib.Core.Option.{Option, none, some}
 use Prim.Native.Nat.{ℕ, _≤_}
 use lib.ListN.{length}
+use Rattle.group.specs.Choice.{if_then_else_, _<?_}
 use Rattle.group.specs.Lent.{front}
 use Rattle.group.specs.Limits.{membersMost}
 use Rattle.model.specs.World.{Event}
@@ -21,6 +22,10 @@ use Rattle.player.specs.declared.Told.{Told}
 pub record Fits (w : Whole) : Type 0 where
   pub members : sizeOf w ≤ membersMost
   pub packets : w .count ≤ packetsMost
+
+-- a resilience degree as a byte. No group has one of the most members or more: those become the most members
+unfoldable pub degreeOf : ℕ → ℕ
+degreeOf resilience = if resilience <? membersMost then resilience else membersMost
 
 -- a submit's payload lies in the bytes that were lent
 abbrev pub Sized : Command → Type 0

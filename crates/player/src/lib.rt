@@ -1,5 +1,6 @@
 // Plays a schedule as its input comes: a group that is run, the number of the next event, and the line that has not ended.
 use group::Group;
+use group::Refusal;
 use group::SequenceNumber;
 use group::Verdict;
 use member::Member;
@@ -38,7 +39,7 @@ ghost use Rattle.simulator.specs.Whole.{groupOf};
 ghost use Rattle.player.specs.Play.{nextNumber, refusedTold, openTold, eventTold, lineTold, lastTold, lastOf};
 ghost use Rattle.player.specs.Feed.{keptMost, keptOf, start, toldAs, fedOf, endOf};
 ghost use Rattle.player.specs.Player.{outputRoom, textIn, stageIn, phaseWith, phaseOf, stageOf, stateOf, Does};
-ghost use Rattle.player.specs.Steps.{Fits, Sized, Performed, Tells};
+ghost use Rattle.player.specs.Steps.{Fits, degreeOf, Sized, Performed, Tells};
 
 // Where playing stands: the first line is awaited, events are read, a line ended them, no group was opened.
 pub enum Phase {
@@ -227,15 +228,26 @@ fn write_taken(whole: Whole, out: &mut [u8; Player::OUTPUT]) -> usize
 }
 
 // A group that cannot be opened.
-fn refuse(whole: Whole, out: &mut [u8; Player::OUTPUT]) -> Told
-    ensures { λ r. ⌜ Tells refusedTold r (now (out .entry)) (now (out .exit)) ⌝ }
+fn refuse(whole: Whole, refusal: Refusal, out: &mut [u8; Player::OUTPUT]) -> Told
+    ensures { λ r. ⌜ Tells (refusedTold refusal) r (now (out .entry)) (now (out .exit)) ⌝ }
 {
-    let written = write_refused_opening(out);
+    let written = write_refused_opening(refusal, out);
     Told {
         whole,
         number: 0,
         phase: Phase::Closed,
         written,
+    }
+}
+
+// A resilience degree as a byte. No group has one of the most members or more: those become the most members.
+fn degree(resilience: u32) -> u8
+    ensures { λ r. ⌜ r ≡ degreeOf resilience ⌝ }
+{
+    if resilience < (Group::MEMBERS as u32) {
+        resilience as u8
+    } else {
+        Group::MEMBERS as u8
     }
 }
 
@@ -254,11 +266,17 @@ fn open(whole: Whole, line: &[u8], out: &mut [u8; Player::OUTPUT]) -> Told
                 written,
             }
         }
-        Opening::Group { n, number } => {
+        Opening::Group {
+            n,
+            number,
+            resilience,
+        } => {
             if (Group::MEMBERS as u32) < n {
-                return refuse(whole, out);
+                let refusal = Refusal::Opening;
+                return refuse(whole, refusal, out);
             }
-            let opened = Whole::fresh(n as u8, number);
+            let degree = degree(resilience);
+            let opened = Whole::fresh(n as u8, number, degree);
             let verdict = opened.verdict;
             let fresh = opened.whole;
             match verdict {
@@ -268,7 +286,7 @@ fn open(whole: Whole, line: &[u8], out: &mut [u8; Player::OUTPUT]) -> Told
                     phase: Phase::Running,
                     written: 0,
                 },
-                Verdict::Refused(_) => refuse(whole, out),
+                Verdict::Refused(refusal) => refuse(whole, refusal, out),
             }
         }
     }
@@ -363,7 +381,7 @@ impl Player {
     pub fn fresh() -> Self
         ensures { λ r. ⌜ stateOf r ≡ start ⌝ }
     {
-        let whole = Whole::fresh(0, 0).whole;
+        let whole = Whole::fresh(0, 0, 0).whole;
         let line = Line::empty();
         Player {
             whole,

@@ -3,9 +3,9 @@ use mathlib.Core.Bool.{Bool}
 use mathlib.Core.List.{List, [], _∷_, map}
 use Prim.Native.Nat.{ℕ, _+_, _*_}
 use lib.ListN.{length}
-use Rattle.group.specs.Choice.{if_then_else_, _≤?_}
+use Rattle.group.specs.Choice.{if_then_else_, _≤?_, _=?_}
 use Rattle.group.specs.Wording.{Value, Wording, refusedWording}
-use Rattle.group.specs.declared.Refusal.the-variants.{Opening}
+use Rattle.group.specs.declared.Refusal.{Refusal}
 use Rattle.member.specs.Wording as member
 use Rattle.model.specs.World.{Answer, absent, bySequencer, byMember}
 use Rattle.sequencer.specs.Wording as sequencer
@@ -16,17 +16,23 @@ use Rattle.text.specs.Written.{decimalOf, payloadText, line, numberDigits, coun
 unfoldable pub moreText : Bool → List ℕ
 moreText more = if more then textOf "more" else textOf "last"
 
--- a value of an answer, where `bytes` are those that the call wrote, and `index` is that of the next packet
-unfoldable pub valueText : List ℕ → ℕ → Value → List ℕ
-valueText bytes index (Value.number n) = decimalOf n
-valueText bytes index Value.payload = payloadText bytes
-valueText bytes index (Value.more m) = moreText m
-valueText bytes index Value.packet = decimalOf index
+-- the index of the next packet, where a call wrote `size` bytes of it; and then other fields
+unfoldable pub indexText : ℕ → ℕ → List (List ℕ) → List (List ℕ)
+indexText size index rest = if size =? 0 then rest else decimalOf index ∷ rest
+
+-- the values of an answer, where `bytes` are those that the call wrote, and `index` is that of the next packet
+unfoldable pub valuesText : List ℕ → ℕ → List Value → List (List ℕ)
+valuesText bytes index [] = []
+valuesText bytes index (Value.number n ∷ rest) = decimalOf n ∷ valuesText bytes index rest
+valuesText bytes index (Value.payload ∷ rest) = payloadText bytes ∷ valuesText bytes index rest
+valuesText bytes index (Value.more m ∷ rest) = moreText m ∷ valuesText bytes index rest
+valuesText bytes index (Value.packet ∷ rest) = decimalOf index ∷ valuesText bytes index rest
+valuesText bytes index (Value.anyPacket ∷ rest) = indexText (length bytes) index (valuesText bytes index rest)
 
 -- a refusal prints `refused` and its number, any other answer its word and then its values
 unfoldable pub wordingFields : Wording → List ℕ → ℕ → List (List ℕ)
 wordingFields (Wording.refusal k) bytes index = textOf "refused" ∷ decimalOf k ∷ []
-wordingFields (Wording.word w values) bytes index = textOf w ∷ map (valueText bytes index) values
+wordingFields (Wording.word w values) bytes index = textOf w ∷ valuesText bytes index values
 
 -- an absent packet or member prints `absent`
 unfoldable pub answerFields : Answer → ℕ → List (List ℕ)
@@ -45,12 +51,12 @@ badLine number = line (decimalOf number ∷ textOf "bad line" ∷ [])
 abbrev pub noSpace : ℕ → List ℕ
 noSpace number = line (decimalOf number ∷ textOf "no space" ∷ [])
 
--- a first line missing or of another form prints `bad line`, a refused one `refused 18`
+-- a first line missing or of another form prints `bad line`, a refused one `refused 18` or `refused 24`
 abbrev pub badOpening : List ℕ
 badOpening = line (textOf "bad line" ∷ [])
 
-abbrev pub refusedOpening : List ℕ
-refusedOpening = line (wordingFields (refusedWording Opening) [] 0)
+abbrev pub refusedOpening : Refusal → List ℕ
+refusedOpening refusal = line (wordingFields (refusedWording refusal) [] 0)
 
 -- the last line gives top, floor and each t
 abbrev pub lastLine : ℕ → ℕ → List ℕ → List ℕ

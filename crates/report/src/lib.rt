@@ -25,7 +25,7 @@ ghost use Rattle.sequencer.specs.Wording as sequencerWording;
 ghost use Rattle.text.specs.Text.{textOf};
 ghost use Rattle.text.specs.Written.{decimalOf, payloadText, spaced, line, numberDigits, countDigits};
 ghost use Rattle.text.specs.LaidAt.{LaidAt};
-ghost use Rattle.report.specs.Print.{moreText, wordingFields, answerFields, lineOf, badLine, noSpace, badOpening, refusedOpening, lastLine, answerRoom, lineRoom, eventRoom, lastRoom, fitting};
+ghost use Rattle.report.specs.Print.{moreText, indexText, wordingFields, answerFields, lineOf, badLine, noSpace, badOpening, refusedOpening, lastLine, answerRoom, lineRoom, eventRoom, lastRoom, fitting};
 
 // The room of the longest answer, which is a take's, beside the digits of its payload: `took`, three numbers, `-`, `more`, and
 // a space before each.
@@ -55,6 +55,19 @@ fn put_indexed(word: &[u8], index: usize, out: &mut [u8], at: usize) -> usize
 {
     let next = put_word(word, out, at);
     put_index(index, out, next)
+}
+
+// An answer, and the index of its packet if one of `size` bytes was written.
+fn put_any(word: &[u8], size: usize, index: usize, out: &mut [u8], at: usize) -> usize
+    requires { ⌜ at + 2 + length (now word) + countDigits ≤ length (now out) ⌝ }
+    ensures laid { λ r. ⌜ LaidAt at (spaced (now (word .entry) ∷ indexText size index [])) (now (out .entry)) (now (out .exit)) r ⌝ }
+    ensures short { λ r. ⌜ r ≤ at + 2 + length (now (word .entry)) + countDigits ⌝ }
+{
+    if size == 0 {
+        put_word(word, out, at)
+    } else {
+        put_indexed(word, index, out, at)
+    }
 }
 
 // An answer, its number and the index of its packet.
@@ -149,6 +162,8 @@ fn put_sequencer(answer: sequencer::Answer, index: usize, out: &mut [u8], at: us
         sequencer::Answer::Noted => put_word(b"noted", out, at),
         sequencer::Answer::Wanted(first, last) => put_wanted(first.0, last.0, out, at),
         sequencer::Answer::Sent => put_indexed(b"sent", index, out, at),
+        sequencer::Answer::Marked => put_word(b"marked", out, at),
+        sequencer::Answer::Accepted => put_indexed(b"accepted", index, out, at),
     }
 }
 
@@ -167,14 +182,15 @@ fn put_member(
     match answer {
         member::Answer::Refused(refusal) => put_refused(refusal, out, at),
         member::Answer::Sent => put_indexed(b"sent", index, out, at),
-        member::Answer::Old => put_word(b"old", out, at),
-        member::Answer::Kept => put_word(b"kept", out, at),
+        member::Answer::Old => put_any(b"old", payload.len(), index, out, at),
+        member::Answer::Kept => put_any(b"kept", payload.len(), index, out, at),
         member::Answer::KeptGap => put_indexed(b"keptgap", index, out, at),
         member::Answer::Beyond => put_word(b"beyond", out, at),
         member::Answer::BeyondGap => put_indexed(b"beyondgap", index, out, at),
         member::Answer::Gap => put_indexed(b"gap", index, out, at),
         member::Answer::Status => put_indexed(b"status", index, out, at),
         member::Answer::None => put_word(b"none", out, at),
+        member::Answer::Noted => put_word(b"noted", out, at),
         member::Answer::Took {
             number,
             originator,
@@ -218,7 +234,8 @@ fn last_fits(count: usize, room: usize) -> bool
 }
 
 // The line that an event prints: its number, what it is answered, and the index of a packet that it wrote. `payload` is what
-// a take handed out. Gives the line's length; 0 where the output has not the room that the line asks for.
+// the call wrote: what a take handed out, or a packet. Gives the line's length; 0 where the output has not the room that the line
+// asks for.
 pub fn write_event(number: u64, reply: Reply, index: usize, payload: &[u8], out: &mut [u8]) -> usize
     ensures size { λ r. ⌜ r ≡ length (fitting (eventRoom (now (payload .entry))) (length (now (out .entry))) (lineOf number (answerOf reply (now (payload .entry))) index)) ⌝ }
     ensures lent { λ _. ⌜ now (out .exit) ≡ front (fitting (eventRoom (now (payload .entry))) (length (now (out .entry))) (lineOf number (answerOf reply (now (payload .entry))) index)) (now (out .entry)) ⌝ }
@@ -275,15 +292,14 @@ pub fn write_bad_opening(out: &mut [u8]) -> usize
 }
 
 // A first line whose group is refused.
-pub fn write_refused_opening(out: &mut [u8]) -> usize
-    ensures size { λ r. ⌜ r ≡ length (fitting lineRoom (length (now (out .entry))) refusedOpening) ⌝ }
-    ensures lent { λ _. ⌜ now (out .exit) ≡ front (fitting lineRoom (length (now (out .entry))) refusedOpening) (now (out .entry)) ⌝ }
+pub fn write_refused_opening(refusal: Refusal, out: &mut [u8]) -> usize
+    ensures size { λ r. ⌜ r ≡ length (fitting lineRoom (length (now (out .entry))) (refusedOpening refusal)) ⌝ }
+    ensures lent { λ _. ⌜ now (out .exit) ≡ front (fitting lineRoom (length (now (out .entry))) (refusedOpening refusal)) (now (out .entry)) ⌝ }
 {
     if out.len() < LINE_ROOM {
         return 0;
     }
     let next = put_text(b"refused", out, 0);
-    let refusal = Refusal::Opening;
     let number = refusal.number();
     let next = put_number(number as u32, out, next);
     put(b'\n', out, next)

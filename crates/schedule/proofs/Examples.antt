@@ -10,7 +10,7 @@ use Rattle.group.specs.Fold.{all}
 use Rattle.model.specs.World.{submit, repeat, take, status, poll, copy, handMember, handSequencer}
 use Rattle.text.specs.Text.{textOf, digitOf}
 use Rattle.text.specs.Field.{before, fieldsOf, letterOf, valueFrom, upToLargest, numberIn, pairsOf, isHex, hexBytes}
-use Rattle.schedule.specs.Line.{alone, withNumber, submitted, handed, withTwo, formOf, eventOf, opened, openingForm, openingOf}
+use Rattle.schedule.specs.Line.{alone, withNumber, submitted, handed, withTwo, formOf, eventOf, opened, openingWith, openingForm, openingOf}
 use Rattle.schedule.specs.declared.Opening.{Opening}
 
 -- every form; numbers up to the largest, leading zeros, a payload that a member will refuse, and none
@@ -47,7 +47,7 @@ unfolding eventOf formOf fieldsOf before letterOf withNumber numberIn upToLarges
 long = (refl, refl)
 
 -- the first line
-openings : map (λ (line : String). openingOf (textOf line)) ("N 2 7" ∷ "N 0 7" ∷ "N 300 4294967295" ∷ "N 1" ∷ "N 1 2 3" ∷ "N 1 x" ∷ "P" ∷ "" ∷ [])
-    ≡ Opening.Group 2 7 ∷ Opening.Group 0 7 ∷ Opening.Group 300 4294967295 ∷ replicate 5 Opening.Other
-unfolding openingOf openingForm opened fieldsOf before letterOf numberIn upToLargest valueFrom digitOf all if_then_else_
+openings : map (λ (line : String). openingOf (textOf line)) ("N 2 7" ∷ "N 0 7" ∷ "N 300 4294967295" ∷ "N 2 7 0" ∷ "N 4 7 3" ∷ "N 1 2 4294967295" ∷ "N 1" ∷ "N 1 2 3 4" ∷ "N 1 x" ∷ "N 1 2 x" ∷ "N 1 2 " ∷ "N 1 2 3 " ∷ "P" ∷ "" ∷ [])
+    ≡ Opening.Group 2 7 0 ∷ Opening.Group 0 7 0 ∷ Opening.Group 300 4294967295 0 ∷ Opening.Group 2 7 0 ∷ Opening.Group 4 7 3 ∷ Opening.Group 1 2 4294967295 ∷ replicate 8 Opening.Other
+unfolding openingOf openingForm openingWith opened fieldsOf before letterOf numberIn upToLargest valueFrom digitOf all if_then_else_
 openings = refl

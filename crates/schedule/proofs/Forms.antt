@@ -15,7 +15,7 @@ use Rattle.model.specs.World.{repeat, take, status, poll, copy, handSequencer}
 use Rattle.text.specs.Text.{space}
 use Rattle.schedule.specs.Line.{lineMost, alone, withNumber, formOf, eventOf, payloadOf, openingForm, openingOf}
 use Rattle.text.specs.Field.{before, fieldsOf}
-use Rattle.schedule.specs.Steps.{partsAt}
+use Rattle.schedule.specs.Steps.{partsAt, fourAt}
 use Rattle.schedule.specs.declared.Opening.{Opening}
 use Rattle.schedule.specs.declared.Parts.{Parts}
 use Rattle.schedule.specs.declared.Parts.the-variants.{More}
@@ -42,7 +42,7 @@ module _ (line : List ℕ) where
   unfolding openingOf
   opening-long h = sym (if-nle (length line) lineMost Opening.Other (openingForm (fieldsOf line)) Opening.Other h refl)
 
--- there is a field, so four or more are of another form
+-- there is a field, so four or more are no event
 fields-some : (l : List ℕ) → (field : List ℕ) × (rest : List (List ℕ)) × (fieldsOf l ≡ field ∷ rest)
 unfolding fieldsOf if_then_else_ before
 fields-some [] = ([], [], refl)
@@ -58,9 +58,16 @@ module _ (line : List ℕ) (a b c : ℕ) where
   unfolding partsAt formOf
   more-event = rw (fields-some (drop (c + 1) line) .2)
 
-  pub more-opening : openingForm (partsAt (More a b c) line) ≡ Opening.Other
+  -- four fields, where no space stands behind the third
+  pub four-opening : fieldsOf (drop (c + 1) line) ≡ drop (c + 1) line ∷ [] → openingForm (partsAt (More a b c) line) ≡ openingForm (fourAt a b c line)
+  unfolding partsAt fourAt
+  four-opening e = rw e
+
+  -- five or more, where one does
+  pub more-opening : (d : ℕ) → fieldsOf (drop (c + 1) line) ≡ list.take (d - (c + 1)) (drop (c + 1) line) ∷ fieldsOf (drop (d + 1) line)
+      → openingForm (partsAt (More a b c) line) ≡ Opening.Other
   unfolding partsAt openingForm
-  more-opening = rw (fields-some (drop (c + 1) line) .2)
+  more-opening d e = rw (e, fields-some (drop (d + 1) line) .2)
 
 -- a line of one or two fields lays no payload
 pub alone-payload : (letter : ℕ) → payloadOf (alone letter) ≡ []

@@ -87,18 +87,24 @@ payloadOf (some (copy number)) = []
 payloadOf (some (handMember k i)) = []
 payloadOf (some (handSequencer k)) = []
 
--- the first line: `N n group`
-unfoldable pub opened : Option ℕ → Option ℕ → Opening
-opened none group = Opening.Other
-opened (some n) none = Opening.Other
-opened (some n) (some group) = Opening.Group n group
+-- the first line: `N n group`, or `N n group r`; where r does not end it, r is 0
+unfoldable pub opened : Option ℕ → Option ℕ → Option ℕ → Opening
+opened none group resilience = Opening.Other
+opened (some n) none resilience = Opening.Other
+opened (some n) (some group) none = Opening.Other
+opened (some n) (some group) (some resilience) = Opening.Group n group resilience
+
+unfoldable pub openingWith : List ℕ → List ℕ → List ℕ → Option ℕ → Opening
+openingWith name a b resilience =
+    if letterOf name =? code "N" then opened (numberIn a) (numberIn b) resilience else Opening.Other
 
 unfoldable pub openingForm : List (List ℕ) → Opening
 openingForm [] = Opening.Other
 openingForm (name ∷ []) = Opening.Other
 openingForm (name ∷ (a ∷ [])) = Opening.Other
-openingForm (name ∷ (a ∷ (b ∷ []))) = if letterOf name =? code "N" then opened (numberIn a) (numberIn b) else Opening.Other
-openingForm (name ∷ (a ∷ (b ∷ (c ∷ rest)))) = Opening.Other
+openingForm (name ∷ (a ∷ (b ∷ []))) = openingWith name a b (some 0)
+openingForm (name ∷ (a ∷ (b ∷ (c ∷ [])))) = openingWith name a b (numberIn c)
+openingForm (name ∷ (a ∷ (b ∷ (c ∷ (d ∷ rest))))) = Opening.Other
 
 unfoldable pub openingOf : List ℕ → Opening
 openingOf line = ask length line ≤? lineMost or Opening.Other then openingForm (fieldsOf line)

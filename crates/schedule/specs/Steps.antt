@@ -14,6 +14,11 @@ partsAt (Three a b) line = take a line ∷ take (b - (a + 1)) (drop (a + 1) line
 partsAt (More a b c) line =
     take a line ∷ take (b - (a + 1)) (drop (a + 1) line) ∷ take (c - (b + 1)) (drop (b + 1) line) ∷ fieldsOf (drop (c + 1) line)
 
+-- four fields, by the places of the three spaces between them
+unfoldable pub fourAt : ℕ → ℕ → ℕ → List ℕ → List (List ℕ)
+fourAt a b c line =
+    take a line ∷ take (b - (a + 1)) (drop (a + 1) line) ∷ take (c - (b + 1)) (drop (b + 1) line) ∷ drop (c + 1) line ∷ []
+
 -- those places are in order, and within the line
 abbrev pub Within : Parts → List ℕ → Type 0
 Within One line = Unit {0}

@@ -13,8 +13,8 @@ ghost use Prim.Native.Nat.{_+_, _-_, _*_, _≤_, _<_};
 ghost use lib.ListN.{length, take, drop};
 ghost use Rattle.group.specs.Lent.{front};
 ghost use Rattle.text.specs.Field.{fieldsOf, letterOf, numberIn, read, hexIn};
-ghost use Rattle.schedule.specs.Steps.{partsAt, Within};
-ghost use Rattle.schedule.specs.Line.{lineMost, payloadRoom, alone, withNumber, submitted, handed, withTwo, formOf, eventOf, commandOf, payloadOf, opened, openingForm, openingOf};
+ghost use Rattle.schedule.specs.Steps.{partsAt, fourAt, Within};
+ghost use Rattle.schedule.specs.Line.{lineMost, payloadRoom, alone, withNumber, submitted, handed, withTwo, formOf, eventOf, commandOf, payloadOf, opened, openingWith, openingForm, openingOf};
 
 // A line of more characters is of another form.
 pub const LINE_MOST: usize = 1000;
@@ -38,7 +38,11 @@ pub enum Command {
 // What the first line means.
 pub enum Opening {
     Other,
-    Group { n: u32, number: u32 },
+    Group {
+        n: u32,
+        number: u32,
+        resilience: u32,
+    },
 }
 
 // Where the spaces stand that part the fields of a line: those before the second, the third and the fourth field.
@@ -234,38 +238,67 @@ pub fn read_event(line: &[u8], payload: &mut [u8; PAYLOAD_ROOM]) -> Command
     }
 }
 
-// The first line's two numbers, if both are there.
-fn both_numbers(n: Numeral, group: Numeral) -> Opening
-    ensures { λ r. ⌜ r ≡ opened (read n) (read group) ⌝ }
+// The first line's numbers, if all are there.
+fn all_numbers(n: Numeral, group: Numeral, resilience: Numeral) -> Opening
+    ensures { λ r. ⌜ r ≡ opened (read n) (read group) (read resilience) ⌝ }
 {
     match n {
         Numeral::Of(n) => match group {
-            Numeral::Of(number) => Opening::Group { n, number },
+            Numeral::Of(number) => match resilience {
+                Numeral::Of(resilience) => Opening::Group {
+                    n,
+                    number,
+                    resilience,
+                },
+                Numeral::Other => Opening::Other,
+            },
             Numeral::Other => Opening::Other,
         },
         Numeral::Other => Opening::Other,
     }
 }
 
-// `N n group`
-fn read_group(name: &[u8], a: &[u8], b: &[u8]) -> Opening
-    ensures { λ r. ⌜ r ≡ openingForm (now (name .entry) ∷ now (a .entry) ∷ now (b .entry) ∷ []) ⌝ }
+// `N n group`, with r.
+fn read_group(name: &[u8], a: &[u8], b: &[u8], resilience: Numeral) -> Opening
+    ensures { λ r. ⌜ r ≡ openingWith (now (name .entry)) (now (a .entry)) (now (b .entry)) (read resilience) ⌝ }
 {
     if letter(name) == b'N' {
         let n = number(a);
         let m = number(b);
-        both_numbers(n, m)
+        all_numbers(n, m, resilience)
     } else {
         Opening::Other
     }
 }
 
-// A first line of three fields, which end at a, at b and with the line.
+// A first line of three fields, which end at a, at b and with the line: r is 0.
 fn read_whole(line: &[u8], a: usize, b: usize) -> Opening
     requires { ⌜ (a < b) × (b < length (now line)) ⌝ }
     ensures { λ r. ⌜ r ≡ openingForm (partsAt (Parts.Three a b) (now (line .entry))) ⌝ }
 {
-    read_group(&line[..a], &line[a + 1..b], &line[b + 1..])
+    let none = Numeral::Of(0);
+    read_group(&line[..a], &line[a + 1..b], &line[b + 1..], none)
+}
+
+// A first line of four fields, which end at a, at b, at c and with the line.
+fn read_resilient(line: &[u8], a: usize, b: usize, c: usize) -> Opening
+    requires { ⌜ (a < b) × (b < c) × (c < length (now line)) ⌝ }
+    ensures { λ r. ⌜ r ≡ openingForm (fourAt a b c (now (line .entry))) ⌝ }
+{
+    let resilience = number(&line[c + 1..]);
+    read_group(&line[..a], &line[a + 1..b], &line[b + 1..c], resilience)
+}
+
+// A first line of more than three fields, the first three of which end at a, at b and at c.
+fn read_more(line: &[u8], a: usize, b: usize, c: usize) -> Opening
+    requires { ⌜ (a < b) × (b < c) × (c < length (now line)) ⌝ }
+    ensures { λ r. ⌜ r ≡ openingForm (partsAt (Parts.More a b c) (now (line .entry))) ⌝ }
+{
+    let found = first(line, c + 1, b' ');
+    match found {
+        Found::Nothing => read_resilient(line, a, b, c),
+        Found::At(_) => Opening::Other,
+    }
 }
 
 // The first line.
@@ -280,6 +313,6 @@ pub fn read_opening(line: &[u8]) -> Opening
         Parts::One => Opening::Other,
         Parts::Two(_) => Opening::Other,
         Parts::Three(a, b) => read_whole(line, a, b),
-        Parts::More(_, _, _) => Opening::Other,
+        Parts::More(a, b, c) => read_more(line, a, b, c),
     }
 }

@@ -2,13 +2,20 @@
 -- history has the broadcast of the order's message. Assumes nothing.
 use mathlib.Core.Path.{_≡_, refl, sym, ap, _∙_}
 use mathlib.Core.Logic.{_⊎_, inl, inr}
+use mathlib.Core.Bool.{true}
 use mathlib.Core.Option.{Option, some}
 use mathlib.Core.List.{List, [], _∷_, _++_}
-use Prim.Native.Nat.{ℕ, suc, _+_, _≤_, _<_}
+use Prim.Native.Nat.{ℕ, suc, _+_, _-_, _^_, _≤_, _<_}
 use native.Mathlib.Nat.{le-trans}
 use native.Mathlib.Omega.{arith}
+use borrow.Author.Tests.{le-leb}
+use lib.Pow.{pow-pos}
 use lib.ListN.{length, getD, length-append, getD-replicate, List·getD-eq-default}
-use Rattle.group.proofs.Lists.{at, at-le, at-nil, at-snoc, at-some, le-or}
+use Rattle.group.proofs.Counting.{count}
+use Rattle.group.proofs.Members.{others-count}
+use Rattle.group.proofs.Lists.{at, at-le, at-nil, at-snoc, at-some, eq-or, le-or}
+use Rattle.group.specs.Choice.{_≤?_}
+use Rattle.group.specs.Members.{isIn, expectedOf, neededOf}
 use Rattle.group.specs.Limits.{membersMost, placesMost, payloadMost, largestNumber}
 use Rattle.group.specs.declared.Group.{Group}
 use Rattle.group.specs.declared.MemberNumber.{MemberNumber}
@@ -17,23 +24,24 @@ use Rattle.message.proofs.Kept.{kept-payload, empty-zero}
 use Rattle.message.specs.Message.{messageOf, emptyMessage, blank, isEmpty}
 use Rattle.message.proofs.Owning.{own-more, own-other}
 use Rattle.message.specs.Order.{Ordered, ownOf}
-use Rattle.packet.proofs.Facts.{Known, ordered}
+use Rattle.packet.proofs.Facts.{Voice, Facts, Says, Known, ordered}
 use Rattle.packet.specs.Laws.{Allowed}
 use Rattle.packet.specs.Packet.{fieldsOf, packetOf}
 use Rattle.packet.specs.declared.Packet.{Packet}
-use Rattle.packet.specs.declared.Packet.the-variants.{Broadcast}
 use Rattle.history.proofs.Counting.{counted-each, counted-same, counted-up}
 use Rattle.history.proofs.Noting.{cleared-other}
 use Rattle.history.proofs.Soundness.{countIn, floor-most}
+use Rattle.history.specs.Marks.{markAt}
 use Rattle.history.specs.State.{Acknowledgement, noAcknowledgement, messageAt, placeOf}
-use Rattle.sequencer.specs.Calls.{broadcastOf, repeatedOf, withMessage}
+use Rattle.sequencer.specs.Calls.{announced, broadcastOf, repeatedOf, withMessage, withMark, withAccepted}
 use Rattle.sequencer.specs.Note.{withTable, noteOf}
 use Rattle.sequencer.specs.State.{Sequencer, repeatCount, freshSequencer}
-use Rattle.sequencer.proofs.Invariant.{SequencerInv}
+use Rattle.sequencer.proofs.Invariant.{SequencerInv, Confirmed, reaches, factsOf}
+use Rattle.sequencer.proofs.Confirming.{mark-typed, mark-sound, accept-typed, accept-sound}
 use Rattle.sequencer.proofs.Keeping.{repeated-count, repeated-typed, repeated-sound}
 use Rattle.sequencer.proofs.Noting.{noted-count, floor-up, note-typed, note-sound}
-use Rattle.sequencer.proofs.Numbering.{kept-here, kept-other, numbered-typed, numbered-sound}
-use Rattle.sequencer.proofs.Packets.{broadcast-allowed}
+use Rattle.sequencer.proofs.Numbering.{kept-here, kept-other, accepted-each, numbered-typed, numbered-sound}
+use Rattle.sequencer.proofs.Packets.{announced-each, broadcast-allowed}
 use Rattle.sequencer.proofs.Soundness.{Sound, sound-of, of-sound}
 
 module _ (group : Group) (order : List Ordered) (s : Sequencer) (v : SequencerInv group s order) where
@@ -45,18 +53,17 @@ module _ (group : Group) (order : List Ordered) (s : Sequencer) (v : SequencerIn
   member-inside h = let n : s .group .n ≡ group .n = ap (λ (g : Group). g .n) (v .group-is) in let f = sound .n-most in let l = v .typed .table in omega arith
 
   -- a member of the group and a number that it can have taken
-  module _ (m : MemberNumber) (taken : SequenceNumber) (member : m .0 < group .n) (known : taken .0 ≤ length order) where
+  module _ (m : MemberNumber) (taken : SequenceNumber) (member : m .0 < group .n) (known : taken .0 ≤ s .accepted .0) where
     pub note-inv : SequencerInv group (noteOf s m taken) order
     unfolding noteOf withTable
     note-inv =
         let f = sound in
         let member′ : m .0 < s .group .n = rw (v .group-is) member in
-        let known′ : taken .0 ≤ s .top .0 = rw (v .top-is) known in
         let up = floor-up s m taken (v .typed .table) f member′ in
         record {
           group-is = v .group-is;
-          typed = note-typed s m taken (v .typed .table) f member′ known′ (v .typed);
-          sound = of-sound (noteOf s m taken) (note-sound s m taken (v .typed .table) f member′ known′ (v .typed .history));
+          typed = note-typed s m taken (v .typed .table) f member′ known (v .typed);
+          sound = of-sound (noteOf s m taken) (note-sound s m taken (v .typed .table) f member′ known (v .typed .history));
           top-is = v .top-is;
           history-is = λ k x e h.
               let l = at-le order k e in
@@ -69,6 +76,7 @@ module _ (group : Group) (order : List Ordered) (s : Sequencer) (v : SequencerIn
           count-most = λ k x e. rw (noted-count s m taken (v .typed .table) f member′ (x .originator)) (v .count-most k x e);
           payload-ok = v .payload-ok;
           counts-are = λ i h. noted-count s m taken (v .typed .table) f member′ i ∙ v .counts-are i h;
+          plain = v .plain;
         }
 
   pub repeated-inv : (m : MemberNumber) → m .0 < group .n → SequencerInv group (repeatedOf s m) order
@@ -88,6 +96,46 @@ module _ (group : Group) (order : List Ordered) (s : Sequencer) (v : SequencerIn
         count-most = λ k x e. rw (count (x .originator)) (v .count-most k x e);
         payload-ok = v .payload-ok;
         counts-are = λ i h. count i ∙ v .counts-are i h;
+        plain = v .plain;
+      }
+
+  -- marks are set, and an unaccepted number is accepted
+  pub mark-inv : (m : MemberNumber) (number : SequenceNumber) → m .0 < group .n → s .accepted .0 < number .0 → number .0 ≤ s .top .0
+      → isIn (expectedOf (s .group)) (m .0) ≡ true → SequencerInv group (withMark s m number) order
+  unfolding withMark
+  mark-inv m number member above below expected =
+      let member′ : m .0 < s .group .n = rw (v .group-is) member in
+      record {
+        group-is = v .group-is;
+        typed = mark-typed s (v .typed) sound m number member′ above below;
+        sound = of-sound (withMark s m number) (mark-sound s (v .typed) sound m number member′ above below expected);
+        top-is = v .top-is;
+        history-is = v .history-is;
+        number-is = v .number-is;
+        originator-ok = v .originator-ok;
+        count-least = v .count-least;
+        count-most = v .count-most;
+        payload-ok = v .payload-ok;
+        counts-are = v .counts-are;
+        plain = v .plain;
+      }
+
+  pub accept-inv : (number : ℕ) → s .accepted .0 < number → number ≤ s .top .0 → SequencerInv group (withAccepted s number) order
+  unfolding withAccepted
+  accept-inv number above below =
+      record {
+        group-is = v .group-is;
+        typed = accept-typed s (v .typed) sound number above below;
+        sound = of-sound (withAccepted s number) (accept-sound s (v .typed) sound number above below);
+        top-is = v .top-is;
+        history-is = v .history-is;
+        number-is = v .number-is;
+        originator-ok = v .originator-ok;
+        count-least = v .count-least;
+        count-most = v .count-most;
+        payload-ok = v .payload-ok;
+        counts-are = v .counts-are;
+        plain = λ e. let z = v .plain e in absurd (omega arith);
       }
 
   -- a message of a member with the count after its last, where a place and a number are left
@@ -122,6 +170,7 @@ module _ (group : Group) (order : List Ordered) (s : Sequencer) (v : SequencerIn
               counted-each (s .acknowledgements) m count (repeatCount s m) inside (λ j a. a .count ≡ length (ownOf j (order ++ (message ∷ [])))) i
               (λ q. rw q own)
               (λ q. v .counts-are i h ∙ ap length (sym (own-other i order message (λ w. q (sym w)))));
+          plain = λ e. accepted-each s m count payload typed f member′ (λ a. a ≡ s .top .0 + 1) (λ q. refl) (λ q. absurd (q (rw (v .group-is) e)));
         }
       where
         inside : m .0 < length (s .acknowledgements)
@@ -160,10 +209,10 @@ module _ (group : Group) (order : List Ordered) (s : Sequencer) (v : SequencerIn
         size k x (inl e) = v .payload-ok k x e
         size k x (inr e) = rw (← (e .1)) short
 
-  -- the broadcast of a number of the history is that of the order's message
+  -- the packet of a number of the history is that of the order's message
   module _ (k : ℕ) (m : Ordered) (e : at order k ≡ some m) (above : s .floor .0 < k) where
     abbrev broadcast : Packet
-    broadcast = Broadcast (record { 0 = m .originator }) (record { 0 = k }) (m .count) (s .floor)
+    broadcast = announced (s .accepted) (record { 0 = m .originator }) (record { 0 = k }) (m .count) (s .floor)
 
     pub broadcast-is : broadcastOf s k ≡ packetOf (fieldsOf (group .number) broadcast) (m .payload)
     unfolding broadcastOf messageOf
@@ -177,23 +226,31 @@ module _ (group : Group) (order : List Ordered) (s : Sequencer) (v : SequencerIn
         rw (v .group-is, v .history-is k m e above, kept-payload (record { 0 = m .originator }) (m .count) (m .payload)) at
         (broadcast-allowed s (v .typed) sound k above (omega arith))
 
-  pub broadcast-known : (t : ℕ → ℕ) (submitted : ℕ → List (List ℕ)) (k : ℕ) → s .floor .0 < k → k ≤ length order → Known (group .number) order t submitted (broadcastOf s k)
-  broadcast-known t submitted k above below =
+  pub broadcast-known : (voice : ℕ → Voice) (k : ℕ) → s .floor .0 < k → k ≤ length order
+      → Known (group .number) (factsOf group order (s .accepted .0) voice) (broadcastOf s k)
+  broadcast-known voice k above below =
       let found = at-some order k (omega arith) below in
       let m : Ordered = found .0 in
+      let originator : MemberNumber = record { 0 = m .originator } in
+      let number : SequenceNumber = record { 0 = k } in
+      let facts : Facts = factsOf group order (s .accepted .0) voice in
+      let this : at order k ≡ some (ordered k (m .originator) (m .count) (m .payload)) =
+      found .1
+      ∙ ap {B = Option Ordered} some
+      (λ i. record { number = v .number-is k m (found .1) i; originator = m .originator; count = m .count; payload = m .payload }) in
       record {
-        content = Broadcast (record { 0 = m .originator }) (record { 0 = k }) (m .count) (s .floor);
+        content = announced (s .accepted) originator number (m .count) (s .floor);
         payload = m .payload;
         bytes-are = broadcast-is k m (found .1) above;
         allowed = broadcast-may k m (found .1) above;
         says =
-            found .1
-            ∙ ap {B = Option Ordered} some
-            (λ i. record { number = v .number-is k m (found .1) i; originator = m .originator; count = m .count; payload = m .payload });
+            announced-each (λ (p : Packet). Says facts p (m .payload)) (s .accepted) originator number (m .count) (s .floor)
+            (λ h. (this, h))
+            (λ h. (this, eq-or (neededOf group) 0 (λ e. let z = v .plain e in let t = v .top-is in absurd (omega arith)) (λ e. omega arith)));
       }
 
 -- nothing was numbered in a fresh state
-module _ (group : Group) (low : 1 ≤ group .n) (high : group .n ≤ membersMost) (fits : group .number ≤ largestNumber) where
+module _ (group : Group) (low : 1 ≤ group .n) (high : group .n ≤ membersMost) (resilient : group .resilience < group .n) (fits : group .number ≤ largestNumber) where
   abbrev opened : Sequencer
   opened = freshSequencer group
 
@@ -207,19 +264,34 @@ module _ (group : Group) (low : 1 ≤ group .n) (high : group .n ≤ membersMost
   unfolding freshSequencer
   fresh-place k = getD-replicate placesMost (placeOf k) emptyMessage blank (omega arith)
 
+  fresh-mark : (k : ℕ) → markAt (opened .marks) k ≡ 0
+  unfolding freshSequencer
+  fresh-mark k = getD-replicate placesMost (placeOf k) 0 0 (omega arith)
+
+  fresh-mask : (i : ℕ) → getD (opened .marks) i 0 < 2 ^ membersMost
+  unfolding freshSequencer
+  fresh-mask i =
+      le-or placesMost i (λ h. rw (List·getD-eq-default (opened .marks) 0 {n = i} h) (pow-pos membersMost))
+      (λ h. rw (getD-replicate {A = ℕ} placesMost i 0 0 h) (pow-pos membersMost))
+
   fresh-sound : Sound opened
   unfolding freshSequencer
   fresh-sound =
       record {
         n-least = low;
         n-most = high;
+        resilient = resilient;
         floor-is = let z = floor-most (group .n) (opened .acknowledgements) 0 low (omega arith) in omega arith;
         floor-le = omega arith;
+        accepted-le = omega arith;
         window = omega arith;
         taken-le = λ i h. let z = ap (λ (a : Acknowledgement). a .taken .0) (fresh-entry i) in omega arith;
         unused = λ i h. fresh-entry i;
         kept = λ k a b. absurd (omega arith);
         empty = λ k a b. ap isEmpty (fresh-place k) ∙ empty-zero;
+        marks-in = λ k a b. absurd (omega arith);
+        marks-below = λ k a b. fresh-mark k;
+        marks-above = λ k a b. fresh-mark k;
       }
 
   pub fresh-inv : SequencerInv group opened []
@@ -231,10 +303,13 @@ module _ (group : Group) (low : 1 ≤ group .n) (high : group .n ≤ membersMost
             record {
               group = fits;
               top = omega arith;
+              accepted = omega arith;
               table = refl;
               history = refl;
               counts = λ i. let z = ap (λ (a : Acknowledgement). a .count) (fresh-entry i) in omega arith;
               repeats = λ i. let z = ap (λ (a : Acknowledgement). a .repeats) (fresh-entry i) in omega arith;
+              marks = refl;
+              masks = fresh-mask;
             };
         sound = of-sound opened fresh-sound;
         top-is = refl;
@@ -245,4 +320,12 @@ module _ (group : Group) (low : 1 ≤ group .n) (high : group .n ≤ membersMost
         count-most = λ k m e. absurd (at-nil k e);
         payload-ok = λ k m e. absurd (at-nil k e);
         counts-are = λ i h. ap (λ (a : Acknowledgement). a .count) (fresh-entry i);
+        plain = λ e. refl;
       }
+
+  -- everybody has what is accepted
+  pub fresh-confirmed : (reach : ℕ → ℕ) → Confirmed group opened reach
+  unfolding freshSequencer
+  fresh-confirmed reach =
+      let all : group .n - 1 ≤ count (group .n) (reaches group reach 0) = others-count group low (λ i. 0 ≤? reach i) (λ i. le-leb 0 (reach i) (omega arith)) in
+      record { marked = λ k i a b e. absurd (omega arith); enough = omega arith }

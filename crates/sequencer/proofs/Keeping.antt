@@ -6,12 +6,13 @@ use mathlib.Core.Bool.{true}
 use mathlib.Core.List.{List, []}
 use Prim.Native.Nat.{ℕ, _+_, _-_, _≤_, _<_}
 use native.Mathlib.Omega.{arith}
-use borrow.Author.Tests.{ltb-false, eqb-false}
+use borrow.Author.Tests.{ltb-false, leb-false, eqb-false}
 use lib.ListN.{length, getD, set, length-set}
 use Rattle.group.proofs.Choice.{says}
 use Rattle.group.proofs.Lists.{if-elim, judged-elim}
 use Rattle.group.specs.Choice.{if_then_else_, _<?_, _≤?_, _=?_}
 use Rattle.group.specs.Limits.{placesMost, payloadMost, largestNumber}
+use Rattle.group.specs.Members.{isIn, expectedOf, neededOf}
 use Rattle.group.specs.declared.MemberNumber.{MemberNumber}
 use Rattle.group.specs.declared.Refusal.{Refusal}
 use Rattle.group.specs.declared.Refusal.the-variants.{OtherEnd}
@@ -21,26 +22,28 @@ use Rattle.packet.proofs.Laws.{read-written}
 use Rattle.packet.specs.Packet.{obeys, readOf, fieldsOf}
 use Rattle.packet.specs.declared.Header.{Header}
 use Rattle.packet.specs.declared.Packet.{Packet}
-use Rattle.packet.specs.declared.Packet.the-variants.{Request, Broadcast, Gap, Status, Poll}
+use Rattle.packet.specs.declared.Packet.the-variants.{Request, Broadcast, Gap, Status, Poll, Offer, Confirm, Accept}
 use Rattle.packet.specs.declared.Reading.{Reading}
 use Rattle.history.proofs.Finding.{found-in}
-use Rattle.history.specs.Ask.{senderVerdict, countVerdict, wantedVerdict}
+use Rattle.history.specs.Ask.{senderVerdict, countVerdict, wantedVerdict, expectedVerdict}
 use Rattle.history.specs.Note.{largerOf, withCounts}
 use Rattle.history.specs.Repeat.{oneMore, findOf}
 use Rattle.history.specs.State.{Acknowledgement, noAcknowledgement, acknowledgementOf, messageAt}
-use Rattle.history.proofs.Asking.{sender-was, count-was}
+use Rattle.history.proofs.Asking.{sender-was, count-was, expected-was}
 use Rattle.history.proofs.Counting.{counted-each, counted-taken}
+use Rattle.history.proofs.Marks.{enough-in}
 use Rattle.history.proofs.Repeating.{more-most}
 use Rattle.history.proofs.Soundness.{takenIn, countIn, kept-under, floor-same}
-use Rattle.sequencer.specs.Calls.{Outcome, answered, refused, broadcastOf, pollPacket, repeatedOf, oldOf, againOf, fullOf, numberedOf, withMessage, requestOf, gapOf, contentStep}
+use Rattle.sequencer.specs.Calls.{Outcome, answered, refused, broadcastOf, pollPacket, repeatedOf, oldOf, againOf, fullOf, numberedOf, withMessage, requestOf, gapOf, acceptPacket, withMark, withAccepted, enoughIn, settledOf, confirmOf, contentStep}
 use Rattle.sequencer.specs.Laws.{Typed}
 use Rattle.sequencer.specs.Note.{withTable, noteOf}
 use Rattle.sequencer.specs.State.{Sequencer, lastCount, repeatCount}
 use Rattle.sequencer.specs.declared.Answer.{Answer}
-use Rattle.sequencer.specs.declared.Answer.the-variants.{Noted, Wanted}
+use Rattle.sequencer.specs.declared.Answer.the-variants.{Old, Noted, Wanted, Marked}
+use Rattle.sequencer.proofs.Confirming.{mark-typed, mark-sound, accept-typed, accept-sound}
 use Rattle.sequencer.proofs.Noting.{noted-count, note-typed, note-sound}
 use Rattle.sequencer.proofs.Numbering.{numbered-typed, numbered-sound}
-use Rattle.sequencer.proofs.Packets.{broadcast-allowed, poll-allowed}
+use Rattle.sequencer.proofs.Packets.{broadcast-allowed, poll-allowed, accept-allowed}
 use Rattle.sequencer.proofs.Soundness.{Sound}
 
 -- what a step leaves
@@ -81,10 +84,13 @@ module _ (s : Sequencer) (typed : Typed s) (sound : Sound s) where
         record {
           group = typed .group;
           top = typed .top;
+          accepted = typed .accepted;
           table = length-set table (m .0) entry ∙ typed .table;
           history = typed .history;
           counts = λ i. rw (repeated-count i) (typed .counts i);
           repeats = λ i. repeated-each (λ j a. a .repeats ≤ largestNumber) i (λ q. more-most (repeatCount s m) (typed .repeats (m .0))) (λ q. typed .repeats i);
+          marks = typed .marks;
+          masks = typed .masks;
         }
 
     pub repeated-sound : Sound (repeatedOf s m)
@@ -93,8 +99,10 @@ module _ (s : Sequencer) (typed : Typed s) (sound : Sound s) where
         record {
           n-least = sound .n-least;
           n-most = sound .n-most;
+          resilient = sound .resilient;
           floor-is = floor-same (s .group .n) table′ table (length-set table (m .0) entry) repeated-taken ∙ sound .floor-is;
           floor-le = sound .floor-le;
+          accepted-le = sound .accepted-le;
           window = sound .window;
           taken-le = λ i h. rw (repeated-taken i) (sound .taken-le i h);
           unused = λ i h. repeated-each (λ j a. a ≡ noAcknowledgement) i (λ q. absurd (omega arith)) (λ q. sound .unused i h);
@@ -102,6 +110,9 @@ module _ (s : Sequencer) (typed : Typed s) (sound : Sound s) where
               let z = repeated-count (messageAt (s .history) k .originator .0) in
               kept-under (s .group .n) table table′ (messageAt (s .history) k) (omega arith) (sound .kept k a b);
           empty = sound .empty;
+          marks-in = sound .marks-in;
+          marks-below = sound .marks-below;
+          marks-above = sound .marks-above;
         }
 
   pub broadcast-reads : (k : ℕ) → s .floor .0 < k → k ≤ s .top .0 → (h : Header) × (readOf (broadcastOf s k) ≡ Reading.Fields h)
@@ -120,6 +131,7 @@ module _ (s : Sequencer) (typed : Typed s) (sound : Sound s) (m : MemberNumber) 
       (λ t.
       let f = found (eqb-false number 0 t) in
       let g = sound .floor-le in
+      let e = sound .accepted-le in
       record { typed = repeated-typed s typed sound m member; sound = repeated-sound s typed sound m member; bytes = inr (broadcast-reads s typed sound number (f .0) (omega arith)) })
 
   numbered-stays : (count : ℕ) (payload : List ℕ) → 1 ≤ count → count ≤ largestNumber → length payload ≤ payloadMost
@@ -129,6 +141,7 @@ module _ (s : Sequencer) (typed : Typed s) (sound : Sound s) (m : MemberNumber) 
       let typed′ = numbered-typed s m count payload typed sound member up most left in
       let sound′ = numbered-sound s m count payload typed sound member up most left least short room in
       let f = sound .floor-le in
+      let e = sound .accepted-le in
       let reads = broadcast-reads (withMessage s m count payload) typed′ sound′ (s .top .0 + 1) (omega arith) (omega arith) in
       record { typed = typed′; sound = sound′; bytes = inr reads }
 
@@ -150,18 +163,46 @@ module _ (s : Sequencer) (typed : Typed s) (sound : Sound s) (m : MemberNumber) 
       let room : s .top .0 < s .floor .0 + placesMost = omega arith in
       numbered-stays count payload least most short room p (left (omega arith)))))
 
+-- the packet that accepts reads
+pub accept-reads : (s : Sequencer) → Typed s → Sound s → 1 ≤ s .accepted .0 → (h : Header) × (readOf (acceptPacket s) ≡ Reading.Fields h)
+unfolding acceptPacket
+accept-reads s typed sound least = (_, read-written _ _ (accept-allowed s typed sound least) .0)
+
+-- a number that has enough marks is accepted
+settled-stays : (s : Sequencer) → Typed s → Sound s → Stays (settledOf s (enoughIn s))
+unfolding settledOf withAccepted
+settled-stays s typed sound =
+    let number = enoughIn s in
+    if-elim Stays (number =? 0) (λ t. answered-stays s typed sound Marked)
+    (λ t.
+    let f = enough-in (s .marks) (neededOf (s .group)) (s .accepted .0) (s .top .0 - s .accepted .0) (eqb-false number 0 t) in
+    let a = f .0 in
+    let below : number ≤ s .top .0 = (let b = f .1 in let c = sound .accepted-le in omega arith) in
+    let typed′ = accept-typed s typed sound number a below in
+    let sound′ = accept-sound s typed sound number a below in
+    record { typed = typed′; sound = sound′; bytes = inr (accept-reads (withAccepted s number) typed′ sound′ (omega arith)) })
+
+-- a confirmation
+confirm-stays : (s : Sequencer) → Typed s → Sound s → (m : MemberNumber) (number : SequenceNumber) → m .0 < s .group .n → number .0 ≤ s .top .0
+    → (s .accepted .0 < number .0 → isIn (expectedOf (s .group)) (m .0) ≡ true) → Stays (confirmOf s m number)
+unfolding confirmOf
+confirm-stays s typed sound m number member below expected =
+    if-elim Stays (number .0 ≤? s .accepted .0) (λ t. answered-stays s typed sound Old)
+    (λ t. let above = leb-false (number .0) (s .accepted .0) t in
+    settled-stays (withMark s m number) (mark-typed s typed sound m number member above below) (mark-sound s typed sound m number member above below (expected above)))
+
 -- what a packet of our group says
 module _ (s : Sequencer) (typed : Typed s) (sound : Sound s) (g : ℕ) (payload : List ℕ) (short : length payload ≤ payloadMost) where
   refused-stays : (refusal : Refusal) → Stays (refused s refusal)
   refused-stays refusal = answered-stays s typed sound (Answer.Refused refusal)
 
   -- once a sender was accepted, its number is noted
-  module _ (sender : MemberNumber) (taken : SequenceNumber) (e : senderVerdict (s .group .n) (s .top .0) sender taken ≡ Verdict.Accepted) where
+  module _ (sender : MemberNumber) (taken : SequenceNumber) (e : senderVerdict (s .group .n) (s .accepted .0) sender taken ≡ Verdict.Accepted) where
     typed′ : Typed (noteOf s sender taken)
-    typed′ = let a = sender-was (s .group .n) (s .top .0) sender taken e in note-typed s sender taken (typed .table) sound (a .0) (a .1) typed
+    typed′ = let a = sender-was (s .group .n) (s .accepted .0) sender taken e in note-typed s sender taken (typed .table) sound (a .0) (a .1) typed
 
     sound′ : Sound (noteOf s sender taken)
-    sound′ = let a = sender-was (s .group .n) (s .top .0) sender taken e in note-sound s sender taken (typed .table) sound (a .0) (a .1) (typed .history)
+    sound′ = let a = sender-was (s .group .n) (s .accepted .0) sender taken e in note-sound s sender taken (typed .table) sound (a .0) (a .1) (typed .history)
 
     noted-stays : (answer : Answer) → Stays (answered (noteOf s sender taken) answer)
     noted-stays answer = answered-stays (noteOf s sender taken) typed′ sound′ answer
@@ -170,7 +211,7 @@ module _ (s : Sequencer) (typed : Typed s) (sound : Sound s) (g : ℕ) (payload 
         → Stays (requestOf (noteOf s sender taken) sender count payload)
     unfolding noteOf withTable
     requested-stays count least most f =
-        let a = sender-was (s .group .n) (s .top .0) sender taken e in
+        let a = sender-was (s .group .n) (s .accepted .0) sender taken e in
         let b = count-was (lastCount s sender) (s .top .0) count f in
         let c = noted-count s sender taken (typed .table) sound (a .0) (sender .0) in
         request-stays (noteOf s sender taken) typed′ sound′ sender (a .0) count payload least most short (omega arith) (λ h. b .1 (omega arith))
@@ -184,13 +225,20 @@ module _ (s : Sequencer) (typed : Typed s) (sound : Sound s) (g : ℕ) (payload 
   pub content-stays : (content : Packet) → obeys (fieldsOf g content) ≡ true → fieldsOf g content .b ≤ largestNumber → Stays (contentStep s content payload)
   unfolding contentStep fieldsOf obeys if_then_else_
   content-stays (Request sender taken count) o most =
-      judged-elim Stays (senderVerdict (s .group .n) (s .top .0) sender taken) (λ r e. refused-stays r)
+      judged-elim Stays (senderVerdict (s .group .n) (s .accepted .0) sender taken) (λ r e. refused-stays r)
       (λ e. judged-elim Stays (countVerdict (lastCount s sender) (s .top .0) count) (λ r f. refused-stays r)
       (λ f. requested-stays sender taken e count (search says) most f))
   content-stays (Broadcast originator number count floor) o most = refused-stays OtherEnd
   content-stays (Gap sender taken first last) o most =
-      judged-elim Stays (senderVerdict (s .group .n) (s .top .0) sender taken) (λ r e. refused-stays r)
+      judged-elim Stays (senderVerdict (s .group .n) (s .accepted .0) sender taken) (λ r e. refused-stays r)
       (λ e. judged-elim Stays (wantedVerdict (s .top .0) last) (λ r f. refused-stays r) (λ f. gap-stays sender taken e first last))
   content-stays (Status sender taken) o most =
-      judged-elim Stays (senderVerdict (s .group .n) (s .top .0) sender taken) (λ r e. refused-stays r) (λ e. noted-stays sender taken e Noted)
+      judged-elim Stays (senderVerdict (s .group .n) (s .accepted .0) sender taken) (λ r e. refused-stays r) (λ e. noted-stays sender taken e Noted)
   content-stays (Poll top floor) o most = refused-stays OtherEnd
+  content-stays (Offer originator number count floor) o most = refused-stays OtherEnd
+  content-stays (Confirm sender number) o most =
+      judged-elim Stays (senderVerdict (s .group .n) (s .top .0) sender number) (λ r e. refused-stays r)
+      (λ e. judged-elim Stays (expectedVerdict (s .group) (s .accepted .0) sender number) (λ r f. refused-stays r)
+      (λ f. let a = sender-was (s .group .n) (s .top .0) sender number e in
+      confirm-stays s typed sound sender number (a .0) (a .1) (expected-was (s .group) (s .accepted .0) sender number f)))
+  content-stays (Accept number) o most = refused-stays OtherEnd

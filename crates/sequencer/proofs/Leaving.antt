@@ -14,9 +14,10 @@ use Rattle.store.proofs.Places.{messages-whole}
 use Rattle.sequencer.specs.Calls.{Outcome, answered, refused, callVerdict, receiveOf, pollOf, copyOf}
 use Rattle.sequencer.specs.Laws.{FirstNo, receiveQuestions, ViewWhole, RefusedLeaves, PollLeaves, CopyLeaves}
 use Rattle.sequencer.specs.State.{Sequencer}
-use Rattle.sequencer.specs.View.{viewOf}
+use Rattle.sequencer.specs.View.{viewOf, Fits}
 use Rattle.sequencer.specs.declared.Answer.{Answer}
 use Rattle.sequencer.specs.declared.Reply.{Reply}
+use Rattle.sequencer.specs.declared.Sequencer.{Sequencer as InPlace}
 use Rattle.sequencer.proofs.Laws.{receive-first-no}
 
 pub view-whole : ViewWhole
@@ -34,11 +35,12 @@ view-whole s t a b e =
     (record { counts-size = l .kept-size; originators-size = l .originators-size; lengths-size = l .lengths-size; bytes-size = l .payloads-size })
     (ap (λ (v : Sequencer). v .history) e) in
     λ i. record {
-      head = record { group = e i .group; top = e i .top; floor = e i .floor };
+      head = record { group = e i .group; top = e i .top; accepted = e i .accepted; floor = e i .floor };
       taken = table .0 i;
       counts = table .1 i;
       repeats = table .2 i;
       kept = history .0 i;
+      marks = e i .marks;
       originators = history .1 i;
       lengths = history .2 i;
       payloads = history .3 i;

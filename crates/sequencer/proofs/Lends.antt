@@ -3,14 +3,14 @@
 use mathlib.Core.Path.{_≡_, ap, subst, _∙_}
 use mathlib.Core.List.{List, [], _∷_, map-id}
 use Prim.Native.Nat.{ℕ}
-use mir.Syntax.{w8, w32, tyInt, tyArray}
+use mir.Syntax.{w8, w16, w32, tyInt, tyArray}
 use mir.Val.{Val}
 use base.Fml.{Share}
 use denote.RattleType.{Denots}
 use denote.Laws.{Is}
 use denote.Memory.{partAt}
 use denote.Plain.{uint-lawful}
-use denote.Builtin.{u8, u32}
+use denote.Builtin.{u8, u16, u32}
 use denote.Array.{Array, array-lawful}
 use denote.Struct.Struct.{Struct}
 use denote.Struct.Declared.{shape}
@@ -33,16 +33,17 @@ arrays = record { row = Array u32 16; ty = tyArray (tyInt w32) 16 }
     ∷ record { row = Array u32 16; ty = tyArray (tyInt w32) 16 }
     ∷ record { row = Array u32 16; ty = tyArray (tyInt w32) 16 }
     ∷ record { row = Array u32 32; ty = tyArray (tyInt w32) 32 }
+    ∷ record { row = Array u16 32; ty = tyArray (tyInt w16) 32 }
     ∷ record { row = Array u8 32; ty = tyArray (tyInt w8) 32 }
     ∷ record { row = Array u8 32; ty = tyArray (tyInt w8) 32 }
     ∷ record { row = Array u8 7680; ty = tyArray (tyInt w8) 7680 }
     ∷ []
 
 abbrev all : Sequencer → Denots (rowsOf (first ∷ arrays))
-all h = (B.the-type .to (h .head), (h .taken, (h .counts, (h .repeats, (h .kept, (h .originators, (h .lengths, (h .payloads, tt))))))))
+all h = (B.the-type .to (h .head), (h .taken, (h .counts, (h .repeats, (h .kept, (h .marks, (h .originators, (h .lengths, (h .payloads, tt)))))))))
 
 all-is : (h : Sequencer) → T.the-type .to h ≡ all h
-all-is h = λ i. (B.the-type .to (h .head), (map-id (h .taken) i, (map-id (h .counts) i, (map-id (h .repeats) i, (map-id (h .kept) i, (map-id (h .originators) i, (map-id (h .lengths) i, (map-id (h .payloads) i, tt))))))))
+all-is h = λ i. (B.the-type .to (h .head), (map-id (h .taken) i, (map-id (h .counts) i, (map-id (h .repeats) i, (map-id (h .kept) i, (map-id (h .marks) i, (map-id (h .originators) i, (map-id (h .lengths) i, (map-id (h .payloads) i, tt)))))))))
 
 pub same : (q : Share) (h : Sequencer) (b o : ℕ) → partAt T.the-row q h b o ≡ partAt (Struct (shape T.the-type)) q (all h) b o
 same q h b o = recorded-part (Struct (shape T.the-type)) Sequencer (T.the-type .to) (T.the-type .to-one) q h b o ∙ ap (λ (a : Denots (rowsOf (first ∷ arrays))). partAt (Struct (shape T.the-type)) q a b o) (all-is h)
@@ -55,15 +56,15 @@ lendable = record {
   rest = arrays;
   all = all;
   same = same;
-  lawful = λ 𝓤 H A W. (T′.the-laws .0 .lawful 𝓤 H A W, (array-lawful 𝓤 H A W u32 (uint-lawful 𝓤 H A W w32) 16, (array-lawful 𝓤 H A W u32 (uint-lawful 𝓤 H A W w32) 16, (array-lawful 𝓤 H A W u32 (uint-lawful 𝓤 H A W w32) 16, (array-lawful 𝓤 H A W u32 (uint-lawful 𝓤 H A W w32) 32, (array-lawful 𝓤 H A W u8 (uint-lawful 𝓤 H A W w8) 32, (array-lawful 𝓤 H A W u8 (uint-lawful 𝓤 H A W w8) 32, (array-lawful 𝓤 H A W u8 (uint-lawful 𝓤 H A W w8) 7680, tt))))))));
+  lawful = λ 𝓤 H A W. (T′.the-laws .0 .lawful 𝓤 H A W, (array-lawful 𝓤 H A W u32 (uint-lawful 𝓤 H A W w32) 16, (array-lawful 𝓤 H A W u32 (uint-lawful 𝓤 H A W w32) 16, (array-lawful 𝓤 H A W u32 (uint-lawful 𝓤 H A W w32) 16, (array-lawful 𝓤 H A W u32 (uint-lawful 𝓤 H A W w32) 32, (array-lawful 𝓤 H A W u16 (uint-lawful 𝓤 H A W w16) 32, (array-lawful 𝓤 H A W u8 (uint-lawful 𝓤 H A W w8) 32, (array-lawful 𝓤 H A W u8 (uint-lawful 𝓤 H A W w8) 32, (array-lawful 𝓤 H A W u8 (uint-lawful 𝓤 H A W w8) 7680, tt)))))))));
 }
 
 -- with other arrays, and with another head
 abbrev pub with : Sequencer → Values lendable → Sequencer
-with h a = record { head = h .head; taken = a .0; counts = a .1 .0; repeats = a .1 .1 .0; kept = a .1 .1 .1 .0; originators = a .1 .1 .1 .1 .0; lengths = a .1 .1 .1 .1 .1 .0; payloads = a .1 .1 .1 .1 .1 .1 .0 }
+with h a = record { head = h .head; taken = a .0; counts = a .1 .0; repeats = a .1 .1 .0; kept = a .1 .1 .1 .0; marks = a .1 .1 .1 .1 .0; originators = a .1 .1 .1 .1 .1 .0; lengths = a .1 .1 .1 .1 .1 .1 .0; payloads = a .1 .1 .1 .1 .1 .1 .1 .0 }
 
 abbrev pub headed : Head → Sequencer → Sequencer
-headed t h = record { head = t; taken = h .taken; counts = h .counts; repeats = h .repeats; kept = h .kept; originators = h .originators; lengths = h .lengths; payloads = h .payloads }
+headed t h = record { head = t; taken = h .taken; counts = h .counts; repeats = h .repeats; kept = h .kept; marks = h .marks; originators = h .originators; lengths = h .lengths; payloads = h .payloads }
 
 -- the machine value of a state
 abbrev pub hval : Sequencer → Val

@@ -3,6 +3,7 @@ pub mod Soundness
 pub mod Noting
 pub mod Numbering
 pub mod Packets
+pub mod Confirming
 pub mod Keeping
 pub mod Histories
 pub mod Answering
@@ -17,3 +18,4 @@ pub mod View
 pub mod Lends
 pub mod Outcomes
 pub mod Owed
+pub mod Confirmed

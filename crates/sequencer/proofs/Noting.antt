@@ -1,10 +1,10 @@
 -- Noting an acknowledgement keeps a state sound, and moves floor up, at most to top: what floor passes is cleared, and every
 -- number above the new floor keeps its place. Assumes nothing.
-use mathlib.Core.Path.{_≡_, refl, ap, _∙_}
+use mathlib.Core.Path.{_≡_, refl, sym, ap, _∙_}
 use mathlib.Core.Logic.{_≢_}
 use mathlib.Core.List.{List}
 use Prim.Native.Nat.{ℕ, _+_, _-_, _≤_, _<_}
-use native.Mathlib.Nat.{le-refl, le-trans}
+use native.Mathlib.Nat.{le-refl, le-trans, le-antisymm}
 use native.Mathlib.Omega.{arith}
 use lib.ListN.{length, getD, length-set}
 use Rattle.group.proofs.Lists.{le-or, set-each}
@@ -13,9 +13,10 @@ use Rattle.group.specs.declared.MemberNumber.{MemberNumber}
 use Rattle.group.specs.declared.SequenceNumber.{SequenceNumber}
 use Rattle.message.proofs.Kept.{empty-zero}
 use Rattle.message.specs.Message.{isEmpty}
-use Rattle.history.proofs.Soundness.{takenIn, countIn, kept-under, floor-most, floor-least, floor-first}
+use Rattle.history.proofs.Soundness.{takenIn, countIn, kept-under, floor-most, floor-least, floor-first, floor-same}
+use Rattle.history.specs.Marks.{markAt}
 use Rattle.history.specs.Note.{withTaken, tableNoted}
-use Rattle.history.specs.State.{Acknowledgement, noAcknowledgement, acknowledgementOf, messageAt, floorOf}
+use Rattle.history.specs.State.{Acknowledgement, noAcknowledgement, acknowledgementOf, messageAt, placeOf, floorOf}
 use Rattle.history.proofs.Noting.{larger-least, larger-new, larger-most, cleared-length, cleared-other, cleared-empty}
 use Rattle.sequencer.specs.Laws.{Typed}
 use Rattle.sequencer.specs.Note.{withTable, noteOf}
@@ -67,11 +68,21 @@ module _ (s : Sequencer) (m : MemberNumber) (taken : SequenceNumber) (long : len
       let b = noted-least i in
       omega arith)
 
-  module _ (known : taken .0 ≤ s .top .0) where
-    pub floor-down : floorOf (s .group .n) table′ ≤ s .top .0
+  module _ (known : taken .0 ≤ s .accepted .0) where
+    -- the new floor is accepted: the member's entry is, or it stays as it was, and with it the floor
+    pub floor-down : floorOf (s .group .n) table′ ≤ s .accepted .0
     floor-down =
         let l = noted-length in
-        le-trans (floor-most (s .group .n) table′ (m .0) member (omega arith)) (noted-most (λ i. s .top .0) (sound .taken-le) known (m .0) member)
+        let low = sound .floor-le in
+        let is = sound .floor-is in
+        le-or (takenIn table (m .0)) (s .accepted .0)
+        (λ h. le-trans (floor-most (s .group .n) table′ (m .0) member (omega arith))
+        (noted-each (λ j a. a .taken .0 ≤ s .accepted .0) (m .0) (λ q. larger-most (takenIn table (m .0)) (taken .0) (s .accepted .0) h known) (λ q. absurd (q refl))))
+        (λ h. let z = floor-same (s .group .n) table′ table (noted-length ∙ sym long)
+        (λ i. noted-each (λ j a. a .taken .0 ≡ takenIn table j) i
+        (λ q. rw q (le-antisymm (larger-most (takenIn table (m .0)) (taken .0) (takenIn table (m .0)) (le-refl _) (omega arith)) (larger-least (takenIn table (m .0)) (taken .0))))
+        (λ q. refl)) in
+        omega arith)
 
     pub note-typed : Typed s → Typed (noteOf s m taken)
     unfolding noteOf withTable
@@ -79,10 +90,13 @@ module _ (s : Sequencer) (m : MemberNumber) (taken : SequenceNumber) (long : len
         record {
           group = typed .group;
           top = typed .top;
+          accepted = typed .accepted;
           table = noted-length;
           history = cleared-length (s .history) (s .floor .0) (floorOf (s .group .n) table′ - s .floor .0) ∙ typed .history;
           counts = λ i. rw (noted-count i) (typed .counts i);
           repeats = λ i. noted-each (λ j a. a .repeats ≤ largestNumber) i (λ q. typed .repeats (m .0)) (λ q. typed .repeats i);
+          marks = typed .marks;
+          masks = typed .masks;
         }
 
     pub note-sound : length (s .history) ≡ placesMost → Sound (noteOf s m taken)
@@ -95,10 +109,12 @@ module _ (s : Sequencer) (m : MemberNumber) (taken : SequenceNumber) (long : len
         record {
           n-least = sound .n-least;
           n-most = sound .n-most;
+          resilient = sound .resilient;
           floor-is = refl;
           floor-le = down;
+          accepted-le = sound .accepted-le;
           window = let w = sound .window in omega arith;
-          taken-le = noted-most (λ i. s .top .0) (sound .taken-le) known;
+          taken-le = noted-most (λ i. s .top .0) (sound .taken-le) (let h = sound .accepted-le in omega arith);
           unused = λ i h. noted-each (λ j a. a ≡ noAcknowledgement) i (λ q. absurd (omega arith)) (λ q. sound .unused i h);
           kept = λ k a b.
               rw (cleared-other (s .history) (s .floor .0) k′ k (omega arith) (let w = sound .window in omega arith))
@@ -109,4 +125,10 @@ module _ (s : Sequencer) (m : MemberNumber) (taken : SequenceNumber) (long : len
               (λ h.
               let e = cleared-empty (s .history) (s .floor .0) places k′ k (k - placesMost) (omega arith) (omega arith) (omega arith) in
               ap isEmpty e ∙ empty-zero);
+          marks-in = sound .marks-in;
+          marks-below = λ k a b. sound .marks-below k (omega arith) b;
+          marks-above = λ k a b.
+              le-or k (s .floor .0 + placesMost) (λ h. sound .marks-above k a h)
+              (λ h. let e : placeOf k ≡ placeOf (k - placesMost) = omega arith in
+              ap (λ (i : ℕ). getD (s .marks) i 0) e ∙ sound .marks-below (k - placesMost) (omega arith) (omega arith));
         }

@@ -5,6 +5,7 @@ use mathlib.Core.Logic.{_≢_}
 use mathlib.Core.Option.{some}
 use mathlib.Core.List.{List, []}
 use Prim.Native.Nat.{ℕ, _≤_, _<_}
+use native.Mathlib.Nat.{le-refl}
 use native.Mathlib.Omega.{arith}
 use borrow.Author.Tests.{ltb-true, leb-true, eq-eqb, lt-ltb, le-leb}
 use lib.ListN.{length}
@@ -21,27 +22,27 @@ use Rattle.group.specs.declared.SequenceNumber.{SequenceNumber}
 use Rattle.group.specs.declared.Verdict.{Verdict}
 use Rattle.message.proofs.Owning.{Owns}
 use Rattle.message.specs.Order.{Ordered}
-use Rattle.packet.proofs.Facts.{Known, Says}
+use Rattle.packet.proofs.Facts.{Voice, Known, Says}
 use Rattle.packet.proofs.Laws.{read-written, content-fields, fields-group}
 use Rattle.packet.proofs.Verdicts.{writable}
 use Rattle.packet.specs.Laws.{Allowed}
 use Rattle.packet.specs.Packet.{packetOf, fieldsOf, written}
 use Rattle.packet.specs.declared.Packet.{Packet}
-use Rattle.packet.specs.declared.Packet.the-variants.{Request, Broadcast, Gap, Status, Poll}
-use Rattle.history.proofs.Asking.{sender-was, count-was}
+use Rattle.packet.specs.declared.Packet.the-variants.{Request, Broadcast, Gap, Status, Poll, Offer, Confirm, Accept}
+use Rattle.history.proofs.Asking.{sender-was, count-was, expected-was}
 use Rattle.history.proofs.Soundness.{takenIn, floor-most, floor-least}
-use Rattle.history.specs.Ask.{senderVerdict, countVerdict, wantedVerdict}
-use Rattle.sequencer.specs.Calls.{Outcome, answered, refused, broadcastOf, pollPacket, requestOf, contentStep, readStep, callVerdict, receiveOf, pollOf, copyOf}
+use Rattle.history.specs.Ask.{senderVerdict, countVerdict, wantedVerdict, expectedVerdict}
+use Rattle.sequencer.specs.Calls.{Outcome, answered, refused, announced, broadcastOf, pollPacket, requestOf, contentStep, readStep, callVerdict, receiveOf, pollOf, copyOf}
 use Rattle.sequencer.specs.Note.{withTable, noteOf}
 use Rattle.sequencer.specs.Order.{numberedBy}
 use Rattle.sequencer.specs.State.{Sequencer, lastCount}
 use Rattle.sequencer.specs.declared.Answer.{Answer}
 use Rattle.sequencer.specs.declared.Answer.the-variants.{Noted, Sent}
 use Rattle.sequencer.proofs.Histories.{broadcast-is}
-use Rattle.sequencer.proofs.Invariant.{SequencerInv, SequencerGood}
+use Rattle.sequencer.proofs.Invariant.{SequencerInv, SequencerGood, Confirmed, factsOf}
 use Rattle.sequencer.proofs.Noting.{noted-count, noted-own, noted-other}
 use Rattle.sequencer.proofs.Soundness.{sound-of}
-use Rattle.sequencer.proofs.Answering.{Good, Ready, silent, writing, note-ready, poll-known, copy-known, request-good, gap-good}
+use Rattle.sequencer.proofs.Answering.{Good, Ready, silent, writing, note-ready, poll-known, copy-known, request-good, gap-good, confirm-good}
 
 -- a state with its invariant
 module _ (group : Group) (order : List Ordered) (s : Sequencer) (v : SequencerInv group s order) where
@@ -58,9 +59,9 @@ module _ (group : Group) (order : List Ordered) (s : Sequencer) (v : SequencerIn
       let e = eq-eqb (fieldsOf (group .number) content .group) (s .group .number) (fields-group (group .number) content ∙ sym (ap (λ (x : Group). x .number) (v .group-is))) in
       rw (called, r .0, r .1, e, content-fields (group .number) content)
 
-  -- the copy of a number of the history is the broadcast of the order's message
+  -- the copy of a number of the history is the packet of the order's message
   pub copy-ok : (k : ℕ) (m : Ordered) → at order k ≡ some m → s .floor .0 < k
-      → let broadcast : Packet = Broadcast (record { 0 = m .originator }) (record { 0 = k }) (m .count) (s .floor) in
+      → let broadcast : Packet = announced (s .accepted) (record { 0 = m .originator }) (record { 0 = k }) (m .count) (s .floor) in
       copyOf s (record { 0 = k }) longestPacket ≡ record { sequencer = s; answer = Sent; bytes = packetOf (fieldsOf (group .number) broadcast) (m .payload) }
   unfolding copyOf judged if_then_else_
   copy-ok k m e above =
@@ -69,12 +70,12 @@ module _ (group : Group) (order : List Ordered) (s : Sequencer) (v : SequencerIn
       rw (called, lt-ltb (s .floor .0) k above, le-leb k (s .top .0) (omega arith), broadcast-is group order s v k m e above)
 
   -- a member's status is noted
-  pub status-ok : (sender : MemberNumber) (taken : SequenceNumber) → Allowed (fieldsOf (group .number) (Status sender taken)) [] → sender .0 < group .n → taken .0 ≤ length order
+  pub status-ok : (sender : MemberNumber) (taken : SequenceNumber) → Allowed (fieldsOf (group .number) (Status sender taken)) [] → sender .0 < group .n → taken .0 ≤ s .accepted .0
       → receiveOf s (packetOf (fieldsOf (group .number) (Status sender taken)) []) longestPacket ≡ answered (noteOf s sender taken) Noted
   unfolding contentStep senderVerdict judged if_then_else_
   status-ok sender taken allowed member known =
       received (Status sender taken) [] allowed
-      ∙ rw (v .group-is, v .top-is, lt-ltb (sender .0) (group .n) member, le-leb (taken .0) (length order) known)
+      ∙ rw (v .group-is, lt-ltb (sender .0) (group .n) member, le-leb (taken .0) (s .accepted .0) known)
 
   -- of which that member's entry shows as much, and the others' entries what they did
   pub status-own : (sender : MemberNumber) (taken : SequenceNumber) → sender .0 < group .n → taken .0 ≤ takenIn (noteOf s sender taken .acknowledgements) (sender .0)
@@ -86,7 +87,7 @@ module _ (group : Group) (order : List Ordered) (s : Sequencer) (v : SequencerIn
   unfolding noteOf withTable
   status-other sender taken member = noted-other s sender taken (v .typed .table) (sound-of s (v .sound)) (rw (v .group-is) member)
 
-  -- floor is at most each member's entry, and the length of the order where all of them are
+  -- floor is at most each member's entry, and the last accepted number where all of them are
   pub floor-below : (i : ℕ) → i < group .n → s .floor .0 ≤ takenIn (s .acknowledgements) i
   floor-below i h =
       let f = sound-of s (v .sound) in
@@ -94,78 +95,88 @@ module _ (group : Group) (order : List Ordered) (s : Sequencer) (v : SequencerIn
       let inside : i < s .group .n = rw (v .group-is) h in
       rw (f .floor-is) at (floor-most (s .group .n) (s .acknowledgements) i inside (omega arith))
 
-  pub floor-all : ((i : ℕ) → i < group .n → length order ≤ takenIn (s .acknowledgements) i) → s .floor .0 ≡ length order
+  pub floor-all : ((i : ℕ) → i < group .n → s .accepted .0 ≤ takenIn (s .acknowledgements) i) → s .floor .0 ≡ s .accepted .0
   floor-all all =
       let f = sound-of s (v .sound) in
-      let e = v .top-is in
-      let low = floor-least (s .group .n) (s .acknowledgements) (length order) (omega arith) (λ i h k. all i (rw (v .group-is) at h)) in
+      let low = floor-least (s .group .n) (s .acknowledgements) (s .accepted .0) (v .typed .accepted) (λ i h k. all i (rw (v .group-is) at h)) in
       omega arith
 
-  -- the group's other facts: what its terminals acknowledge and submitted
-  module _ (t : ℕ → ℕ) (submitted : ℕ → List (List ℕ))
-      (acked : (i : ℕ) → i < group .n → takenIn (s .acknowledgements) i ≤ t i) (t-le : (i : ℕ) → i < group .n → t i ≤ length order)
-      (sizes : (i : ℕ) → i < group .n → length (submitted i) ≤ largestNumber)
-      (owns : (i : ℕ) → i < group .n → Owns i order (submitted i)) where
-    abbrev Owes : Outcome → Type 0
-    Owes = Good group order t submitted
+  -- the group's other facts: what its terminals can say of themselves
+  module _ (voice : ℕ → Voice)
+      (acked : (i : ℕ) → i < group .n → takenIn (s .acknowledgements) i ≤ voice i .row) (rows : (i : ℕ) → i < group .n → voice i .row ≤ s .accepted .0)
+      (sizes : (i : ℕ) → i < group .n → length (voice i .submitted) ≤ largestNumber)
+      (owns : (i : ℕ) → i < group .n → Owns i order (voice i .submitted)) (confirmed : Confirmed group s (λ i. voice i .reach)) where
+    abbrev before : ℕ
+    before = s .accepted .0
 
-    ready : Ready group order t submitted s
-    ready = record { inv = v; acked = acked; owns = owns }
+    abbrev Owes : Outcome → Type 0
+    Owes = Good group order before voice
+
+    ready : Ready group order before voice s
+    ready = record { inv = v; acked = acked; owns = owns; confirmed = confirmed; up = le-refl before }
 
     refused-good : (refusal : Refusal) → Owes (refused s refusal)
     unfolding numberedBy
-    refused-good refusal = silent group order t submitted s ready (Answer.Refused refusal) refl
+    refused-good refusal = silent group order before voice s ready (Answer.Refused refusal) refl
 
     -- the steps, once a sender was accepted and its number is noted
-    module _ (sender : MemberNumber) (taken : SequenceNumber) (known : taken .0 ≤ t (sender .0))
-        (e : senderVerdict (s .group .n) (s .top .0) sender taken ≡ Verdict.Accepted) where
+    module _ (sender : MemberNumber) (taken : SequenceNumber) (known : taken .0 ≤ voice (sender .0) .row)
+        (e : senderVerdict (s .group .n) (s .accepted .0) sender taken ≡ Verdict.Accepted) where
       member : sender .0 < group .n
-      member = rw (v .group-is) at (sender-was (s .group .n) (s .top .0) sender taken e .0)
+      member = rw (v .group-is) at (sender-was (s .group .n) (s .accepted .0) sender taken e .0)
 
-      noted : Ready group order t submitted (noteOf s sender taken)
-      noted = note-ready group order t submitted s ready sender taken member known (t-le (sender .0) member)
+      noted : Ready group order before voice (noteOf s sender taken)
+      noted = note-ready group order before voice s ready sender taken member known (rows (sender .0) member)
 
-      noted-request : (count : ℕ) (payload : List ℕ) → at (submitted (sender .0)) count ≡ some payload → length payload ≤ payloadMost
+      noted-request : (count : ℕ) (payload : List ℕ) → at (voice (sender .0) .submitted) count ≡ some payload → length payload ≤ payloadMost
           → countVerdict (lastCount s sender) (s .top .0) count ≡ Verdict.Accepted → Owes (requestOf (noteOf s sender taken) sender count payload)
       unfolding noteOf withTable
       noted-request count payload submission short f =
           let b = count-was (lastCount s sender) (s .top .0) count f in
           let c = noted-count s sender taken (v .typed .table) (sound-of s (v .sound)) (rw (v .group-is) member) (sender .0) in
-          request-good group order t submitted (noteOf s sender taken) noted
+          request-good group order before voice (noteOf s sender taken) noted
           sender count payload member submission (sizes (sender .0) member) short (omega arith) (λ h. b .1 (omega arith))
 
-    content-good : (content : Packet) (payload : List ℕ) → length payload ≤ payloadMost → Says order t submitted content payload
+    content-good : (content : Packet) (payload : List ℕ) → length payload ≤ payloadMost → Says (factsOf group order before voice) content payload
         → Owes (contentStep s content payload)
     unfolding contentStep numberedBy
     content-good (Request sender taken count) payload short says =
-        judged-elim Owes (senderVerdict (s .group .n) (s .top .0) sender taken) (λ r e. refused-good r)
+        judged-elim Owes (senderVerdict (s .group .n) (s .accepted .0) sender taken) (λ r e. refused-good r)
         (λ e. judged-elim Owes (countVerdict (lastCount s sender) (s .top .0) count) (λ r f. refused-good r)
         (λ f. noted-request sender taken (says .0) e count payload (says .1) short f))
     content-good (Broadcast originator number count floor) payload short says = refused-good OtherEnd
     content-good (Gap sender taken first last) payload short says =
-        judged-elim Owes (senderVerdict (s .group .n) (s .top .0) sender taken) (λ r e. refused-good r)
+        judged-elim Owes (senderVerdict (s .group .n) (s .accepted .0) sender taken) (λ r e. refused-good r)
         (λ e. judged-elim Owes (wantedVerdict (s .top .0) last) (λ r f. refused-good r)
-        (λ f. gap-good group order t submitted (noteOf s sender taken) (noted sender taken says e) first last))
+        (λ f. gap-good group order before voice (noteOf s sender taken) (noted sender taken says e) first last))
     content-good (Status sender taken) payload short says =
-        judged-elim Owes (senderVerdict (s .group .n) (s .top .0) sender taken) (λ r e. refused-good r)
-        (λ e. silent group order t submitted (noteOf s sender taken) (noted sender taken says e) Noted refl)
+        judged-elim Owes (senderVerdict (s .group .n) (s .accepted .0) sender taken) (λ r e. refused-good r)
+        (λ e. silent group order before voice (noteOf s sender taken) (noted sender taken says e) Noted refl)
     content-good (Poll top floor) payload short says = refused-good OtherEnd
+    content-good (Offer originator number count floor) payload short says = refused-good OtherEnd
+    content-good (Confirm sender number) payload short says =
+        judged-elim Owes (senderVerdict (s .group .n) (s .top .0) sender number) (λ r e. refused-good r)
+        (λ e. judged-elim Owes (expectedVerdict (s .group) (s .accepted .0) sender number) (λ r f. refused-good r)
+        (λ f. let a = sender-was (s .group .n) (s .top .0) sender number e in
+        confirm-good group order before voice s ready sender number (rw (v .group-is) at (a .0)) (a .1) (says .0)
+        (expected-was (s .group) (s .accepted .0) sender number f)))
+    content-good (Accept number) payload short says = refused-good OtherEnd
 
-    pub receive-good : (bytes : List ℕ) → Known (group .number) order t submitted bytes
-        → SequencerGood group order t submitted (written (receiveOf s bytes longestPacket .bytes)) (receiveOf s bytes longestPacket)
+    pub receive-good : (bytes : List ℕ) → Known (group .number) (factsOf group order before voice) bytes
+        → SequencerGood group order before voice (written (receiveOf s bytes longestPacket .bytes)) (receiveOf s bytes longestPacket)
     receive-good bytes k =
         let w = writable (fieldsOf (group .number) (k .content)) (length (k .payload)) longestPacket (k .allowed .1) in
         let e : receiveOf s bytes longestPacket ≡ contentStep s (k .content) (k .payload) = rw (k .bytes-are) (received (k .content) (k .payload) (k .allowed)) in
         subst Owes (sym e) (content-good (k .content) (k .payload) (w .short) (k .says))
 
-    pub poll-good : SequencerGood group order t submitted (written (pollOf s longestPacket .bytes)) (pollOf s longestPacket)
+    pub poll-good : SequencerGood group order before voice (written (pollOf s longestPacket .bytes)) (pollOf s longestPacket)
     unfolding pollOf numberedBy
     poll-good =
         judged-elim Owes (callVerdict s longestPacket) (λ r e. refused-good r)
-        (λ e. writing group order t submitted s ready Sent (pollPacket s) refl (poll-known group order t submitted s ready))
+        (λ e. writing group order before voice s ready Sent (pollPacket s) refl (poll-known group order before voice s ready))
 
     pub copy-good : (number : SequenceNumber)
-        → SequencerGood group order t submitted (written (copyOf s number longestPacket .bytes)) (copyOf s number longestPacket)
+        → SequencerGood group order before voice (written (copyOf s number longestPacket .bytes)) (copyOf s number longestPacket)
     unfolding copyOf numberedBy
     copy-good number =
         let inside = s .floor .0 <? number .0 and number .0 ≤? s .top .0 in
@@ -174,6 +185,6 @@ module _ (group : Group) (order : List Ordered) (s : Sequencer) (v : SequencerIn
         (λ h.
         let a = ltb-true (s .floor .0) (number .0) (both-first (s .floor .0 <? number .0) (number .0 ≤? s .top .0) h) in
         let b = leb-true (number .0) (s .top .0) (both-then (s .floor .0 <? number .0) (number .0 ≤? s .top .0) h) in
-        writing group order t submitted s ready Sent (broadcastOf s (number .0)) refl
-        (copy-known group order t submitted s ready (number .0) a b))
+        writing group order before voice s ready Sent (broadcastOf s (number .0)) refl
+        (copy-known group order before voice s ready (number .0) a b))
         (λ h. refused-good NotInHistory))

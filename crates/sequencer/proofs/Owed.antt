@@ -3,17 +3,19 @@ use mathlib.Core.Path.{_≡_, refl}
 use mathlib.Core.Bool.{true}
 use mathlib.Core.List.{List}
 use Prim.Native.Nat.{ℕ, _≤_, _<_}
+use native.Mathlib.Omega.{arith}
 use borrow.Author.Tests.{leb-true}
 use Rattle.group.specs.Choice.{_≤?_}
 use Rattle.group.specs.Limits.{longestPacket}
+use Rattle.group.specs.declared.Group.{Group}
 use Rattle.group.specs.declared.Refusal.the-variants.{UnsoundState, ShortOutput, OtherEnd}
 use Rattle.group.specs.declared.SequenceNumber.{SequenceNumber}
 use Rattle.group.specs.declared.Verdict.the-variants.{Accepted}
 use Rattle.group.proofs.Choice.{if-was}
 use Rattle.group.proofs.Question.{accepted≢}
 use Rattle.packet.specs.declared.Packet.{Packet}
-use Rattle.packet.specs.declared.Packet.the-variants.{Request, Broadcast, Gap, Status, Poll}
-use Rattle.history.specs.Ask.{requestVerdict, gapVerdict, senderOf, contentVerdict}
+use Rattle.packet.specs.declared.Packet.the-variants.{Request, Broadcast, Gap, Status, Poll, Offer, Confirm, Accept}
+use Rattle.history.specs.Ask.{requestVerdict, gapVerdict, confirmVerdict, senderOf, contentVerdict}
 use Rattle.history.specs.Note.{withTaken, tableNoted}
 use Rattle.history.specs.State.{Acknowledgement, acknowledgementOf}
 use Rattle.history.proofs.Asking.{sender-was, count-was, judged-was}
@@ -31,19 +33,22 @@ call-asked s room e =
     let b = if-was (longestPacket ≤? room) _ _ Accepted (a .1) (accepted≢ ShortOutput) in
     (a .0, leb-true longestPacket room (b .0))
 
--- questions 9, 10, 11 and 16, of a packet that was accepted: its sender is a member, which has taken a number up to top, and a
--- next number is left where it wants one
-module _ (n : ℕ) (table : List Acknowledgement) (top : ℕ) where
-  pub accepted-sender : (packet : Packet) → contentVerdict n table top packet ≡ Accepted
-      → (senderOf packet .member .0 < n) × (senderOf packet .taken .0 ≤ top)
-  unfolding contentVerdict senderOf requestVerdict gapVerdict
-  accepted-sender (Request sender taken count) e = sender-was n top sender taken (judged-was _ _ e .0)
+-- questions 9, 10, 11 and 16, of a packet that was accepted: its sender is a member, which has taken a number up to the last accepted,
+-- and a next number is left where it wants one
+module _ (group : Group) (table : List Acknowledgement) (accepted top : ℕ) where
+  pub accepted-sender : (packet : Packet) → contentVerdict group table accepted top packet ≡ Accepted
+      → (senderOf packet .member .0 < group .n) × (senderOf packet .taken .0 ≤ accepted)
+  unfolding contentVerdict senderOf requestVerdict gapVerdict confirmVerdict
+  accepted-sender (Request sender taken count) e = sender-was (group .n) accepted sender taken (judged-was _ _ e .0)
   accepted-sender (Broadcast originator number count floor) e = absurd (accepted≢ OtherEnd e)
-  accepted-sender (Gap sender taken first last) e = sender-was n top sender taken (judged-was _ _ e .0)
-  accepted-sender (Status sender taken) e = sender-was n top sender taken e
+  accepted-sender (Gap sender taken first last) e = sender-was (group .n) accepted sender taken (judged-was _ _ e .0)
+  accepted-sender (Status sender taken) e = sender-was (group .n) accepted sender taken e
   accepted-sender (Poll t floor) e = absurd (accepted≢ OtherEnd e)
+  accepted-sender (Offer originator number count floor) e = absurd (accepted≢ OtherEnd e)
+  accepted-sender (Confirm sender number) e = (sender-was (group .n) top sender number (judged-was _ _ e .0) .0, omega arith)
+  accepted-sender (Accept number) e = absurd (accepted≢ OtherEnd e)
 
-  pub accepted-left : (packet : Packet) (taken : SequenceNumber) → contentVerdict n table top packet ≡ Accepted
+  pub accepted-left : (packet : Packet) (taken : SequenceNumber) → contentVerdict group table accepted top packet ≡ Accepted
       → Left packet (acknowledgementOf (tableNoted table (senderOf packet .member) taken) (senderOf packet .member) .count) top
   unfolding contentVerdict senderOf requestVerdict tableNoted
   accepted-left (Request sender t count) taken e =
@@ -53,3 +58,6 @@ module _ (n : ℕ) (table : List Acknowledgement) (top : ℕ) where
   accepted-left (Gap sender t first last) taken e = tt
   accepted-left (Status sender t) taken e = tt
   accepted-left (Poll t floor) taken e = tt
+  accepted-left (Offer originator number count floor) taken e = tt
+  accepted-left (Confirm sender number) taken e = tt
+  accepted-left (Accept number) taken e = tt

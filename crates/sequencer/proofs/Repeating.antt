@@ -1,6 +1,7 @@
 -- The old count moves as a single count does: Old and Again put the sender's entry back with one repeat more, and every other
 -- answer comes with entries that keep their own. Assumes nothing.
-use mathlib.Core.Path.{_≡_, refl, subst}
+use mathlib.Core.Path.{_≡_, refl, sym, ap, _∙_, subst}
+use mathlib.Core.Bool.{Bool, true, false}
 use mathlib.Core.List.{List}
 use Prim.Native.Nat.{ℕ, _-_, _≤_, _<_}
 use native.Mathlib.Omega.{arith}
@@ -14,19 +15,22 @@ use Rattle.group.specs.Opening.{openOf}
 use Rattle.group.specs.declared.MemberNumber.{MemberNumber}
 use Rattle.group.specs.declared.Opened.{Opened}
 use Rattle.group.specs.declared.Opened.the-variants.{Open}
-use Rattle.group.specs.declared.Refusal.the-variants.{UnsoundState}
+use Rattle.group.specs.declared.Refusal.{Refusal}
+use Rattle.group.specs.declared.Refusal.the-variants.{UnsoundState, OtherGroup}
 use Rattle.group.specs.declared.SequenceNumber.{SequenceNumber}
 use Rattle.group.specs.declared.Verdict.{Verdict}
-use Rattle.packet.specs.Packet.{payloadAt, readOf, contentOf}
+use Rattle.packet.proofs.Verdicts.{readable}
+use Rattle.packet.specs.Packet.{requestKind, broadcastKind, gapKind, statusKind, pollKind, offerKind, confirmKind, headerOf, payloadAt, readOf, contentOf}
+use Rattle.packet.specs.declared.Header.{Header}
 use Rattle.packet.specs.declared.Packet.{Packet}
-use Rattle.packet.specs.declared.Packet.the-variants.{Request, Broadcast, Gap, Status, Poll}
+use Rattle.packet.specs.declared.Packet.the-variants.{Request, Broadcast, Gap, Status, Poll, Offer, Confirm, Accept}
 use Rattle.packet.specs.declared.Reading.{Reading}
 use Rattle.history.proofs.Asking.{sender-was}
 use Rattle.history.proofs.Repeating.{repeats-same, repeats-more, repeats-none}
-use Rattle.history.specs.Ask.{senderVerdict, countVerdict, wantedVerdict}
+use Rattle.history.specs.Ask.{senderVerdict, countVerdict, wantedVerdict, expectedVerdict}
 use Rattle.history.specs.Note.{tableNoted}
 use Rattle.history.specs.Repeat.{oneMore, repeatsOf}
-use Rattle.sequencer.specs.Calls.{Outcome, answered, repeatedOf, oldOf, againOf, fullOf, withMessage, numberedOf, requestOf, gapOf, contentStep, readStep, callVerdict, receiveOf, pollOf, copyOf, openedOf, freshOf}
+use Rattle.sequencer.specs.Calls.{Outcome, answered, refused, repeatedOf, oldOf, againOf, fullOf, withMessage, numberedOf, requestOf, gapOf, withMark, withAccepted, enoughIn, settledOf, confirmOf, contentStep, readStep, callVerdict, receiveOf, pollOf, copyOf, openedOf, freshOf}
 use Rattle.sequencer.specs.Laws.{Typed, isRepeat, OldCount, ReceiveOldCount, PollOldCount, CopyOldCount, FreshOldCount}
 use Rattle.sequencer.specs.Note.{withTable, noteOf}
 use Rattle.sequencer.specs.Sound.{soundOf}
@@ -48,83 +52,130 @@ module _ (s : Sequencer) (m : MemberNumber) (inside : m .0 < length (s .acknowle
   unfolding noteOf withTable tableNoted
   noted-same taken = repeats-same (s .acknowledgements) (m .0) _ inside refl
 
-  again-count : (number : ℕ) → OldCount s (againOf s m number)
+  again-count : (number : ℕ) → OldCount s true (againOf s m number)
   unfolding againOf oldOf answered isRepeat if_then_else_
-  again-count number = if-elim (OldCount s) (number =? 0) (λ t. repeated-more) (λ t. repeated-more)
+  again-count number = if-elim (OldCount s true) (number =? 0) (λ t. repeated-more) (λ t. repeated-more)
 
   -- a request, once A is noted
-  request-count : (count : ℕ) (payload : List ℕ) → OldCount s (requestOf s m count payload)
+  request-count : (count : ℕ) (payload : List ℕ) → OldCount s true (requestOf s m count payload)
   unfolding requestOf oldOf answered fullOf numberedOf isRepeat if_then_else_
   request-count count payload =
-      if-elim (OldCount s) (count <? lastCount s m) (λ a. repeated-more)
-      (λ a. if-elim (OldCount s) (count =? lastCount s m) (λ b. again-count _)
-      (λ b. if-elim (OldCount s) (s .top .0 - s .floor .0 =? placesMost) (λ c. refl) (λ c. numbered-same count payload)))
+      if-elim (OldCount s true) (count <? lastCount s m) (λ a. repeated-more)
+      (λ a. if-elim (OldCount s true) (count =? lastCount s m) (λ b. again-count _)
+      (λ b. if-elim (OldCount s true) (s .top .0 - s .floor .0 =? placesMost) (λ c. refl) (λ c. numbered-same count payload)))
 
   -- what moves the old count of the noted state so moves that of the state
-  noted-count : (taken : SequenceNumber) (o : Outcome) → OldCount (noteOf s m taken) o → OldCount s o
-  noted-count taken o =
-      subst (λ (k : ℕ). repeatsOf (o .sequencer .acknowledgements) ≡ (if isRepeat (o .answer) then oneMore k else k)) (noted-same taken)
+  noted-count : (taken : SequenceNumber) (request : Bool) (o : Outcome) → OldCount (noteOf s m taken) request o → OldCount s request o
+  noted-count taken request o =
+      subst (λ (k : ℕ). repeatsOf (o .sequencer .acknowledgements) ≡ (if request and isRepeat (o .answer) then oneMore k else k)) (noted-same taken)
 
-gap-count : (s : Sequencer) (first last : SequenceNumber) → OldCount s (gapOf s first last)
+gap-count : (s : Sequencer) (first last : SequenceNumber) → OldCount s false (gapOf s first last)
 unfolding gapOf answered isRepeat if_then_else_
-gap-count s first last = if-elim (OldCount s) (last .0 ≤? s .floor .0) (λ t. refl) (λ t. refl)
+gap-count s first last = if-elim (OldCount s false) (last .0 ≤? s .floor .0) (λ t. refl) (λ t. refl)
+
+-- a confirmation notes nothing
+confirm-count : (s : Sequencer) (m : MemberNumber) (number : SequenceNumber) → OldCount s false (confirmOf s m number)
+unfolding confirmOf settledOf withMark withAccepted answered isRepeat if_then_else_
+confirm-count s m number =
+    if-elim (OldCount s false) (number .0 ≤? s .accepted .0) (λ t. refl)
+    (λ t. if-elim (OldCount s false) (enoughIn (withMark s m number) =? 0) (λ e. refl) (λ e. refl))
+
+-- a refusal changes nothing
+refused-count : (s : Sequencer) (request : Bool) (refusal : Refusal) → OldCount s request (refused s refusal)
+unfolding answered isRepeat if_then_else_
+refused-count s true refusal = refl
+refused-count s false refusal = refl
+
+-- what a packet says is a request, or it is not
+abbrev isRequest : Packet → Bool
+isRequest (Request sender taken count) = true
+isRequest (Broadcast originator number count floor) = false
+isRequest (Gap sender taken first last) = false
+isRequest (Status sender taken) = false
+isRequest (Poll top floor) = false
+isRequest (Offer originator number count floor) = false
+isRequest (Confirm sender number) = false
+isRequest (Accept number) = false
+
+request-kind : (h : Header) → isRequest (contentOf h) ≡ (h .kind =? requestKind)
+unfolding contentOf
+request-kind h =
+    let P : Packet → Type 0 = λ p. isRequest p ≡ (h .kind =? requestKind) in
+    if-elim P (h .kind =? requestKind) (λ a. sym a)
+    (λ a. if-elim P (h .kind =? broadcastKind) (λ b. sym a)
+    (λ b. if-elim P (h .kind =? gapKind) (λ c. sym a)
+    (λ c. if-elim P (h .kind =? statusKind) (λ d. sym a)
+    (λ d. if-elim P (h .kind =? pollKind) (λ e. sym a)
+    (λ e. if-elim P (h .kind =? offerKind) (λ f. sym a)
+    (λ f. if-elim P (h .kind =? confirmKind) (λ g. sym a) (λ g. sym a)))))))
 
 module _ (s : Sequencer) (typed : Typed s) (sound : Sound s) where
   -- an accepted sender has an entry, in the noted table too
-  module _ (sender : MemberNumber) (taken : SequenceNumber) (e : senderVerdict (s .group .n) (s .top .0) sender taken ≡ Verdict.Accepted) where
+  module _ (sender : MemberNumber) (taken : SequenceNumber) (e : senderVerdict (s .group .n) (s .accepted .0) sender taken ≡ Verdict.Accepted) where
     inside : sender .0 < length (s .acknowledgements)
-    inside = let a = sender-was (s .group .n) (s .top .0) sender taken e in omega arith
+    inside = let a = sender-was (s .group .n) (s .accepted .0) sender taken e in omega arith
 
     inside′ : sender .0 < length (noteOf s sender taken .acknowledgements)
     unfolding noteOf withTable
     inside′ =
-        let a = sender-was (s .group .n) (s .top .0) sender taken e in
+        let a = sender-was (s .group .n) (s .accepted .0) sender taken e in
         let l = noted-length s sender taken (typed .table) sound (a .0) in
         omega arith
 
-    once-noted : (o : Outcome) → OldCount (noteOf s sender taken) o → OldCount s o
+    once-noted : (request : Bool) (o : Outcome) → OldCount (noteOf s sender taken) request o → OldCount s request o
     once-noted = noted-count s sender inside taken
 
-  content-count : (packet : Packet) (payload : List ℕ) → OldCount s (contentStep s packet payload)
+  content-count : (packet : Packet) (payload : List ℕ) → OldCount s (isRequest packet) (contentStep s packet payload)
   unfolding contentStep answered isRepeat if_then_else_
   content-count (Request sender taken count) payload =
-      judged-elim (OldCount s) (senderVerdict (s .group .n) (s .top .0) sender taken) (λ r e. refl)
-      (λ e. judged-elim (OldCount s) (countVerdict (lastCount s sender) (s .top .0) count) (λ r f. refl)
-      (λ f. once-noted sender taken e (requestOf (noteOf s sender taken) sender count payload)
+      judged-elim (OldCount s true) (senderVerdict (s .group .n) (s .accepted .0) sender taken) (λ r e. refl)
+      (λ e. judged-elim (OldCount s true) (countVerdict (lastCount s sender) (s .top .0) count) (λ r f. refl)
+      (λ f. once-noted sender taken e true (requestOf (noteOf s sender taken) sender count payload)
       (request-count (noteOf s sender taken) sender (inside′ sender taken e) count payload)))
   content-count (Broadcast originator number count floor) payload = refl
   content-count (Gap sender taken first last) payload =
-      judged-elim (OldCount s) (senderVerdict (s .group .n) (s .top .0) sender taken) (λ r e. refl)
-      (λ e. judged-elim (OldCount s) (wantedVerdict (s .top .0) last) (λ r f. refl)
-      (λ f. once-noted sender taken e (gapOf (noteOf s sender taken) first last) (gap-count (noteOf s sender taken) first last)))
+      judged-elim (OldCount s false) (senderVerdict (s .group .n) (s .accepted .0) sender taken) (λ r e. refl)
+      (λ e. judged-elim (OldCount s false) (wantedVerdict (s .top .0) last) (λ r f. refl)
+      (λ f. once-noted sender taken e false (gapOf (noteOf s sender taken) first last) (gap-count (noteOf s sender taken) first last)))
   content-count (Status sender taken) payload =
-      judged-elim (OldCount s) (senderVerdict (s .group .n) (s .top .0) sender taken) (λ r e. refl)
-      (λ e. once-noted sender taken e (answered (noteOf s sender taken) Noted) refl)
+      judged-elim (OldCount s false) (senderVerdict (s .group .n) (s .accepted .0) sender taken) (λ r e. refl)
+      (λ e. once-noted sender taken e false (answered (noteOf s sender taken) Noted) refl)
   content-count (Poll top floor) payload = refl
+  content-count (Offer originator number count floor) payload = refl
+  content-count (Confirm sender number) payload =
+      judged-elim (OldCount s false) (senderVerdict (s .group .n) (s .top .0) sender number) (λ r e. refl)
+      (λ e. judged-elim (OldCount s false) (expectedVerdict (s .group) (s .accepted .0) sender number) (λ r f. refl)
+      (λ f. confirm-count s sender number))
+  content-count (Accept number) payload = refl
 
-  read-count : (reading : Reading) (payload : List ℕ) → OldCount s (readStep s reading payload)
-  unfolding readStep answered isRepeat if_then_else_
-  read-count (Reading.Fields h) payload =
-      if-elim (OldCount s) (h .group =? s .group .number) (λ t. content-count (contentOf h) payload) (λ t. refl)
-  read-count (Reading.Refused refusal) payload = refl
+  read-count : (p : List ℕ) (reading : Reading) → readOf p ≡ reading → OldCount s (headerOf p .kind =? requestKind) (readStep s reading (payloadAt p))
+  unfolding readStep
+  read-count p (Reading.Fields h) e =
+      let request = headerOf p .kind =? requestKind in
+      let same : isRequest (contentOf h) ≡ request = request-kind h ∙ ap (λ (x : Header). x .kind =? requestKind) (readable p h e .header) in
+      if-elim (OldCount s request) (h .group =? s .group .number)
+      (λ t. subst (λ (b : Bool). OldCount s b (contentStep s (contentOf h) (payloadAt p))) same (content-count (contentOf h) (payloadAt p)))
+      (λ t. refused-count s request OtherGroup)
+  read-count p (Reading.Refused refusal) e = refused-count s (headerOf p .kind =? requestKind) refusal
 
 pub receive-old-count : ReceiveOldCount
-unfolding receiveOf callVerdict answered isRepeat if_then_else_
+unfolding receiveOf callVerdict
 receive-old-count s packet room typed =
-    judged-elim (OldCount s) (callVerdict s room) (λ r e. refl)
+    let request = headerOf packet .kind =? requestKind in
+    judged-elim (OldCount s request) (callVerdict s room) (λ r e. refused-count s request r)
     (λ e.
     let sound = sound-of s (if-was (soundOf s) _ _ Verdict.Accepted e (accepted≢ UnsoundState) .0) in
-    read-count s typed sound (readOf packet) (payloadAt packet))
+    read-count s typed sound packet (readOf packet) refl)
 
 pub poll-old-count : PollOldCount
 unfolding pollOf answered isRepeat if_then_else_
-poll-old-count s room = judged-elim (OldCount s) (callVerdict s room) (λ r e. refl) (λ e. refl)
+poll-old-count s room = judged-elim (OldCount s false) (callVerdict s room) (λ r e. refl) (λ e. refl)
 
 pub copy-old-count : CopyOldCount
 unfolding copyOf answered isRepeat if_then_else_
 copy-old-count s number room =
-    judged-elim (OldCount s) (callVerdict s room) (λ r e. refl)
-    (λ e. if-elim (OldCount s) (s .floor .0 <? number .0 and number .0 ≤? s .top .0) (λ t. refl) (λ t. refl))
+    judged-elim (OldCount s false) (callVerdict s room) (λ r e. refl)
+    (λ e. if-elim (OldCount s false) (s .floor .0 <? number .0 and number .0 ≤? s .top .0) (λ t. refl) (λ t. refl))
 
 opened-none : (opened : Opened) → repeatsOf (openedOf opened .sequencer .acknowledgements) ≡ 0
 unfolding openedOf freshSequencer
@@ -133,4 +184,4 @@ opened-none (Opened.Refused refusal) = repeats-none membersMost
 
 pub fresh-old-count : FreshOldCount
 unfolding freshOf
-fresh-old-count n number = opened-none (openOf n number)
+fresh-old-count n number resilience = opened-none (openOf n number resilience)

@@ -5,6 +5,7 @@ use mathlib.Core.Logic.{_≢_}
 use mathlib.Core.Bool.{true}
 use mathlib.Core.List.{List}
 use Prim.Native.Nat.{ℕ, _+_, _-_, _≤_, _<_}
+use native.Mathlib.Nat.{le-trans}
 use native.Mathlib.Omega.{arith}
 use borrow.Author.Tests.{leb-true, leb-false, ltb-false, eqb-false}
 use lib.ListN.{length}
@@ -15,7 +16,7 @@ use Rattle.group.specs.declared.MemberNumber.{MemberNumber}
 use Rattle.group.specs.declared.Verdict.{Verdict}
 use Rattle.message.specs.Message.{Message, messageOf}
 use Rattle.packet.specs.declared.Packet.{Packet}
-use Rattle.packet.specs.declared.Packet.the-variants.{Request, Broadcast, Gap, Status, Poll}
+use Rattle.packet.specs.declared.Packet.the-variants.{Request, Broadcast, Gap, Status, Poll, Offer, Confirm, Accept}
 use Rattle.history.proofs.Finding.{found-in}
 use Rattle.history.specs.Ask.{senderOf, contentVerdict}
 use Rattle.history.specs.Repeat.{findOf}
@@ -36,46 +37,53 @@ module _ (s : Sequencer) (sound : Sound s) (m : MemberNumber) (payload : List �
   Sends c = MaySend (c .answer) (c .top) (s .floor) (laidOf s m c payload)
 
   again-sends : (number last repeats : ℕ) → (number ≢ 0 → (s .floor .0 < number) × (number ≤ s .floor .0 + (s .top .0 - s .floor .0)))
-      → Sends (againChange number last (s .top) repeats)
+      → Sends (againChange number last (s .top) (s .accepted) repeats)
   unfolding againChange laidOf
   again-sends number last repeats found =
       if-elim Sends (number =? 0) (λ t. tt)
       (λ t.
       let f = found (eqb-false number 0 t) in
       let g = sound .floor-le in
+      let h = sound .accepted-le in
       let k = sound .kept number (f .0) (omega arith) in
       if-elim (λ (x : Message). MayBroadcast (record { 0 = number }) (s .floor) x) (number ≤? s .top .0) (λ u. (k .short, k .count-least, f .0))
       (λ u. let z = leb-false number (s .top .0) u in absurd (omega arith)))
 
-  request-sends : (sender : MemberNumber) (count last repeats : ℕ) → Sends (requestChange (s .history) sender count last (s .floor .0) (s .top) repeats)
+  request-sends : (sender : MemberNumber) (count last needed repeats : ℕ)
+      → Sends (requestChange (s .history) sender count last (s .floor .0) (s .top) (s .accepted) needed repeats)
   unfolding requestChange laidOf messageOf
-  request-sends sender count last repeats =
+  request-sends sender count last needed repeats =
       let wide = s .top .0 - s .floor .0 in
       if-elim Sends (count <? last) (λ a. tt)
       (λ a. if-elim Sends (count =? last)
       (λ b. again-sends (findOf (s .history) sender count (s .floor .0) wide) last repeats (found-in (s .history) sender count (s .floor .0) wide))
-      (λ b. if-elim Sends (wide =? placesMost) (λ c. sound .floor-le)
+      (λ b. if-elim Sends (wide =? placesMost) (λ c. le-trans (sound .floor-le) (sound .accepted-le))
       (λ c.
       let p = ltb-false count last a in
       let q = eqb-false count last b in
       let g = sound .floor-le in
+      let h = sound .accepted-le in
       if-elim (λ (x : Message). MayBroadcast (record { 0 = s .top .0 + 1 }) (s .floor) x) (s .top .0 + 1 ≤? s .top .0)
       (λ u. let z = leb-true (s .top .0 + 1) (s .top .0) u in absurd (omega arith))
       (λ u. (short, omega arith, omega arith)))))
 
-  pub change-sends : (packet : Packet) (last repeats : ℕ) → Sends (changeOf (s .history) packet last (s .floor .0) (s .top) repeats)
+  pub change-sends : (packet : Packet) (last needed repeats : ℕ)
+      → Sends (changeOf (s .history) packet last (s .floor .0) (s .top) (s .accepted) needed repeats)
   unfolding changeOf gapAnswer
-  change-sends (Request sender taken count) last repeats = request-sends sender count last repeats
-  change-sends (Broadcast originator number count floor) last repeats = tt
-  change-sends (Gap sender taken first to) last repeats =
-      if-elim (λ (answer : Answer). Sends (quiet last (s .top) repeats answer)) (to .0 ≤? s .floor .0) (λ t. tt) (λ t. tt)
-  change-sends (Status sender taken) last repeats = tt
-  change-sends (Poll top floor) last repeats = tt
+  change-sends (Request sender taken count) last needed repeats = request-sends sender count last needed repeats
+  change-sends (Broadcast originator number count floor) last needed repeats = tt
+  change-sends (Gap sender taken first to) last needed repeats =
+      if-elim (λ (answer : Answer). Sends (quiet last (s .top) (s .accepted) repeats answer)) (to .0 ≤? s .floor .0) (λ t. tt) (λ t. tt)
+  change-sends (Status sender taken) last needed repeats = tt
+  change-sends (Poll top floor) last needed repeats = tt
+  change-sends (Offer originator number count floor) last needed repeats = tt
+  change-sends (Confirm sender number) last needed repeats = tt
+  change-sends (Accept number) last needed repeats = tt
 
 -- a sound state that notes the sender of an accepted packet is sound
 pub noted-sound : (s : Sequencer) (packet : Packet) → soundOf s ≡ true → length (s .acknowledgements) ≡ membersMost → length (s .history) ≡ placesMost
-    → contentVerdict (s .group .n) (s .acknowledgements) (s .top .0) packet ≡ Verdict.Accepted
+    → contentVerdict (s .group) (s .acknowledgements) (s .accepted .0) (s .top .0) packet ≡ Verdict.Accepted
     → Sound (noteOf s (senderOf packet .member) (senderOf packet .taken))
 noted-sound s packet sound table history e =
-    let a = accepted-sender (s .group .n) (s .acknowledgements) (s .top .0) packet e in
+    let a = accepted-sender (s .group) (s .acknowledgements) (s .accepted .0) (s .top .0) packet e in
     note-sound s (senderOf packet .member) (senderOf packet .taken) table (sound-of s sound) (a .0) (a .1) history

@@ -12,6 +12,7 @@ use lib.ListN.{length, getD, set}
 use lib.Seq.{getD-set-same}
 use Rattle.group.specs.Choice.{if_then_else_, _<?_, _≤?_, _=?_}
 use Rattle.group.specs.Limits.{placesMost}
+use Rattle.group.specs.Members.{neededOf}
 use Rattle.group.specs.Question.{judged}
 use Rattle.group.specs.declared.Group.{Group}
 use Rattle.group.specs.declared.MemberNumber.{MemberNumber}
@@ -25,9 +26,9 @@ use Rattle.message.specs.Message.{Message, messageOf, blank}
 use Rattle.packet.specs.Packet.{contentOf}
 use Rattle.packet.specs.declared.Header.{Header}
 use Rattle.packet.specs.declared.Packet.{Packet}
-use Rattle.packet.specs.declared.Packet.the-variants.{Request, Broadcast, Gap, Status, Poll}
+use Rattle.packet.specs.declared.Packet.the-variants.{Request, Broadcast, Gap, Status, Poll, Offer, Confirm, Accept}
 use Rattle.packet.specs.declared.Reading.{Reading}
-use Rattle.history.specs.Ask.{senderVerdict, requestVerdict, gapVerdict, senderOf, contentVerdict, packetVerdict}
+use Rattle.history.specs.Ask.{senderVerdict, requestVerdict, gapVerdict, confirmVerdict, senderOf, contentVerdict, packetVerdict}
 use Rattle.history.specs.Note.{largerOf, withCounts}
 use Rattle.history.specs.Repeat.{oneMore, findOf}
 use Rattle.history.specs.State.{Acknowledgement, noAcknowledgement, acknowledgementOf, placeOf, messageAt}
@@ -35,10 +36,11 @@ use Rattle.history.proofs.Finding.{found-in}
 use Rattle.sequencer.specs.Calls.{Outcome, answered, refused, broadcastOf, pollPacket, repeatedOf, oldOf, againOf, fullOf, withMessage, numberedOf, requestOf, gapOf, contentStep, readStep}
 use Rattle.sequencer.specs.Note.{noteOf}
 use Rattle.sequencer.specs.State.{Sequencer, lastCount, repeatCount}
-use Rattle.sequencer.specs.Steps.{acceptedStep, quiet, againChange, requestChange, gapAnswer, changeOf, sentOf, laidOf, changed}
+use Rattle.sequencer.specs.Steps.{acceptedStep, confirmationOf, quiet, againChange, requestChange, gapAnswer, changeOf, sentOf, laidOf, changed}
 use Rattle.sequencer.specs.declared.Answer.{Answer}
 use Rattle.sequencer.specs.declared.Answer.the-variants.{Old, Again, Full, Numbered, Noted, Wanted}
 use Rattle.sequencer.specs.declared.Change.{Change}
+use Rattle.sequencer.specs.declared.Confirmation.{Confirmation}
 
 -- an entry that is set to what it is
 set-own : {A : Type 0} (l : List A) (i : ℕ) (d : A) → set l i (getD l i d) ≡ l
@@ -47,19 +49,19 @@ set-own (x ∷ l) zero d = refl
 set-own (x ∷ l) (suc i) d = ap (λ r. x ∷ r) (set-own l i d)
 
 -- a choice of two, each of which a function leads to
-choose : {A B : Type 0} (f : A → B) (t : Bool) (x y : A) (x′ y′ : B) → (t ≡ true → x′ ≡ f x) → (t ≡ false → y′ ≡ f y)
+pub choose : {A B : Type 0} (f : A → B) (t : Bool) (x y : A) (x′ y′ : B) → (t ≡ true → x′ ≡ f x) → (t ≡ false → y′ ≡ f y)
     → (if t then x′ else y′) ≡ f (if t then x else y)
 unfolding if_then_else_
 choose f true x y x′ y′ g h = g refl
 choose f false x y x′ y′ g h = h refl
 
 -- what a change of m comes to, in a noted state
-abbrev pub settledOf : Sequencer → MemberNumber → List ℕ → Change → Outcome
-settledOf s m payload c =
+abbrev pub outcomeOf : Sequencer → MemberNumber → List ℕ → Change → Outcome
+outcomeOf s m payload c =
     record {
       sequencer = changed s m c (laidOf s m c payload);
       answer = c .answer;
-      bytes = sentOf (c .answer) (s .group .number) (c .top) (s .floor) (laidOf s m c payload);
+      bytes = sentOf (c .answer) (s .group .number) (c .top) (c .accepted) (s .floor) (laidOf s m c payload);
     }
 
 module _ (s : Sequencer) (m : MemberNumber) (payload : List ℕ) where
@@ -70,13 +72,15 @@ module _ (s : Sequencer) (m : MemberNumber) (payload : List ℕ) where
         group = s .group;
         acknowledgements = set (s .acknowledgements) (m .0) (withCounts (acknowledgementOf (s .acknowledgements) m) (lastCount s m) repeats);
         top = s .top;
+        accepted = s .accepted;
         floor = s .floor;
         history = s .history;
+        marks = s .marks;
       }
 
   -- a number up to top has its own message laid in its place, and that changes nothing but the repeat count
   abbrev kept : SequenceNumber → ℕ → Answer → Change
-  kept number repeats answer = record { number = number; top = s .top; count = lastCount s m; repeats = repeats; answer = answer }
+  kept number repeats answer = record { number = number; top = s .top; accepted = s .accepted; count = lastCount s m; repeats = repeats; answer = answer }
 
   laid-own : (number : SequenceNumber) (repeats : ℕ) (answer : Answer) → number .0 ≤ s .top .0
       → laidOf s m (kept number repeats answer) payload ≡ messageAt (s .history) (number .0)
@@ -90,22 +94,22 @@ module _ (s : Sequencer) (m : MemberNumber) (payload : List ℕ) where
   stays number repeats answer h =
       let place = ap (λ (x : Message). set (s .history) (placeOf (number .0)) x) (laid-own number repeats answer h)
       ∙ set-own (s .history) (placeOf (number .0)) blank in
-      λ i. record { group = s .group; acknowledgements = withRepeats repeats .acknowledgements; top = s .top; floor = s .floor; history = place i }
+      λ i. record { group = s .group; acknowledgements = withRepeats repeats .acknowledgements; top = s .top; accepted = s .accepted; floor = s .floor; history = place i; marks = s .marks }
 
   -- and its own repeat count changes nothing at all
   own-repeats : withRepeats (repeatCount s m) ≡ s
   own-repeats =
       let table = set-own (s .acknowledgements) (m .0) noAcknowledgement in
-      λ i. record { group = s .group; acknowledgements = table i; top = s .top; floor = s .floor; history = s .history }
+      λ i. record { group = s .group; acknowledgements = table i; top = s .top; accepted = s .accepted; floor = s .floor; history = s .history; marks = s .marks }
 
-  pub noted-is : (answer : Answer) → sentOf answer (s .group .number) (s .top) (s .floor) (laidOf s m (kept (s .top) (repeatCount s m) answer) payload) ≡ []
-      → answered s answer ≡ settledOf s m payload (quiet (lastCount s m) (s .top) (repeatCount s m) answer)
+  pub noted-is : (answer : Answer) → sentOf answer (s .group .number) (s .top) (s .accepted) (s .floor) (laidOf s m (kept (s .top) (repeatCount s m) answer) payload) ≡ []
+      → answered s answer ≡ outcomeOf s m payload (quiet (lastCount s m) (s .top) (s .accepted) (repeatCount s m) answer)
   unfolding answered
   noted-is answer e =
       let p = stays (s .top) (repeatCount s m) answer (le-refl (s .top .0)) ∙ own-repeats in
       λ i. record { sequencer = sym p i; answer = answer; bytes = sym e i }
 
-  old-is : oldOf s m ≡ settledOf s m payload (quiet (lastCount s m) (s .top) (oneMore (repeatCount s m)) Old)
+  old-is : oldOf s m ≡ outcomeOf s m payload (quiet (lastCount s m) (s .top) (s .accepted) (oneMore (repeatCount s m)) Old)
   unfolding oldOf answered repeatedOf sentOf
   old-is =
       let p = stays (s .top) (oneMore (repeatCount s m)) Old (le-refl (s .top .0)) in
@@ -113,20 +117,20 @@ module _ (s : Sequencer) (m : MemberNumber) (payload : List ℕ) where
 
   again-here : (number : ℕ) → number ≤ s .top .0
       → record { sequencer = repeatedOf s m; answer = Again (record { 0 = number }); bytes = broadcastOf s number }
-      ≡ settledOf s m payload (kept (record { 0 = number }) (oneMore (repeatCount s m)) (Again (record { 0 = number })))
+      ≡ outcomeOf s m payload (kept (record { 0 = number }) (oneMore (repeatCount s m)) (Again (record { 0 = number })))
   unfolding repeatedOf broadcastOf sentOf
   again-here number h =
       let answer = Again (record { 0 = number }) in
       let p = stays (record { 0 = number }) (oneMore (repeatCount s m)) answer h in
-      let e = ap (sentOf answer (s .group .number) (s .top) (s .floor)) (laid-own (record { 0 = number }) (oneMore (repeatCount s m)) answer h) in
+      let e = ap (sentOf answer (s .group .number) (s .top) (s .accepted) (s .floor)) (laid-own (record { 0 = number }) (oneMore (repeatCount s m)) answer h) in
       λ i. record { sequencer = sym p i; answer = answer; bytes = sym e i }
 
-  again-is : (number : ℕ) → (number ≢ 0 → number ≤ s .top .0) → againOf s m number ≡ settledOf s m payload (againChange number (lastCount s m) (s .top) (repeatCount s m))
+  again-is : (number : ℕ) → (number ≢ 0 → number ≤ s .top .0) → againOf s m number ≡ outcomeOf s m payload (againChange number (lastCount s m) (s .top) (s .accepted) (repeatCount s m))
   unfolding againOf againChange
   again-is number found =
-      choose (settledOf s m payload) (number =? 0) _ _ _ _ (λ e. old-is) (λ e. again-here number (found (eqb-false number 0 e)))
+      choose (outcomeOf s m payload) (number =? 0) _ _ _ _ (λ e. old-is) (λ e. again-here number (found (eqb-false number 0 e)))
 
-  full-is : fullOf s ≡ settledOf s m payload (quiet (lastCount s m) (s .top) (repeatCount s m) Full)
+  full-is : fullOf s ≡ outcomeOf s m payload (quiet (lastCount s m) (s .top) (s .accepted) (repeatCount s m) Full)
   unfolding fullOf pollPacket sentOf
   full-is =
       let p = stays (s .top) (repeatCount s m) Full (le-refl (s .top .0)) ∙ own-repeats in
@@ -138,6 +142,7 @@ module _ (s : Sequencer) (m : MemberNumber) (payload : List ℕ) where
         record {
           number = record { 0 = s .top .0 + 1 };
           top = record { 0 = s .top .0 + 1 };
+          accepted = if neededOf (s .group) =? 0 then record { 0 = s .top .0 + 1 } else s .accepted;
           count = count;
           repeats = repeatCount s m;
           answer = Numbered (record { 0 = s .top .0 + 1 });
@@ -147,7 +152,7 @@ module _ (s : Sequencer) (m : MemberNumber) (payload : List ℕ) where
     unfolding laidOf
     laid-new = sym (if-false (s .top .0 + 1 ≤? s .top .0) _ _ _ (lt-leb (s .top .0 + 1) (s .top .0) (omega arith)) refl)
 
-    numbered-is : numberedOf s m count payload ≡ settledOf s m payload next
+    numbered-is : numberedOf s m count payload ≡ outcomeOf s m payload next
     unfolding numberedOf withMessage changed broadcastOf sentOf
     numbered-is =
         let e = getD-set-same (s .history) (placeOf (s .top .0 + 1)) (messageOf m count payload) blank (omega arith) in
@@ -155,38 +160,47 @@ module _ (s : Sequencer) (m : MemberNumber) (payload : List ℕ) where
 
     -- a request, once A is noted
     request-is : requestOf s m count payload
-        ≡ settledOf s m payload (requestChange (s .history) m count (lastCount s m) (s .floor .0) (s .top) (repeatCount s m))
+        ≡ outcomeOf s m payload (requestChange (s .history) m count (lastCount s m) (s .floor .0) (s .top) (s .accepted) (neededOf (s .group)) (repeatCount s m))
     unfolding requestOf requestChange
     request-is =
         let wide = s .top .0 - s .floor .0 in
         let number = findOf (s .history) m count (s .floor .0) wide in
         let found = found-in (s .history) m count (s .floor .0) wide in
-        choose (settledOf s m payload) (count <? lastCount s m) _ _ _ _ (λ e. old-is)
-        (λ e. choose (settledOf s m payload) (count =? lastCount s m) _ _ _ _
+        choose (outcomeOf s m payload) (count <? lastCount s m) _ _ _ _ (λ e. old-is)
+        (λ e. choose (outcomeOf s m payload) (count =? lastCount s m) _ _ _ _
         (λ f. again-is number (λ q. let z = found q in omega arith))
-        (λ f. choose (settledOf s m payload) (wide =? placesMost) _ _ _ _ (λ g. full-is) (λ g. numbered-is)))
+        (λ f. choose (outcomeOf s m payload) (wide =? placesMost) _ _ _ _ (λ g. full-is) (λ g. numbered-is)))
 
   -- a gap
-  gap-is : (first last : SequenceNumber) → gapOf s first last ≡ settledOf s m payload (quiet (lastCount s m) (s .top) (repeatCount s m) (gapAnswer (s .floor .0) first last))
+  gap-is : (first last : SequenceNumber) → gapOf s first last ≡ outcomeOf s m payload (quiet (lastCount s m) (s .top) (s .accepted) (repeatCount s m) (gapAnswer (s .floor .0) first last))
   unfolding gapOf gapAnswer sentOf
   gap-is first last =
-      choose (λ (answer : Answer). settledOf s m payload (quiet (lastCount s m) (s .top) (repeatCount s m) answer)) (last .0 ≤? s .floor .0) _ _ _ _
+      choose (λ (answer : Answer). outcomeOf s m payload (quiet (lastCount s m) (s .top) (s .accepted) (repeatCount s m) answer)) (last .0 ≤? s .floor .0) _ _ _ _
       (λ e. noted-is Noted refl) (λ e. noted-is (Wanted (record { 0 = largerOf (first .0) (s .floor .0 + 1) }) last) refl)
 
--- a packet that is accepted
+-- a packet that confirms nothing does not confirm
+pub none≢ : {m : MemberNumber} {number : SequenceNumber} → Confirmation.None ≡ Confirmation.Of m number → ⊥
+none≢ e = let z : _≡_ {A = ℕ} 0 1 = cc in omega arith
+
+-- a packet that is accepted and confirms nothing
 pub accepted-is : (s : Sequencer) (packet : Packet) (payload : List ℕ)
-    → contentVerdict (s .group .n) (s .acknowledgements) (s .top .0) packet ≡ Verdict.Accepted
+    → contentVerdict (s .group) (s .acknowledgements) (s .accepted .0) (s .top .0) packet ≡ Verdict.Accepted
+    → confirmationOf packet ≡ Confirmation.None
     → let m = senderOf packet .member in
     let noted = noteOf s m (senderOf packet .taken) in
     length (noted .history) ≡ placesMost
     → acceptedStep s packet payload
-    ≡ settledOf noted m payload (changeOf (noted .history) packet (lastCount noted m) (noted .floor .0) (noted .top) (repeatCount noted m))
-unfolding acceptedStep changeOf senderOf contentVerdict sentOf
-accepted-is s (Request sender taken count) payload e size = request-is (noteOf s sender taken) sender payload count size
-accepted-is s (Broadcast originator number count floor) payload e size = absurd (accepted≢ OtherEnd e)
-accepted-is s (Gap sender taken first last) payload e size = gap-is (noteOf s sender taken) sender payload first last
-accepted-is s (Status sender taken) payload e size = noted-is (noteOf s sender taken) sender payload Noted refl
-accepted-is s (Poll top floor) payload e size = absurd (accepted≢ OtherEnd e)
+    ≡ outcomeOf noted m payload
+    (changeOf (noted .history) packet (lastCount noted m) (noted .floor .0) (noted .top) (noted .accepted) (neededOf (noted .group)) (repeatCount noted m))
+unfolding acceptedStep changeOf senderOf contentVerdict confirmationOf sentOf
+accepted-is s (Request sender taken count) payload e none size = request-is (noteOf s sender taken) sender payload count size
+accepted-is s (Broadcast originator number count floor) payload e none size = absurd (accepted≢ OtherEnd e)
+accepted-is s (Gap sender taken first last) payload e none size = gap-is (noteOf s sender taken) sender payload first last
+accepted-is s (Status sender taken) payload e none size = noted-is (noteOf s sender taken) sender payload Noted refl
+accepted-is s (Poll top floor) payload e none size = absurd (accepted≢ OtherEnd e)
+accepted-is s (Offer originator number count floor) payload e none size = absurd (accepted≢ OtherEnd e)
+accepted-is s (Confirm sender number) payload e none size = absurd (none≢ (sym none))
+accepted-is s (Accept number) payload e none size = absurd (accepted≢ OtherEnd e)
 
 -- two verdicts in turn, and a question before a verdict
 judged-turn : {A : Type 0} (v w : Verdict) (f : Refusal → A) (x : A) → judged v f (judged w f x) ≡ judged (judged v Verdict.Refused w) f x
@@ -203,22 +217,26 @@ judged-if false r v f x = refl
 -- what a packet says is asked, and then it is accepted
 content-is : (s : Sequencer) (packet : Packet) (payload : List ℕ)
     → contentStep s packet payload
-    ≡ judged (contentVerdict (s .group .n) (s .acknowledgements) (s .top .0) packet) (refused s) (acceptedStep s packet payload)
-unfolding contentStep contentVerdict acceptedStep requestVerdict gapVerdict judged
-content-is s (Request sender taken count) payload = judged-turn (senderVerdict (s .group .n) (s .top .0) sender taken) _ (refused s) _
+    ≡ judged (contentVerdict (s .group) (s .acknowledgements) (s .accepted .0) (s .top .0) packet) (refused s) (acceptedStep s packet payload)
+unfolding contentStep contentVerdict acceptedStep requestVerdict gapVerdict confirmVerdict judged
+content-is s (Request sender taken count) payload = judged-turn (senderVerdict (s .group .n) (s .accepted .0) sender taken) _ (refused s) _
 content-is s (Broadcast originator number count floor) payload = refl
-content-is s (Gap sender taken first last) payload = judged-turn (senderVerdict (s .group .n) (s .top .0) sender taken) _ (refused s) _
+content-is s (Gap sender taken first last) payload = judged-turn (senderVerdict (s .group .n) (s .accepted .0) sender taken) _ (refused s) _
 content-is s (Status sender taken) payload = refl
 content-is s (Poll top floor) payload = refl
+content-is s (Offer originator number count floor) payload = refl
+content-is s (Confirm sender number) payload = judged-turn (senderVerdict (s .group .n) (s .top .0) sender number) _ (refused s) _
+content-is s (Accept number) payload = refl
 
 pub read-is : (s : Sequencer) (h : Header) (payload : List ℕ)
     → readStep s (Reading.Fields h) payload
-    ≡ judged (packetVerdict (s .group) (s .acknowledgements) (s .top .0) (h .group) (contentOf h)) (refused s) (acceptedStep s (contentOf h) payload)
+    ≡ judged (packetVerdict (s .group) (s .acknowledgements) (s .accepted .0) (s .top .0) (h .group) (contentOf h)) (refused s)
+    (acceptedStep s (contentOf h) payload)
 unfolding readStep packetVerdict
 read-is s h payload = rw (content-is s (contentOf h) payload) (judged-if (h .group =? s .group .number) OtherGroup _ (refused s) _)
 
 -- question 7 said yes to a packet that was accepted
-pub content-was : (group : Group) (table : List Acknowledgement) (top number : ℕ) (packet : Packet) → packetVerdict group table top number packet ≡ Verdict.Accepted
-    → contentVerdict (group .n) table top packet ≡ Verdict.Accepted
+pub content-was : (group : Group) (table : List Acknowledgement) (accepted top number : ℕ) (packet : Packet)
+    → packetVerdict group table accepted top number packet ≡ Verdict.Accepted → contentVerdict group table accepted top packet ≡ Verdict.Accepted
 unfolding packetVerdict
-content-was group table top number packet e = if-was (number =? group .number) _ _ Verdict.Accepted e (accepted≢ OtherGroup) .1
+content-was group table accepted top number packet e = if-was (number =? group .number) _ _ Verdict.Accepted e (accepted≢ OtherGroup) .1

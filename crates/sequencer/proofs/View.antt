@@ -11,6 +11,8 @@ use Rattle.group.specs.Choice.{if_then_else_, _and_, _≤?_}
 use Rattle.group.specs.Fold.{all, allAbove}
 use Rattle.group.specs.Lent.{Laid}
 use Rattle.group.specs.Limits.{membersMost, placesMost, payloadMost, longestPacket}
+use Rattle.group.specs.Members.{neededOf, expectedOf}
+use Rattle.group.proofs.Lists.{if-elim}
 use Rattle.group.specs.declared.Group.{Group}
 use Rattle.group.specs.declared.MemberNumber.{MemberNumber}
 use Rattle.group.specs.declared.Refusal.{Refusal}
@@ -18,15 +20,16 @@ use Rattle.group.specs.declared.SequenceNumber.{SequenceNumber}
 use Rattle.group.specs.declared.Verdict.{Verdict}
 use Rattle.message.proofs.Kept.{payload-short}
 use Rattle.message.specs.Message.{Message, messageOf, payloadOf, blank}
-use Rattle.packet.proofs.Permitted.{broadcast-fields, laid-whole}
-use Rattle.packet.specs.Packet.{contentOf, fieldsOf, packetOf, writeOf}
+use Rattle.packet.proofs.Permitted.{broadcast-fields, offer-fields, laid-whole}
+use Rattle.packet.specs.Packet.{contentOf, fieldsOf, fieldsVerdict, packetOf, writeOf}
 use Rattle.packet.specs.declared.Header.{Header}
 use Rattle.packet.specs.declared.Packet.{Packet}
-use Rattle.packet.specs.declared.Packet.the-variants.{Request, Broadcast, Gap, Status, Poll}
+use Rattle.packet.specs.declared.Packet.the-variants.{Request, Broadcast, Gap, Status, Poll, Offer, Confirm, Accept}
 use Rattle.packet.specs.declared.Reading.{Reading}
 use Rattle.store.specs.Places.{partOf, messageIn, messagesIn}
 use Rattle.store.proofs.Places.{length-messages, message-in, messages-none}
 use Rattle.history.specs.Ask.{senderOf, contentVerdict, packetVerdict}
+use Rattle.history.specs.Marks.{markSound}
 use Rattle.history.specs.Note.{largerOf, withTaken, withCounts, tableNoted, clearedOf}
 use Rattle.history.specs.Sound.{entrySound, placeSound, frameSound}
 use Rattle.history.specs.State.{Acknowledgement, noAcknowledgement, acknowledgementOf, placeOf, messageAt, floorOf}
@@ -35,32 +38,37 @@ use Rattle.history.proofs.Asking.{judged-yes, judged-no}
 use Rattle.history.proofs.Noting.{cleared-length}
 use Rattle.history.proofs.View.{set-own, length-table, entry-in, table-laid, taken-laid, floor-taken, frame-taken, places-only, packet-only, find-listed, table-none}
 use Rattle.sequencer.specs.Owed.{MayBroadcast, MaySend, Due, Left}
-use Rattle.sequencer.specs.Calls.{refused, readStep}
+use Rattle.sequencer.specs.Calls.{refused, announced, readStep}
 use Rattle.sequencer.specs.Note.{withTable, noteOf}
 use Rattle.sequencer.specs.Promise.{Changed}
 use Rattle.sequencer.specs.State.{Sequencer, lastCount, repeatCount, freshSequencer}
 use Rattle.sequencer.specs.Sound.{soundOf}
-use Rattle.sequencer.specs.Steps.{acceptedStep, requestChange, changeOf, sentOf, laidOf, changed}
+use Rattle.sequencer.specs.Steps.{acceptedStep, confirmationOf, requestChange, changeOf, sentOf, laidOf, changed}
 use Rattle.sequencer.specs.View.{whole, viewOf, Fits}
 use Rattle.sequencer.specs.declared.Change.{Change}
+use Rattle.sequencer.specs.declared.Confirmation.{Confirmation}
 use Rattle.sequencer.specs.declared.Head.{Head}
 use Rattle.sequencer.specs.declared.Sequencer.{Sequencer as InPlace}
 use Rattle.sequencer.proofs.Outcomes.{changed-as, changed-laid}
 use Rattle.sequencer.proofs.Owed.{accepted-sender, accepted-left}
 use Rattle.sequencer.proofs.Sending.{change-sends, noted-sound}
-use Rattle.sequencer.proofs.Settling.{settledOf, accepted-is, read-is, content-was}
+use Rattle.sequencer.proofs.Settling.{outcomeOf, accepted-is, read-is, content-was}
 use Rattle.sequencer.proofs.Soundness.{Sound, sound-of}
 
 -- what a packet changes, of a history of which only counts and originators are asked
-change-listed : (kept originators lengths payloads : List ℕ) (packet : Packet) (last floor : ℕ) (top : SequenceNumber) (repeats : ℕ)
-    → changeOf (listed kept originators) packet last floor top repeats ≡ changeOf (messagesIn kept originators lengths payloads) packet last floor top repeats
+change-listed : (kept originators lengths payloads : List ℕ) (packet : Packet) (last floor : ℕ) (top accepted : SequenceNumber) (needed repeats : ℕ)
+    → changeOf (listed kept originators) packet last floor top accepted needed repeats
+    ≡ changeOf (messagesIn kept originators lengths payloads) packet last floor top accepted needed repeats
 unfolding changeOf requestChange
-change-listed kept originators lengths payloads (Request sender taken count) last floor top repeats =
+change-listed kept originators lengths payloads (Request sender taken count) last floor top accepted needed repeats =
     rw (find-listed kept originators lengths payloads sender count floor (top .0 - floor))
-change-listed kept originators lengths payloads (Broadcast originator number count f) last floor top repeats = refl
-change-listed kept originators lengths payloads (Gap sender taken first to) last floor top repeats = refl
-change-listed kept originators lengths payloads (Status sender taken) last floor top repeats = refl
-change-listed kept originators lengths payloads (Poll t f) last floor top repeats = refl
+change-listed kept originators lengths payloads (Broadcast originator number count f) last floor top accepted needed repeats = refl
+change-listed kept originators lengths payloads (Gap sender taken first to) last floor top accepted needed repeats = refl
+change-listed kept originators lengths payloads (Status sender taken) last floor top accepted needed repeats = refl
+change-listed kept originators lengths payloads (Poll t f) last floor top accepted needed repeats = refl
+change-listed kept originators lengths payloads (Offer originator number count f) last floor top accepted needed repeats = refl
+change-listed kept originators lengths payloads (Confirm sender number) last floor top accepted needed repeats = refl
+change-listed kept originators lengths payloads (Accept number) last floor top accepted needed repeats = refl
 
 -- counts and repeats that are laid into an entry
 counts-laid : (taken counts repeats : List ℕ) (i c r : ℕ) → i < length taken → i < length counts → i < length repeats
@@ -71,17 +79,17 @@ counts-laid taken counts repeats i c r a b d =
     ∙ ap (λ (x : Acknowledgement). set (tableIn taken counts repeats) i (withCounts x c r)) (sym (entry-in taken counts repeats i a))
 
 -- a packet that is accepted, in a struct whose arrays have their lengths
-module _ (head : Head) (taken counts repeats kept originators lengths payloads : List ℕ) (fits : Fits (whole head taken counts repeats kept originators lengths payloads))
-    (packet : Packet) (payload : List ℕ) (room : ℕ) (due : Due (viewOf (whole head taken counts repeats kept originators lengths payloads)) packet (length payload) room) where
+module _ (head : Head) (taken counts repeats kept marks originators lengths payloads : List ℕ) (fits : Fits (whole head taken counts repeats kept marks originators lengths payloads))
+    (packet : Packet) (payload : List ℕ) (room : ℕ) (due : Due (viewOf (whole head taken counts repeats kept marks originators lengths payloads)) packet (length payload) room) where
   abbrev state : Sequencer
-  state = viewOf (whole head taken counts repeats kept originators lengths payloads)
+  state = viewOf (whole head taken counts repeats kept marks originators lengths payloads)
 
   abbrev m : MemberNumber
   m = senderOf packet .member
 
-  sender-known : (m .0 < head .group .n) × (senderOf packet .taken .0 ≤ head .top .0)
+  sender-known : (m .0 < head .group .n) × (senderOf packet .taken .0 ≤ head .accepted .0)
   unfolding viewOf
-  sender-known = accepted-sender _ _ _ packet (due .accepted)
+  sender-known = accepted-sender _ _ _ _ packet (due .accepted)
 
   most : head .group .n ≤ membersMost
   unfolding viewOf
@@ -96,7 +104,7 @@ module _ (head : Head) (taken counts repeats kept originators lengths payloads :
       (smallest : floor .0 ≡ floorOf (head .group .n) (takenOnly taken′))
       (cleared : messagesIn kept′ originators′ lengths′ payloads′ ≡ clearedOf (messagesIn kept originators lengths payloads) (head .floor .0) (floor .0 - head .floor .0)) where
     abbrev next : InPlace
-    next = whole (record { group = head .group; top = head .top; floor = floor }) taken′ counts repeats kept′ originators′ lengths′ payloads′
+    next = whole (record { group = head .group; top = head .top; accepted = head .accepted; floor = floor }) taken′ counts repeats kept′ marks originators′ lengths′ payloads′
 
     sizes : (length taken ≡ membersMost) × (length counts ≡ membersMost) × (length repeats ≡ membersMost) × (length kept ≡ placesMost)
     sizes = (fits .entries .taken-size, fits .entries .counts-size, fits .entries .repeats-size, fits .places .kept-size)
@@ -114,8 +122,8 @@ module _ (head : Head) (taken counts repeats kept originators lengths payloads :
     unfolding viewOf noteOf withTable
     noted-is =
         let f = smallest ∙ floor-taken (head .group .n) taken′ counts repeats ∙ ap (floorOf (head .group .n)) table-noted in
-        (λ i. record { group = head .group; acknowledgements = table-noted i; top = head .top; floor = floor; history = cleared i })
-        ∙ (λ i. record { group = head .group; acknowledgements = tableNoted (tableIn taken counts repeats) m (senderOf packet .taken); top = head .top; floor = record { 0 = f i }; history = clearedOf (messagesIn kept originators lengths payloads) (head .floor .0) (f i - head .floor .0) })
+        (λ i. record { group = head .group; acknowledgements = table-noted i; top = head .top; accepted = head .accepted; floor = floor; history = cleared i; marks = marks })
+        ∙ (λ i. record { group = head .group; acknowledgements = tableNoted (tableIn taken counts repeats) m (senderOf packet .taken); top = head .top; accepted = head .accepted; floor = record { 0 = f i }; history = clearedOf (messagesIn kept originators lengths payloads) (head .floor .0) (f i - head .floor .0); marks = marks })
 
     next-sound : Sound (viewOf next)
     unfolding viewOf
@@ -145,20 +153,20 @@ module _ (head : Head) (taken counts repeats kept originators lengths payloads :
         let last : getD counts (m .0) 0 ≡ acknowledgementOf (tableNoted (tableIn taken counts repeats) m (senderOf packet .taken)) m .count
         = last-is ∙ ap (λ (t : List Acknowledgement). acknowledgementOf t m .count) table-noted in
         subst (λ (k : ℕ). Left packet k (head .top .0)) (sym last)
-        (accepted-left (head .group .n) (tableIn taken counts repeats) (head .top .0) packet (senderOf packet .taken) (due .accepted))
+        (accepted-left (head .group) (tableIn taken counts repeats) (head .accepted .0) (head .top .0) packet (senderOf packet .taken) (due .accepted))
 
     -- what the packet changes
     abbrev pub change : Change
-    change = changeOf (listed kept′ originators′) packet (getD counts (m .0) 0) (floor .0) (head .top) (getD repeats (m .0) 0)
+    change = changeOf (listed kept′ originators′) packet (getD counts (m .0) 0) (floor .0) (head .top) (head .accepted) (head .group .resilience) (getD repeats (m .0) 0)
 
     abbrev changeIn : Sequencer → Change
-    changeIn s = changeOf (s .history) packet (lastCount s m) (s .floor .0) (s .top) (repeatCount s m)
+    changeIn s = changeOf (s .history) packet (lastCount s m) (s .floor .0) (s .top) (s .accepted) (neededOf (s .group)) (repeatCount s m)
 
     change-is : change ≡ changeIn (viewOf next)
     unfolding viewOf
     change-is =
-        change-listed kept′ originators′ lengths′ payloads′ packet (getD counts (m .0) 0) (floor .0) (head .top) (getD repeats (m .0) 0)
-        ∙ (λ i. changeOf (messagesIn kept′ originators′ lengths′ payloads′) packet (last-is i) (floor .0) (head .top) (repeats-is i))
+        change-listed kept′ originators′ lengths′ payloads′ packet (getD counts (m .0) 0) (floor .0) (head .top) (head .accepted) (head .group .resilience) (getD repeats (m .0) 0)
+        ∙ (λ i. changeOf (messagesIn kept′ originators′ lengths′ payloads′) packet (last-is i) (floor .0) (head .top) (head .accepted) (head .group .resilience) (repeats-is i))
 
     places-kept : length (messagesIn kept′ originators′ lengths′ payloads′) ≡ placesMost
     places-kept =
@@ -189,10 +197,10 @@ module _ (head : Head) (taken counts repeats kept originators lengths payloads :
       next-sends =
           subst (λ (x : Message). MaySend (change .answer) (change .top) floor x) message-is
           (subst (λ (c : Change). MaySend (c .answer) (c .top) floor (laidOf (viewOf next) m c payload)) (sym change-is)
-          (change-sends (viewOf next) next-sound m payload (due .sizes .payload) packet (lastCount (viewOf next) m) (repeatCount (viewOf next) m)))
+          (change-sends (viewOf next) next-sound m payload (due .sizes .payload) packet (lastCount (viewOf next) m) (head .group .resilience) (repeatCount (viewOf next) m)))
 
       abbrev last : InPlace
-      last = whole (record { group = head .group; top = change .top; floor = floor }) taken′ (set counts (m .0) (change .count)) (set repeats (m .0) (change .repeats)) kept″ originators″ lengths″ payloads″
+      last = whole (record { group = head .group; top = change .top; accepted = change .accepted; floor = floor }) taken′ (set counts (m .0) (change .count)) (set repeats (m .0) (change .repeats)) kept″ marks originators″ lengths″ payloads″
 
       last-view : viewOf last ≡ changed (viewOf next) m change message
       unfolding viewOf changed
@@ -200,58 +208,61 @@ module _ (head : Head) (taken counts repeats kept originators lengths payloads :
           let z = sizes in
           let i = inside in
           let table = counts-laid taken′ counts repeats (m .0) (change .count) (change .repeats) member-inside (omega arith) (omega arith) in
-          λ i. record { group = head .group; acknowledgements = table i; top = change .top; floor = floor; history = laid-is i }
+          λ i. record { group = head .group; acknowledgements = table i; top = change .top; accepted = change .accepted; floor = floor; history = laid-is i; marks = marks }
 
       places-next : length (viewOf next .history) ≡ placesMost
       unfolding viewOf
       places-next = places-kept
 
-      outcome-is : settledOf (viewOf next) m payload change ≡ acceptedStep state packet payload
-      outcome-is =
+      outcome-is : confirmationOf packet ≡ Confirmation.None → outcomeOf (viewOf next) m payload change ≡ acceptedStep state packet payload
+      outcome-is none =
           let size = ap (λ (s : Sequencer). length (s .history)) (sym noted-is) ∙ places-next in
-          ap (settledOf (viewOf next) m payload) change-is
-          ∙ ap (λ (s : Sequencer). settledOf s m payload (changeIn s)) noted-is
-          ∙ sym (accepted-is state packet payload (due .accepted) size)
+          ap (outcomeOf (viewOf next) m payload) change-is
+          ∙ ap (λ (s : Sequencer). outcomeOf s m payload (changeIn s)) noted-is
+          ∙ sym (accepted-is state packet payload (due .accepted) none size)
 
-      pub accepted-changed : (written : ℕ) (x y : List ℕ)
-          → Laid (sentOf (change .answer) (head .group .number) (change .top) floor (getD (messagesIn kept″ originators″ lengths″ payloads″) (placeOf (change .number .0)) blank)) written x y
+      pub accepted-changed : confirmationOf packet ≡ Confirmation.None → (written : ℕ) (x y : List ℕ)
+          → Laid (sentOf (change .answer) (head .group .number) (change .top) (change .accepted) floor (getD (messagesIn kept″ originators″ lengths″ payloads″) (placeOf (change .number .0)) blank)) written x y
           → Changed (acceptedStep state packet payload) (record { answer = change .answer; written = written }) last x y
       unfolding viewOf
-      accepted-changed written x y l =
-          changed-as outcome-is
-          (changed-laid (settledOf (viewOf next) m payload change) last written x y last-view
-          (subst (λ (b : Message). Laid (sentOf (change .answer) (head .group .number) (change .top) floor b) written x y) (sym message-is) l))
+      accepted-changed none written x y l =
+          changed-as (outcome-is none)
+          (changed-laid (outcomeOf (viewOf next) m payload change) last written x y last-view
+          (subst (λ (b : Message). Laid (sentOf (change .answer) (head .group .number) (change .top) (change .accepted) floor b) written x y) (sym message-is) l))
 
 -- question 1 as the code asks it: each part of the arrays that it reads
-pub sound-as : (head : Head) (taken counts repeats kept originators lengths payloads : List ℕ) → Fits (whole head taken counts repeats kept originators lengths payloads)
-    → (frameSound (head .group .n) (takenOnly taken) (head .floor .0) (head .top .0)
+pub sound-as : (head : Head) (taken counts repeats kept marks originators lengths payloads : List ℕ) → Fits (whole head taken counts repeats kept marks originators lengths payloads)
+    → (frameSound (head .group) (takenOnly taken) (head .floor .0) (head .accepted .0) (head .top .0)
     and all (entrySound (head .group .n) (head .top .0)) 0 (tableIn taken counts repeats)
-    and allAbove (placeSound (head .group .n) (countsOnly counts) (messagesIn kept originators lengths payloads) (head .top .0)) (head .floor .0) placesMost)
-    ≡ soundOf (viewOf (whole head taken counts repeats kept originators lengths payloads))
+    and allAbove (placeSound (head .group .n) (countsOnly counts) (messagesIn kept originators lengths payloads) (head .top .0)) (head .floor .0) placesMost
+    and allAbove (markSound (expectedOf (head .group)) marks (head .accepted .0) (head .top .0)) (head .floor .0) placesMost)
+    ≡ soundOf (viewOf (whole head taken counts repeats kept marks originators lengths payloads))
 unfolding soundOf viewOf
-sound-as head taken counts repeats kept originators lengths payloads fits =
+sound-as head taken counts repeats kept marks originators lengths payloads fits =
     let size = fits .entries .counts-size ∙ sym (fits .entries .taken-size) in
-    let frame = frame-taken (head .group .n) taken counts repeats (head .floor .0) (head .top .0) in
+    let frame = frame-taken (head .group) taken counts repeats (head .floor .0) (head .accepted .0) (head .top .0) in
     let places = places-only taken counts repeats size (head .group .n) (messagesIn kept originators lengths payloads) (head .top .0) in
-    λ i. frame i and all (entrySound (head .group .n) (head .top .0)) 0 (tableIn taken counts repeats) and allAbove (places i) (head .floor .0) placesMost
+    λ i.
+    frame i and all (entrySound (head .group .n) (head .top .0)) 0 (tableIn taken counts repeats) and allAbove (places i) (head .floor .0) placesMost
+    and allAbove (markSound (expectedOf (head .group)) marks (head .accepted .0) (head .top .0)) (head .floor .0) placesMost
 
 -- a packet that was read, with the verdict on it as the code asks it
-module _ (head : Head) (taken counts repeats kept originators lengths payloads : List ℕ) (fits : Fits (whole head taken counts repeats kept originators lengths payloads))
-    (h : Header) (payload : List ℕ) (v : Verdict) (asked : v ≡ packetVerdict (head .group) (countsOnly counts) (head .top .0) (h .group) (contentOf h)) where
+module _ (head : Head) (taken counts repeats kept marks originators lengths payloads : List ℕ) (fits : Fits (whole head taken counts repeats kept marks originators lengths payloads))
+    (h : Header) (payload : List ℕ) (v : Verdict) (asked : v ≡ packetVerdict (head .group) (countsOnly counts) (head .accepted .0) (head .top .0) (h .group) (contentOf h)) where
   abbrev held : Sequencer
-  held = viewOf (whole head taken counts repeats kept originators lengths payloads)
+  held = viewOf (whole head taken counts repeats kept marks originators lengths payloads)
 
-  verdict-is : packetVerdict (held .group) (held .acknowledgements) (held .top .0) (h .group) (contentOf h) ≡ v
+  verdict-is : packetVerdict (held .group) (held .acknowledgements) (held .accepted .0) (held .top .0) (h .group) (contentOf h) ≡ v
   unfolding viewOf
   verdict-is =
       let size = fits .entries .counts-size ∙ sym (fits .entries .taken-size) in
-      sym (packet-only taken counts repeats size (head .group) (head .top .0) (h .group) (contentOf h)) ∙ sym asked
+      sym (packet-only taken counts repeats size (head .group) (head .accepted .0) (head .top .0) (h .group) (contentOf h)) ∙ sym asked
 
   pub read-accepted : v ≡ Verdict.Accepted
-      → (contentVerdict (held .group .n) (held .acknowledgements) (held .top .0) (contentOf h) ≡ Verdict.Accepted)
+      → (contentVerdict (held .group) (held .acknowledgements) (held .accepted .0) (held .top .0) (contentOf h) ≡ Verdict.Accepted)
       × (acceptedStep held (contentOf h) payload ≡ readStep held (Reading.Fields h) payload)
   read-accepted e = (
-    content-was _ _ _ _ _ (verdict-is ∙ e),
+    content-was _ _ _ _ _ _ (verdict-is ∙ e),
     judged-yes _ (refused held) _ (verdict-is ∙ e) ∙ sym (read-is held h payload),
   )
 
@@ -269,8 +280,16 @@ pub place-laid : (h : Header) (payloads : List ℕ) (at size room : ℕ) {r : �
     → Laid (writeOf h (take size (partOf payloads at)) room .bytes) r x y
 place-laid h payloads at size room {r} {x} {y} short l = subst (λ (p : List ℕ). Laid (writeOf h p room .bytes) r x y) (place-bytes payloads at size short) l
 
--- the broadcast of the message in a place
-module _ (group : ℕ) (floor number : SequenceNumber) (at : ℕ) (kept originators lengths payloads : List ℕ) (inside : at < length kept) where
+-- a message's packet, broadcast or offered, may be written
+announced-fields : (group : ℕ) (accepted : SequenceNumber) (originator : MemberNumber) (number floor : SequenceNumber) (count size : ℕ) → 1 ≤ count → floor .0 < number .0
+    → fieldsVerdict (fieldsOf group (announced accepted originator number count floor)) size size ≡ Verdict.Accepted
+unfolding announced
+announced-fields group accepted originator number floor count size a b =
+    if-elim (λ (packet : Packet). fieldsVerdict (fieldsOf group packet) size size ≡ Verdict.Accepted) (number .0 ≤? accepted .0)
+    (λ t. broadcast-fields group originator number floor count size a b) (λ t. offer-fields group originator number floor count size a b)
+
+-- the packet of the message in a place
+module _ (group : ℕ) (accepted floor number : SequenceNumber) (at : ℕ) (kept originators lengths payloads : List ℕ) (inside : at < length kept) where
   abbrev placed : Message
   placed = messageIn (getD kept at 0) (getD originators at 0) (getD lengths at 0) (partOf payloads at)
 
@@ -280,24 +299,33 @@ module _ (group : ℕ) (floor number : SequenceNumber) (at : ℕ) (kept originat
   pub may-send : MayBroadcast number floor (getD (messagesIn kept originators lengths payloads) at blank) → MayBroadcast number floor placed
   may-send h = subst (λ (x : Message). MayBroadcast number floor x) placed-is h
 
-  pub broadcast-laid : (room : ℕ) {size : ℕ} {x y : List ℕ} → MayBroadcast number floor (getD (messagesIn kept originators lengths payloads) at blank) → longestPacket ≤ room
-      → Laid (writeOf (fieldsOf group (Broadcast (record { 0 = getD originators at 0 }) number (getD kept at 0) floor)) (take (getD lengths at 0) (partOf payloads at)) room .bytes) size x y
+  pub announced-laid : (room : ℕ) {size : ℕ} {x y : List ℕ} → MayBroadcast number floor (getD (messagesIn kept originators lengths payloads) at blank) → longestPacket ≤ room
+      → Laid (writeOf (fieldsOf group (announced accepted (record { 0 = getD originators at 0 }) number (getD kept at 0) floor)) (take (getD lengths at 0) (partOf payloads at)) room .bytes) size x y
       → let m = getD (messagesIn kept originators lengths payloads) at blank in
-      Laid (packetOf (fieldsOf group (Broadcast (m .originator) number (m .count) floor)) (payloadOf m)) size x y
+      Laid (packetOf (fieldsOf group (announced accepted (m .originator) number (m .count) floor)) (payloadOf m)) size x y
   unfolding payloadOf
-  broadcast-laid room {size} {x} {y} h enough l =
+  announced-laid room {size} {x} {y} h enough l =
       let may = may-send h in
-      subst (λ (m : Message). Laid (packetOf (fieldsOf group (Broadcast (m .originator) number (m .count) floor)) (payloadOf m)) size x y) (sym placed-is)
+      subst (λ (m : Message). Laid (packetOf (fieldsOf group (announced accepted (m .originator) number (m .count) floor)) (payloadOf m)) size x y) (sym placed-is)
       (laid-whole _ (payloadOf placed) room
-      (broadcast-fields group (placed .originator) number floor (placed .count) (length (payloadOf placed)) (may .1) (may .2))
+      (announced-fields group accepted (placed .originator) number floor (placed .count) (length (payloadOf placed)) (may .1) (may .2))
       (payload-short placed (may .0)) enough l)
 
 -- a fresh state
 pub fresh-view : (group : Group)
     → viewOf
-    (whole (record { group = group; top = record { 0 = 0 }; floor = record { 0 = 0 } }) (replicate membersMost 0) (replicate membersMost 0) (replicate membersMost 0)
-    (replicate placesMost 0) (replicate placesMost 0) (replicate placesMost 0) (replicate (placesMost * payloadMost) 0))
+    (whole (record { group = group; top = record { 0 = 0 }; accepted = record { 0 = 0 }; floor = record { 0 = 0 } }) (replicate membersMost 0) (replicate membersMost 0)
+    (replicate membersMost 0) (replicate placesMost 0) (replicate placesMost 0) (replicate placesMost 0) (replicate placesMost 0) (replicate (placesMost * payloadMost) 0))
     ≡ freshSequencer group
 unfolding viewOf freshSequencer
 fresh-view group =
-    λ i. record { group = group; acknowledgements = table-none membersMost i; top = record { 0 = 0 }; floor = record { 0 = 0 }; history = messages-none placesMost i }
+    λ i.
+    record {
+      group = group;
+      acknowledgements = table-none membersMost i;
+      top = record { 0 = 0 };
+      accepted = record { 0 = 0 };
+      floor = record { 0 = 0 };
+      history = messages-none placesMost i;
+      marks = replicate placesMost 0;
+    }

@@ -15,8 +15,10 @@ withTable s table floor =
       group = s .group;
       acknowledgements = table;
       top = s .top;
+      accepted = s .accepted;
       floor = record { 0 = floor };
       history = clearedOf (s .history) (s .floor .0) (floor - s .floor .0);
+      marks = s .marks;
     }
 
 unfoldable pub noteOf : Sequencer → MemberNumber → SequenceNumber → Sequencer

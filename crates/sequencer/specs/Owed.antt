@@ -8,11 +8,11 @@ use Rattle.group.specs.declared.SequenceNumber.{SequenceNumber}
 use Rattle.group.specs.declared.Verdict.{Verdict}
 use Rattle.message.specs.Message.{Message}
 use Rattle.packet.specs.declared.Packet.{Packet}
-use Rattle.packet.specs.declared.Packet.the-variants.{Request, Broadcast, Gap, Status, Poll}
+use Rattle.packet.specs.declared.Packet.the-variants.{Request, Broadcast, Gap, Status, Poll, Offer, Confirm, Accept}
 use Rattle.history.specs.Ask.{contentVerdict}
 use Rattle.sequencer.specs.Sound.{soundOf}
 use Rattle.sequencer.specs.declared.Answer.{Answer}
-use Rattle.sequencer.specs.declared.Answer.the-variants.{Old, Again, Full, Numbered, Noted, Wanted, Sent}
+use Rattle.sequencer.specs.declared.Answer.the-variants.{Old, Again, Full, Numbered, Noted, Wanted, Sent, Marked}
 use Rattle.sequencer.specs.State.{Sequencer}
 use Rattle.sequencer.specs.declared.Reply.{Reply}
 
@@ -20,7 +20,7 @@ use Rattle.sequencer.specs.declared.Reply.{Reply}
 pub record Refuses (refusal : Refusal) (reply : Reply) : Type 0 where
   pub answer : reply ≡ record { answer = Answer.Refused refusal; written = 0 }
 
--- a message that may be broadcast with a number and a floor
+-- a message that may go out with a number and a floor
 abbrev pub MayBroadcast : SequenceNumber → SequenceNumber → Message → Type 0
 MayBroadcast number floor m = (m .length ≤ payloadMost) × (1 ≤ m .count) × (floor .0 < number .0)
 
@@ -34,6 +34,8 @@ MaySend (Numbered number) top floor m = MayBroadcast number floor m
 MaySend Noted top floor m = Unit {0}
 MaySend (Wanted first last) top floor m = Unit {0}
 MaySend Sent top floor m = Unit {0}
+MaySend Marked top floor m = Unit {0}
+MaySend Answer.Accepted top floor m = Unit {0}
 
 -- of a packet that is to be asked: the state is sound, and payload and lent output have the sizes that a packet wants
 pub record Sized (s : Sequencer) (size room : ℕ) : Type 0 where
@@ -44,7 +46,7 @@ pub record Sized (s : Sequencer) (size room : ℕ) : Type 0 where
 -- of a packet that is to be answered: the same, and it was accepted
 pub record Due (s : Sequencer) (packet : Packet) (size room : ℕ) : Type 0 where
   pub sizes : Sized s size room
-  pub accepted : contentVerdict (s .group .n) (s .acknowledgements) (s .top .0) packet ≡ Verdict.Accepted
+  pub accepted : contentVerdict (s .group) (s .acknowledgements) (s .accepted .0) (s .top .0) packet ≡ Verdict.Accepted
 
 -- a next number is left where a request wants one
 abbrev pub Left : Packet → ℕ → ℕ → Type 0
@@ -53,3 +55,6 @@ Left (Broadcast originator number count floor) last top = Unit {0}
 Left (Gap sender taken first to) last top = Unit {0}
 Left (Status sender taken) last top = Unit {0}
 Left (Poll t floor) last top = Unit {0}
+Left (Offer originator number count floor) last top = Unit {0}
+Left (Confirm sender number) last top = Unit {0}
+Left (Accept number) last top = Unit {0}

@@ -47,5 +47,5 @@ Polled s before reply after = Told (pollOf (viewOf s) (length before)) reply bef
 abbrev pub Copied : InPlace → SequenceNumber → List ℕ → Reply → List ℕ → Type 0
 Copied s number before reply after = Told (copyOf (viewOf s) number (length before)) reply before after
 
-abbrev pub Opens : InPlace → ℕ → ℕ → Verdict → InPlace → Type 0
-Opens s n group verdict s′ = Starts (freshOf n group) verdict s′
+abbrev pub Opens : InPlace → ℕ → ℕ → ℕ → Verdict → InPlace → Type 0
+Opens s n group resilience verdict s′ = Starts (freshOf n group resilience) verdict s′

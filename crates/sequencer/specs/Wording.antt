@@ -3,7 +3,7 @@
 use mathlib.Core.List.{[], _∷_}
 use Rattle.group.specs.Wording.{Wording, word, number, packet, refusedWording}
 use Rattle.sequencer.specs.declared.Answer.{Answer}
-use Rattle.sequencer.specs.declared.Answer.the-variants.{Refused, Old, Again, Full, Numbered, Noted, Wanted, Sent}
+use Rattle.sequencer.specs.declared.Answer.the-variants.{Refused, Old, Again, Full, Numbered, Noted, Wanted, Sent, Marked}
 
 unfoldable pub wordingOf : Answer → Wording
 wordingOf (Refused r) = refusedWording r
@@ -14,3 +14,5 @@ wordingOf (Numbered s) = word "numbered" (number (s .0) ∷ packet ∷ [])
 wordingOf Noted = word "noted" []
 wordingOf (Wanted first last) = word "wanted" (number (first .0) ∷ number (last .0) ∷ [])
 wordingOf Sent = word "sent" (packet ∷ [])
+wordingOf Marked = word "marked" []
+wordingOf Answer.Accepted = word "accepted" (packet ∷ [])

@@ -13,30 +13,38 @@ ghost use mathlib.Core.List.{[]};
 ghost use Prim.Native.Nat.{_<_, _≤_};
 ghost use lib.ListN.{length, getD, take};
 ghost use Rattle.group.specs.Lent.{Laid};
-ghost use Rattle.group.specs.Limits.{placesMost, payloadMost, longestPacket, largestNumber};
+ghost use Rattle.group.specs.Choice.{if_then_else_, _and_, _=?_};
+ghost use Rattle.group.specs.Fold.{allAbove};
+ghost use Rattle.group.specs.Limits.{membersMost, placesMost, payloadMost, longestPacket, largestNumber};
+ghost use Rattle.group.specs.Members.{expectedOf};
 ghost use Rattle.group.specs.Opening.{descriptionOf};
 ghost use Rattle.message.specs.Message.{blank, payloadOf};
 ghost use Rattle.packet.specs.Packet.{fieldsOf, packetOf, writeOf};
 ghost use Rattle.store.specs.Places.{messagesIn, partOf, Lies};
-ghost use Rattle.history.specs.View.{Places, listed};
+ghost use Rattle.history.specs.Marks.{markSound};
+ghost use Rattle.history.specs.Sound.{placeSound};
+ghost use Rattle.history.specs.View.{Places, countsOnly, listed};
 ghost use Rattle.sequencer.specs.State.{freshSequencer};
 ghost use Rattle.sequencer.specs.Sound.{soundOf};
-ghost use Rattle.sequencer.specs.Calls.{readStep, callVerdict, copyOf};
-ghost use Rattle.sequencer.specs.View.{Fits, Placed, whole, viewOf};
+ghost use Rattle.sequencer.specs.Calls.{announced, confirmOf, readStep, callVerdict, copyOf};
+ghost use Rattle.sequencer.specs.View.{Fits, Placed, whole, marksOnly, viewOf};
 ghost use Rattle.sequencer.specs.Promise.{Changed, Told, Received, Polled, Copied, Opens};
 ghost use Rattle.sequencer.specs.Owed.{MayBroadcast, MaySend, Sized, Left, Due, Refuses};
-ghost use Rattle.sequencer.specs.Steps.{acceptedStep, quiet, requestChange, gapAnswer, changeOf, sentOf};
+ghost use Rattle.sequencer.specs.Steps.{acceptedStep, quiet, requestChange, gapAnswer, changeOf, confirmationOf, sentOf};
 
-// The numbers of the whole: the group's description, the last number given, and the number through which every member has everything.
+// The numbers of the whole: the group's description, the last number given, the last accepted, and the number through which every
+// member has everything.
 #[repr(C)]
 pub struct Head {
     pub group: Group,
     pub top: SequenceNumber,
+    pub accepted: SequenceNumber,
     pub floor: SequenceNumber,
 }
 
 // What the sequencer holds. Of each member: the last number that it is known to have taken, its last count that was numbered, and how
-// often it repeated itself. Of each place of the history: its message's count (0: none), originator, length and payload.
+// often it repeated itself. Of each place of the history: its message's count (0: none), who confirmed it, originator, length and
+// payload.
 #[repr(C)]
 pub struct Sequencer {
     pub head: Head,
@@ -44,6 +52,7 @@ pub struct Sequencer {
     pub counts: [u32; Group::MEMBERS],
     pub repeats: [u32; Group::MEMBERS],
     pub kept: [u32; Group::PLACES],
+    pub marks: [u16; Group::PLACES],
     pub originators: [u8; Group::PLACES],
     pub lengths: [u8; Group::PLACES],
     pub payloads: [u8; Group::HISTORY_BYTES],
@@ -59,6 +68,8 @@ pub enum Answer {
     Noted,
     Wanted(SequenceNumber, SequenceNumber),
     Sent,
+    Marked,
+    Accepted,
 }
 
 // What a call gives back: its answer, and how many bytes it wrote to the front of the lent output.
@@ -79,13 +90,21 @@ pub struct Start {
     pub verdict: Verdict,
 }
 
-// What a packet changes beside the noting: the number whose place is laid, top, the sender's last count and repeat count.
+// What a packet changes beside the noting: the number whose place is laid, top, the last accepted number, the sender's last count and
+// repeat count.
 struct Change {
     number: SequenceNumber,
     top: SequenceNumber,
+    accepted: SequenceNumber,
     count: u32,
     repeats: u32,
     answer: Answer,
+}
+
+// Who confirms which number in a packet, if it is a confirmation.
+enum Confirmation {
+    None,
+    Of(MemberNumber, SequenceNumber),
 }
 
 // Writes a packet with the first bytes of a place as its payload, if its questions allow it.
@@ -105,9 +124,36 @@ fn put_place(
     packet.put(group, &payloads[base..end], out)
 }
 
-// Writes the broadcast of a number, whose message lies in a place, with today's floor.
+// A message goes out as a broadcast if its number is accepted, else as an offer.
+fn announced(
+    accepted: SequenceNumber,
+    originator: MemberNumber,
+    number: SequenceNumber,
+    count: u32,
+    floor: SequenceNumber,
+) -> Packet
+    ensures { λ r. ⌜ r ≡ announced accepted originator number count floor ⌝ }
+{
+    if number.0 <= accepted.0 {
+        return Packet::Broadcast {
+            originator,
+            number,
+            count,
+            floor,
+        };
+    }
+    Packet::Offer {
+        originator,
+        number,
+        count,
+        floor,
+    }
+}
+
+// Writes the packet of a number, whose message lies in a place, with today's floor.
 fn send(
     group: u32,
+    accepted: SequenceNumber,
     floor: SequenceNumber,
     number: SequenceNumber,
     at: usize,
@@ -118,15 +164,10 @@ fn send(
     out: &mut [u8],
 ) -> usize
     requires { ⌜ (at < placesMost) × MayBroadcast number floor (getD (messagesIn (now kept) (now originators) (now lengths) (now payloads)) at blank) × (longestPacket ≤ length (now out)) × Places (now kept) (now originators) (now lengths) (now payloads) ⌝ }
-    ensures { λ r. ⌜ Laid (packetOf (fieldsOf group (Packet.Broadcast (getD (messagesIn (now (kept .entry)) (now (originators .entry)) (now (lengths .entry)) (now (payloads .entry))) at blank .originator) number (getD (messagesIn (now (kept .entry)) (now (originators .entry)) (now (lengths .entry)) (now (payloads .entry))) at blank .count) floor)) (payloadOf (getD (messagesIn (now (kept .entry)) (now (originators .entry)) (now (lengths .entry)) (now (payloads .entry))) at blank))) r (now (out .entry)) (now (out .exit)) ⌝ }
+    ensures { λ r. ⌜ Laid (packetOf (fieldsOf group (announced accepted (getD (messagesIn (now (kept .entry)) (now (originators .entry)) (now (lengths .entry)) (now (payloads .entry))) at blank .originator) number (getD (messagesIn (now (kept .entry)) (now (originators .entry)) (now (lengths .entry)) (now (payloads .entry))) at blank .count) floor)) (payloadOf (getD (messagesIn (now (kept .entry)) (now (originators .entry)) (now (lengths .entry)) (now (payloads .entry))) at blank))) r (now (out .entry)) (now (out .exit)) ⌝ }
 {
     let originator = MemberNumber(originators[at]);
-    let packet = Packet::Broadcast {
-        originator,
-        number,
-        count: kept[at],
-        floor,
-    };
+    let packet = announced(accepted, originator, number, kept[at], floor);
     put_place(packet, group, payloads, at, lengths[at], out)
 }
 
@@ -140,11 +181,22 @@ fn send_poll(group: u32, top: SequenceNumber, floor: SequenceNumber, out: &mut [
     packet.put(group, &none, out)
 }
 
-// Writes what an answer comes with: a broadcast of the message in a place, a poll packet, or nothing.
+// Writes the packet that accepts all up to a number.
+fn send_accept(group: u32, number: SequenceNumber, out: &mut [u8]) -> usize
+    requires { ⌜ (1 ≤ number .0) × (longestPacket ≤ length (now out)) ⌝ }
+    ensures { λ r. ⌜ Laid (packetOf (fieldsOf group (Packet.Accept number)) []) r (now (out .entry)) (now (out .exit)) ⌝ }
+{
+    let none = [0u8; 0];
+    let packet = Packet::Accept { number };
+    packet.put(group, &none, out)
+}
+
+// Writes what the answer to a packet that is noted comes with: the packet of the message in a place, a poll packet, or nothing.
 fn send_answer(
     answer: Answer,
     group: u32,
     top: SequenceNumber,
+    accepted: SequenceNumber,
     floor: SequenceNumber,
     at: usize,
     kept: &[u32],
@@ -154,13 +206,14 @@ fn send_answer(
     out: &mut [u8],
 ) -> usize
     requires { ⌜ (at < placesMost) × MaySend answer top floor (getD (messagesIn (now kept) (now originators) (now lengths) (now payloads)) at blank) × (longestPacket ≤ length (now out)) × Places (now kept) (now originators) (now lengths) (now payloads) ⌝ }
-    ensures { λ r. ⌜ Laid (sentOf answer group top floor (getD (messagesIn (now (kept .entry)) (now (originators .entry)) (now (lengths .entry)) (now (payloads .entry))) at blank)) r (now (out .entry)) (now (out .exit)) ⌝ }
+    ensures { λ r. ⌜ Laid (sentOf answer group top accepted floor (getD (messagesIn (now (kept .entry)) (now (originators .entry)) (now (lengths .entry)) (now (payloads .entry))) at blank)) r (now (out .entry)) (now (out .exit)) ⌝ }
 {
     match answer {
         Answer::Refused(_) => 0,
         Answer::Old => 0,
         Answer::Again(number) => send(
             group,
+            accepted,
             floor,
             number,
             at,
@@ -173,6 +226,7 @@ fn send_answer(
         Answer::Full => send_poll(group, top, floor, out),
         Answer::Numbered(number) => send(
             group,
+            accepted,
             floor,
             number,
             at,
@@ -185,20 +239,39 @@ fn send_answer(
         Answer::Noted => 0,
         Answer::Wanted(_, _) => 0,
         Answer::Sent => 0,
+        Answer::Marked => 0,
+        Answer::Accepted => 0,
     }
 }
 
 // A change of the sender's repeat count at most.
-fn quiet(last: u32, top: SequenceNumber, repeats: u32, answer: Answer) -> Change
-    ensures { λ r. ⌜ r ≡ quiet last top repeats answer ⌝ }
+fn quiet(
+    last: u32,
+    top: SequenceNumber,
+    accepted: SequenceNumber,
+    repeats: u32,
+    answer: Answer,
+) -> Change
+    ensures { λ r. ⌜ r ≡ quiet last top accepted repeats answer ⌝ }
 {
     Change {
         number: top,
         top,
+        accepted,
         count: last,
         repeats,
         answer,
     }
+}
+
+// The last accepted number, once a next number is given: that one where none has to confirm it.
+fn accepted_next(needed: u8, accepted: SequenceNumber, next: SequenceNumber) -> SequenceNumber
+    ensures { λ r. ⌜ r ≡ (if needed =? 0 then next else accepted) ⌝ }
+{
+    if needed == 0 {
+        return next;
+    }
+    accepted
 }
 
 // What a request changes, once A is noted: Old, Again, Full or Numbered.
@@ -210,37 +283,42 @@ fn request_change(
     last: u32,
     floor: SequenceNumber,
     top: SequenceNumber,
+    accepted: SequenceNumber,
+    needed: u8,
     repeats: u32,
 ) -> Change
     requires { ⌜ (last < count → top .0 < largestNumber) × (length (now kept) ≡ placesMost) × (length (now originators) ≡ placesMost) ⌝ }
-    ensures { λ r. ⌜ r ≡ requestChange (listed (now (kept .entry)) (now (originators .entry))) sender count last (floor .0) top repeats ⌝ }
+    ensures { λ r. ⌜ r ≡ requestChange (listed (now (kept .entry)) (now (originators .entry))) sender count last (floor .0) top accepted needed repeats ⌝ }
 {
     let more = history::one_more(repeats);
     if count < last {
-        return quiet(last, top, more, Answer::Old);
+        return quiet(last, top, accepted, more, Answer::Old);
     }
     if count == last {
         let number = history::find(kept, originators, sender, count, floor, top);
         if number.0 == 0 {
-            return quiet(last, top, more, Answer::Old);
+            return quiet(last, top, accepted, more, Answer::Old);
         }
         let answer = Answer::Again(number);
         return Change {
             number,
             top,
+            accepted,
             count: last,
             repeats: more,
             answer,
         };
     }
     if history::kept(floor, top) == Group::PLACES {
-        return quiet(last, top, repeats, Answer::Full);
+        return quiet(last, top, accepted, repeats, Answer::Full);
     }
     let next = SequenceNumber(top.0 + 1);
     let answer = Answer::Numbered(next);
+    let up_to = accepted_next(needed, accepted, next);
     Change {
         number: next,
         top: next,
+        accepted: up_to,
         count,
         repeats,
         answer,
@@ -266,46 +344,141 @@ fn packet_change(
     last: u32,
     floor: SequenceNumber,
     top: SequenceNumber,
+    accepted: SequenceNumber,
+    needed: u8,
     repeats: u32,
 ) -> Change
     requires { ⌜ Left packet last (top .0) × (length (now kept) ≡ placesMost) × (length (now originators) ≡ placesMost) ⌝ }
-    ensures { λ r. ⌜ r ≡ changeOf (listed (now (kept .entry)) (now (originators .entry))) packet last (floor .0) top repeats ⌝ }
+    ensures { λ r. ⌜ r ≡ changeOf (listed (now (kept .entry)) (now (originators .entry))) packet last (floor .0) top accepted needed repeats ⌝ }
 {
     match packet {
         Packet::Request {
             sender,
             taken: _,
             count,
-        } => request_change(kept, originators, sender, count, last, floor, top, repeats),
+        } => request_change(
+            kept,
+            originators,
+            sender,
+            count,
+            last,
+            floor,
+            top,
+            accepted,
+            needed,
+            repeats,
+        ),
         Packet::Broadcast {
             originator: _,
             number: _,
             count: _,
             floor: _,
-        } => quiet(last, top, repeats, Answer::Noted),
+        } => quiet(last, top, accepted, repeats, Answer::Noted),
         Packet::Gap {
             sender: _,
             taken: _,
             first,
             last: to,
-        } => quiet(last, top, repeats, gap_answer(floor, first, to)),
+        } => quiet(last, top, accepted, repeats, gap_answer(floor, first, to)),
         Packet::Status {
             sender: _,
             taken: _,
-        } => quiet(last, top, repeats, Answer::Noted),
-        Packet::Poll { top: _, floor: _ } => quiet(last, top, repeats, Answer::Noted),
+        } => quiet(last, top, accepted, repeats, Answer::Noted),
+        Packet::Poll { top: _, floor: _ } => quiet(last, top, accepted, repeats, Answer::Noted),
+        Packet::Offer {
+            originator: _,
+            number: _,
+            count: _,
+            floor: _,
+        } => quiet(last, top, accepted, repeats, Answer::Noted),
+        Packet::Confirm {
+            sender: _,
+            number: _,
+        } => quiet(last, top, accepted, repeats, Answer::Noted),
+        Packet::Accept { number: _ } => quiet(last, top, accepted, repeats, Answer::Noted),
+    }
+}
+
+// Who confirms which number in a packet.
+fn confirmed_by(packet: Packet) -> Confirmation
+    ensures { λ r. ⌜ r ≡ confirmationOf packet ⌝ }
+{
+    match packet {
+        Packet::Request {
+            sender: _,
+            taken: _,
+            count: _,
+        } => Confirmation::None,
+        Packet::Broadcast {
+            originator: _,
+            number: _,
+            count: _,
+            floor: _,
+        } => Confirmation::None,
+        Packet::Gap {
+            sender: _,
+            taken: _,
+            first: _,
+            last: _,
+        } => Confirmation::None,
+        Packet::Status {
+            sender: _,
+            taken: _,
+        } => Confirmation::None,
+        Packet::Poll { top: _, floor: _ } => Confirmation::None,
+        Packet::Offer {
+            originator: _,
+            number: _,
+            count: _,
+            floor: _,
+        } => Confirmation::None,
+        Packet::Confirm { sender, number } => Confirmation::Of(sender, number),
+        Packet::Accept { number: _ } => Confirmation::None,
     }
 }
 
 // The head of a fresh state.
 fn fresh_head(group: Group) -> Head
-    ensures { λ r. ⌜ r ≡ record { group = group; top = record { 0 = 0 }; floor = record { 0 = 0 } } ⌝ }
+    ensures { λ r. ⌜ r ≡ record { group = group; top = record { 0 = 0 }; accepted = record { 0 = 0 }; floor = record { 0 = 0 } } ⌝ }
 {
     Head {
         group,
         top: SequenceNumber(0),
+        accepted: SequenceNumber(0),
         floor: SequenceNumber(0),
     }
+}
+
+// Whether the history and the marks are sound.
+fn places_sound(
+    head: Head,
+    counts: &[u32],
+    kept: &[u32],
+    marks: &[u16],
+    originators: &[u8],
+    lengths: &[u8],
+    payloads: &[u8],
+) -> bool
+    requires { ⌜ (1 ≤ head .group .n) × (head .group .n ≤ membersMost) × (length (now counts) ≡ membersMost) × (length (now marks) ≡ placesMost) × Places (now kept) (now originators) (now lengths) (now payloads) ⌝ }
+    ensures { λ r. ⌜ r ≡ (allAbove (placeSound (head .group .n) (countsOnly (now (counts .entry))) (messagesIn (now (kept .entry)) (now (originators .entry)) (now (lengths .entry)) (now (payloads .entry))) (head .top .0)) (head .floor .0) placesMost and allAbove (markSound (expectedOf (head .group)) (now (marks .entry)) (head .accepted .0) (head .top .0)) (head .floor .0) placesMost) ⌝ }
+{
+    let group = head.group;
+    let floor = head.floor;
+    let top = head.top;
+    if history::history_sound(
+        group.n,
+        floor,
+        top,
+        counts,
+        kept,
+        originators,
+        lengths,
+        payloads,
+    ) {
+        let expected = group.expected();
+        return history::marks_sound(expected, floor, head.accepted, top, marks);
+    }
+    false
 }
 
 // Question 1: is the state sound?
@@ -315,30 +488,22 @@ fn sound(
     counts: &[u32],
     repeats: &[u32],
     kept: &[u32],
+    marks: &[u16],
     originators: &[u8],
     lengths: &[u8],
     payloads: &[u8],
 ) -> bool
-    requires { ⌜ Placed (whole head (now taken) (now counts) (now repeats) (now kept) (now originators) (now lengths) (now payloads)) ⌝ }
-    ensures answer { λ r. ⌜ r ≡ soundOf (viewOf (whole head (now (taken .entry)) (now (counts .entry)) (now (repeats .entry)) (now (kept .entry)) (now (originators .entry)) (now (lengths .entry)) (now (payloads .entry)))) ⌝ }
-    ensures sizes { λ _. ⌜ Fits (whole head (now (taken .entry)) (now (counts .entry)) (now (repeats .entry)) (now (kept .entry)) (now (originators .entry)) (now (lengths .entry)) (now (payloads .entry))) ⌝ }
+    requires { ⌜ Placed (whole head (now taken) (now counts) (now repeats) (now kept) (now marks) (now originators) (now lengths) (now payloads)) ⌝ }
+    ensures answer { λ r. ⌜ r ≡ soundOf (viewOf (whole head (now (taken .entry)) (now (counts .entry)) (now (repeats .entry)) (now (kept .entry)) (now (marks .entry)) (now (originators .entry)) (now (lengths .entry)) (now (payloads .entry)))) ⌝ }
+    ensures sizes { λ _. ⌜ Fits (whole head (now (taken .entry)) (now (counts .entry)) (now (repeats .entry)) (now (kept .entry)) (now (marks .entry)) (now (originators .entry)) (now (lengths .entry)) (now (payloads .entry))) ⌝ }
 {
-    let n = head.group.n;
+    let group = head.group;
     let floor = head.floor;
     let top = head.top;
-    let entries = history::entries_sound(n, top, taken, counts, repeats);
-    if history::frame_sound(n, floor, top, taken) {
+    let entries = history::entries_sound(group.n, top, taken, counts, repeats);
+    if history::frame_sound(group, floor, head.accepted, top, taken) {
         if entries {
-            return history::history_sound(
-                n,
-                floor,
-                top,
-                counts,
-                kept,
-                originators,
-                lengths,
-                payloads,
-            );
+            return places_sound(head, counts, kept, marks, originators, lengths, payloads);
         }
         return false;
     }
@@ -352,14 +517,15 @@ fn ask(
     counts: &[u32],
     repeats: &[u32],
     kept: &[u32],
+    marks: &[u16],
     originators: &[u8],
     lengths: &[u8],
     payloads: &[u8],
     room: usize,
 ) -> Verdict
-    requires { ⌜ Placed (whole head (now taken) (now counts) (now repeats) (now kept) (now originators) (now lengths) (now payloads)) ⌝ }
-    ensures answer { λ r. ⌜ r ≡ callVerdict (viewOf (whole head (now (taken .entry)) (now (counts .entry)) (now (repeats .entry)) (now (kept .entry)) (now (originators .entry)) (now (lengths .entry)) (now (payloads .entry)))) room ⌝ }
-    ensures sizes { λ _. ⌜ Fits (whole head (now (taken .entry)) (now (counts .entry)) (now (repeats .entry)) (now (kept .entry)) (now (originators .entry)) (now (lengths .entry)) (now (payloads .entry))) ⌝ }
+    requires { ⌜ Placed (whole head (now taken) (now counts) (now repeats) (now kept) (now marks) (now originators) (now lengths) (now payloads)) ⌝ }
+    ensures answer { λ r. ⌜ r ≡ callVerdict (viewOf (whole head (now (taken .entry)) (now (counts .entry)) (now (repeats .entry)) (now (kept .entry)) (now (marks .entry)) (now (originators .entry)) (now (lengths .entry)) (now (payloads .entry)))) room ⌝ }
+    ensures sizes { λ _. ⌜ Fits (whole head (now (taken .entry)) (now (counts .entry)) (now (repeats .entry)) (now (kept .entry)) (now (marks .entry)) (now (originators .entry)) (now (lengths .entry)) (now (payloads .entry))) ⌝ }
 {
     if sound(
         head,
@@ -367,6 +533,7 @@ fn ask(
         counts,
         repeats,
         kept,
+        marks,
         originators,
         lengths,
         payloads,
@@ -395,13 +562,15 @@ fn unchanged(head: Head, refusal: Refusal) -> Step
     Step { head, reply }
 }
 
-// A packet that no question refuses: A is noted, what the floor passes is cleared, and then what it changes is laid into the state.
-fn accepted(
+// A packet that no question refuses and that confirms nothing: A is noted, what the floor passes is cleared, and then what it changes is
+// laid into the state.
+fn noted(
     head: Head,
     taken: &mut [u32; Group::MEMBERS],
     counts: &mut [u32],
     repeats: &mut [u32],
     kept: &mut [u32],
+    marks: &[u16],
     originators: &mut [u8],
     lengths: &mut [u8],
     payloads: &mut [u8],
@@ -409,8 +578,8 @@ fn accepted(
     payload: &[u8],
     out: &mut [u8],
 ) -> Step
-    requires { ⌜ Due (viewOf (whole head (now taken) (now counts) (now repeats) (now kept) (now originators) (now lengths) (now payloads))) packet (length (now payload)) (length (now out)) × Fits (whole head (now taken) (now counts) (now repeats) (now kept) (now originators) (now lengths) (now payloads)) ⌝ }
-    ensures { λ r. ⌜ Changed (acceptedStep (viewOf (whole head (now (taken .entry)) (now (counts .entry)) (now (repeats .entry)) (now (kept .entry)) (now (originators .entry)) (now (lengths .entry)) (now (payloads .entry)))) packet (now (payload .entry))) (r .reply) (whole (r .head) (now (taken .exit)) (now (counts .exit)) (now (repeats .exit)) (now (kept .exit)) (now (originators .exit)) (now (lengths .exit)) (now (payloads .exit))) (now (out .entry)) (now (out .exit)) ⌝ }
+    requires { ⌜ (confirmationOf packet ≡ Confirmation.None) × Due (viewOf (whole head (now taken) (now counts) (now repeats) (now kept) (now marks) (now originators) (now lengths) (now payloads))) packet (length (now payload)) (length (now out)) × Fits (whole head (now taken) (now counts) (now repeats) (now kept) (now marks) (now originators) (now lengths) (now payloads)) ⌝ }
+    ensures { λ r. ⌜ Changed (acceptedStep (viewOf (whole head (now (taken .entry)) (now (counts .entry)) (now (repeats .entry)) (now (kept .entry)) (now (marks .entry)) (now (originators .entry)) (now (lengths .entry)) (now (payloads .entry)))) packet (now (payload .entry))) (r .reply) (whole (r .head) (now (taken .exit)) (now (counts .exit)) (now (repeats .exit)) (now (kept .exit)) (now (marks .entry)) (now (originators .exit)) (now (lengths .exit)) (now (payloads .exit))) (now (out .entry)) (now (out .exit)) ⌝ }
 {
     let from = history::sender_of(packet);
     let sender = from.member;
@@ -423,7 +592,18 @@ fn accepted(
     let member = sender.0 as usize;
     let count = counts[member];
     let again = repeats[member];
-    let c = packet_change(kept, originators, packet, count, floor, top, again);
+    let reached = floor;
+    let c = packet_change(
+        kept,
+        originators,
+        packet,
+        count,
+        reached,
+        top,
+        head.accepted,
+        group.resilience,
+        again,
+    );
     counts[member] = c.count;
     repeats[member] = c.repeats;
     let number = c.number;
@@ -440,11 +620,13 @@ fn accepted(
     );
     let at = history::place(number.0 as u64);
     let last = c.top;
+    let up_to = c.accepted;
     let answer = c.answer;
     let written = send_answer(
         answer,
         group.number,
         last,
+        up_to,
         floor,
         at,
         kept,
@@ -457,18 +639,103 @@ fn accepted(
     let next = Head {
         group,
         top: last,
+        accepted: up_to,
         floor,
     };
     Step { head: next, reply }
 }
 
-// Fields that were read: what they mean is asked questions 7 to 12, and 16.
+// A reply that writes nothing.
+fn unwritten(answer: Answer) -> Reply
+    ensures { λ r. ⌜ r ≡ record { answer = answer; written = 0 } ⌝ }
+{
+    Reply { answer, written: 0 }
+}
+
+// A confirmation of a number by a member: Old for an accepted number; else its marks are set, and what then has enough is accepted.
+fn confirm(
+    head: Head,
+    marks: &mut [u16],
+    member: MemberNumber,
+    number: SequenceNumber,
+    out: &mut [u8],
+) -> Step
+    requires { ⌜ (member .0 < membersMost) × (length (now marks) ≡ placesMost) × (longestPacket ≤ length (now out)) ⌝ }
+    ensures { λ r. ⌜ Changed (confirmOf (viewOf (marksOnly head (now (marks .entry)))) member number) (r .reply) (marksOnly (r .head) (now (marks .exit))) (now (out .entry)) (now (out .exit)) ⌝ }
+{
+    let accepted = head.accepted;
+    if number.0 <= accepted.0 {
+        let reply = unwritten(Answer::Old);
+        return Step { head, reply };
+    }
+    history::mark(marks, member, accepted, number);
+    let group = head.group;
+    let top = head.top;
+    let floor = head.floor;
+    let found = history::enough(marks, group.resilience, accepted, top);
+    if found.0 == 0 {
+        let reply = unwritten(Answer::Marked);
+        return Step { head, reply };
+    }
+    history::unmark(marks, accepted, found);
+    let written = send_accept(group.number, found, out);
+    let answer = Answer::Accepted;
+    let reply = Reply { answer, written };
+    let next = Head {
+        group,
+        top,
+        accepted: found,
+        floor,
+    };
+    Step { head: next, reply }
+}
+
+// A packet that no question refuses.
+fn accepted(
+    head: Head,
+    taken: &mut [u32; Group::MEMBERS],
+    counts: &mut [u32],
+    repeats: &mut [u32],
+    kept: &mut [u32],
+    marks: &mut [u16],
+    originators: &mut [u8],
+    lengths: &mut [u8],
+    payloads: &mut [u8],
+    packet: Packet,
+    payload: &[u8],
+    out: &mut [u8],
+) -> Step
+    requires { ⌜ Due (viewOf (whole head (now taken) (now counts) (now repeats) (now kept) (now marks) (now originators) (now lengths) (now payloads))) packet (length (now payload)) (length (now out)) × Fits (whole head (now taken) (now counts) (now repeats) (now kept) (now marks) (now originators) (now lengths) (now payloads)) ⌝ }
+    ensures { λ r. ⌜ Changed (acceptedStep (viewOf (whole head (now (taken .entry)) (now (counts .entry)) (now (repeats .entry)) (now (kept .entry)) (now (marks .entry)) (now (originators .entry)) (now (lengths .entry)) (now (payloads .entry)))) packet (now (payload .entry))) (r .reply) (whole (r .head) (now (taken .exit)) (now (counts .exit)) (now (repeats .exit)) (now (kept .exit)) (now (marks .exit)) (now (originators .exit)) (now (lengths .exit)) (now (payloads .exit))) (now (out .entry)) (now (out .exit)) ⌝ }
+{
+    let who = confirmed_by(packet);
+    match who {
+        Confirmation::Of(member, number) => confirm(head, marks, member, number, out),
+        Confirmation::None => noted(
+            head,
+            taken,
+            counts,
+            repeats,
+            kept,
+            marks,
+            originators,
+            lengths,
+            payloads,
+            packet,
+            payload,
+            out,
+        ),
+    }
+}
+
+// Fields that were read: what they mean is asked questions 7 to 12, 25, and 16.
 fn take(
     head: Head,
     taken: &mut [u32; Group::MEMBERS],
     counts: &mut [u32],
     repeats: &mut [u32],
     kept: &mut [u32],
+    marks: &mut [u16],
     originators: &mut [u8],
     lengths: &mut [u8],
     payloads: &mut [u8],
@@ -476,13 +743,13 @@ fn take(
     payload: &[u8],
     out: &mut [u8],
 ) -> Step
-    requires { ⌜ Sized (viewOf (whole head (now taken) (now counts) (now repeats) (now kept) (now originators) (now lengths) (now payloads))) (length (now payload)) (length (now out)) × Fits (whole head (now taken) (now counts) (now repeats) (now kept) (now originators) (now lengths) (now payloads)) ⌝ }
-    ensures { λ r. ⌜ Changed (readStep (viewOf (whole head (now (taken .entry)) (now (counts .entry)) (now (repeats .entry)) (now (kept .entry)) (now (originators .entry)) (now (lengths .entry)) (now (payloads .entry)))) (Reading.Fields h) (now (payload .entry))) (r .reply) (whole (r .head) (now (taken .exit)) (now (counts .exit)) (now (repeats .exit)) (now (kept .exit)) (now (originators .exit)) (now (lengths .exit)) (now (payloads .exit))) (now (out .entry)) (now (out .exit)) ⌝ }
+    requires { ⌜ Sized (viewOf (whole head (now taken) (now counts) (now repeats) (now kept) (now marks) (now originators) (now lengths) (now payloads))) (length (now payload)) (length (now out)) × Fits (whole head (now taken) (now counts) (now repeats) (now kept) (now marks) (now originators) (now lengths) (now payloads)) ⌝ }
+    ensures { λ r. ⌜ Changed (readStep (viewOf (whole head (now (taken .entry)) (now (counts .entry)) (now (repeats .entry)) (now (kept .entry)) (now (marks .entry)) (now (originators .entry)) (now (lengths .entry)) (now (payloads .entry)))) (Reading.Fields h) (now (payload .entry))) (r .reply) (whole (r .head) (now (taken .exit)) (now (counts .exit)) (now (repeats .exit)) (now (kept .exit)) (now (marks .exit)) (now (originators .exit)) (now (lengths .exit)) (now (payloads .exit))) (now (out .entry)) (now (out .exit)) ⌝ }
 {
     let packet = Packet::of(h);
     let group = head.group;
     let top = head.top;
-    let v = history::ask_packet(group, counts, top, h.group, packet);
+    let v = history::ask_packet(group, counts, head.accepted, top, h.group, packet);
     match v {
         Verdict::Accepted => accepted(
             head,
@@ -490,6 +757,7 @@ fn take(
             counts,
             repeats,
             kept,
+            marks,
             originators,
             lengths,
             payloads,
@@ -508,13 +776,14 @@ pub fn receive_on(
     counts: &mut [u32; Group::MEMBERS],
     repeats: &mut [u32; Group::MEMBERS],
     kept: &mut [u32; Group::PLACES],
+    marks: &mut [u16; Group::PLACES],
     originators: &mut [u8; Group::PLACES],
     lengths: &mut [u8; Group::PLACES],
     payloads: &mut [u8; Group::HISTORY_BYTES],
     packet: &[u8],
     out: &mut [u8],
 ) -> Step
-    ensures { λ r. ⌜ Received (whole head (now (taken .entry)) (now (counts .entry)) (now (repeats .entry)) (now (kept .entry)) (now (originators .entry)) (now (lengths .entry)) (now (payloads .entry))) (now (packet .entry)) (now (out .entry)) (r .reply) (whole (r .head) (now (taken .exit)) (now (counts .exit)) (now (repeats .exit)) (now (kept .exit)) (now (originators .exit)) (now (lengths .exit)) (now (payloads .exit))) (now (out .exit)) ⌝ }
+    ensures { λ r. ⌜ Received (whole head (now (taken .entry)) (now (counts .entry)) (now (repeats .entry)) (now (kept .entry)) (now (marks .entry)) (now (originators .entry)) (now (lengths .entry)) (now (payloads .entry))) (now (packet .entry)) (now (out .entry)) (r .reply) (whole (r .head) (now (taken .exit)) (now (counts .exit)) (now (repeats .exit)) (now (kept .exit)) (now (marks .exit)) (now (originators .exit)) (now (lengths .exit)) (now (payloads .exit))) (now (out .exit)) ⌝ }
 {
     let v = ask(
         head,
@@ -522,6 +791,7 @@ pub fn receive_on(
         counts,
         repeats,
         kept,
+        marks,
         originators,
         lengths,
         payloads,
@@ -539,6 +809,7 @@ pub fn receive_on(
                         counts,
                         repeats,
                         kept,
+                        marks,
                         originators,
                         lengths,
                         payloads,
@@ -561,12 +832,13 @@ pub fn poll_on(
     counts: &[u32; Group::MEMBERS],
     repeats: &[u32; Group::MEMBERS],
     kept: &[u32; Group::PLACES],
+    marks: &[u16; Group::PLACES],
     originators: &[u8; Group::PLACES],
     lengths: &[u8; Group::PLACES],
     payloads: &[u8; Group::HISTORY_BYTES],
     out: &mut [u8],
 ) -> Reply
-    ensures { λ r. ⌜ Polled (whole head (now (taken .entry)) (now (counts .entry)) (now (repeats .entry)) (now (kept .entry)) (now (originators .entry)) (now (lengths .entry)) (now (payloads .entry))) (now (out .entry)) r (now (out .exit)) ⌝ }
+    ensures { λ r. ⌜ Polled (whole head (now (taken .entry)) (now (counts .entry)) (now (repeats .entry)) (now (kept .entry)) (now (marks .entry)) (now (originators .entry)) (now (lengths .entry)) (now (payloads .entry))) (now (out .entry)) r (now (out .exit)) ⌝ }
 {
     let v = ask(
         head,
@@ -574,6 +846,7 @@ pub fn poll_on(
         counts,
         repeats,
         kept,
+        marks,
         originators,
         lengths,
         payloads,
@@ -591,21 +864,22 @@ pub fn poll_on(
     }
 }
 
-// Question 17, then the broadcast.
+// Question 17, then the packet.
 fn copied(
     head: Head,
     taken: &[u32; Group::MEMBERS],
     counts: &[u32],
     repeats: &[u32],
     kept: &[u32],
+    marks: &[u16],
     originators: &[u8],
     lengths: &[u8],
     payloads: &[u8],
     number: SequenceNumber,
     out: &mut [u8],
 ) -> Reply
-    requires { ⌜ (callVerdict (viewOf (whole head (now taken) (now counts) (now repeats) (now kept) (now originators) (now lengths) (now payloads))) (length (now out)) ≡ Verdict.Accepted) × Fits (whole head (now taken) (now counts) (now repeats) (now kept) (now originators) (now lengths) (now payloads)) ⌝ }
-    ensures { λ r. ⌜ Copied (whole head (now (taken .entry)) (now (counts .entry)) (now (repeats .entry)) (now (kept .entry)) (now (originators .entry)) (now (lengths .entry)) (now (payloads .entry))) number (now (out .entry)) r (now (out .exit)) ⌝ }
+    requires { ⌜ (callVerdict (viewOf (whole head (now taken) (now counts) (now repeats) (now kept) (now marks) (now originators) (now lengths) (now payloads))) (length (now out)) ≡ Verdict.Accepted) × Fits (whole head (now taken) (now counts) (now repeats) (now kept) (now marks) (now originators) (now lengths) (now payloads)) ⌝ }
+    ensures { λ r. ⌜ Copied (whole head (now (taken .entry)) (now (counts .entry)) (now (repeats .entry)) (now (kept .entry)) (now (marks .entry)) (now (originators .entry)) (now (lengths .entry)) (now (payloads .entry))) number (now (out .entry)) r (now (out .exit)) ⌝ }
 {
     let today = head.floor;
     if number.0 <= today.0 {
@@ -615,8 +889,10 @@ fn copied(
         return refused(Refusal::NotInHistory);
     }
     let at = history::place(number.0 as u64);
+    let settled = head.accepted;
     let written = send(
         head.group.number,
+        settled,
         today,
         number,
         at,
@@ -637,13 +913,14 @@ pub fn copy_on(
     counts: &[u32; Group::MEMBERS],
     repeats: &[u32; Group::MEMBERS],
     kept: &[u32; Group::PLACES],
+    marks: &[u16; Group::PLACES],
     originators: &[u8; Group::PLACES],
     lengths: &[u8; Group::PLACES],
     payloads: &[u8; Group::HISTORY_BYTES],
     number: SequenceNumber,
     out: &mut [u8],
 ) -> Reply
-    ensures { λ r. ⌜ Copied (whole head (now (taken .entry)) (now (counts .entry)) (now (repeats .entry)) (now (kept .entry)) (now (originators .entry)) (now (lengths .entry)) (now (payloads .entry))) number (now (out .entry)) r (now (out .exit)) ⌝ }
+    ensures { λ r. ⌜ Copied (whole head (now (taken .entry)) (now (counts .entry)) (now (repeats .entry)) (now (kept .entry)) (now (marks .entry)) (now (originators .entry)) (now (lengths .entry)) (now (payloads .entry))) number (now (out .entry)) r (now (out .exit)) ⌝ }
 {
     let v = ask(
         head,
@@ -651,6 +928,7 @@ pub fn copy_on(
         counts,
         repeats,
         kept,
+        marks,
         originators,
         lengths,
         payloads,
@@ -663,6 +941,7 @@ pub fn copy_on(
             counts,
             repeats,
             kept,
+            marks,
             originators,
             lengths,
             payloads,
@@ -680,22 +959,25 @@ pub fn open_on(
     counts: &mut [u32; Group::MEMBERS],
     repeats: &mut [u32; Group::MEMBERS],
     kept: &mut [u32; Group::PLACES],
+    marks: &mut [u16; Group::PLACES],
     originators: &mut [u8; Group::PLACES],
     lengths: &mut [u8; Group::PLACES],
     payloads: &mut [u8; Group::HISTORY_BYTES],
     n: u8,
     group: u32,
+    resilience: u8,
 ) -> Start
-    ensures { λ r. ⌜ Opens (whole head (now (taken .entry)) (now (counts .entry)) (now (repeats .entry)) (now (kept .entry)) (now (originators .entry)) (now (lengths .entry)) (now (payloads .entry))) n group (r .verdict) (whole (r .head) (now (taken .exit)) (now (counts .exit)) (now (repeats .exit)) (now (kept .exit)) (now (originators .exit)) (now (lengths .exit)) (now (payloads .exit))) ⌝ }
+    ensures { λ r. ⌜ Opens (whole head (now (taken .entry)) (now (counts .entry)) (now (repeats .entry)) (now (kept .entry)) (now (marks .entry)) (now (originators .entry)) (now (lengths .entry)) (now (payloads .entry))) n group resilience (r .verdict) (whole (r .head) (now (taken .exit)) (now (counts .exit)) (now (repeats .exit)) (now (kept .exit)) (now (marks .exit)) (now (originators .exit)) (now (lengths .exit)) (now (payloads .exit))) ⌝ }
 {
     *taken = [0u32; Group::MEMBERS];
     *counts = [0u32; Group::MEMBERS];
     *repeats = [0u32; Group::MEMBERS];
     *kept = [0u32; Group::PLACES];
+    *marks = [0u16; Group::PLACES];
     *originators = [0u8; Group::PLACES];
     *lengths = [0u8; Group::PLACES];
     *payloads = [0u8; Group::HISTORY_BYTES];
-    let opened = Group::fresh(n, group);
+    let opened = Group::fresh(n, group, resilience);
     match opened {
         Opened::Open(g) => {
             let head = fresh_head(g);
@@ -703,7 +985,11 @@ pub fn open_on(
             Start { head, verdict }
         }
         Opened::Refused(q) => {
-            let head = fresh_head(Group { n: 0, number: 0 });
+            let head = fresh_head(Group {
+                n: 0,
+                resilience: 0,
+                number: 0,
+            });
             let verdict = Verdict::Refused(q);
             Start { head, verdict }
         }
@@ -713,24 +999,29 @@ pub fn open_on(
 impl Sequencer {
     // All zero: what a caller has before it opens a group. No call accepts it.
     pub fn closed() -> Self
-        ensures { λ r. ⌜ viewOf r ≡ freshSequencer (descriptionOf 0 0) ⌝ }
+        ensures { λ r. ⌜ viewOf r ≡ freshSequencer (descriptionOf 0 0 0) ⌝ }
     {
-        let head = fresh_head(Group { n: 0, number: 0 });
+        let head = fresh_head(Group {
+            n: 0,
+            resilience: 0,
+            number: 0,
+        });
         Sequencer {
             head,
             taken: [0u32; Group::MEMBERS],
             counts: [0u32; Group::MEMBERS],
             repeats: [0u32; Group::MEMBERS],
             kept: [0u32; Group::PLACES],
+            marks: [0u16; Group::PLACES],
             originators: [0u8; Group::PLACES],
             lengths: [0u8; Group::PLACES],
             payloads: [0u8; Group::HISTORY_BYTES],
         }
     }
 
-    // Opening: question 18. The state is fresh; where opening is refused, it is all zero, and no call accepts it.
-    pub fn open(&mut self, n: u8, group: u32) -> Verdict
-        ensures { λ r. ⌜ Opens (now (self .entry)) n group r (now (self .exit)) ⌝ }
+    // Opening: questions 18 and 24. The state is fresh; where opening is refused, it is all zero, and no call accepts it.
+    pub fn open(&mut self, n: u8, group: u32, resilience: u8) -> Verdict
+        ensures { λ r. ⌜ Opens (now (self .entry)) n group resilience r (now (self .exit)) ⌝ }
     {
         let start = open_on(
             self.head,
@@ -738,11 +1029,13 @@ impl Sequencer {
             &mut self.counts,
             &mut self.repeats,
             &mut self.kept,
+            &mut self.marks,
             &mut self.originators,
             &mut self.lengths,
             &mut self.payloads,
             n,
             group,
+            resilience,
         );
         self.head = start.head;
         start.verdict
@@ -758,6 +1051,7 @@ impl Sequencer {
             &mut self.counts,
             &mut self.repeats,
             &mut self.kept,
+            &mut self.marks,
             &mut self.originators,
             &mut self.lengths,
             &mut self.payloads,
@@ -778,6 +1072,7 @@ impl Sequencer {
             &self.counts,
             &self.repeats,
             &self.kept,
+            &self.marks,
             &self.originators,
             &self.lengths,
             &self.payloads,
@@ -785,7 +1080,7 @@ impl Sequencer {
         )
     }
 
-    // The copy call for a number: its broadcast, with today's floor.
+    // The copy call for a number: its packet, with today's floor.
     pub fn copy(&self, number: SequenceNumber, out: &mut [u8]) -> Reply
         ensures { λ r. ⌜ Copied (now (self .entry)) number (now (out .entry)) r (now (out .exit)) ⌝ }
     {
@@ -795,6 +1090,7 @@ impl Sequencer {
             &self.counts,
             &self.repeats,
             &self.kept,
+            &self.marks,
             &self.originators,
             &self.lengths,
             &self.payloads,

@@ -14,19 +14,19 @@ unfolding run
 run-snoc w [] event = refl
 run-snoc w (e ∷ events) event = run-snoc (step w e) events event
 
-module _ (n number : ℕ) where
+module _ (n number resilience : ℕ) where
   -- what is reached, and that there is room for every member
   abbrev Here : List Event → List Answer → Whole → Type 0
-  Here events answers w = Reached n number events answers w × (sizeOf w ≤ membersMost)
+  Here events answers w = Reached n number resilience events answers w × (sizeOf w ≤ membersMost)
 
-  here : {events : List Event} {answers : List Answer} {w : Whole} → Played n number events answers w → Here events answers w
+  here : {events : List Event} {answers : List Answer} {w : Whole} → Played n number resilience events answers w → Here events answers w
   unfolding run fresh
   here (opened r o accepted) = (record { group = o .group accepted; log = refl }, o .room .members)
   here (played {events} {answers} {w} event r p full e) =
       let h = here p in
       let d = e .does (record { packets = full; members = h .1 }) in
-      let w₀ = run (fresh n number) events in
-      let s : run (fresh n number) (events ++ (event ∷ [])) ≡ step w₀ event = run-snoc (fresh n number) events event in
+      let w₀ = run (fresh n number resilience) events in
+      let s : run (fresh n number resilience) (events ++ (event ∷ [])) ≡ step w₀ event = run-snoc (fresh n number resilience) events event in
       let a : happen (w₀ .group) event .answer ≡ answered r = ap (λ (g : Group). happen g event .answer) (sym (h .0 .group)) ∙ sym (d .answer) in (
         record {
           group = d .group ∙ ap (λ (g : Group). happen g event .group) (h .0 .group) ∙ ap (λ (x : World). x .group) (sym s);
@@ -40,4 +40,4 @@ module _ (n number : ℕ) where
       )
 
 pub played-reached : PlayedReached
-played-reached n number events answers w p = here n number p .0
+played-reached n number resilience events answers w p = here n number resilience p .0

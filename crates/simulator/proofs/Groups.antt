@@ -9,11 +9,11 @@ use Rattle.group.specs.declared.MemberNumber.{MemberNumber}
 use Rattle.group.specs.declared.SequenceNumber.{SequenceNumber}
 use Rattle.packet.specs.Packet.{contentOf, payloadAt, readOf}
 use Rattle.packet.specs.declared.Packet.{Packet}
-use Rattle.packet.specs.declared.Packet.the-variants.{Request, Broadcast, Gap, Status, Poll}
+use Rattle.packet.specs.declared.Packet.the-variants.{Request, Broadcast, Gap, Status, Poll, Offer, Confirm, Accept}
 use Rattle.packet.specs.declared.Reading.{Reading}
 use Rattle.packet.specs.declared.Reading.the-variants.{Fields}
-use Rattle.history.specs.Ask.{senderVerdict, countVerdict, wantedVerdict}
-use Rattle.sequencer.specs.Calls.{Outcome, answered, repeatedOf, oldOf, againOf, fullOf, withMessage, numberedOf, requestOf, gapOf, contentStep, readStep, callVerdict, receiveOf}
+use Rattle.history.specs.Ask.{senderVerdict, countVerdict, wantedVerdict, expectedVerdict}
+use Rattle.sequencer.specs.Calls.{Outcome, answered, repeatedOf, oldOf, againOf, fullOf, withMessage, numberedOf, requestOf, gapOf, withMark, withAccepted, enoughIn, settledOf, confirmOf, contentStep, readStep, callVerdict, receiveOf}
 use Rattle.sequencer.specs.Note.{withTable, noteOf}
 use Rattle.sequencer.specs.State.{Sequencer, lastCount}
 
@@ -40,21 +40,35 @@ module _ (s : Sequencer) where
   unfolding gapOf answered
   gap-has first last = if-elim (Has n) (last .0 ≤? s .floor .0) (λ _. refl) (λ _. refl)
 
+  settled-has : (number : ℕ) → Has n (settledOf s number)
+  unfolding settledOf answered withAccepted
+  settled-has number = if-elim (Has n) (number =? 0) (λ _. refl) (λ _. refl)
+
 module _ (s : Sequencer) where
+  confirm-has : (m : MemberNumber) (number : SequenceNumber) → Has (s .group .n) (confirmOf s m number)
+  unfolding confirmOf answered withMark
+  confirm-has m number =
+      if-elim (Has (s .group .n)) (number .0 ≤? s .accepted .0) (λ _. refl) (λ _. settled-has (withMark s m number) (enoughIn (withMark s m number)))
+
   content-has : (packet : Packet) (payload : List ℕ) → Has (s .group .n) (contentStep s packet payload)
   unfolding contentStep answered noteOf withTable
   content-has (Request sender taken count) payload =
-      judged-elim (Has (s .group .n)) (senderVerdict (s .group .n) (s .top .0) sender taken) (λ _ _. refl)
+      judged-elim (Has (s .group .n)) (senderVerdict (s .group .n) (s .accepted .0) sender taken) (λ _ _. refl)
       (λ _. judged-elim (Has (s .group .n)) (countVerdict (lastCount s sender) (s .top .0) count) (λ _ _. refl)
       (λ _. request-has (noteOf s sender taken) sender count payload))
   content-has (Broadcast originator number count floor) payload = refl
   content-has (Gap sender taken first last) payload =
-      judged-elim (Has (s .group .n)) (senderVerdict (s .group .n) (s .top .0) sender taken) (λ _ _. refl)
+      judged-elim (Has (s .group .n)) (senderVerdict (s .group .n) (s .accepted .0) sender taken) (λ _ _. refl)
       (λ _. judged-elim (Has (s .group .n)) (wantedVerdict (s .top .0) last) (λ _ _. refl)
       (λ _. gap-has (noteOf s sender taken) first last))
   content-has (Status sender taken) payload =
-      judged-elim (Has (s .group .n)) (senderVerdict (s .group .n) (s .top .0) sender taken) (λ _ _. refl) (λ _. refl)
+      judged-elim (Has (s .group .n)) (senderVerdict (s .group .n) (s .accepted .0) sender taken) (λ _ _. refl) (λ _. refl)
   content-has (Poll top floor) payload = refl
+  content-has (Offer originator number count floor) payload = refl
+  content-has (Confirm sender number) payload =
+      judged-elim (Has (s .group .n)) (senderVerdict (s .group .n) (s .top .0) sender number) (λ _ _. refl)
+      (λ _. judged-elim (Has (s .group .n)) (expectedVerdict (s .group) (s .accepted .0) sender number) (λ _ _. refl) (λ _. confirm-has sender number))
+  content-has (Accept number) payload = refl
 
   read-has : (reading : Reading) (payload : List ℕ) → Has (s .group .n) (readStep s reading payload)
   unfolding readStep answered

@@ -12,7 +12,7 @@ use lib.Seq.{take-suc-set}
 use Rattle.group.proofs.Choice.{both-then}
 use Rattle.group.proofs.Lists.{if-elim}
 use Rattle.group.proofs.Question.{accepted≢}
-use Rattle.group.specs.Choice.{_and_, _≤?_}
+use Rattle.group.specs.Choice.{_and_, _<?_, _≤?_}
 use Rattle.group.specs.Limits.{membersMost}
 use Rattle.group.specs.Opening.{openOf}
 use Rattle.group.specs.declared.Opened as group
@@ -35,56 +35,59 @@ use Rattle.simulator.specs.declared.Opened.{Opened}
 use Rattle.simulator.proofs.Lists.{take-map}
 use Rattle.simulator.proofs.Storing.{map-snoc}
 
-module _ (n number : ℕ) where
+module _ (n number resilience : ℕ) where
   abbrev freshAt : ℕ → Member
-  freshAt i = member.freshOf n (record { 0 = i }) number .member
+  freshAt i = member.freshOf n (record { 0 = i }) number resilience .member
 
-  members-snoc : (i k : ℕ) → freshMembers n number i (suc k) ≡ freshMembers n number i k ++ (freshAt (i + k) ∷ [])
+  members-snoc : (i k : ℕ) → freshMembers n number resilience i (suc k) ≡ freshMembers n number resilience i k ++ (freshAt (i + k) ∷ [])
   unfolding freshMembers
   members-snoc i zero = let e : i ≡ i + 0 = omega arith in ap (λ (j : ℕ). freshAt j ∷ []) e
   members-snoc i (suc k) =
       let e : i + 1 + k ≡ i + suc k = omega arith in
-      ap (λ (l : List Member). freshAt i ∷ l) (members-snoc (i + 1) k ∙ ap (λ (j : ℕ). freshMembers n number (i + 1) k ++ (freshAt j ∷ [])) e)
+      ap (λ (l : List Member). freshAt i ∷ l) (members-snoc (i + 1) k ∙ ap (λ (j : ℕ). freshMembers n number resilience (i + 1) k ++ (freshAt j ∷ [])) e)
 
   -- one member more
   pub members-on : (i : ℕ) (members : List stored.Member) (m : stored.Member) → i < length members
-      → map memberView.viewOf (take i members) ≡ freshMembers n number 0 i → memberView.viewOf m ≡ freshAt i
-      → map memberView.viewOf (take (i + 1) (set members i m)) ≡ freshMembers n number 0 (i + 1)
+      → map memberView.viewOf (take i members) ≡ freshMembers n number resilience 0 i → memberView.viewOf m ≡ freshAt i
+      → map memberView.viewOf (take (i + 1) (set members i m)) ≡ freshMembers n number resilience 0 (i + 1)
   members-on i members m h e f =
       rw add-one
       (ap (map memberView.viewOf) (take-suc-set members i m h)
       ∙ map-snoc memberView.viewOf (take i members) m
       ∙ ap (λ (l : List Member). l ++ (memberView.viewOf m ∷ [])) e
-      ∙ ap (λ (x : Member). freshMembers n number 0 i ++ (x ∷ [])) f
-      ∙ ap (λ (j : ℕ). freshMembers n number 0 i ++ (freshAt j ∷ [])) (sym (zero-add i))
+      ∙ ap (λ (x : Member). freshMembers n number resilience 0 i ++ (x ∷ [])) f
+      ∙ ap (λ (j : ℕ). freshMembers n number resilience 0 i ++ (freshAt j ∷ [])) (sym (zero-add i))
       ∙ sym (members-snoc 0 i))
 
   -- the first k of them
-  members-take : (i k j : ℕ) → k ≤ j → take k (freshMembers n number i j) ≡ freshMembers n number i k
+  members-take : (i k j : ℕ) → k ≤ j → take k (freshMembers n number resilience i j) ≡ freshMembers n number resilience i k
   unfolding freshMembers
   members-take i zero j h = refl
   members-take i (suc k) zero h = absurd (omega arith)
   members-take i (suc k) (suc j) h = ap (λ (l : List Member). freshAt i ∷ l) (members-take (i + 1) k j (omega arith))
 
-  -- question 18 leaves a sequencer of n members, 1 to 16, or of none
-  opened-yes : sequencer.freshOf n number .verdict ≡ Verdict.Accepted → (n ≤ membersMost) × (sequencer.freshOf n number .sequencer .group .n ≡ n)
+  -- questions 18 and 24 leave a sequencer of n members, 1 to 16, or of none
+  opened-yes : sequencer.freshOf n number resilience .verdict ≡ Verdict.Accepted → (n ≤ membersMost) × (sequencer.freshOf n number resilience .sequencer .group .n ≡ n)
   unfolding sequencer.freshOf sequencer.openedOf openOf freshSequencer
   opened-yes =
-      if-elim (λ (o : group.Opened). sequencer.openedOf o .verdict ≡ Verdict.Accepted → (n ≤ membersMost) × (sequencer.openedOf o .sequencer .group .n ≡ n)) (1 ≤? n and n ≤? membersMost)
-      (λ t _. (leb-true n membersMost (both-then (1 ≤? n) (n ≤? membersMost) t), refl)) (λ _ e. absurd (accepted≢ Refusal.Opening e))
+      let has : group.Opened → Type 0 = λ o. sequencer.openedOf o .verdict ≡ Verdict.Accepted → (n ≤ membersMost) × (sequencer.openedOf o .sequencer .group .n ≡ n) in
+      if-elim has (1 ≤? n and n ≤? membersMost)
+      (λ t. if-elim has (resilience <? n) (λ _ _. (leb-true n membersMost (both-then (1 ≤? n) (n ≤? membersMost) t), refl)) (λ _ e. absurd (accepted≢ Refusal.Resilience e)))
+      (λ _ e. absurd (accepted≢ Refusal.Opening e))
 
-  opened-few : sequencer.freshOf n number .sequencer .group .n ≤ membersMost
+  opened-few : sequencer.freshOf n number resilience .sequencer .group .n ≤ membersMost
   unfolding sequencer.freshOf sequencer.openedOf openOf freshSequencer
   opened-few =
-      if-elim (λ (o : group.Opened). sequencer.openedOf o .sequencer .group .n ≤ membersMost) (1 ≤? n and n ≤? membersMost)
-      (λ t. leb-true n membersMost (both-then (1 ≤? n) (n ≤? membersMost) t)) (λ _. omega arith)
+      let few : group.Opened → Type 0 = λ o. sequencer.openedOf o .sequencer .group .n ≤ membersMost in
+      if-elim few (1 ≤? n and n ≤? membersMost)
+      (λ t. if-elim few (resilience <? n) (λ _. leb-true n membersMost (both-then (1 ≤? n) (n ≤? membersMost) t)) (λ _. omega arith)) (λ _. omega arith)
 
-  pub opens : (r : Opened) → Starts (sequencer.freshOf n number) (r .verdict) (r .whole .sequencer)
-      → map memberView.viewOf (r .whole .members) ≡ freshMembers n number 0 membersMost → r .whole .packets ≡ replicate packetsMost noPacket → r .whole .count ≡ 0
-      → Opens n number r
+  pub opens : (r : Opened) → Starts (sequencer.freshOf n number resilience) (r .verdict) (r .whole .sequencer)
+      → map memberView.viewOf (r .whole .members) ≡ freshMembers n number resilience 0 membersMost → r .whole .packets ≡ replicate packetsMost noPacket → r .whole .count ≡ 0
+      → Opens n number resilience r
   unfolding groupOf fresh sequencerView.viewOf
   opens r o m p z =
-      let size : sizeOf (r .whole) ≡ sequencer.freshOf n number .sequencer .group .n = ap (λ (s : Sequencer). s .group .n) (o .state) in
+      let size : sizeOf (r .whole) ≡ sequencer.freshOf n number resilience .sequencer .group .n = ap (λ (s : Sequencer). s .group .n) (o .state) in
       record {
         verdict = o .answer;
         sequencer = o .state;
@@ -93,10 +96,10 @@ module _ (n number : ℕ) where
         count = z;
         group = λ yes.
             let q = opened-yes (sym (o .answer) ∙ yes) in
-            let few : map memberView.viewOf (take (sizeOf (r .whole)) (r .whole .members)) ≡ freshMembers n number 0 n =
+            let few : map memberView.viewOf (take (sizeOf (r .whole)) (r .whole .members)) ≡ freshMembers n number resilience 0 n =
             sym (take-map memberView.viewOf (sizeOf (r .whole)) (r .whole .members))
             ∙ ap (take (sizeOf (r .whole))) m
-            ∙ ap (λ (k : ℕ). take k (freshMembers n number 0 membersMost)) (size ∙ q .1)
+            ∙ ap (λ (k : ℕ). take k (freshMembers n number resilience 0 membersMost)) (size ∙ q .1)
             ∙ members-take 0 n membersMost (q .0)
             in
             let none : map packetIn (take (r .whole .count) (r .whole .packets)) ≡ [] = ap (λ (k : ℕ). map packetIn (take k (r .whole .packets))) z in
@@ -118,7 +121,7 @@ members-whole (m ∷ l) (p ∷ k) a b e =
     λ i. first i ∷ rest i
 
 pub opens-whole : OpensWhole
-opens-whole n number r s a b o p =
+opens-whole n number resilience r s a b o p =
     let q = sequencerLeaving.view-whole (r .whole .sequencer) (s .whole .sequencer) (a .sequencer) (b .sequencer) (o .sequencer ∙ sym (p .sequencer)) in
     let l = members-whole (r .whole .members) (s .whole .members) (a .members) (b .members) (o .members ∙ sym (p .members)) in
     let packets = o .packets ∙ sym (p .packets) in

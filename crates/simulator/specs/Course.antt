@@ -23,23 +23,23 @@ pub record Sized (w : Whole) : Type 0 where
 -- an opening settles the whole: two of one group, whose arrays have their lengths, are one, every number and byte
 abbrev pub OpensWhole : Type 0
 OpensWhole =
-    (n number : ℕ) (r s : Opened) → Sized (r .whole) → Sized (s .whole) → Opens n number r → Opens n number s → r ≡ s
+    (n number resilience : ℕ) (r s : Opened) → Sized (r .whole) → Sized (s .whole) → Opens n number resilience r → Opens n number resilience s → r ≡ s
 
 -- what an event was answered
 abbrev pub answered : Happening → Answer
 answered r = answerOf (r .reply) (take (r .written) (r .bytes))
 
 -- a group that was opened, then events that each had room for a packet, and what they were answered
-pub data Played (n number : ℕ) : List Event → List Answer → Whole → Type 0 where
-  opened : (r : Opened) → Opens n number r → r .verdict ≡ Verdict.Accepted → Played n number [] [] (r .whole)
-  played : {events : List Event} {answers : List Answer} {w : Whole} (event : Event) (r : Happening) → Played n number events answers w
-      → w .count < packetsMost → Plays event w r → Played n number (events ++ (event ∷ [])) (answers ++ (answered r ∷ [])) (r .whole)
+pub data Played (n number resilience : ℕ) : List Event → List Answer → Whole → Type 0 where
+  opened : (r : Opened) → Opens n number resilience r → r .verdict ≡ Verdict.Accepted → Played n number resilience [] [] (r .whole)
+  played : {events : List Event} {answers : List Answer} {w : Whole} (event : Event) (r : Happening) → Played n number resilience events answers w
+      → w .count < packetsMost → Plays event w r → Played n number resilience (events ++ (event ∷ [])) (answers ++ (answered r ∷ [])) (r .whole)
 
 -- the group is the world's after those events, and each answer is that of its list
-pub record Reached (n number : ℕ) (events : List Event) (answers : List Answer) (w : Whole) : Type 0 where
-  pub group : groupOf w ≡ run (fresh n number) events .group
-  pub log : map (λ entry. entry .answer) (run (fresh n number) events .log) ≡ answers
+pub record Reached (n number resilience : ℕ) (events : List Event) (answers : List Answer) (w : Whole) : Type 0 where
+  pub group : groupOf w ≡ run (fresh n number resilience) events .group
+  pub log : map (λ entry. entry .answer) (run (fresh n number resilience) events .log) ≡ answers
 
 abbrev pub PlayedReached : Type 0
 PlayedReached =
-    (n number : ℕ) (events : List Event) (answers : List Answer) (w : Whole) → Played n number events answers w → Reached n number events answers w
+    (n number resilience : ℕ) (events : List Event) (answers : List Answer) (w : Whole) → Played n number resilience events answers w → Reached n number resilience events answers w

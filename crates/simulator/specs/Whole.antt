@@ -87,14 +87,14 @@ pub record Plays (event : Event) (w : Whole) (r : Happening) : Type 0 where
 abbrev pub noPacket : Stored
 noPacket = record { length = 0; bytes = zeros }
 
--- the promise of opening: question 18. A place that no member of the group has is all zero; where n is refused, every place is, and
--- the sequencer has no member
-pub record Opens (n number : ℕ) (r : Opened) : Type 0 where
-  pub verdict : r .verdict ≡ freshOf n number .verdict
-  pub sequencer : sequencer.viewOf (r .whole .sequencer) ≡ freshOf n number .sequencer
-  pub members : map member.viewOf (r .whole .members) ≡ freshMembers n number 0 membersMost
+-- the promise of opening: questions 18 and 24. A place that no member of the group has is all zero; where n or the
+-- resilience degree is refused, every place is, and the sequencer has no member
+pub record Opens (n number resilience : ℕ) (r : Opened) : Type 0 where
+  pub verdict : r .verdict ≡ freshOf n number resilience .verdict
+  pub sequencer : sequencer.viewOf (r .whole .sequencer) ≡ freshOf n number resilience .sequencer
+  pub members : map member.viewOf (r .whole .members) ≡ freshMembers n number resilience 0 membersMost
   pub packets : r .whole .packets ≡ replicate packetsMost noPacket
   pub count : r .whole .count ≡ 0
   -- where it is accepted, the group is a fresh one, with room
-  pub group : r .verdict ≡ Verdict.Accepted → groupOf (r .whole) ≡ fresh n number .group
+  pub group : r .verdict ≡ Verdict.Accepted → groupOf (r .whole) ≡ fresh n number resilience .group
   pub room : Room (r .whole)

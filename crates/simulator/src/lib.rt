@@ -68,14 +68,14 @@ fn packets_most() -> usize
 }
 
 // Members 0 to n - 1, fresh; the other places are all zero.
-fn fresh_members(n: u8, number: u32) -> [Member; Group::MEMBERS]
-    ensures { λ r. ⌜ map memberView.viewOf r ≡ world.freshMembers n number 0 membersMost ⌝ }
+fn fresh_members(n: u8, number: u32, resilience: u8) -> [Member; Group::MEMBERS]
+    ensures { λ r. ⌜ map memberView.viewOf r ≡ world.freshMembers n number resilience 0 membersMost ⌝ }
 {
-    let first = open_member(n, MemberNumber(0), number).member;
+    let first = open_member(n, MemberNumber(0), number, resilience).member;
     let mut members = [first; Group::MEMBERS];
     let mut i: usize = 0;
     while i < Group::MEMBERS {
-        let member = open_member(n, MemberNumber(i as u8), number).member;
+        let member = open_member(n, MemberNumber(i as u8), number, resilience).member;
         members[i] = member;
         i += 1;
     }
@@ -147,14 +147,14 @@ impl Whole {
     // The packets that a schedule has room for.
     pub const PACKETS: usize = 200;
 
-    // Opens a group: question 18.
-    pub fn fresh(n: u8, number: u32) -> Opened
-        ensures { λ r. ⌜ Opens n number r ⌝ }
+    // Opens a group: questions 18 and 24.
+    pub fn fresh(n: u8, number: u32, resilience: u8) -> Opened
+        ensures { λ r. ⌜ Opens n number resilience r ⌝ }
     {
-        let opening = open_sequencer(n, number);
+        let opening = open_sequencer(n, number, resilience);
         let sequencer = opening.sequencer;
         let verdict = opening.verdict;
-        let members = fresh_members(n, number);
+        let members = fresh_members(n, number, resilience);
         let none = Stored {
             length: 0,
             bytes: [0u8; Group::PACKET],

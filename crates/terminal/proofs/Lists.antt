@@ -67,7 +67,7 @@ balance i log =
     }
 
 pub closed-alike : ClosedAlike
-closed-alike n number least most short events i j hi hj =
-    let w : World = run (fresh n number) events in
-    let claim = demand3 n number least most short events in
+closed-alike n number resilience o events i j hi hj =
+    let w : World = run (fresh n number resilience) events in
+    let claim = demand3 n number resilience o events in
     same-list i j (run w (closing w) .log) (run w (closing w) .log) (claim .closing-gives i hi ∙ sym (claim .closing-gives j hj))

@@ -1,5 +1,5 @@
--- The order can be read off the packets of a group that was run: after every list of events the first broadcasts of 1, 2, .. are its
--- messages. So the list that is fed them up to t is the terminal's. Assumes nothing.
+-- The order can be read off the packets of a group that was run: after every list of events the first broadcasts or offers of 1, 2, .. are
+-- its messages. So the list that is fed them up to t is the terminal's. Assumes nothing.
 use mathlib.Core.Path.{_≡_, refl, sym, ap, _∙_, subst}
 use mathlib.Core.Bool.{Bool, true, false}
 use mathlib.Core.Option.{Option, none, some}
@@ -18,48 +18,49 @@ use Rattle.group.specs.declared.Refusal.{Refusal}
 use Rattle.group.specs.declared.Refusal.the-variants.{OtherGroup, OtherEnd, NotInHistory}
 use Rattle.group.specs.declared.SequenceNumber.{SequenceNumber}
 use Rattle.group.proofs.Lists.{if-elim, judged-elim, at-le, at-last, All}
-use Rattle.history.specs.Ask.{senderVerdict, countVerdict, wantedVerdict}
+use Rattle.history.specs.Ask.{senderVerdict, countVerdict, wantedVerdict, expectedVerdict}
 use Rattle.history.specs.Note.{largerOf}
 use Rattle.history.specs.Repeat.{findOf}
 use Rattle.jobs.specs.Feed.{feedOf}
 use Rattle.jobs.specs.Job.{noJobs}
 use Rattle.jobs.specs.declared.Job.{Job}
-use Rattle.member.proofs.Acknowledged.{acknowledged-most}
+use Rattle.member.proofs.Acknowledged.{reach-most, acknowledged-reach}
 use Rattle.member.specs.Calls as member
 use Rattle.member.specs.State.{Member}
 use Rattle.message.specs.Order.{Ordered}
-use Rattle.model.proofs.Invariant.{Inv, WorldInv, acknowledgedIn, requestedIn}
+use Rattle.model.proofs.Invariant.{Inv, WorldInv, voiceIn}
 use Rattle.model.proofs.Step.{step-keeps, gather-snoc, next-keeps, run-keeps, fresh-inv}
 use Rattle.model.specs.Log.{gather, numberedIn, order, taken, submitted}
 use Rattle.model.specs.World.{Event, submit, repeat, status, poll, copy, handMember, handSequencer, Group, Happened, missing, withMember, withSequencer, noMember, atMember, handToMember, handToSequencer, happen, World, step, run, fresh}
 use Rattle.model.specs.World as world
-use Rattle.packet.proofs.Facts.{Says, Known}
+use Rattle.packet.proofs.Facts.{Facts, Says, Known}
 use Rattle.packet.proofs.Laws.{read-written}
-use Rattle.packet.specs.Packet.{broadcastKind, headerOf, readOf, payloadAt, contentOf, fieldsOf, headerBytes, packetOf, written}
+use Rattle.packet.specs.Packet.{headerOf, readOf, payloadAt, contentOf, fieldsOf, headerBytes, packetOf, written}
 use Rattle.packet.specs.declared.Header.{Header}
 use Rattle.packet.specs.declared.Packet.{Packet}
-use Rattle.packet.specs.declared.Packet.the-variants.{Request, Broadcast, Gap, Status, Poll}
+use Rattle.packet.specs.declared.Packet.the-variants.{Request, Broadcast, Gap, Status, Poll, Offer, Confirm, Accept}
 use Rattle.packet.specs.declared.Reading.{Reading}
 use Rattle.packet.specs.declared.Reading.the-variants.{Fields}
 use Rattle.sequencer.proofs.Histories.{broadcast-is, broadcast-may}
-use Rattle.sequencer.proofs.Invariant.{SequencerInv}
+use Rattle.sequencer.proofs.Invariant.{SequencerInv, factsOf}
+use Rattle.sequencer.proofs.Packets.{announced-each}
 use Rattle.sequencer.proofs.Ordering.{floor-below}
 use Rattle.sequencer.specs.Calls as sequencer
 use Rattle.sequencer.specs.Note.{noteOf}
 use Rattle.sequencer.specs.Order.{numberedBy}
 use Rattle.sequencer.specs.State.{Sequencer, lastCount}
 use Rattle.sequencer.specs.declared.Answer as sequencerAnswer
-use Rattle.sequencer.specs.declared.Answer.the-variants.{Old, Again, Full, Numbered, Noted, Wanted, Sent}
+use Rattle.sequencer.specs.declared.Answer.the-variants.{Old, Again, Full, Numbered, Noted, Wanted, Sent, Marked}
 use Rattle.terminal.specs.Laws.{ListLeft}
-use Rattle.terminal.specs.Left.{isNext, heardOf, heardAll}
+use Rattle.terminal.specs.Left.{isMessage, isNext, heardOf, heardAll}
 use Rattle.terminal.specs.Take.{fedBy}
 use Rattle.terminal.specs.declared.Left.{Left}
 use Rattle.terminal.proofs.Lists.{list-folds}
 
--- the message that a packet broadcasts under a number
+-- the message that a packet broadcasts or offers under a number
 unfoldable broadcasts : ℕ → Reading → List ℕ → List Ordered
 broadcasts s (Fields h) payload =
-    if h .kind =? broadcastKind and h .a =? s
+    if isMessage h and h .a =? s
     then record { number = s; originator = h .member .0; count = h .b; payload = payload } ∷ []
     else []
 broadcasts s (Reading.Refused refusal) payload = []
@@ -97,7 +98,7 @@ module _ (t : ℕ) where
       ≡ fedBy jobs (take (t + 1 - s) (broadcasts s reading payload ++ orderIn (s + length (broadcasts s reading payload)) rest))
   unfolding heardOf broadcasts isNext fedBy if_then_else_
   heard-one jobs s (Reading.Refused refusal) payload rest more = let e : s ≡ s + 0 = omega arith in more jobs s ∙ ap (λ (k : ℕ). fedBy jobs (take (t + 1 - s) (orderIn k rest))) e
-  heard-one jobs s (Fields h) payload rest more = go (h .kind =? broadcastKind) (h .a =? s) (s ≤? t) refl
+  heard-one jobs s (Fields h) payload rest more = go (isMessage h) (h .a =? s) (s ≤? t) refl
     where
       same : heardAll t (left jobs s) rest .jobs ≡ fedBy jobs (take (t + 1 - s) (orderIn (s + 0) rest))
       same = let e : s ≡ s + 0 = omega arith in more jobs s ∙ ap (λ (k : ℕ). fedBy jobs (take (t + 1 - s) (orderIn k rest))) e
@@ -128,7 +129,7 @@ module _ (t : ℕ) where
 no-zero : {A : Type 0} → _≡_ {A = ℕ} 0 1 → A
 no-zero e = absurd (omega (arith, e))
 
--- a call that answers Numbered writes the broadcast of that number from the state that it leaves
+-- a call that answers Numbered writes the packet of that number from the state that it leaves
 abbrev Copies : sequencer.Outcome → Type 0
 Copies o = (number : SequenceNumber) → o .answer ≡ Numbered number → o .bytes ≡ sequencer.broadcastOf (o .sequencer) (number .0)
 
@@ -166,20 +167,34 @@ gap-copies s first last =
     if-elim Copies (last .0 ≤? s .floor .0) (λ t. quiet s Noted [] (λ number e. no-zero (cc)))
     (λ f. quiet s (Wanted (record { 0 = largerOf (first .0) (s .floor .0 + 1) }) last) [] (λ number e. no-zero (cc)))
 
+confirm-copies : (s : Sequencer) (m : MemberNumber) (number : SequenceNumber) → Copies (sequencer.confirmOf s m number)
+unfolding sequencer.confirmOf sequencer.settledOf sequencer.answered
+confirm-copies s m number =
+    let s′ : Sequencer = sequencer.withMark s m number in
+    let k : ℕ = sequencer.enoughIn s′ in
+    if-elim Copies (number .0 ≤? s .accepted .0) (λ t. quiet s Old [] (λ number e. no-zero (cc)))
+    (λ f. if-elim Copies (k =? 0) (λ t. quiet s′ Marked [] (λ number e. no-zero (cc)))
+    (λ f. quiet (sequencer.withAccepted s′ k) sequencerAnswer.Answer.Accepted (sequencer.acceptPacket (sequencer.withAccepted s′ k)) (λ number e. no-zero (cc))))
+
 content-copies : (s : Sequencer) (content : Packet) (payload : List ℕ) → Copies (sequencer.contentStep s content payload)
 unfolding sequencer.contentStep sequencer.answered
 content-copies s (Request sender taken count) payload =
-    judged-elim Copies (senderVerdict (s .group .n) (s .top .0) sender taken) (λ r e. refused-copies s r)
+    judged-elim Copies (senderVerdict (s .group .n) (s .accepted .0) sender taken) (λ r e. refused-copies s r)
     (λ e. judged-elim Copies (countVerdict (lastCount s sender) (s .top .0) count) (λ r f. refused-copies s r)
     (λ f. request-copies (noteOf s sender taken) sender count payload))
 content-copies s (Broadcast originator number count floor) payload = refused-copies s OtherEnd
 content-copies s (Gap sender taken first last) payload =
-    judged-elim Copies (senderVerdict (s .group .n) (s .top .0) sender taken) (λ r e. refused-copies s r)
+    judged-elim Copies (senderVerdict (s .group .n) (s .accepted .0) sender taken) (λ r e. refused-copies s r)
     (λ e. judged-elim Copies (wantedVerdict (s .top .0) last) (λ r f. refused-copies s r) (λ f. gap-copies (noteOf s sender taken) first last))
 content-copies s (Status sender taken) payload =
-    judged-elim Copies (senderVerdict (s .group .n) (s .top .0) sender taken) (λ r e. refused-copies s r)
+    judged-elim Copies (senderVerdict (s .group .n) (s .accepted .0) sender taken) (λ r e. refused-copies s r)
     (λ e. quiet (noteOf s sender taken) Noted [] (λ number e. no-zero (cc)))
 content-copies s (Poll top floor) payload = refused-copies s OtherEnd
+content-copies s (Offer originator number count floor) payload = refused-copies s OtherEnd
+content-copies s (Confirm sender number) payload =
+    judged-elim Copies (senderVerdict (s .group .n) (s .top .0) sender number) (λ r e. refused-copies s r)
+    (λ e. judged-elim Copies (expectedVerdict (s .group) (s .accepted .0) sender number) (λ r f. refused-copies s r) (λ f. confirm-copies s sender number))
+content-copies s (Accept number) payload = refused-copies s OtherEnd
 
 read-copies : (s : Sequencer) (reading : Reading) (payload : List ℕ) → Copies (sequencer.readStep s reading payload)
 unfolding sequencer.readStep
@@ -201,31 +216,47 @@ copy-copies s number room =
     (λ e. if-elim Copies (s .floor .0 <? number .0 and number .0 ≤? s .top .0) (λ t. quiet s Sent (sequencer.broadcastOf s (number .0)) (λ number e. no-zero (cc)))
     (λ f. refused-copies s NotInHistory))
 
--- ---- a packet that the group knows is no broadcast of the number after the order
-fields-under : (g : ℕ) (ord : List Ordered) (t : ℕ → ℕ) (sb : ℕ → List (List ℕ)) (content : Packet) (payload rest : List ℕ) → Says ord t sb content payload
-    → broadcasts (1 + length ord) (Fields (fieldsOf g content)) rest ≡ []
+-- ---- a packet that the group knows is no message of the number after the order
+fields-under : (g : ℕ) (f : Facts) (content : Packet) (payload rest : List ℕ) → Says f content payload
+    → broadcasts (1 + length (f .order)) (Fields (fieldsOf g content)) rest ≡ []
 unfolding broadcasts fieldsOf if_then_else_
-fields-under g ord t sb (Request sender taken count) payload rest says = refl
-fields-under g ord t sb (Broadcast originator number count floor) payload rest says =
-    let l = at-le ord (number .0) says in
-    rw (ne-eqb (number .0) (1 + length ord) (λ e. omega (arith, l, e)))
-fields-under g ord t sb (Gap sender taken first last) payload rest says = refl
-fields-under g ord t sb (Status sender taken) payload rest says = refl
-fields-under g ord t sb (Poll top floor) payload rest says = refl
+fields-under g f (Request sender taken count) payload rest says = refl
+fields-under g f (Broadcast originator number count floor) payload rest says =
+    let l = at-le (f .order) (number .0) (says .0) in
+    rw (ne-eqb (number .0) (1 + length (f .order)) (λ e. omega (arith, l, e)))
+fields-under g f (Gap sender taken first last) payload rest says = refl
+fields-under g f (Status sender taken) payload rest says = refl
+fields-under g f (Poll top floor) payload rest says = refl
+fields-under g f (Offer originator number count floor) payload rest says =
+    let l = at-le (f .order) (number .0) (says .0) in
+    rw (ne-eqb (number .0) (1 + length (f .order)) (λ e. omega (arith, l, e)))
+fields-under g f (Confirm sender number) payload rest says = refl
+fields-under g f (Accept number) payload rest says = refl
 
-known-under : (g : ℕ) (ord : List Ordered) (t : ℕ → ℕ) (sb : ℕ → List (List ℕ)) (packet : List ℕ) → Known g ord t sb packet → under (1 + length ord) packet ≡ []
-known-under g ord t sb packet k =
+known-under : (g : ℕ) (f : Facts) (packet : List ℕ) → Known g f packet → under (1 + length (f .order)) packet ≡ []
+known-under g f packet k =
     let r : readOf packet ≡ Fields (fieldsOf g (k .content)) = ap readOf (k .bytes-are) ∙ read-written (fieldsOf g (k .content)) (k .payload) (k .allowed) .0 in
-    ap (λ (reading : Reading). broadcasts (1 + length ord) reading (payloadAt packet)) r
-    ∙ fields-under g ord t sb (k .content) (k .payload) (payloadAt packet) (k .says)
+    ap (λ (reading : Reading). broadcasts (1 + length (f .order)) reading (payloadAt packet)) r
+    ∙ fields-under g f (k .content) (k .payload) (payloadAt packet) (k .says)
 
-all-under : (g : ℕ) (ord : List Ordered) (t : ℕ → ℕ) (sb : ℕ → List (List ℕ)) (packets : List (List ℕ)) → All (Known g ord t sb) packets → orderIn (1 + length ord) packets ≡ []
+all-under : (g : ℕ) (f : Facts) (packets : List (List ℕ)) → All (Known g f) packets → orderIn (1 + length (f .order)) packets ≡ []
 unfolding orderIn
-all-under g ord t sb [] k = refl
-all-under g ord t sb (packet ∷ rest) k =
-    let u = known-under g ord t sb packet (k .0) in
-    let e : 1 + length ord + 0 ≡ 1 + length ord = omega arith in
-    rw (u, e) (all-under g ord t sb rest (k .1))
+all-under g f [] k = refl
+all-under g f (packet ∷ rest) k =
+    let u = known-under g f packet (k .0) in
+    let e : 1 + length (f .order) + 0 ≡ 1 + length (f .order) = omega arith in
+    rw (u, e) (all-under g f rest (k .1))
+
+-- the packet of a message, accepted or not, is of its number
+announced-under : (g : ℕ) (accepted : SequenceNumber) (originator : MemberNumber) (number : SequenceNumber) (count : ℕ) (floor : SequenceNumber) (payload : List ℕ)
+    → broadcasts (number .0) (Fields (fieldsOf g (sequencer.announced accepted originator number count floor))) payload
+    ≡ record { number = number .0; originator = originator .0; count = count; payload = payload } ∷ []
+unfolding broadcasts fieldsOf if_then_else_
+announced-under g accepted originator number count floor payload =
+    announced-each
+    (λ (p : Packet). broadcasts (number .0) (Fields (fieldsOf g p)) payload ≡ record { number = number .0; originator = originator .0; count = count; payload = payload } ∷ [])
+    accepted originator number count floor
+    (λ h. rw (eq-eqb (number .0) (number .0) refl)) (λ h. rw (eq-eqb (number .0) (number .0) refl))
 
 all-behind : {A : Type 0} (P : A → Type 0) (a b : List A) → All P (a ++ b) → All P b
 all-behind P [] b h = h
@@ -254,18 +285,21 @@ module _ (group : description.Group) (w : Group) (ord : List Ordered) (tk : ℕ 
   member-grows : (i : ℕ) (o : member.Outcome) (packets : List (List ℕ)) → Grows (withMember w i o packets)
   unfolding numberedIn
   member-grows i o packets tk′ sb′ v′ =
-      let k = subst (λ (l : List Ordered). All (Known (group .number) l (acknowledgedIn (set (w .members) i (o .member))) (requestedIn (set (w .members) i (o .member)) sb′)) (w .packets ++ packets)) (append-nil ord) (v′ .packets) in
-      record { new = packets; packets = refl; order = all-under (group .number) ord _ _ packets (all-behind _ (w .packets) packets k) }
+      let members′ : List Member = set (w .members) i (o .member) in
+      let facts : List Ordered → Facts = λ l. factsOf group l (w .sequencer .accepted .0) (voiceIn members′ sb′) in
+      let k = subst (λ (l : List Ordered). All (Known (group .number) (facts l)) (w .packets ++ packets)) (append-nil ord) (v′ .packets) in
+      record { new = packets; packets = refl; order = all-under (group .number) (facts ord) packets (all-behind _ (w .packets) packets k) }
 
   quiet-grows : (o : sequencer.Outcome) → numberedBy (o .answer) (o .bytes) ≡ [] → Grows (withSequencer w o)
   unfolding numberedIn
   quiet-grows o empty tk′ sb′ v′ =
       let e : ord ++ numberedBy (o .answer) (o .bytes) ≡ ord = ap (λ (l : List Ordered). ord ++ l) empty ∙ append-nil ord in
-      let k = subst (λ (l : List Ordered). All (Known (group .number) l (acknowledgedIn (w .members)) (requestedIn (w .members) sb′)) (w .packets ++ written (o .bytes))) e (v′ .packets) in
-      record { new = written (o .bytes); packets = refl; order = all-under (group .number) ord _ _ (written (o .bytes)) (all-behind _ (w .packets) (written (o .bytes)) k) ∙ sym empty }
+      let facts : List Ordered → Facts = λ l. factsOf group l (o .sequencer .accepted .0) (voiceIn (w .members) sb′) in
+      let k = subst (λ (l : List Ordered). All (Known (group .number) (facts l)) (w .packets ++ written (o .bytes))) e (v′ .packets) in
+      record { new = written (o .bytes); packets = refl; order = all-under (group .number) (facts ord) (written (o .bytes)) (all-behind _ (w .packets) (written (o .bytes)) k) ∙ sym empty }
 
   numbered-grows : (o : sequencer.Outcome) (number : SequenceNumber) → o .answer ≡ Numbered number → Copies o → Grows (withSequencer w o)
-  unfolding numberedIn numberedBy orderIn broadcasts fieldsOf if_then_else_
+  unfolding numberedIn numberedBy orderIn
   numbered-grows o number e copies tk′ sb′ v′ =
       let m : Ordered = record { number = number .0; originator = headerOf (o .bytes) .member .0; count = headerOf (o .bytes) .b; payload = payloadAt (o .bytes) } in
       let is : numberedBy (o .answer) (o .bytes) ≡ m ∷ [] = ap (λ (a : sequencerAnswer.Answer). numberedBy a (o .bytes)) e in
@@ -273,20 +307,25 @@ module _ (group : description.Group) (w : Group) (ord : List Ordered) (tk : ℕ 
       let k : ℕ = suc (length ord) in
       let a = at-last ord m in
       let n : number .0 ≡ k = q .number-is k m a in
-      let t = v′ .terminal 0 low .acknowledged-le in
-      let u = acknowledged-most (v .terminal 0 low) in
+      let t = v′ .terminal 0 low .seat .acknowledged-le in
+      let u = reach-most (v .terminal 0 low .content) in
+      let x = acknowledged-reach (getD (w .members) 0 noMember) in
       let f = floor-below group (ord ++ (m ∷ [])) (o .sequencer) q 0 low in
-      let above : o .sequencer .floor .0 < k = omega (arith, t, u, f) in
-      let b : Packet = Broadcast (record { 0 = m .originator }) (record { 0 = k }) (m .count) (o .sequencer .floor) in
+      let above : o .sequencer .floor .0 < k = omega (arith, t, u, x, f) in
+      let origin : MemberNumber = record { 0 = m .originator } in
+      let number′ : SequenceNumber = record { 0 = k } in
+      let b : Packet = sequencer.announced (o .sequencer .accepted) origin number′ (m .count) (o .sequencer .floor) in
       let p : o .bytes ≡ packetOf (fieldsOf (group .number) b) (m .payload) =
       copies number e ∙ ap (sequencer.broadcastOf (o .sequencer)) n ∙ broadcast-is group (ord ++ (m ∷ [])) (o .sequencer) q k m a above in
       let r = read-written (fieldsOf (group .number) b) (m .payload) (broadcast-may group (ord ++ (m ∷ [])) (o .sequencer) q k m a above) in
       let h : readOf (o .bytes) ≡ Fields (fieldsOf (group .number) b) = ap readOf p ∙ r .0 in
       let one : written (o .bytes) ≡ o .bytes ∷ [] = ap written p ∙ written-packet (fieldsOf (group .number) b) (m .payload) ∙ ap (λ (x : List ℕ). x ∷ []) (sym p) in
-      let s : (k =? (1 + length ord)) ≡ true = eq-eqb k (1 + length ord) (omega arith) in
+      let s : 1 + length ord ≡ k = omega arith in
       let here : under (1 + length ord) (o .bytes) ≡ m ∷ [] =
       ap (λ (reading : Reading). broadcasts (1 + length ord) reading (payloadAt (o .bytes))) h
-      ∙ rw s (ap {B = List Ordered} (λ (x : ℕ). record { number = x; originator = m .originator; count = m .count; payload = m .payload } ∷ []) (omega (arith, n))) in
+      ∙ ap (λ (x : ℕ). broadcasts x (Fields (fieldsOf (group .number) b)) (payloadAt (o .bytes))) s
+      ∙ announced-under (group .number) (o .sequencer .accepted) origin number′ (m .count) (o .sequencer .floor) (payloadAt (o .bytes))
+      ∙ ap {B = List Ordered} (λ (x : ℕ). record { number = x; originator = m .originator; count = m .count; payload = m .payload } ∷ []) (sym n) in
       record {
         new = written (o .bytes);
         packets = refl;
@@ -309,6 +348,8 @@ module _ (group : description.Group) (w : Group) (ord : List Ordered) (tk : ℕ 
       go Noted e = told Noted e refl
       go (Wanted first last) e = told (Wanted first last) e refl
       go Sent e = told Sent e refl
+      go Marked e = told Marked e refl
+      go sequencerAnswer.Answer.Accepted e = told sequencerAnswer.Answer.Accepted e refl
 
   at-grows : (i : ℕ) (call : Member → member.Outcome) → Grows (atMember w i call)
   at-grows i call = if-elim Grows (i <? length (w .members)) (λ b. member-grows i (call (getD (w .members) i noMember)) _) (λ b. missing-grows)
@@ -351,15 +392,16 @@ module _ (group : description.Group) (hn : group .n ≤ membersMost) (hg : group
 
 pub list-left : ListLeft
 unfolding orderIn fresh gather
-list-left n number least most short events i hi =
-    let w : World = run (fresh n number) events in
-    let group = descriptionOf n number in
-    let start = fresh-inv n number least most short in
-    let v = run-keeps group most short (fresh n number) events start in
+list-left n number resilience o events i hi =
+    let first : World = fresh n number resilience in
+    let w : World = run first events in
+    let group = descriptionOf n number resilience in
+    let start = fresh-inv n number resilience o in
+    let v = run-keeps group (o .most) (o .fits) first events start in
     let t : ℕ = getD (w .group .members) i noMember .taken .0 in
     let e : t + 1 - 1 ≡ t = omega arith in
     heard-feeds t noJobs 1 (w .group .packets)
     ∙ ap (λ (k : ℕ). fedBy noJobs (take k (orderIn 1 (w .group .packets)))) e
-    ∙ ap (λ (l : List Ordered). fedBy noJobs (take t l)) (order-read group most short least (fresh n number) events start refl)
-    ∙ ap (fedBy noJobs) (sym (v .terminal i hi .took-is))
+    ∙ ap (λ (l : List Ordered). fedBy noJobs (take t l)) (order-read group (o .most) (o .fits) (o .least) first events start refl)
+    ∙ ap (fedBy noJobs) (sym (v .terminal i hi .content .took-is))
     ∙ sym (list-folds i noJobs (w .log))

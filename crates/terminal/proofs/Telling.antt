@@ -12,7 +12,6 @@ use types.Run.{OneOf}
 use Rattle.group.specs.Choice.{_and_, _≤?_, _=?_}
 use Rattle.group.specs.Lent.{front}
 use Rattle.group.proofs.Choice.{both-then}
-use Rattle.packet.specs.Packet.{broadcastKind}
 use Rattle.packet.specs.declared.Header.{Header}
 use Rattle.group.specs.declared.MemberNumber.{MemberNumber}
 use Rattle.group.specs.declared.SequenceNumber.{SequenceNumber}
@@ -22,8 +21,8 @@ use Rattle.member.specs.Order.{tookBy}
 use Rattle.member.specs.View.{viewOf}
 use Rattle.member.specs.declared.Reply.{Reply}
 use Rattle.member.specs.declared.Answer.{Answer}
-use Rattle.member.specs.declared.Answer.the-variants.{Refused, Sent, Queued, Old, Kept, KeptGap, Beyond, BeyondGap, Gap, Status, None, Took}
-use Rattle.terminal.specs.Left.{isNext}
+use Rattle.member.specs.declared.Answer.the-variants.{Refused, Sent, Queued, Old, Kept, KeptGap, Beyond, BeyondGap, Gap, Status, None, Noted, Took}
+use Rattle.terminal.specs.Left.{isMessage, isNext}
 use Rattle.terminal.specs.Laws.{TakeFeeds}
 use Rattle.terminal.specs.Take.{feedingOf}
 
@@ -42,11 +41,11 @@ no-key x k (j ∷ ks) p (inl e) = let z = p .0 in omega arith
 no-key x k (j ∷ ks) p (inr o) = no-key x j ks (p .1) o
 
 -- Took is the last of the answers
-pub took-key : OneOf (0 ∷ 1 ∷ 2 ∷ 3 ∷ 4 ∷ 5 ∷ 6 ∷ 7 ∷ 8 ∷ 9 ∷ 10 ∷ []) 11 → ⊥
+pub took-key : OneOf (0 ∷ 1 ∷ 2 ∷ 3 ∷ 4 ∷ 5 ∷ 6 ∷ 7 ∷ 8 ∷ 9 ∷ 10 ∷ 11 ∷ []) 12 → ⊥
 unfolding below
 took-key =
-    no-key 11 0 (1 ∷ 2 ∷ 3 ∷ 4 ∷ 5 ∷ 6 ∷ 7 ∷ 8 ∷ 9 ∷ 10 ∷ [])
-    (omega arith, (omega arith, (omega arith, (omega arith, (omega arith, (omega arith, (omega arith, (omega arith, (omega arith, (omega arith, (omega arith, tt)))))))))))
+    no-key 12 0 (1 ∷ 2 ∷ 3 ∷ 4 ∷ 5 ∷ 6 ∷ 7 ∷ 8 ∷ 9 ∷ 10 ∷ 11 ∷ [])
+    (omega arith, (omega arith, (omega arith, (omega arith, (omega arith, (omega arith, (omega arith, (omega arith, (omega arith, (omega arith, (omega arith, (omega arith, tt))))))))))))
 
 pub not-took : (answer : Answer) (bytes : List ℕ)
     → ((number : SequenceNumber) (originator : MemberNumber) (count : ℕ) (more : Bool) → answer ≡ Took number originator count more → ⊥) → tookBy answer bytes ≡ []
@@ -62,6 +61,7 @@ not-took BeyondGap bytes n = refl
 not-took Gap bytes n = refl
 not-took Status bytes n = refl
 not-took None bytes n = refl
+not-took Noted bytes n = refl
 not-took (Took number originator count more) bytes n = absurd (n number originator count more refl)
 
 -- what a take handed out lies at the front of the output
@@ -76,4 +76,4 @@ take-feeds s s′ before after reply jobs t =
 pub next-most : (t number : ℕ) (h : Header) → isNext t number h ≡ true → number ≤ t
 unfolding isNext
 next-most t number h e =
-    leb-true number t (both-then (h .a =? number) (number ≤? t) (both-then (h .kind =? broadcastKind) (h .a =? number and number ≤? t) e))
+    leb-true number t (both-then (h .a =? number) (number ≤? t) (both-then (isMessage h) (h .a =? number and number ≤? t) e))

@@ -15,6 +15,7 @@ use Rattle.member.specs.Promise.{Taken}
 use Rattle.member.specs.View.{viewOf}
 use Rattle.member.specs.declared.Member.{Member as Stored}
 use Rattle.member.specs.declared.Reply.{Reply}
+use Rattle.model.specs.Claim.{Opens}
 use Rattle.model.specs.Closing.{closing}
 use Rattle.model.specs.Log.{taken}
 use Rattle.model.specs.World.{Event, Entry, World, run, fresh}
@@ -48,12 +49,12 @@ ListSound = (i : ℕ) (log : List Entry) → soundOf (listOf i log) ≡ true
 -- after a closing round all terminals of the group hold the same list
 abbrev pub ClosedAlike : Type 0
 ClosedAlike =
-    (n number : ℕ) → 1 ≤ n → n ≤ membersMost → number ≤ largestNumber → (events : List Event) (i j : ℕ) → i < n → j < n
-    → let w : World = run (fresh n number) events in
+    (n number resilience : ℕ) → Opens n number resilience → (events : List Event) (i j : ℕ) → i < n → j < n
+    → let w : World = run (fresh n number resilience) events in
     listOf i (run w (closing w) .log) ≡ listOf j (run w (closing w) .log)
 
 -- what is read off a group that was run is each terminal's list
 abbrev pub ListLeft : Type 0
 ListLeft =
-    (n number : ℕ) → 1 ≤ n → n ≤ membersMost → number ≤ largestNumber → (events : List Event) (i : ℕ) → i < n
-    → listIn (run (fresh n number) events .group) i ≡ listOf i (run (fresh n number) events .log)
+    (n number resilience : ℕ) → Opens n number resilience → (events : List Event) (i : ℕ) → i < n
+    → listIn (run (fresh n number resilience) events .group) i ≡ listOf i (run (fresh n number resilience) events .log)

@@ -7,7 +7,7 @@ use packet::Reading;
 ghost use mathlib.Core.Path.{_≡_};
 ghost use Rattle.member.specs.Order.{tookBy};
 ghost use Rattle.packet.specs.Packet.{readOf, payloadAt};
-ghost use Rattle.terminal.specs.Left.{isNext, heardOf, freshLeft};
+ghost use Rattle.terminal.specs.Left.{isMessage, isNext, heardOf, freshLeft};
 ghost use Rattle.terminal.specs.Take.{feedingOf};
 ghost use Rattle.terminal.specs.Wording.{fedWording};
 
@@ -55,11 +55,21 @@ pub fn feed(jobs: [Job; Group::JOBS], answer: member::Answer, bytes: &[u8]) -> F
     }
 }
 
-// Whether the fields are those of the broadcast of the number that comes next, and it was taken.
+// Whether the fields are those of a message, broadcast or offered.
+fn is_message(h: Header) -> bool
+    ensures { λ r. ⌜ r ≡ isMessage h ⌝ }
+{
+    if h.kind == Header::BROADCAST {
+        return true;
+    }
+    h.kind == Header::OFFER
+}
+
+// Whether the fields are those of the message of the number that comes next, and it was taken.
 fn is_next(taken: SequenceNumber, number: usize, h: Header) -> bool
     ensures { λ r. ⌜ r ≡ isNext (taken .0) number h ⌝ }
 {
-    if h.kind == Header::BROADCAST {
+    if is_message(h) {
         if (h.a as usize) == number {
             return number <= (taken.0 as usize);
         }

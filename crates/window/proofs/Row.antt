@@ -14,7 +14,7 @@ use Rattle.group.specs.Limits.{heldMost}
 use Rattle.group.proofs.Choice.{if-eq-of, if-ne-of}
 use Rattle.group.proofs.Lists.{if-elim, eq-or, le-or}
 use Rattle.message.specs.Message.{Message, emptyMessage, blank}
-use Rattle.window.specs.Places.{placeOf, messageAt, isHeld, lowestMissing, rowEnd, smallerOf}
+use Rattle.window.specs.Places.{placeOf, messageAt, isHeld, lowestMissing, rowEnd, smallerOf, largerOf}
 use Rattle.window.specs.Steps.{Counted, lowestUncounted, rowCounted}
 use Rattle.window.proofs.Missing.{Lowest, lowest-is, lowest-none, held-same}
 use Rattle.window.proofs.Scan.{uncounted}
@@ -87,6 +87,18 @@ module _ {held : List Message} {t k r : ℕ} (w : Row held t k r) where
         (λ e. let z : messageAt held j .count ≡ 0 = rw e empty in absurd (omega arith))
         (λ e. rw (other j e) h))
 
+    -- where one below it is missing, the row stays
+    pub row-same : (low : ℕ) → t < low → low < s → s ≤ t + heldMost → messageAt held low .count ≡ 0 → Row (set held (placeOf s) x) t k r
+    row-same low lo hi near missing =
+        let b = row-below w low lo missing in
+        let a = w .least in
+        record {
+          least = w .least;
+          most = w .most;
+          holds = λ j c d. rw (other j (λ e. omega arith)) (w .holds j c d);
+          hole = λ h. rw (other (r + 1) (λ e. omega arith)) (w .hole h);
+        }
+
   -- the number t + 1 is taken: the row stays, since the number that its place is for next is not held
   pub row-take : (k′ : ℕ) → length held ≡ heldMost → k ≤ heldMost → t < r → r ≤ t + 1 + k′ → (t + k < t + 1 + k′ → k ≡ heldMost) → Row (set held (placeOf (t + 1)) emptyMessage) (t + 1) k′ r
   unfolding emptyMessage
@@ -150,3 +162,12 @@ smaller-le a b = if-elim (λ (c : ℕ). (c ≤ a) × (c ≤ b)) (a <? b) (λ t. 
 pub le-smaller : (a b c : ℕ) → c ≤ a → c ≤ b → c ≤ smallerOf a b
 unfolding smallerOf
 le-smaller a b c x y = if-elim (λ (d : ℕ). c ≤ d) (a <? b) (λ _. x) (λ _. y)
+
+-- the larger of two numbers
+pub larger-le : (a b : ℕ) → (a ≤ largerOf a b) × (b ≤ largerOf a b)
+unfolding largerOf
+larger-le a b = if-elim (λ (c : ℕ). (a ≤ c) × (b ≤ c)) (a <? b) (λ t. let z = ltb-true a b t in (omega arith, le-refl b)) (λ t. (le-refl a, ltb-false a b t))
+
+pub le-larger : (a b c : ℕ) → a ≤ c → b ≤ c → largerOf a b ≤ c
+unfolding largerOf
+le-larger a b c x y = if-elim (λ (d : ℕ). d ≤ c) (a <? b) (λ _. y) (λ _. x)

@@ -35,6 +35,10 @@ unfoldable pub rowEnd : List Message → ℕ → ℕ → ℕ
 rowEnd held t zero = t
 rowEnd held t (suc k) = if isHeld held (t + 1) then rowEnd held (t + 1) k else t
 
+-- the larger of two numbers
+unfoldable pub largerOf : ℕ → ℕ → ℕ
+largerOf a b = if a <? b then b else a
+
 -- the smaller of two numbers
 unfoldable pub smallerOf : ℕ → ℕ → ℕ
 smallerOf a b = if a <? b then a else b

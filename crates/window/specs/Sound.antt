@@ -5,6 +5,7 @@ use Prim.Native.Nat.{ℕ, _-_}
 use Rattle.group.specs.Choice.{if_then_else_, _and_, _<?_, _≤?_, _=?_}
 use Rattle.group.specs.Fold.{allAbove}
 use Rattle.group.specs.Limits.{membersMost, payloadMost, waitingMost, largestNumber}
+use Rattle.group.specs.declared.Group.{Group}
 use Rattle.group.specs.declared.MemberNumber.{MemberNumber}
 use Rattle.message.specs.Message.{Message, zeroBehind, isEmpty}
 use Rattle.window.specs.Places.{messageAt, isHeld, queuedAt}
@@ -38,6 +39,11 @@ waitingSound number submitted waiting queue =
     and waiting ≤? submitted
     and allAbove (queueSound number queue submitted) (submitted - waiting) waitingMost
 
--- n is 1 to 16, and its number is below n
-unfoldable pub frameSound : ℕ → MemberNumber → Bool
-frameSound n number = 1 ≤? n and n ≤? membersMost and number .0 <? n
+-- n is 1 to 16, r is below n, its number is below n, and what it took is accepted
+unfoldable pub frameSound : Group → MemberNumber → ℕ → ℕ → Bool
+frameSound group number taken accepted =
+    1 ≤? group .n
+    and group .n ≤? membersMost
+    and group .resilience <? group .n
+    and number .0 <? group .n
+    and taken ≤? accepted

@@ -6,13 +6,13 @@ use group::SequenceNumber;
 ghost use mathlib.Core.Path.{_≡_};
 ghost use Prim.Native.Nat.{_+_, _-_, _*_, _≤_, _<_};
 ghost use lib.ListN.{length, take, set};
-ghost use Rattle.group.specs.Choice.{_and_, _≤?_, _=?_};
+ghost use Rattle.group.specs.Choice.{_and_, _<?_, _≤?_, _=?_};
 ghost use Rattle.group.specs.Fold.{allAbove};
 ghost use Rattle.group.specs.Lent.{Laid};
 ghost use Rattle.group.specs.Limits.{heldMost, payloadMost, waitingMost, longestPacket, largestNumber};
 ghost use Rattle.message.specs.Message.{isEmpty, messageOf, emptyMessage};
 ghost use Rattle.store.specs.Places.{partOf, Lies, maskOf, messageIn, messagesIn};
-ghost use Rattle.window.specs.Places.{placeOf, queuePlace, smallerOf};
+ghost use Rattle.window.specs.Places.{placeOf, queuePlace, smallerOf, largerOf};
 ghost use Rattle.window.specs.Sound.{placeSound, queueSound, waitingSound, frameSound};
 ghost use Rattle.window.specs.Steps.{messageSound, queuedSound, lowestUncounted, rowCounted};
 
@@ -41,17 +41,28 @@ pub fn lowest_missing(counts: &[u32], taken: SequenceNumber, last: SequenceNumbe
     SequenceNumber(0)
 }
 
-// n is 1 to 16, and the member's number is below n.
-pub fn frame_sound(n: u8, number: MemberNumber) -> bool
-    ensures { λ r. ⌜ r ≡ frameSound n number ⌝ }
+// n is 1 to 16, r is below n, the member's number is below n, and what it took is accepted.
+pub fn frame_sound(
+    group: Group,
+    number: MemberNumber,
+    taken: SequenceNumber,
+    accepted: SequenceNumber,
+) -> bool
+    ensures { λ r. ⌜ r ≡ frameSound group number (taken .0) (accepted .0) ⌝ }
 {
-    if n < 1 {
+    if group.n < 1 {
         return false;
     }
-    if Group::MEMBERS < (n as usize) {
+    if Group::MEMBERS < (group.n as usize) {
         return false;
     }
-    number.0 < n
+    if group.n <= group.resilience {
+        return false;
+    }
+    if group.n <= number.0 {
+        return false;
+    }
+    taken.0 <= accepted.0
 }
 
 // The message with a count lies in place count modulo 5, of those that wait.
@@ -318,6 +329,39 @@ pub fn row_end(counts: &[u32], taken: SequenceNumber) -> SequenceNumber
         return last;
     }
     SequenceNumber(first.0 - 1)
+}
+
+// The larger of two numbers.
+pub fn later(a: SequenceNumber, b: SequenceNumber) -> SequenceNumber
+    ensures { λ r. ⌜ r .0 ≡ largerOf (a .0) (b .0) ⌝ }
+{
+    if a.0 < b.0 {
+        return b;
+    }
+    a
+}
+
+// The smaller of two numbers.
+pub fn earlier(a: SequenceNumber, b: SequenceNumber) -> SequenceNumber
+    ensures { λ r. ⌜ r .0 ≡ smallerOf (a .0) (b .0) ⌝ }
+{
+    if a.0 < b.0 {
+        return a;
+    }
+    b
+}
+
+// Whether the number behind `previous` may be taken: its place has a count, and it is accepted.
+pub fn ready(count: u32, previous: SequenceNumber, accepted: SequenceNumber) -> bool
+    ensures { λ r. ⌜ r ≡ (0 <? count and previous .0 + 1 ≤? accepted .0) ⌝ }
+{
+    if count == 0 {
+        return false;
+    }
+    if accepted.0 <= previous.0 {
+        return false;
+    }
+    true
 }
 
 // Whether that count of that originator is the first that waits, of the member of that number after so many submissions.

@@ -45,7 +45,7 @@ laid-whole {size} {bytes} f =
     record { size = f .ends ∙ z; lent = f .lays ∙ rw z }
 
 -- question 18 of more members than there may be
-pub open-many : (n number : ℕ) → membersMost < n → group.openOf n number ≡ Opened.Refused Opening
+pub open-many : (n number : ℕ) → membersMost < n → group.openOf n number 0 ≡ Opened.Refused Opening
 unfolding group.openOf
 open-many n number h =
     sym (if-false (1 ≤? n and n ≤? membersMost) (Opened.Refused Opening) _ _ (then-fails (1 ≤? n) (n ≤? membersMost) (lt-leb n membersMost h)) refl)

@@ -17,7 +17,7 @@ use Rattle.group.specs.Limits.{membersMost}
 use Rattle.group.proofs.Choice.{if-le, both-hold}
 use Rattle.group.proofs.Lists.{if-elim}
 use Rattle.model.specs.World.{Event, submit, repeat, take, status, poll, copy, handMember, handSequencer}
-use Rattle.schedule.specs.Line.{lineMost, alone, withNumber, submitted, handed, withTwo, formOf, eventOf, opened, openingForm, openingOf}
+use Rattle.schedule.specs.Line.{lineMost, alone, withNumber, submitted, handed, withTwo, formOf, eventOf, opened, openingWith, openingForm, openingOf}
 use Rattle.schedule.specs.declared.Opening.{Opening}
 use Rattle.text.specs.Field.{linesOf, fieldsOf, letterOf, hexIn}
 use Rattle.text.specs.Text.{space}
@@ -142,7 +142,7 @@ module _ (n : ℕ) (one : 1 ≤ n) (most : n ≤ membersMost) where
   events-mean state (suc k) = rw (line-means n (eventFrom n state .event) most (chosen-within n state one), events-mean (eventFrom n state .state) k)
 
 pub load-plays : LoadPlays
-unfolding loadOf openingForm opened letterOf if_then_else_
+unfolding loadOf openingForm openingWith opened letterOf if_then_else_
 load-plays seed n group k one most g =
     let plain : AllPlain (openingFields n group) = (letter-plain (code "N") (omega arith), (decimal-plain n (omega arith), (decimal-plain group g, tt))) in
     record {

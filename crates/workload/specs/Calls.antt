@@ -38,8 +38,9 @@ unfoldable pub opened : ℕ → Opened → Outcome
 opened seed (Opened.Open g) = record { load = loadAt seed (g .n); answer = Answer.Written; bytes = line (openingFields (g .n) (g .number)) }
 opened seed (Opened.Refused refusal) = refused (loadAt 0 0) refusal
 
+-- the group's resilience degree is 0
 abbrev pub openOf : ℕ → ℕ → ℕ → Outcome
-openOf seed n number = opened seed (group.openOf n number)
+openOf seed n number = opened seed (group.openOf n number 0)
 
 -- question 1: is n 1 to 16? Then the line of the next event
 unfoldable pub nextOf : Load → Outcome

@@ -60,7 +60,7 @@ openingText n group = joined (openingFields n group)
 
 pub record LoadReads (seed n group k : ℕ) : Type 0 where
   pub lines : linesOf (loadOf seed n group k) ≡ openingText n group ∷ map eventText (eventsFrom n seed k)
-  pub opens : openingOf (openingText n group) ≡ Opening.Group n group
+  pub opens : openingOf (openingText n group) ≡ Opening.Group n group 0
   pub means : map (λ event. eventOf (eventText event)) (eventsFrom n seed k) ≡ map some (eventsFrom n seed k)
 
 abbrev pub LoadPlays : Type 0

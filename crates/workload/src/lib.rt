@@ -274,7 +274,7 @@ impl Load {
         if (Group::MEMBERS as u32) < n {
             return none.refused(Refusal::Opening);
         }
-        let opened = Group::fresh(n as u8, group);
+        let opened = Group::fresh(n as u8, group, 0);
         match opened {
             Opened::Open(g) => {
                 let written = put_two(b'N', g.n as u32, g.number, out);

@@ -91,6 +91,12 @@ enum-told-9 c = search needs
 word-requires-10 : tie.Need-word-requires-10
 word-requires-10 c κs = search needs
 
+enum-told-10 : tie.Need-enum-told-10
+enum-told-10 c = search needs
+
+word-requires-11 : tie.Need-word-requires-11
+word-requires-11 c κs = search needs
+
 enum-known-answer-3 : tie.Need-enum-known-answer-3
 enum-known-answer-3 c = search needs
 
@@ -146,7 +152,11 @@ returns-11 c = c .word10 .ensures ∙ ap (λ a. toldOf (wordingOf a) (c .before 
 
 returns-12 : tie.Need-returns-12
 unfolding toldOf codeOf wordCode numbersOf numbersIn moreOf moreIn flagOf if_then_else_ wordingOf
-returns-12 c =
+returns-12 c = c .word11 .ensures ∙ ap (λ a. toldOf (wordingOf a) (c .before .before .before .args .reply .written)) (sym (c .before .enum-told10 .given .1))
+
+returns-13 : tie.Need-returns-13
+unfolding toldOf codeOf wordCode numbersOf numbersIn moreOf moreIn flagOf if_then_else_ wordingOf
+returns-13 c =
     let v = c .before .before .before .answer3 .given .0 in
     ap (λ (m : ℕ). took (v .0 .0) (v .1 .0 .0) (v .1 .1 .0) m (c .before .before .before .before .before .args .reply .written)) (c .flag .ensures)
     ∙ ap (λ a. toldOf (wordingOf a) (c .before .before .before .before .before .args .reply .written)) (sym (c .before .before .before .answer3 .given .1))
@@ -179,6 +189,8 @@ member-tells-spec =
     word-requires-9
     enum-told-9
     word-requires-10
+    enum-told-10
+    word-requires-11
     enum-known-answer-3
     cast-t13
     flag-requires
@@ -193,4 +205,5 @@ member-tells-spec =
     returns-9
     returns-10
     returns-11
-    returns-12)
+    returns-12
+    returns-13)

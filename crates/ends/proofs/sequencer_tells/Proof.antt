@@ -69,6 +69,18 @@ enum-told-4 c = search needs
 word-requires-5 : tie.Need-word-requires-5
 word-requires-5 c κs = search needs
 
+enum-told-5 : tie.Need-enum-told-5
+enum-told-5 c = search needs
+
+word-requires-6 : tie.Need-word-requires-6
+word-requires-6 c κs = search needs
+
+enum-told-6 : tie.Need-enum-told-6
+enum-told-6 c = search needs
+
+word-requires-7 : tie.Need-word-requires-7
+word-requires-7 c κs = search needs
+
 returns : tie.Need-returns
 unfolding toldOf codeOf wordCode numbersOf numbersIn moreOf moreIn flagOf if_then_else_ wordingOf
 returns c = c .word .ensures ∙ ap (λ (k : ℕ). plain k (c .before .before .before .before .before .args .reply .written)) (c .before .number .ensures) ∙ ap (λ a. toldOf (wordingOf a) (c .before .before .before .before .before .args .reply .written)) (sym (c .before .before .before .answer .given .1))
@@ -101,6 +113,14 @@ returns-8 : tie.Need-returns-8
 unfolding toldOf codeOf wordCode numbersOf numbersIn moreOf moreIn flagOf if_then_else_ wordingOf
 returns-8 c = c .word5 .ensures ∙ ap (λ a. toldOf (wordingOf a) (c .before .before .before .args .reply .written)) (sym (c .before .enum-told4 .given .1))
 
+returns-9 : tie.Need-returns-9
+unfolding toldOf codeOf wordCode numbersOf numbersIn moreOf moreIn flagOf if_then_else_ wordingOf
+returns-9 c = c .word6 .ensures ∙ ap (λ a. toldOf (wordingOf a) (c .before .before .before .args .reply .written)) (sym (c .before .enum-told5 .given .1))
+
+returns-10 : tie.Need-returns-10
+unfolding toldOf codeOf wordCode numbersOf numbersIn moreOf moreIn flagOf if_then_else_ wordingOf
+returns-10 c = c .word7 .ensures ∙ ap (λ a. toldOf (wordingOf a) (c .before .before .before .args .reply .written)) (sym (c .before .enum-told6 .given .1))
+
 pub sequencer-tells-spec : {M : Type 1} → statement M
 sequencer-tells-spec =
     tie.close
@@ -123,6 +143,10 @@ sequencer-tells-spec =
     numbered-requires-3
     enum-told-4
     word-requires-5
+    enum-told-5
+    word-requires-6
+    enum-told-6
+    word-requires-7
     returns
     returns-2
     returns-3
@@ -130,4 +154,6 @@ sequencer-tells-spec =
     returns-5
     returns-6
     returns-7
-    returns-8)
+    returns-8
+    returns-9
+    returns-10)

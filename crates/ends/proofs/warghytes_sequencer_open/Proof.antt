@@ -67,9 +67,9 @@ abbrev Tell : {M : Type 1} (𝓤 : URA M) (H : Heap 𝓤) (A : Atoms 𝓤) (at-m
 Tell 𝓤 H A at-mem run = tripleOf 𝓤 H A tell.signature (tell.spec 𝓤 H A at-mem run)
 
 module _ {M : Type 1} (𝓤 : URA M) (H : Heap 𝓤) (A : Atoms 𝓤) (W : Given 𝓤 H A) (at-mem : Memory → SProp 𝓤) (run : Routine → Fun 𝓤) (κs : Lfts 1) (qs : Shares 1) (s : RefT Sequencer)
-    (n : ℕ) (n-is : Is u8 n (vint w8 n ∷ [])) (group : ℕ) (group-is : Is u32 group (vint w32 group ∷ [])) where
+    (n : ℕ) (n-is : Is u8 n (vint w8 n ∷ [])) (group : ℕ) (group-is : Is u32 group (vint w32 group ∷ [])) (resilience : ℕ) (resilience-is : Is u8 resilience (vint w8 resilience ∷ [])) where
   abbrev a : Args f.signature κs
-  a = (s, (n, (group, tt)))
+  a = (s, (n, (group, (resilience, tt))))
 
   -- the machine values
   abbrev s-val : Val
@@ -81,8 +81,11 @@ module _ {M : Type 1} (𝓤 : URA M) (H : Heap 𝓤) (A : Atoms 𝓤) (W : Given
   abbrev group-val : Val
   group-val = vint w32 group
 
+  abbrev resilience-val : Val
+  resilience-val = vint w8 resilience
+
   abbrev vals : Vals f.signature κs
-  vals = (s-val ∷ [], (n-val ∷ [], (group-val ∷ [], tt)))
+  vals = (s-val ∷ [], (n-val ∷ [], (group-val ∷ [], (resilience-val ∷ [], tt))))
 
   abbrev Entry : SProp 𝓤
   Entry = onEntry 𝓤 H A f.signature κs qs a vals
@@ -92,7 +95,7 @@ module _ {M : Type 1} (𝓤 : URA M) (H : Heap 𝓤) (A : Atoms 𝓤) (W : Given
 
   -- what the method and the telling promise
   abbrev Said : Verdict → Lasts f.ended κs a → Type 0
-  Said r zs = Opens (s .now) n group r (zs .0)
+  Said r zs = Opens (s .now) n group resilience r (zs .0)
 
   abbrev Telling : Verdict → Told → Type 0
   Telling r t = OpeningTells r t
@@ -105,7 +108,7 @@ module _ {M : Type 1} (𝓤 : URA M) (H : Heap 𝓤) (A : Atoms 𝓤) (W : Given
 
   -- what the two callees' triples bind outside
   abbrev to : On 𝓤 H A at-mem run .Ghost
-  to = ((κs, qs, tt, (s, (n, (group, tt))), (s-val ∷ [], (n-val ∷ [], (group-val ∷ [], tt)))), tt)
+  to = ((κs, qs, tt, (s, (n, (group, (resilience, tt)))), (s-val ∷ [], (n-val ∷ [], (group-val ∷ [], (resilience-val ∷ [], tt))))), tt)
 
   abbrev to-tell : Verdict → Val → Tell 𝓤 H A at-mem run .Ghost
   to-tell r w = ((tt, tt, tt, (r, tt), (w ∷ [], tt)), tt)
@@ -117,16 +120,16 @@ module _ {M : Type 1} (𝓤 : URA M) (H : Heap 𝓤) (A : Atoms 𝓤) (W : Given
   goes-tell r w = qed W (‵ (Y.the-row .own r (w ∷ [])) ∷ []) ∵ nothing ! $ move ! (1 ∷ 0 ∷ []) $ fjoin ! $ nothing ! $ join ! $ frame ! $ done !
 
   module _ (C : Calls 𝓤 H) (Λ : Loops 𝓤 H) (fm : FmC 𝓤 H (W .laws) C) (known : Triple 𝓤 (C #on) (On 𝓤 H A at-mem run)) (told : Triple 𝓤 (C #tell) (Tell 𝓤 H A at-mem run)) where
-    walk : ent 𝓤 Entry (WpFn 𝓤 H C Λ code.function (s-val ∷ n-val ∷ group-val ∷ []) Post)
+    walk : ent 𝓤 Entry (WpFn 𝓤 H C Λ code.function (s-val ∷ n-val ∷ group-val ∷ resilience-val ∷ []) Post)
     walk =
         qed W (raw Entry ∷ []) ∵
-        enter ! C Λ code.function (s-val ∷ n-val ∷ group-val ∷ []) _ $
-        alloc1 ! (λ l₀. alloc1 ! (λ l₁. alloc1 ! (λ l₂. alloc1 ! (λ l₃. alloc1 ! (λ l₄. alloc1 ! (λ l₅. alloc0 ! $ params1 ! $
-        pass1 ! (init ! 8 refl (tt, tt)) $ pass1 ! (init ! 6 refl (uint-lawful 𝓤 H A W w8 .typed n _ n-is .0)) $ pass1 ! (init ! 4 refl (uint-lawful 𝓤 H A W w32 .typed group _ group-is .0)) $ pass0 ! $
-        -- [_5; …; _0 (10); …; the entry (12)]
-        assigns ! (addr ! (from ! (hop ! (look ! 8 refl) (stop !)))) (from ! (stop !)) (init ! 0 refl (tt, tt)) $
-        move ! (12 ∷ []) $ use1 W (raw (On 𝓤 H A at-mem run .pre to)) goes-in $
-        calls-at ! fm (On 𝓤 H A at-mem run) known to (and-then ! (load ! (from ! (stop !)) (look ! 1 refl)) (and-then ! (load ! (from ! (stop !)) (look ! 7 refl)) (and-then ! (load ! (from ! (stop !)) (look ! 5 refl)) (no-more !)))) (λ w.
+        enter ! C Λ code.function (s-val ∷ n-val ∷ group-val ∷ resilience-val ∷ []) _ $
+        alloc1 ! (λ l₀. alloc1 ! (λ l₁. alloc1 ! (λ l₂. alloc1 ! (λ l₃. alloc1 ! (λ l₄. alloc1 ! (λ l₅. alloc1 ! (λ l₆. alloc0 ! $ params1 ! $
+        pass1 ! (init ! 10 refl (tt, tt)) $ pass1 ! (init ! 8 refl (uint-lawful 𝓤 H A W w8 .typed n _ n-is .0)) $ pass1 ! (init ! 6 refl (uint-lawful 𝓤 H A W w32 .typed group _ group-is .0)) $ pass1 ! (init ! 4 refl (uint-lawful 𝓤 H A W w8 .typed resilience _ resilience-is .0)) $ pass0 ! $
+        -- [_6; …; _0 (12); …; the entry (14)]
+        assigns ! (addr ! (from ! (hop ! (look ! 10 refl) (stop !)))) (from ! (stop !)) (init ! 0 refl (tt, tt)) $
+        move ! (14 ∷ []) $ use1 W (raw (On 𝓤 H A at-mem run .pre to)) goes-in $
+        calls-at ! fm (On 𝓤 H A at-mem run) known to (and-then ! (load ! (from ! (stop !)) (look ! 1 refl)) (and-then ! (load ! (from ! (stop !)) (look ! 9 refl)) (and-then ! (load ! (from ! (stop !)) (look ! 7 refl)) (and-then ! (load ! (from ! (stop !)) (look ! 5 refl)) (no-more !))))) (λ w.
         use1 W (later (some (λ (r : Verdict). (raw (alive 𝓤 H A f.signature κs qs) ⊛ ‵ (Y.the-row .own r (w ∷ []))) ⊛ raw (ensured 𝓤 H A on.ended (on.clauses 𝓤 H A at-mem run) κs (to .0 .3) tt r)))) (id⊢ 𝓤 _) $ await ! tt $ pick ! (λ r.
         split ! $ move ! (1 ∷ []) $ use1 W (some (λ (zs : Lasts f.ended κs a). ‵ (lasts f.ended κs a zs) ⊛ raw (fact 𝓤 (Said r zs)))) (id⊢ 𝓤 _) $ pick ! (λ zs.
         split ! $ move ! (1 ∷ []) $ heard ! (Said r zs) (λ e. move ! (1 ∷ []) $ split ! $ move ! (1 ∷ []) $
@@ -138,16 +141,16 @@ module _ {M : Type 1} (𝓤 : URA M) (H : Heap 𝓤) (A : Atoms 𝓤) (W : Given
         split ! $ move ! (1 ∷ []) $ use1 W (some (λ (ys : Lasts tell.ended tt (r, tt)). ‵ (lasts tell.ended tt (r, tt) ys) ⊛ raw (fact 𝓤 (Telling r t)))) (id⊢ 𝓤 _) $ pick ! (λ ys.
         split ! $ drop ! $ heard ! (Telling r t) (λ d. split ! $ drop ! $
         -- [what is told; the tokens; the lasts; the locals (3)]
-        peeks ! Z.the-row (Is Z.the-row) (shows 𝓤 H A Z.the-row) t (v ∷ []) (λ is′. land ! (from ! (stop !)) (init ! 13 refl (LL.lawful Z.the-type Z′.the-laws 𝓤 H A W .typed t _ is′ .0)) $
-        returns ! (look ! 13 refl) $ forget ! 3 refl $ forget ! 5 refl $ forget ! 7 refl $ forget ! 9 refl $ forget ! 11 refl $ forget ! 13 refl $
-        move ! (13 ∷ 14 ∷ []) $ free1 ! $ move ! (11 ∷ 12 ∷ []) $ free1 ! $ move ! (9 ∷ 10 ∷ []) $ free1 ! $ move ! (7 ∷ 8 ∷ []) $ free1 ! $ move ! (5 ∷ 6 ∷ []) $ free1 ! $ move ! (3 ∷ 4 ∷ []) $ free1 ! $ free0 ! $
-        keep ! (1 ∷ 2 ∷ 0 ∷ []) $ by ! (exits v r t zs e d)))))))))))))))))
+        peeks ! Z.the-row (Is Z.the-row) (shows 𝓤 H A Z.the-row) t (v ∷ []) (λ is′. land ! (from ! (stop !)) (init ! 15 refl (LL.lawful Z.the-type Z′.the-laws 𝓤 H A W .typed t _ is′ .0)) $
+        returns ! (look ! 15 refl) $ forget ! 3 refl $ forget ! 5 refl $ forget ! 7 refl $ forget ! 9 refl $ forget ! 11 refl $ forget ! 13 refl $ forget ! 15 refl $
+        move ! (15 ∷ 16 ∷ []) $ free1 ! $ move ! (13 ∷ 14 ∷ []) $ free1 ! $ move ! (11 ∷ 12 ∷ []) $ free1 ! $ move ! (9 ∷ 10 ∷ []) $ free1 ! $ move ! (7 ∷ 8 ∷ []) $ free1 ! $ move ! (5 ∷ 6 ∷ []) $ free1 ! $ move ! (3 ∷ 4 ∷ []) $ free1 ! $ free0 ! $
+        keep ! (1 ∷ 2 ∷ 0 ∷ []) $ by ! (exits v r t zs e d))))))))))))))))))
 
 module _ {M : Type 1} (𝓤 : URA M) (H : Heap 𝓤) (A : Atoms 𝓤) (W : Given 𝓤 H A) (at-mem : Memory → SProp 𝓤) (run : Routine → Fun 𝓤) where
   walks : (C : Calls 𝓤 H) (Λ : Loops 𝓤 H) → FmC 𝓤 H (W .laws) C → Triple 𝓤 (C #on) (On 𝓤 H A at-mem run) → Triple 𝓤 (C #tell) (Tell 𝓤 H A at-mem run) → Walks 𝓤 H A f.ended stayed (WpFn 𝓤 H C Λ code.function) (f.clauses 𝓤 H A at-mem run)
-  walks C Λ fm known told = walked 𝓤 H A f.ended stayed (f.clauses 𝓤 H A at-mem run) (WpFn 𝓤 H C Λ code.function) (λ κs. (ptr-vals, (uint-vals w8, (uint-vals w32, tt))))
-      (λ κs. (mut-tells (named 0) (κs .0) T.the-row, (uint-tells w8, (uint-tells w32, tt))))
-      (λ κs qs bounds a g are. via 𝓤 _ (fst∗ 𝓤 _ (emp 𝓤)) (walk 𝓤 H A W at-mem run κs qs (a .0) (a .1 .0) (are .1 .0) (a .1 .1 .0) (are .1 .1 .0) C Λ fm known told))
+  walks C Λ fm known told = walked 𝓤 H A f.ended stayed (f.clauses 𝓤 H A at-mem run) (WpFn 𝓤 H C Λ code.function) (λ κs. (ptr-vals, (uint-vals w8, (uint-vals w32, (uint-vals w8, tt)))))
+      (λ κs. (mut-tells (named 0) (κs .0) T.the-row, (uint-tells w8, (uint-tells w32, (uint-tells w8, tt)))))
+      (λ κs qs bounds a g are. via 𝓤 _ (fst∗ 𝓤 _ (emp 𝓤)) (walk 𝓤 H A W at-mem run κs qs (a .0) (a .1 .0) (are .1 .0) (a .1 .1 .0) (are .1 .1 .0) (a .1 .1 .1 .0) (are .1 .1 .1 .0) C Λ fm known told))
 
 meets : {M : Type 1} (𝓤 : URA M) (H : Heap 𝓤) (A : Atoms 𝓤) → Given 𝓤 H A → (at-mem : Memory → SProp 𝓤) (run : Routine → Fun 𝓤) (𝓣 : Tables 𝓤 H) → Triple 𝓤 (𝓣 .C #on) (On 𝓤 H A at-mem run) → Triple 𝓤 (𝓣 .C #tell) (Tell 𝓤 H A at-mem run)
     → Meets 𝓤 H A f.signature (WpFn 𝓤 H (𝓣 .C) (𝓣 .Λ) code.function) (f.spec 𝓤 H A at-mem run)

@@ -20,6 +20,15 @@ enum-known-packet-3 c = search needs
 enum-told-2 : tie.Need-enum-told-2
 enum-told-2 c = search needs
 
+enum-told-3 : tie.Need-enum-told-3
+enum-told-3 c = search needs
+
+enum-known-packet-4 : tie.Need-enum-known-packet-4
+enum-known-packet-4 c = search needs
+
+enum-told-4 : tie.Need-enum-told-4
+enum-told-4 c = search needs
+
 returns : tie.Need-returns
 unfolding senderOf
 returns c = rw (c .before .packet .given .1)
@@ -40,17 +49,17 @@ returns-5 : tie.Need-returns-5
 unfolding senderOf
 returns-5 c = rw (c .enum-told2 .given .1)
 
+returns-6 : tie.Need-returns-6
+unfolding senderOf
+returns-6 c = rw (c .enum-told3 .given .1)
+
+returns-7 : tie.Need-returns-7
+unfolding senderOf
+returns-7 c = rw (c .before .packet4 .given .1)
+
+returns-8 : tie.Need-returns-8
+unfolding senderOf
+returns-8 c = rw (c .enum-told4 .given .1)
+
 pub sender-of-spec : {M : Type 1} → statement M
-sender-of-spec =
-    tie.close
-    (tie.spec
-    enum-known-packet
-    enum-told
-    enum-known-packet-2
-    enum-known-packet-3
-    enum-told-2
-    returns
-    returns-2
-    returns-3
-    returns-4
-    returns-5)
+sender-of-spec = tie.close (tie.spec enum-known-packet enum-told enum-known-packet-2 enum-known-packet-3 enum-told-2 enum-told-3 enum-known-packet-4 enum-told-4 returns returns-2 returns-3 returns-4 returns-5 returns-6 returns-7 returns-8)

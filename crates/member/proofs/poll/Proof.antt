@@ -2,13 +2,14 @@
 -- Assumes nothing.
 use mathlib.Core.Path.{_≡_}
 use Prim.Native.Nat.{_+_, _≤_}
+use native.Mathlib.Omega.{arith}
 use denote.Ref.{now}
 use Rattle.group.specs.Limits.{heldMost}
 use Rattle.window.proofs.Row.{smaller-le}
 use Rattle.member.specs.Calls.{pollOf, statusPacket}
 use Rattle.member.specs.Steps.{memberOf}
 use Rattle.member.specs.declared.Answer.{Answer}
-use Rattle.member.proofs.Acknowledged.{end-counted, acknowledged-end}
+use Rattle.member.proofs.Acknowledged.{end-counted}
 use Rattle.member.proofs.Outcomes.{replied-as, sent, none-missing, some-missing}
 use Rattle.member.proofs.View.{reported}
 use borrow.Author.Needs.{needs}
@@ -32,9 +33,9 @@ unfolding pollOf
 returns c =
     λ queue held n. let a = c .before .before .before .before .before .before .before .before .before .before .before .args in
     let m = memberOf (a .head) queue held in
-    let e = end-counted m (now (a .held)) n _ (search needs) (c .before .before .before .before .before .before .before .row-end .ensures) in
+    let e = end-counted m (now (a .held)) n _ (let g = c .before .before .before .before .before .before .before .before .before .before .before .good .0 in omega (arith, g)) (c .before .before .before .before .before .before .before .row-end .ensures) in
     let near : c .before .before .before .before .before .before .before .before .before .reach .result .0 ≤ a .head .taken .0 + heldMost = rw (c .before .before .before .before .before .before .before .before .before .reach .ensures) (smaller-le (a .top .0) (a .head .taken .0 + heldMost) .1) in
-    rw (← c .before .before .before .before .before .before .before .before .before .reach .ensures) (replied-as (none-missing m _ _ e near (search needs) Answer.Gap _ (c .before .before .before .before .if1 .taken)) (sent m Answer.Status (statusPacket m) _ _ _ (reported m _ (acknowledged-end m _ e) (c .before .before .put-status .ensures))))
+    rw (← c .before .before .before .before .before .before .before .before .before .reach .ensures) (replied-as (none-missing m _ _ e near (search needs) Answer.Gap _ (c .before .before .before .before .if1 .taken)) (sent m Answer.Status (statusPacket m) _ _ _ (reported m _ e (c .before .before .put-status .ensures))))
 
 put-gap-requires : tie.Need-put-gap-requires
 put-gap-requires c κs = search needs
@@ -47,7 +48,7 @@ unfolding pollOf
 returns-2 c =
     λ queue held n. let a = c .before .before .before .before .before .before .before .before .before .before .before .args in
     let m = memberOf (a .head) queue held in
-    let e = end-counted m (now (a .held)) n _ (search needs) (c .before .before .before .before .before .before .before .row-end .ensures) in
+    let e = end-counted m (now (a .held)) n _ (let g = c .before .before .before .before .before .before .before .before .before .before .before .good .0 in omega (arith, g)) (c .before .before .before .before .before .before .before .row-end .ensures) in
     let near : c .before .before .before .before .before .before .before .before .before .reach .result .0 ≤ a .head .taken .0 + heldMost = rw (c .before .before .before .before .before .before .before .before .before .reach .ensures) (smaller-le (a .top .0) (a .head .taken .0 + heldMost) .1) in
     rw (← c .before .before .before .before .before .before .before .before .before .reach .ensures) (replied-as (some-missing m _ _ e near (search needs) Answer.Gap _ (c .before .before .before .before .if1 .left)) (sent m Answer.Gap _ _ _ _ (c .before .before .put-gap .ensures)))
 

@@ -9,7 +9,8 @@ use Rattle.packet.proofs.Verdicts.{readable, payload-part}
 use Rattle.member.specs.Calls.{receiveOf, readStep}
 use Rattle.member.specs.Steps.{memberOf}
 use Rattle.member.specs.View.{viewOf}
-use Rattle.member.proofs.Outcomes.{changed, replied-as, quiet, judged-yes, judged-no, asked, ours, others}
+use Rattle.member.proofs.Outcomes.{changed, replied-as, quiet, judged-yes, judged-no, asked, read-obeys, ours, others}
+use Rattle.member.proofs.Soundness.{sound-of}
 use borrow.Author.Needs.{needs}
 use Rattle.member.proofs.receive_on.Statement.{statement}
 use Rattle.member.proofs.receive_on.Tie as tie
@@ -45,10 +46,11 @@ part-content-end : tie.Need-part-content-end
 part-content-end c = let e = payload-part _ _ (sym (c .before .before .before .before .before .before .before .before .before .before .before .before .read .ensures .0) ∙ c .before .before .before .before .before .before .before .before .before .before .r .given .1) in rw (c .before .before .before .before .before .payload-length .ensures, e .0) (search needs)
 
 content-requires : tie.Need-content-requires
+unfolding viewOf
 content-requires c κs =
     let e = sym (c .before .before .before .before .before .before .before .before .before .before .before .before .before .before .read .ensures .0) ∙ c .before .before .before .before .before .before .before .before .before .before .before .before .r .given .1 in
     let s = asked _ _ (sym (c .before .before .before .before .before .before .before .before .before .before .before .before .before .before .before .before .before .ask .ensures) ∙ c .before .before .before .before .before .before .before .before .before .before .before .before .before .before .before .enum-told .given .1) in
-    (rw (c .before .before .before .before .before .before .before .payload-length .ensures, payload-part _ _ e .1) (readable _ _ e .payload), s .1)
+    (sound-of _ (s .0) .n-most, read-obeys _ _ _ _ e (c .before .before .before .before .before .before .before .before .if1 .taken) (c .before .before .of .ensures), rw (c .before .before .before .before .before .before .before .payload-length .ensures, payload-part _ _ e .1) (readable _ _ e .payload), s .1)
 
 same-length : tie.Need-same-length
 same-length c = search needs

@@ -9,7 +9,7 @@ use Rattle.member.specs.Calls.{statusOf, statusPacket}
 use Rattle.member.specs.Steps.{memberOf}
 use Rattle.member.specs.View.{viewOf}
 use Rattle.member.specs.declared.Answer.{Answer}
-use Rattle.member.proofs.Acknowledged.{end-counted, acknowledged-end}
+use Rattle.member.proofs.Acknowledged.{end-counted}
 use Rattle.member.proofs.Outcomes.{told, replied-as, quiet, sent, judged-yes, judged-no, asked}
 use Rattle.member.proofs.View.{reported}
 use borrow.Author.Needs.{needs}
@@ -45,7 +45,7 @@ returns c =
     let held = messagesIn (now (a .held)) (now (a .held-originators)) (now (a .held-lengths)) (now (a .held-payloads)) in
     let m = memberOf (a .head) queue held in
     let e = end-counted m (now (a .held)) (counted-in (now (a .held)) (now (a .held-originators)) (now (a .held-lengths)) (now (a .held-payloads))) _ (let g = c .before .before .before .before .before .before .before .before .before .before .before .before .before .before .before .before .before .before .good .0 in omega (arith, g)) (c .before .before .before .before .row-end .ensures) in
-    told (replied-as (judged-yes _ _ _ (sym (c .before .before .before .before .before .before .before .before .ask .ensures) ∙ c .before .before .before .before .before .before .enum-told .given .1)) (sent m Answer.Sent (statusPacket m) _ _ _ (reported m _ (acknowledged-end m _ e) (c .before .before .put-status .ensures))))
+    told (replied-as (judged-yes _ _ _ (sym (c .before .before .before .before .before .before .before .before .ask .ensures) ∙ c .before .before .before .before .before .before .enum-told .given .1)) (sent m Answer.Sent (statusPacket m) _ _ _ (reported m _ e (c .before .before .put-status .ensures))))
 
 returns-2 : tie.Need-returns-2
 unfolding viewOf statusOf

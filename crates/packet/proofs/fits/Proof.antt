@@ -18,5 +18,9 @@ returns-3 : tie.Need-returns-3
 unfolding payloadFits
 returns-3 c = search (choices, needs) depth 9
 
+returns-4 : tie.Need-returns-4
+unfolding payloadFits
+returns-4 c = search (choices, needs) depth 9
+
 pub fits-spec : {M : Type 1} → statement M
-fits-spec = tie.close (tie.spec returns returns-2 returns-3)
+fits-spec = tie.close (tie.spec returns returns-2 returns-3 returns-4)

@@ -5,7 +5,7 @@ use denote.Ref.{now}
 use Rattle.report.specs.Print.{badOpening, lineRoom}
 use Rattle.player.specs.Play.{openTold}
 use Rattle.player.proofs.Telling.{as-told, tells-closed}
-use Rattle.player.proofs.Opening.{told-many, opened-refused, opened-group}
+use Rattle.player.proofs.Opening.{told-many, told-degree, opened-refused, opened-group}
 use borrow.Author.Needs.{needs}
 use Rattle.player.proofs.open.Statement.{statement}
 use Rattle.player.proofs.open.Tie as tie
@@ -31,7 +31,10 @@ refuse-requires c κs = search needs
 returns : tie.Need-returns
 returns c =
     let o = sym (c .before .before .before .before .opening .given .1) ∙ c .before .before .before .before .before .before .read-opening .ensures in
-    as-told (ap openTold o) (as-told (told-many _ _ (c .before .before .if1 .taken)) (c .refuse .ensures))
+    as-told (ap openTold o) (as-told (told-many _ _ _ (c .before .before .if1 .taken)) (c .refuse .ensures))
+
+degree-requires : tie.Need-degree-requires
+degree-requires c κs = search needs
 
 cast-fresh : tie.Need-cast-fresh
 cast-fresh c = search needs
@@ -42,8 +45,8 @@ fresh-requires c κs = search needs
 enum-told-2 : tie.Need-enum-told-2
 enum-told-2 c = search needs
 
-enum-told-3 : tie.Need-enum-told-3
-enum-told-3 c = search needs
+enum-known-verdict : tie.Need-enum-known-verdict
+enum-known-verdict c = search needs
 
 refuse-requires-2 : tie.Need-refuse-requires-2
 refuse-requires-2 c κs = search needs
@@ -56,13 +59,17 @@ returns-2 c =
 
 returns-3 : tie.Need-returns-3
 returns-3 c =
-    let o = sym (c .before .before .before .before .before .before .opening .given .1) ∙ c .before .before .before .before .before .before .before .before .read-opening .ensures in
-    as-told (ap openTold o) (opened-group _ _ (c .before .before .before .fresh .result) _ _ (c .before .before .before .fresh .ensures) (c .enum-told2 .given .1) refl refl refl refl)
+    let g = c .before .before .before .before .before .before .before .opening .given .0 in
+    let o = sym (c .before .before .before .before .before .before .before .opening .given .1) ∙ c .before .before .before .before .before .before .before .before .before .read-opening .ensures in
+    let d = told-degree (g .0) (g .1 .0) (g .1 .1 .0) (c .before .before .before .before .degree .result) (search needs) (c .before .before .before .before .degree .ensures) in
+    as-told (d ∙ ap openTold o) (opened-group _ _ _ (c .before .before .before .fresh .result) _ _ (c .before .before .before .fresh .ensures) (c .enum-told2 .given .1) refl refl refl refl)
 
 returns-4 : tie.Need-returns-4
 returns-4 c =
-    let o = sym (c .before .before .before .before .before .before .before .before .opening .given .1) ∙ c .before .before .before .before .before .before .before .before .before .before .read-opening .ensures in
-    as-told (ap openTold o) (as-told (opened-refused _ _ (c .before .before .before .before .before .fresh .result) _ (c .before .before .before .before .before .fresh .ensures) (c .before .before .enum-told3 .given .1)) (c .refuse2 .ensures))
+    let g = c .before .before .before .before .before .before .before .before .before .before .opening .given .0 in
+    let o = sym (c .before .before .before .before .before .before .before .before .before .before .opening .given .1) ∙ c .before .before .before .before .before .before .before .before .before .before .before .before .read-opening .ensures in
+    let d = told-degree (g .0) (g .1 .0) (g .1 .1 .0) (c .before .before .before .before .before .before .before .degree .result) (search needs) (c .before .before .before .before .before .before .before .degree .ensures) in
+    as-told (d ∙ ap openTold o) (as-told (opened-refused _ _ _ (c .before .before .before .before .before .before .fresh .result) _ (c .before .before .before .before .before .before .fresh .ensures) (c .before .before .before .verdict .given .1)) (c .refuse2 .ensures))
 
 pub open-spec : {M : Type 1} → statement M
 open-spec =
@@ -75,10 +82,11 @@ open-spec =
     cast-if1
     refuse-requires
     returns
+    degree-requires
     cast-fresh
     fresh-requires
     enum-told-2
-    enum-told-3
+    enum-known-verdict
     refuse-requires-2
     returns-2
     returns-3

@@ -1,7 +1,7 @@
 -- Each answer has its own writer.
 -- Assumes nothing.
 use Rattle.sequencer.specs.Wording.{wordingOf}
-use Rattle.report.specs.Print.{valueText, wordingFields}
+use Rattle.report.specs.Print.{valuesText, wordingFields}
 use borrow.Author.Needs.{needs}
 use Rattle.report.proofs.put_sequencer.Statement.{statement}
 use Rattle.report.proofs.put_sequencer.Tie as tie
@@ -72,61 +72,93 @@ slice-aggregate-put-indexed-2 c = search needs
 put-indexed-requires-2 : tie.Need-put-indexed-requires-2
 put-indexed-requires-2 c κs = search needs
 
+enum-told-5 : tie.Need-enum-told-5
+enum-told-5 c = search needs
+
+slice-aggregate-put-word-3 : tie.Need-slice-aggregate-put-word-3
+slice-aggregate-put-word-3 c = search needs
+
+put-word-requires-3 : tie.Need-put-word-requires-3
+put-word-requires-3 c κs = search needs
+
+enum-told-6 : tie.Need-enum-told-6
+enum-told-6 c = search needs
+
+slice-aggregate-put-indexed-3 : tie.Need-slice-aggregate-put-indexed-3
+slice-aggregate-put-indexed-3 c = search needs
+
+put-indexed-requires-3 : tie.Need-put-indexed-requires-3
+put-indexed-requires-3 c κs = search needs
+
 same-length : tie.Need-same-length
 same-length c = search needs
 
 returns : tie.Need-returns
-unfolding wordingOf wordingFields valueText
+unfolding wordingOf wordingFields valuesText
 returns c = (rw (c .before .before .before .before .before .answer .given .1) (c .before .before .put-refused .ensures .0), search needs)
 
 same-length-2 : tie.Need-same-length-2
 same-length-2 c = search needs
 
 returns-2 : tie.Need-returns-2
-unfolding wordingOf wordingFields valueText
+unfolding wordingOf wordingFields valuesText
 returns-2 c = (rw (c .before .before .before .before .before .enum-told .given .1) (c .before .before .put-word .ensures .0), search needs)
 
 same-length-3 : tie.Need-same-length-3
 same-length-3 c = search needs
 
 returns-3 : tie.Need-returns-3
-unfolding wordingOf wordingFields valueText
+unfolding wordingOf wordingFields valuesText
 returns-3 c = (rw (c .before .before .before .before .before .before .answer2 .given .1) (c .before .before .put-numbered .ensures .0), search needs)
 
 same-length-4 : tie.Need-same-length-4
 same-length-4 c = search needs
 
 returns-4 : tie.Need-returns-4
-unfolding wordingOf wordingFields valueText
+unfolding wordingOf wordingFields valuesText
 returns-4 c = (rw (c .before .before .before .before .before .enum-told2 .given .1) (c .before .before .put-indexed .ensures .0), search needs)
 
 same-length-5 : tie.Need-same-length-5
 same-length-5 c = search needs
 
 returns-5 : tie.Need-returns-5
-unfolding wordingOf wordingFields valueText
+unfolding wordingOf wordingFields valuesText
 returns-5 c = (rw (c .before .before .before .before .before .before .answer3 .given .1) (c .before .before .put-numbered2 .ensures .0), search needs)
 
 same-length-6 : tie.Need-same-length-6
 same-length-6 c = search needs
 
 returns-6 : tie.Need-returns-6
-unfolding wordingOf wordingFields valueText
+unfolding wordingOf wordingFields valuesText
 returns-6 c = (rw (c .before .before .before .before .before .enum-told3 .given .1) (c .before .before .put-word2 .ensures .0), search needs)
 
 same-length-7 : tie.Need-same-length-7
 same-length-7 c = search needs
 
 returns-7 : tie.Need-returns-7
-unfolding wordingOf wordingFields valueText
+unfolding wordingOf wordingFields valuesText
 returns-7 c = (rw (c .before .before .before .before .before .answer4 .given .1) (c .before .before .put-wanted .ensures .0), search needs)
 
 same-length-8 : tie.Need-same-length-8
 same-length-8 c = search needs
 
 returns-8 : tie.Need-returns-8
-unfolding wordingOf wordingFields valueText
+unfolding wordingOf wordingFields valuesText
 returns-8 c = (rw (c .before .before .before .before .before .enum-told4 .given .1) (c .before .before .put-indexed2 .ensures .0), search needs)
+
+same-length-9 : tie.Need-same-length-9
+same-length-9 c = search needs
+
+returns-9 : tie.Need-returns-9
+unfolding wordingOf wordingFields valuesText
+returns-9 c = (rw (c .before .before .before .before .before .enum-told5 .given .1) (c .before .before .put-word3 .ensures .0), search needs)
+
+same-length-10 : tie.Need-same-length-10
+same-length-10 c = search needs
+
+returns-10 : tie.Need-returns-10
+unfolding wordingOf wordingFields valuesText
+returns-10 c = (rw (c .before .before .before .before .before .enum-told6 .given .1) (c .before .before .put-indexed3 .ensures .0), search needs)
 
 pub put-sequencer-spec : {M : Type 1} → statement M
 put-sequencer-spec =
@@ -154,6 +186,12 @@ put-sequencer-spec =
     enum-told-4
     slice-aggregate-put-indexed-2
     put-indexed-requires-2
+    enum-told-5
+    slice-aggregate-put-word-3
+    put-word-requires-3
+    enum-told-6
+    slice-aggregate-put-indexed-3
+    put-indexed-requires-3
     same-length
     returns
     same-length-2
@@ -169,4 +207,8 @@ put-sequencer-spec =
     same-length-7
     returns-7
     same-length-8
-    returns-8)
+    returns-8
+    same-length-9
+    returns-9
+    same-length-10
+    returns-10)

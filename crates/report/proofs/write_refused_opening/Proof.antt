@@ -2,6 +2,7 @@
 -- Assumes nothing.
 use mathlib.Core.List.{[], _∷_}
 use denote.Ref.{now}
+use Rattle.group.specs.Refusal.{numberOf}
 use Rattle.text.specs.Written.{decimalOf}
 use Rattle.report.specs.Print.{wordingFields, lineRoom, refusedOpening}
 use Rattle.text.specs.Text.{textOf}
@@ -12,7 +13,7 @@ use Rattle.report.proofs.write_refused_opening.Statement.{statement}
 use Rattle.report.proofs.write_refused_opening.Tie as tie
 
 returns : tie.Need-returns
-returns c = unwritten lineRoom refusedOpening (now (c .before .before .args .out)) (search needs)
+returns c = unwritten lineRoom (refusedOpening (c .before .before .args .refusal)) (now (c .before .before .args .out)) (search needs)
 
 slice-aggregate-put-text : tie.Need-slice-aggregate-put-text
 slice-aggregate-put-text c = search needs
@@ -38,9 +39,10 @@ same-length c = search needs
 returns-2 : tie.Need-returns-2
 unfolding wordingFields
 returns-2 c =
+    let a = c .before .before .before .before .before .before .before .before .before .before .before .before .before .before .before .before .args in
     let e = c .before .before .before .before .before .before .before .before .number .ensures in
-    written lineRoom refusedOpening (now (c .before .before .before .before .before .before .before .before .before .before .before .before .before .before .before .before .args .out)) (c .before .before .put .result) _ (search needs)
-    (laid-line (textOf "refused") (decimalOf 18 ∷ []) (c .before .before .before .before .before .before .before .before .before .before .before .put-text .ensures) (rw e at (c .before .before .before .before .before .before .put-number .ensures .0)) (c .before .before .put .ensures))
+    written lineRoom (refusedOpening (a .refusal)) (now (a .out)) (c .before .before .put .result) _ (search needs)
+    (laid-line (textOf "refused") (decimalOf (numberOf (a .refusal)) ∷ []) (c .before .before .before .before .before .before .before .before .before .before .before .put-text .ensures) (rw e at (c .before .before .before .before .before .before .put-number .ensures .0)) (c .before .before .put .ensures))
 
 pub write-refused-opening-spec : {M : Type 1} → statement M
 write-refused-opening-spec =

@@ -1,7 +1,7 @@
--- The letter is `N`, and both numbers are there.
+-- The letter is `N`, and the numbers are there.
 -- Assumes nothing.
 use Rattle.group.proofs.Choice.{choices}
-use Rattle.schedule.specs.Line.{openingForm}
+use Rattle.schedule.specs.Line.{openingWith}
 use borrow.Author.Needs.{needs}
 use Rattle.schedule.proofs.read_group.Statement.{statement}
 use Rattle.schedule.proofs.read_group.Tie as tie
@@ -15,15 +15,15 @@ number-requires c κs = search needs
 number-requires-2 : tie.Need-number-requires-2
 number-requires-2 c κs = search needs
 
-both-numbers-requires : tie.Need-both-numbers-requires
-both-numbers-requires c κs = search needs
+all-numbers-requires : tie.Need-all-numbers-requires
+all-numbers-requires c κs = search needs
 
 returns : tie.Need-returns
-unfolding openingForm
+unfolding openingWith
 returns c = rw (← c .before .before .number .ensures, ← c .before .number2 .ensures) (search (choices, needs) depth 9)
 
 returns-2 : tie.Need-returns-2
-unfolding openingForm
+unfolding openingWith
 returns-2 c = search (choices, needs) depth 9
 
 pub read-group-spec : {M : Type 1} → statement M
@@ -33,6 +33,6 @@ read-group-spec =
     letter-requires
     number-requires
     number-requires-2
-    both-numbers-requires
+    all-numbers-requires
     returns
     returns-2)

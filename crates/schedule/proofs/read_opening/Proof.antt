@@ -1,10 +1,10 @@
--- A line over the limit is of another form, and so is one that has not three fields.
+-- A line over the limit is of another form, and so is one of fewer than three fields.
 -- Assumes nothing.
 use mathlib.Core.Path.{subst, sym, ap, _∙_}
 use denote.Ref.{now}
 use Rattle.schedule.specs.Steps.{partsAt, Within}
 use Rattle.schedule.specs.Line.{openingForm}
-use Rattle.schedule.proofs.Forms.{opening-by, opening-long, more-opening}
+use Rattle.schedule.proofs.Forms.{opening-by, opening-long}
 use Rattle.schedule.specs.declared.Parts.{Parts}
 use Rattle.schedule.specs.declared.Parts.the-variants.{One, Two, Three, More}
 use borrow.Author.Needs.{needs}
@@ -31,8 +31,13 @@ read-whole-requires c κs =
     let a = c .before .before .before .before .before .before .args in
     subst (λ (p : Parts). Within p (now (a .line))) (c .before .parts .given .1) (c .before .before .before .fields .ensures .1)
 
-enum-told-3 : tie.Need-enum-told-3
-enum-told-3 c = search needs
+enum-known-parts-2 : tie.Need-enum-known-parts-2
+enum-known-parts-2 c = search needs
+
+read-more-requires : tie.Need-read-more-requires
+read-more-requires c κs =
+    let a = c .before .before .before .before .before .before .args in
+    subst (λ (p : Parts). Within p (now (a .line))) (c .before .parts2 .given .1) (c .before .before .before .fields .ensures .1)
 
 returns-2 : tie.Need-returns-2
 unfolding partsAt openingForm
@@ -53,9 +58,9 @@ returns-4 c =
 
 returns-5 : tie.Need-returns-5
 returns-5 c =
-    let a = c .before .before .before .before .before .args in
-    let g = c .enum-told3 .given .0 in
-    sym (opening-by (now (a .line)) (More (g .0) (g .1 .0) (g .1 .1 .0)) (search needs) (c .before .before .fields .ensures .0 ∙ ap (λ (p : Parts). partsAt p (now (a .line))) (c .enum-told3 .given .1)) ∙ more-opening (now (a .line)) (g .0) (g .1 .0) (g .1 .1 .0))
+    let a = c .before .before .before .before .before .before .before .args in
+    let g = c .before .before .parts2 .given .0 in
+    c .read-more .ensures ∙ sym (opening-by (now (a .line)) (More (g .0) (g .1 .0) (g .1 .1 .0)) (search needs) (c .before .before .before .before .fields .ensures .0 ∙ ap (λ (p : Parts). partsAt p (now (a .line))) (c .before .before .parts2 .given .1)))
 
 pub read-opening-spec : {M : Type 1} → statement M
 read-opening-spec =
@@ -67,7 +72,8 @@ read-opening-spec =
     enum-told-2
     enum-known-parts
     read-whole-requires
-    enum-told-3
+    enum-known-parts-2
+    read-more-requires
     returns-2
     returns-3
     returns-4

@@ -4,6 +4,7 @@ use mathlib.Core.Path.{sym}
 use Prim.Native.Nat.{_+_}
 use denote.Ref.{now}
 use lib.Seq.{length-take-le}
+use Rattle.schedule.specs.Line.{openingForm}
 use Rattle.schedule.specs.Steps.{partsAt}
 use Rattle.schedule.proofs.Forms.{to-end}
 use borrow.Author.Needs.{needs}
@@ -41,7 +42,7 @@ read-group-requires : tie.Need-read-group-requires
 read-group-requires c κs = search needs
 
 returns : tie.Need-returns
-unfolding partsAt
+unfolding partsAt openingForm
 returns c = let a = c .before .before .before .before .before .args in rw (to-end (now (a .line)) (a .b + 1)) at (c .read-group .ensures)
 
 pub read-whole-spec : {M : Type 1} → statement M

@@ -1,115 +1,32 @@
--- A is noted, what the floor passes is cleared, and the change is laid in: by the law of `View` this is the step.
+-- A confirmation, or a packet that is noted.
 -- Assumes nothing.
-use mathlib.Core.Path.{ap, _∙_}
-use native.Mathlib.Omega.{arith}
+use mathlib.Core.Path.{sym, ap, _∙_}
 use denote.Ref.{now}
-use Rattle.history.specs.declared.Sender.{Sender}
-use Rattle.sequencer.specs.View.{viewOf}
-use Rattle.sequencer.proofs.Soundness.{sound-of}
-use Rattle.sequencer.proofs.View.{inside, next-left, next-sends, accepted-changed}
+use Rattle.sequencer.specs.View.{whole, viewOf}
+use Rattle.sequencer.proofs.Outcomes.{changed-as}
+use Rattle.sequencer.proofs.Confirmed.{confirm-inside, confirm-is, confirm-changed}
 use borrow.Author.Needs.{needs}
 use Rattle.sequencer.proofs.accepted.Statement.{statement}
 use Rattle.sequencer.proofs.accepted.Tie as tie
 
-sender-of-requires : tie.Need-sender-of-requires
-sender-of-requires c κs = search needs
+confirmed-by-requires : tie.Need-confirmed-by-requires
+confirmed-by-requires c κs = search needs
 
-note-requires : tie.Need-note-requires
-unfolding viewOf
-note-requires c κs =
+enum-known-who : tie.Need-enum-known-who
+enum-known-who c = search needs
+
+confirm-requires : tie.Need-confirm-requires
+confirm-requires c κs =
     let a = c .before .before .before .before .before .before .before .before .before .before .before .before .before .before .before .args in
     let p = c .before .before .before .before .before .before .before .before .before .before .before .before .before .before .before .pre in
-    (sound-of _ (p .0 .sizes .sound) .n-most, rw (c .before .before .before .before .before .before .sender-of .ensures) (inside (a .head) (now (a .taken)) (now (a .counts)) (now (a .repeats)) (now (a .kept)) (now (a .originators)) (now (a .lengths)) (now (a .payloads)) (p .1) (a .packet) (now (a .payload)) _ (p .0)))
+    let e = sym (c .before .before .before .before .before .confirmed-by .ensures) ∙ c .before .before .before .who .given .1 in
+    (confirm-inside (a .head) (now (a .taken)) (now (a .counts)) (now (a .repeats)) (now (a .kept)) (now (a .marks)) (now (a .originators)) (now (a .lengths)) (now (a .payloads)) (p .1) (a .packet) (now (a .payload)) _ (p .0) _ _ e, p .1 .marks-size, p .0 .sizes .output)
 
-clear-requires : tie.Need-clear-requires
-clear-requires c κs = c .before .before .before .before .before .before .before .before .before .before .before .before .before .before .before .before .before .before .before .before .pre .1 .places
+enum-told : tie.Need-enum-told
+enum-told c = search needs
 
-cast-member : tie.Need-cast-member
-cast-member c = search needs
-
-mul-count : tie.Need-mul-count
-mul-count c = search needs
-
-slice-read-count : tie.Need-slice-read-count
-slice-read-count c =
-    let a = c .before .before .before .before .before .before .before .before .before .before .before .before .before .before .before .before .before .before .before .before .before .before .before .before .before .before .before .before .before .before .before .args in
-    let p = c .before .before .before .before .before .before .before .before .before .before .before .before .before .before .before .before .before .before .before .before .before .before .before .before .before .before .before .before .before .before .before .pre in
-    let from = c .before .before .before .before .before .before .before .before .before .before .before .before .before .before .before .before .before .before .before .before .before .before .sender-of .ensures in
-    let i = inside (a .head) (now (a .taken)) (now (a .counts)) (now (a .repeats)) (now (a .kept)) (now (a .originators)) (now (a .lengths)) (now (a .payloads)) (p .1) (a .packet) (now (a .payload)) _ (p .0) in
-    let e = ap (λ (x : Sender). x .member .0) from in
-    let n = p .1 .entries in
-    omega (arith, i, e, n .counts-size)
-
-mul-again : tie.Need-mul-again
-mul-again c = search needs
-
-slice-read-again : tie.Need-slice-read-again
-slice-read-again c =
-    let a = c .before .before .before .before .before .before .before .before .before .before .before .before .before .before .before .before .before .before .before .before .before .before .before .before .before .before .before .before .before .before .before .before .args in
-    let p = c .before .before .before .before .before .before .before .before .before .before .before .before .before .before .before .before .before .before .before .before .before .before .before .before .before .before .before .before .before .before .before .before .pre in
-    let from = c .before .before .before .before .before .before .before .before .before .before .before .before .before .before .before .before .before .before .before .before .before .before .before .sender-of .ensures in
-    let i = inside (a .head) (now (a .taken)) (now (a .counts)) (now (a .repeats)) (now (a .kept)) (now (a .originators)) (now (a .lengths)) (now (a .payloads)) (p .1) (a .packet) (now (a .payload)) _ (p .0) in
-    let e = ap (λ (x : Sender). x .member .0) from in
-    let n = p .1 .entries in
-    omega (arith, i, e, n .repeats-size)
-
-packet-change-requires : tie.Need-packet-change-requires
-packet-change-requires c κs =
-    let a = c .before .before .before .before .before .before .before .before .before .before .before .before .before .before .before .before .before .before .before .before .before .before .before .before .before .before .before .before .before .before .before .before .before .before .args in
-    let p = c .before .before .before .before .before .before .before .before .before .before .before .before .before .before .before .before .before .before .before .before .before .before .before .before .before .before .before .before .before .before .before .before .before .before .pre in
-    let from = c .before .before .before .before .before .before .before .before .before .before .before .before .before .before .before .before .before .before .before .before .before .before .before .before .before .sender-of .ensures in
-    let noted = rw from at (c .before .before .before .before .before .before .before .before .before .before .before .before .before .before .before .before .before .before .note .ensures .0) in
-    let next = c .before .before .before .before .before .before .before .before .before .before .before .before .before .before .before .before .before .before .note .ensures .1 in
-    (rw from (next-left (a .head) (now (a .taken)) (now (a .counts)) (now (a .repeats)) (now (a .kept)) (now (a .originators)) (now (a .lengths)) (now (a .payloads)) (p .1) (a .packet) (now (a .payload)) _ (p .0) _ _ _ _ _ _ noted next (c .before .before .before .before .before .before .before .before .before .before .before .before .before .clear .ensures)), c .before .before .before .before .before .before .before .before .before .before .before .before .kept .given ∙ p .1 .places .kept-size, c .before .before .before .before .before .before .before .before .before .before .originators .given ∙ p .1 .places .originators-size)
-
-mul-counts : tie.Need-mul-counts
-mul-counts c = search needs
-
-slice-write-counts : tie.Need-slice-write-counts
-slice-write-counts c =
-    let a = c .before .before .before .before .before .before .before .before .before .before .before .before .before .before .before .before .before .before .before .before .before .before .before .before .before .before .before .before .before .before .before .before .before .before .before .args in
-    let p = c .before .before .before .before .before .before .before .before .before .before .before .before .before .before .before .before .before .before .before .before .before .before .before .before .before .before .before .before .before .before .before .before .before .before .before .pre in
-    let from = c .before .before .before .before .before .before .before .before .before .before .before .before .before .before .before .before .before .before .before .before .before .before .before .before .before .before .sender-of .ensures in
-    let i = inside (a .head) (now (a .taken)) (now (a .counts)) (now (a .repeats)) (now (a .kept)) (now (a .originators)) (now (a .lengths)) (now (a .payloads)) (p .1) (a .packet) (now (a .payload)) _ (p .0) in
-    let e = ap (λ (x : Sender). x .member .0) from in
-    let n = p .1 .entries in
-    omega (arith, i, e, n .counts-size)
-
-mul-repeats : tie.Need-mul-repeats
-mul-repeats c = search needs
-
-slice-write-repeats : tie.Need-slice-write-repeats
-slice-write-repeats c =
-    let a = c .before .before .before .before .before .before .before .before .before .before .before .before .before .before .before .before .before .before .before .before .before .before .before .before .before .before .before .before .before .before .before .before .before .before .before .args in
-    let p = c .before .before .before .before .before .before .before .before .before .before .before .before .before .before .before .before .before .before .before .before .before .before .before .before .before .before .before .before .before .before .before .before .before .before .before .pre in
-    let from = c .before .before .before .before .before .before .before .before .before .before .before .before .before .before .before .before .before .before .before .before .before .before .before .before .before .before .sender-of .ensures in
-    let i = inside (a .head) (now (a .taken)) (now (a .counts)) (now (a .repeats)) (now (a .kept)) (now (a .originators)) (now (a .lengths)) (now (a .payloads)) (p .1) (a .packet) (now (a .payload)) _ (p .0) in
-    let e = ap (λ (x : Sender). x .member .0) from in
-    let n = p .1 .entries in
-    omega (arith, i, e, n .repeats-size)
-
-lay-requires : tie.Need-lay-requires
-lay-requires c κs =
-    let p = c .before .before .before .before .before .before .before .before .before .before .before .before .before .before .before .before .before .before .before .before .before .before .before .before .before .before .before .before .before .before .before .before .before .before .before .before .before .before .before .before .pre in
-    (p .0 .sizes .payload, record { kept-size = c .before .before .before .before .before .before .before .before .before .before .before .before .before .before .before .before .before .before .kept .given ∙ p .1 .places .kept-size; originators-size = c .before .before .before .before .before .before .before .before .before .before .before .before .before .before .before .before .originators .given ∙ p .1 .places .originators-size; lengths-size = c .before .before .before .before .before .before .before .before .before .before .before .before .before .before .lengths .given ∙ p .1 .places .lengths-size; payloads-size = c .before .before .before .before .before .before .before .before .before .before .before .before .payloads .given ∙ p .1 .places .payloads-size })
-
-cast-place : tie.Need-cast-place
-cast-place c = search needs
-
-place-requires : tie.Need-place-requires
-place-requires c κs = search needs
-
-send-answer-requires : tie.Need-send-answer-requires
-send-answer-requires c κs =
-    let a = c .before .before .before .before .before .before .before .before .before .before .before .before .before .before .before .before .before .before .before .before .before .before .before .before .before .before .before .before .before .before .before .before .before .before .before .before .before .before .before .before .before .before .before .before .before .before .before .before .before .before .before .before .before .before .before .before .before .args in
-    let p = c .before .before .before .before .before .before .before .before .before .before .before .before .before .before .before .before .before .before .before .before .before .before .before .before .before .before .before .before .before .before .before .before .before .before .before .before .before .before .before .before .before .before .before .before .before .before .before .before .before .before .before .before .before .before .before .before .before .pre in
-    let from = c .before .before .before .before .before .before .before .before .before .before .before .before .before .before .before .before .before .before .before .before .before .before .before .before .before .before .before .before .before .before .before .before .before .before .before .before .before .before .before .before .before .before .before .before .before .before .before .before .sender-of .ensures in
-    let noted = rw from at (c .before .before .before .before .before .before .before .before .before .before .before .before .before .before .before .before .before .before .before .before .before .before .before .before .before .before .before .before .before .before .before .before .before .before .before .before .before .before .before .before .before .note .ensures .0) in
-    let next = c .before .before .before .before .before .before .before .before .before .before .before .before .before .before .before .before .before .before .before .before .before .before .before .before .before .before .before .before .before .before .before .before .before .before .before .before .before .before .before .before .before .note .ensures .1 in
-    let change = rw from at (c .before .before .before .before .before .before .before .before .before .before .before .before .before .before .before .before .before .before .before .before .before .before .packet-change .ensures) in
-    let laid = rw (change, from) at (c .before .before .before .before .before .before .before .before .before .before .before .before .before .before .before .before .lay .ensures) in
-    let at = c .before .before .before .before .before .before .place .ensures in
-    (omega (arith, at), rw (at, change) (next-sends (a .head) (now (a .taken)) (now (a .counts)) (now (a .repeats)) (now (a .kept)) (now (a .originators)) (now (a .lengths)) (now (a .payloads)) (p .1) (a .packet) (now (a .payload)) _ (p .0) _ _ _ _ _ _ noted next (c .before .before .before .before .before .before .before .before .before .before .before .before .before .before .before .before .before .before .before .before .before .before .before .before .before .before .before .before .before .before .before .before .before .before .before .before .clear .ensures) _ _ _ _ laid), p .0 .sizes .output, record { kept-size = c .before .before .before .before .before .before .before .before .before .before .before .before .before .before .before .kept2 .given ∙ c .before .before .before .before .before .before .before .before .before .before .before .before .before .before .before .before .before .before .before .before .before .before .before .before .before .before .before .before .before .before .before .before .before .before .before .kept .given ∙ p .1 .places .kept-size; originators-size = c .before .before .before .before .before .before .before .before .before .before .before .before .before .originators2 .given ∙ c .before .before .before .before .before .before .before .before .before .before .before .before .before .before .before .before .before .before .before .before .before .before .before .before .before .before .before .before .before .before .before .before .before .originators .given ∙ p .1 .places .originators-size; lengths-size = c .before .before .before .before .before .before .before .before .before .before .before .lengths2 .given ∙ c .before .before .before .before .before .before .before .before .before .before .before .before .before .before .before .before .before .before .before .before .before .before .before .before .before .before .before .before .before .before .before .lengths .given ∙ p .1 .places .lengths-size; payloads-size = c .before .before .before .before .before .before .before .before .before .payloads2 .given ∙ c .before .before .before .before .before .before .before .before .before .before .before .before .before .before .before .before .before .before .before .before .before .before .before .before .before .before .before .before .before .payloads .given ∙ p .1 .places .payloads-size })
+noted-requires : tie.Need-noted-requires
+noted-requires c κs = let p = c .before .before .before .before .before .before .before .before .before .before .before .before .before .before .before .before .before .before .before .before .before .pre in (sym (c .before .before .before .before .before .before .before .before .before .before .before .confirmed-by .ensures) ∙ c .before .before .before .before .before .before .before .before .before .enum-told .given .1, p .0, p .1)
 
 same-length : tie.Need-same-length
 same-length c = search needs
@@ -117,32 +34,38 @@ same-length c = search needs
 same-length-2 : tie.Need-same-length-2
 same-length-2 c = search needs
 
+returns : tie.Need-returns
+returns c =
+    let a = c .before .before .before .before .before .before .before .before .before .before .before .before .before .before .before .before .before .before .before .before .args in
+    let e = sym (c .before .before .before .before .before .before .before .before .before .before .confirmed-by .ensures) ∙ c .before .before .before .before .before .before .before .before .who .given .1 in
+    changed-as (confirm-is (viewOf (whole (a .head) (now (a .taken)) (now (a .counts)) (now (a .repeats)) (now (a .kept)) (now (a .marks)) (now (a .originators)) (now (a .lengths)) (now (a .payloads)))) (a .packet) (now (a .payload)) _ _ e) (confirm-changed (a .head) _ (now (a .taken)) (now (a .counts)) (now (a .repeats)) (now (a .kept)) (now (a .marks)) _ (now (a .originators)) (now (a .lengths)) (now (a .payloads)) _ _ (c .before .before .before .before .confirm .ensures))
+
 same-length-3 : tie.Need-same-length-3
-same-length-3 c = c .before .before .before .before .before .before .before .before .before .before .before .before .before .before .before .before .before .before .kept2 .given ∙ c .before .before .before .before .before .before .before .before .before .before .before .before .before .before .before .before .before .before .before .before .before .before .before .before .before .before .before .before .before .before .before .before .before .before .before .before .before .before .kept .given
+same-length-3 c = search needs
 
 same-length-4 : tie.Need-same-length-4
-same-length-4 c = c .before .before .before .before .before .before .before .before .before .before .before .before .before .before .before .before .originators2 .given ∙ c .before .before .before .before .before .before .before .before .before .before .before .before .before .before .before .before .before .before .before .before .before .before .before .before .before .before .before .before .before .before .before .before .before .before .before .before .originators .given
+same-length-4 c = search needs
 
 same-length-5 : tie.Need-same-length-5
-same-length-5 c = c .before .before .before .before .before .before .before .before .before .before .before .before .before .before .lengths2 .given ∙ c .before .before .before .before .before .before .before .before .before .before .before .before .before .before .before .before .before .before .before .before .before .before .before .before .before .before .before .before .before .before .before .before .before .before .lengths .given
+same-length-5 c = search needs
 
 same-length-6 : tie.Need-same-length-6
-same-length-6 c = c .before .before .before .before .before .before .before .before .before .before .before .before .payloads2 .given ∙ c .before .before .before .before .before .before .before .before .before .before .before .before .before .before .before .before .before .before .before .before .before .before .before .before .before .before .before .before .before .before .before .before .payloads .given
+same-length-6 c = search needs
 
 same-length-7 : tie.Need-same-length-7
 same-length-7 c = search needs
 
-returns : tie.Need-returns
-returns c =
-    let a = c .before .before .before .before .before .before .before .before .before .before .before .before .before .before .before .before .before .before .before .before .before .before .before .before .before .before .before .before .before .before .before .before .before .before .before .before .before .before .before .before .before .before .before .before .before .before .before .before .before .before .before .before .before .before .before .before .before .before .before .before .args in
-    let p = c .before .before .before .before .before .before .before .before .before .before .before .before .before .before .before .before .before .before .before .before .before .before .before .before .before .before .before .before .before .before .before .before .before .before .before .before .before .before .before .before .before .before .before .before .before .before .before .before .before .before .before .before .before .before .before .before .before .before .before .before .pre in
-    let from = c .before .before .before .before .before .before .before .before .before .before .before .before .before .before .before .before .before .before .before .before .before .before .before .before .before .before .before .before .before .before .before .before .before .before .before .before .before .before .before .before .before .before .before .before .before .before .before .before .before .before .before .sender-of .ensures in
-    let noted = rw from at (c .before .before .before .before .before .before .before .before .before .before .before .before .before .before .before .before .before .before .before .before .before .before .before .before .before .before .before .before .before .before .before .before .before .before .before .before .before .before .before .before .before .before .before .before .note .ensures .0) in
-    let next = c .before .before .before .before .before .before .before .before .before .before .before .before .before .before .before .before .before .before .before .before .before .before .before .before .before .before .before .before .before .before .before .before .before .before .before .before .before .before .before .before .before .before .before .before .note .ensures .1 in
-    let change = rw from at (c .before .before .before .before .before .before .before .before .before .before .before .before .before .before .before .before .before .before .before .before .before .before .before .before .before .packet-change .ensures) in
-    let laid = rw (change, from) at (c .before .before .before .before .before .before .before .before .before .before .before .before .before .before .before .before .before .before .before .lay .ensures) in
-    let sent = rw (c .before .before .before .before .before .before .before .before .before .place .ensures, change) at (c .before .before .send-answer .ensures) in
-    rw (change, from) (accepted-changed (a .head) (now (a .taken)) (now (a .counts)) (now (a .repeats)) (now (a .kept)) (now (a .originators)) (now (a .lengths)) (now (a .payloads)) (p .1) (a .packet) (now (a .payload)) _ (p .0) _ _ _ _ _ _ noted next (c .before .before .before .before .before .before .before .before .before .before .before .before .before .before .before .before .before .before .before .before .before .before .before .before .before .before .before .before .before .before .before .before .before .before .before .before .before .before .before .clear .ensures) _ _ _ _ laid _ _ _ sent)
+same-length-8 : tie.Need-same-length-8
+same-length-8 c = search needs
+
+same-length-9 : tie.Need-same-length-9
+same-length-9 c = search needs
+
+same-length-10 : tie.Need-same-length-10
+same-length-10 c = search needs
+
+returns-2 : tie.Need-returns-2
+returns-2 c = c .before .before .before .before .before .before .before .before .before .before .before .before .before .before .noted .ensures
 
 pub accepted-spec : {M : Type 1} → statement M
-accepted-spec = tie.close (tie.spec sender-of-requires note-requires clear-requires cast-member mul-count slice-read-count mul-again slice-read-again packet-change-requires mul-counts slice-write-counts mul-repeats slice-write-repeats lay-requires cast-place place-requires send-answer-requires same-length same-length-2 same-length-3 same-length-4 same-length-5 same-length-6 same-length-7 returns)
+accepted-spec = tie.close (tie.spec confirmed-by-requires enum-known-who confirm-requires enum-told noted-requires same-length same-length-2 returns same-length-3 same-length-4 same-length-5 same-length-6 same-length-7 same-length-8 same-length-9 same-length-10 returns-2)

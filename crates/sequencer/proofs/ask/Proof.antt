@@ -7,7 +7,7 @@ use Rattle.sequencer.proofs.ask.Statement.{statement}
 use Rattle.sequencer.proofs.ask.Tie as tie
 
 sound-requires : tie.Need-sound-requires
-sound-requires c κs = c .before .before .before .before .before .before .pre
+sound-requires c κs = c .before .before .before .before .before .before .before .pre
 
 returns : tie.Need-returns
 unfolding callVerdict

@@ -38,6 +38,24 @@ enum-told-3 c = search needs
 quiet-requires-4 : tie.Need-quiet-requires-4
 quiet-requires-4 c κs = search needs
 
+enum-told-4 : tie.Need-enum-told-4
+enum-told-4 c = search needs
+
+quiet-requires-5 : tie.Need-quiet-requires-5
+quiet-requires-5 c κs = search needs
+
+enum-told-5 : tie.Need-enum-told-5
+enum-told-5 c = search needs
+
+quiet-requires-6 : tie.Need-quiet-requires-6
+quiet-requires-6 c κs = search needs
+
+enum-told-6 : tie.Need-enum-told-6
+enum-told-6 c = search needs
+
+quiet-requires-7 : tie.Need-quiet-requires-7
+quiet-requires-7 c κs = search needs
+
 returns : tie.Need-returns
 unfolding changeOf
 returns c = rw (c .before .before .packet .given .1) (c .request-change .ensures)
@@ -58,5 +76,17 @@ returns-5 : tie.Need-returns-5
 unfolding changeOf
 returns-5 c = rw (c .before .enum-told3 .given .1) (c .quiet4 .ensures)
 
+returns-6 : tie.Need-returns-6
+unfolding changeOf
+returns-6 c = rw (c .before .enum-told4 .given .1) (c .quiet5 .ensures)
+
+returns-7 : tie.Need-returns-7
+unfolding changeOf
+returns-7 c = rw (c .before .enum-told5 .given .1) (c .quiet6 .ensures)
+
+returns-8 : tie.Need-returns-8
+unfolding changeOf
+returns-8 c = rw (c .before .enum-told6 .given .1) (c .quiet7 .ensures)
+
 pub packet-change-spec : {M : Type 1} → statement M
-packet-change-spec = tie.close (tie.spec enum-known-packet request-change-requires enum-told quiet-requires enum-known-packet-2 gap-answer-requires quiet-requires-2 enum-told-2 quiet-requires-3 enum-told-3 quiet-requires-4 returns returns-2 returns-3 returns-4 returns-5)
+packet-change-spec = tie.close (tie.spec enum-known-packet request-change-requires enum-told quiet-requires enum-known-packet-2 gap-answer-requires quiet-requires-2 enum-told-2 quiet-requires-3 enum-told-3 quiet-requires-4 enum-told-4 quiet-requires-5 enum-told-5 quiet-requires-6 enum-told-6 quiet-requires-7 returns returns-2 returns-3 returns-4 returns-5 returns-6 returns-7 returns-8)

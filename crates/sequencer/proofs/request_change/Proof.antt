@@ -41,12 +41,15 @@ returns-4 : tie.Need-returns-4
 unfolding requestChange
 returns-4 c = rw (c .quiet3 .ensures) (search (choices, needs) depth 9)
 
-add-t20 : tie.Need-add-t20
-add-t20 c = let z = c .before .before .before .before .before .before .before .before .pre .0 (omega arith) in omega arith
+add-t23 : tie.Need-add-t23
+add-t23 c = let z = c .before .before .before .before .before .before .before .before .pre .0 (omega arith) in omega arith
+
+accepted-next-requires : tie.Need-accepted-next-requires
+accepted-next-requires c κs = search needs
 
 returns-5 : tie.Need-returns-5
 unfolding requestChange
-returns-5 c = search (choices, needs) depth 9
+returns-5 c = rw (c .accepted-next .ensures) (search (choices, needs) depth 9)
 
 pub request-change-spec : {M : Type 1} → statement M
-request-change-spec = tie.close (tie.spec one-more-requires quiet-requires returns find-requires quiet-requires-2 returns-2 returns-3 kept-requires quiet-requires-3 returns-4 add-t20 returns-5)
+request-change-spec = tie.close (tie.spec one-more-requires quiet-requires returns find-requires quiet-requires-2 returns-2 returns-3 kept-requires quiet-requires-3 returns-4 add-t23 accepted-next-requires returns-5)

@@ -39,6 +39,12 @@ enum-told-5 c = search needs
 enum-told-6 : tie.Need-enum-told-6
 enum-told-6 c = search needs
 
+enum-told-7 : tie.Need-enum-told-7
+enum-told-7 c = search needs
+
+enum-told-8 : tie.Need-enum-told-8
+enum-told-8 c = search needs
+
 returns : tie.Need-returns
 unfolding sentOf
 returns c = rw (c .enum-told .given .1) (record { size = refl; lent = refl })
@@ -80,5 +86,13 @@ returns-8 : tie.Need-returns-8
 unfolding sentOf
 returns-8 c = rw (c .enum-told6 .given .1) (record { size = refl; lent = refl })
 
+returns-9 : tie.Need-returns-9
+unfolding sentOf
+returns-9 c = rw (c .enum-told7 .given .1) (record { size = refl; lent = refl })
+
+returns-10 : tie.Need-returns-10
+unfolding sentOf
+returns-10 c = rw (c .enum-told8 .given .1) (record { size = refl; lent = refl })
+
 pub send-answer-spec : {M : Type 1} → statement M
-send-answer-spec = tie.close (tie.spec enum-told enum-told-2 enum-known-answer send-requires enum-told-3 send-poll-requires enum-known-answer-2 send-requires-2 enum-told-4 enum-told-5 enum-told-6 returns returns-2 same-length returns-3 same-length-2 returns-4 same-length-3 returns-5 returns-6 returns-7 returns-8)
+send-answer-spec = tie.close (tie.spec enum-told enum-told-2 enum-known-answer send-requires enum-told-3 send-poll-requires enum-known-answer-2 send-requires-2 enum-told-4 enum-told-5 enum-told-6 enum-told-7 enum-told-8 returns returns-2 same-length returns-3 same-length-2 returns-4 same-length-3 returns-5 returns-6 returns-7 returns-8 returns-9 returns-10)

@@ -14,17 +14,17 @@ of-requires c κs = search needs
 
 ask-packet-requires : tie.Need-ask-packet-requires
 unfolding viewOf
-ask-packet-requires c κs = let p = c .before .before .before .before .before .before .before .before .before .before .before .before .pre in (sound-of _ (p .0 .sound) .n-most, p .1 .entries .counts-size)
+ask-packet-requires c κs = let p = c .before .before .before .before .before .before .before .before .before .before .before .before .before .pre in let s = sound-of _ (p .0 .sound) in (s .n-least, s .n-most, p .1 .entries .counts-size)
 
 enum-told : tie.Need-enum-told
 enum-told c = search needs
 
 accepted-requires : tie.Need-accepted-requires
 accepted-requires c κs =
-    let a = c .before .before .before .before .before .before .before .before .before .before .before .before .before .before .before .before .before .before .before .before .before .before .before .args in
-    let p = c .before .before .before .before .before .before .before .before .before .before .before .before .before .before .before .before .before .before .before .before .before .before .before .pre in
-    let v = rw (c .before .before .before .before .before .before .before .before .before .before .before .before .before .before .of .ensures) at (c .before .before .before .before .before .before .before .before .before .before .ask-packet .ensures) in
-    (record { sizes = p .0; accepted = rw (c .before .before .before .before .before .before .before .before .before .before .before .before .before .before .of .ensures) (read-accepted (a .head) (now (a .taken)) (now (a .counts)) (now (a .repeats)) (now (a .kept)) (now (a .originators)) (now (a .lengths)) (now (a .payloads)) (p .1) (a .h) (now (a .payload)) _ v (c .before .before .before .before .before .before .before .before .enum-told .given .1) .0) }, p .1)
+    let a = c .before .before .before .before .before .before .before .before .before .before .before .before .before .before .before .before .before .before .before .before .before .before .before .before .before .args in
+    let p = c .before .before .before .before .before .before .before .before .before .before .before .before .before .before .before .before .before .before .before .before .before .before .before .before .before .pre in
+    let v = rw (c .before .before .before .before .before .before .before .before .before .before .before .before .before .before .before .of .ensures) at (c .before .before .before .before .before .before .before .before .before .before .before .ask-packet .ensures) in
+    (record { sizes = p .0; accepted = rw (c .before .before .before .before .before .before .before .before .before .before .before .before .before .before .before .of .ensures) (read-accepted (a .head) (now (a .taken)) (now (a .counts)) (now (a .repeats)) (now (a .kept)) (now (a .marks)) (now (a .originators)) (now (a .lengths)) (now (a .payloads)) (p .1) (a .h) (now (a .payload)) _ v (c .before .before .before .before .before .before .before .before .before .enum-told .given .1) .0) }, p .1)
 
 enum-known-v : tie.Need-enum-known-v
 enum-known-v c = search needs
@@ -53,22 +53,25 @@ same-length-6 c = search needs
 same-length-7 : tie.Need-same-length-7
 same-length-7 c = search needs
 
-returns : tie.Need-returns
-returns c =
-    let a = c .before .before .before .before .before .before .before .before .before .before .before .before .before .before .before .before .before .before .before .before .before .before .before .before .before .before .before .before .before .before .before .before .before .before .before .before .before .before .args in
-    let p = c .before .before .before .before .before .before .before .before .before .before .before .before .before .before .before .before .before .before .before .before .before .before .before .before .before .before .before .before .before .before .before .before .before .before .before .before .before .before .pre in
-    let v = rw (c .before .before .before .before .before .before .before .before .before .before .before .before .before .before .before .before .before .before .before .before .before .before .before .before .before .before .before .before .before .of .ensures) at (c .before .before .before .before .before .before .before .before .before .before .before .before .before .before .before .before .before .before .before .before .before .before .before .before .before .ask-packet .ensures) in
-    changed-as (rw (c .before .before .before .before .before .before .before .before .before .before .before .before .before .before .before .before .before .before .before .before .before .before .before .before .before .before .before .before .before .of .ensures) (read-accepted (a .head) (now (a .taken)) (now (a .counts)) (now (a .repeats)) (now (a .kept)) (now (a .originators)) (now (a .lengths)) (now (a .payloads)) (p .1) (a .h) (now (a .payload)) _ v (c .before .before .before .before .before .before .before .before .before .before .before .before .before .before .before .before .before .before .before .before .before .before .before .enum-told .given .1) .1)) (c .before .before .before .before .before .before .before .before .before .before .before .before .before .before .accepted .ensures)
-
 same-length-8 : tie.Need-same-length-8
 same-length-8 c = search needs
 
+returns : tie.Need-returns
+returns c =
+    let a = c .before .before .before .before .before .before .before .before .before .before .before .before .before .before .before .before .before .before .before .before .before .before .before .before .before .before .before .before .before .before .before .before .before .before .before .before .before .before .before .before .before .before .args in
+    let p = c .before .before .before .before .before .before .before .before .before .before .before .before .before .before .before .before .before .before .before .before .before .before .before .before .before .before .before .before .before .before .before .before .before .before .before .before .before .before .before .before .before .before .pre in
+    let v = rw (c .before .before .before .before .before .before .before .before .before .before .before .before .before .before .before .before .before .before .before .before .before .before .before .before .before .before .before .before .before .before .before .before .of .ensures) at (c .before .before .before .before .before .before .before .before .before .before .before .before .before .before .before .before .before .before .before .before .before .before .before .before .before .before .before .before .ask-packet .ensures) in
+    changed-as (rw (c .before .before .before .before .before .before .before .before .before .before .before .before .before .before .before .before .before .before .before .before .before .before .before .before .before .before .before .before .before .before .before .before .of .ensures) (read-accepted (a .head) (now (a .taken)) (now (a .counts)) (now (a .repeats)) (now (a .kept)) (now (a .marks)) (now (a .originators)) (now (a .lengths)) (now (a .payloads)) (p .1) (a .h) (now (a .payload)) _ v (c .before .before .before .before .before .before .before .before .before .before .before .before .before .before .before .before .before .before .before .before .before .before .before .before .before .before .enum-told .given .1) .1)) (c .before .before .before .before .before .before .before .before .before .before .before .before .before .before .before .before .accepted .ensures)
+
+same-length-9 : tie.Need-same-length-9
+same-length-9 c = search needs
+
 returns-2 : tie.Need-returns-2
 returns-2 c =
-    let a = c .before .before .before .before .before .before .before .before .before .before .before .before .before .before .before .before .before .args in
-    let p = c .before .before .before .before .before .before .before .before .before .before .before .before .before .before .before .before .before .pre in
+    let a = c .before .before .before .before .before .before .before .before .before .before .before .before .before .before .before .before .before .before .args in
+    let p = c .before .before .before .before .before .before .before .before .before .before .before .before .before .before .before .before .before .before .pre in
     let v = rw (c .before .before .before .before .before .before .before .before .of .ensures) at (c .before .before .before .before .ask-packet .ensures) in
-    changed-as (read-refused (a .head) (now (a .taken)) (now (a .counts)) (now (a .repeats)) (now (a .kept)) (now (a .originators)) (now (a .lengths)) (now (a .payloads)) (p .1) (a .h) (now (a .payload)) _ v _ (c .before .before .v .given .1)) (rw (c .unchanged .ensures .0) (refusal-changed _ _ (now (a .out)) (c .unchanged .ensures .1) (whole (a .head) (now (a .taken)) (now (a .counts)) (now (a .repeats)) (now (a .kept)) (now (a .originators)) (now (a .lengths)) (now (a .payloads)))))
+    changed-as (read-refused (a .head) (now (a .taken)) (now (a .counts)) (now (a .repeats)) (now (a .kept)) (now (a .marks)) (now (a .originators)) (now (a .lengths)) (now (a .payloads)) (p .1) (a .h) (now (a .payload)) _ v _ (c .before .before .v .given .1)) (rw (c .unchanged .ensures .0) (refusal-changed _ _ (now (a .out)) (c .unchanged .ensures .1) (whole (a .head) (now (a .taken)) (now (a .counts)) (now (a .repeats)) (now (a .kept)) (now (a .marks)) (now (a .originators)) (now (a .lengths)) (now (a .payloads)))))
 
 pub take-spec : {M : Type 1} → statement M
-take-spec = tie.close (tie.spec of-requires ask-packet-requires enum-told accepted-requires enum-known-v unchanged-requires same-length same-length-2 same-length-3 same-length-4 same-length-5 same-length-6 same-length-7 returns same-length-8 returns-2)
+take-spec = tie.close (tie.spec of-requires ask-packet-requires enum-told accepted-requires enum-known-v unchanged-requires same-length same-length-2 same-length-3 same-length-4 same-length-5 same-length-6 same-length-7 same-length-8 returns same-length-9 returns-2)

@@ -15,10 +15,10 @@ use Rattle.simulator.proofs.fresh_members.Statement.{statement}
 use Rattle.simulator.proofs.fresh_members.Tie as tie
 
 abbrev Inv-loop : tie.InvT-loop
-Inv-loop n number members₀ i₀ members i = (i ≤ membersMost) × (length members ≡ membersMost) × (map viewOf (take i members) ≡ freshMembers n number 0 i)
+Inv-loop n number resilience members₀ i₀ members i = (i ≤ membersMost) × (length members ≡ membersMost) × (map viewOf (take i members) ≡ freshMembers n number resilience 0 i)
 
 abbrev μ-loop : tie.MeasureT-loop
-μ-loop n number members₀ i₀ members i = membersMost - i
+μ-loop n number resilience members₀ i₀ members i = membersMost - i
 
 open-member-requires : tie.Need-open-member-requires Inv-loop μ-loop
 open-member-requires c κs = search needs
@@ -27,8 +27,8 @@ loop-holds : tie.Need-loop-holds Inv-loop μ-loop
 unfolding freshMembers
 loop-holds c = (search needs, search needs, refl)
 
-cast-t11 : tie.Need-cast-t11 Inv-loop μ-loop
-cast-t11 c = search needs
+cast-t12 : tie.Need-cast-t12 Inv-loop μ-loop
+cast-t12 c = search needs
 
 open-member-requires-2 : tie.Need-open-member-requires-2 Inv-loop μ-loop
 open-member-requires-2 c κs = search needs
@@ -48,13 +48,13 @@ loop-less c = search needs
 loop-again : tie.Need-loop-again Inv-loop μ-loop
 loop-again c =
     let l = c .before .before .before .loop in
-    (search needs, simp length-set (l .inv .1), members-on (c .before .before .before .before .before .before .args .n) (c .before .before .before .before .before .before .args .number) (l .i) (l .members) _ (omega arith) (l .inv .2) (c .before .open-member2 .ensures .state))
+    (search needs, simp length-set (l .inv .1), members-on (c .before .before .before .before .before .before .args .n) (c .before .before .before .before .before .before .args .number) (c .before .before .before .before .before .before .args .resilience) (l .i) (l .members) _ (omega arith) (l .inv .2) (c .before .open-member2 .ensures .state))
 
 returns : tie.Need-returns Inv-loop μ-loop
 returns c =
     let l = c .before .loop in
     let e : l .i ≡ membersMost = omega arith in
-    ap (map viewOf) (sym (take-all (l .i) (l .members) (omega arith))) ∙ l .inv .2 ∙ ap (freshMembers (c .before .before .before .before .args .n) (c .before .before .before .before .args .number) 0) e
+    ap (map viewOf) (sym (take-all (l .i) (l .members) (omega arith))) ∙ l .inv .2 ∙ ap (freshMembers (c .before .before .before .before .args .n) (c .before .before .before .before .args .number) (c .before .before .before .before .args .resilience) 0) e
 
 pub fresh-members-spec : {M : Type 1} → statement M
 fresh-members-spec =
@@ -64,7 +64,7 @@ fresh-members-spec =
     μ-loop
     open-member-requires
     loop-holds
-    cast-t11
+    cast-t12
     open-member-requires-2
     mul-members
     array-set-from-members

@@ -6,6 +6,9 @@ use borrow.Author.Needs.{needs}
 use Rattle.terminal.proofs.is_next.Statement.{statement}
 use Rattle.terminal.proofs.is_next.Tie as tie
 
+is-message-requires : tie.Need-is-message-requires
+is-message-requires c κs = search needs
+
 cast-if2 : tie.Need-cast-if2
 cast-if2 c = search needs
 
@@ -25,4 +28,4 @@ unfolding isNext
 returns-3 c = search (choices, needs) depth 9
 
 pub is-next-spec : {M : Type 1} → statement M
-is-next-spec = tie.close (tie.spec cast-if2 cast-result returns returns-2 returns-3)
+is-next-spec = tie.close (tie.spec is-message-requires cast-if2 cast-result returns returns-2 returns-3)

@@ -20,5 +20,9 @@ returns-3 : tie.Need-returns-3
 unfolding openOf
 returns-3 c = worded openedWording (search (choices, tests, needs) depth 9)
 
+returns-4 : tie.Need-returns-4
+unfolding openOf
+returns-4 c = worded openedWording (search (choices, tests, needs) depth 9)
+
 pub fresh-spec : {M : Type 1} → statement M
-fresh-spec = tie.close (tie.spec returns returns-2 returns-3)
+fresh-spec = tie.close (tie.spec returns returns-2 returns-3 returns-4)

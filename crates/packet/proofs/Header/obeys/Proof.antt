@@ -8,51 +8,71 @@ use Rattle.packet.proofs.Header.obeys.Tie as tie
 
 returns : tie.Need-returns
 unfolding obeys
-returns c = search (choices, needs) depth 9
+returns c = search (choices, needs) depth 12
 
 returns-2 : tie.Need-returns-2
 unfolding obeys
-returns-2 c = search (choices, needs) depth 9
+returns-2 c = search (choices, needs) depth 12
+
+message-obeys-requires : tie.Need-message-obeys-requires
+message-obeys-requires c κs = search needs
 
 returns-3 : tie.Need-returns-3
 unfolding obeys
-returns-3 c = search (choices, needs) depth 9
+returns-3 c = search (choices, needs) depth 12
 
 returns-4 : tie.Need-returns-4
 unfolding obeys
-returns-4 c = search (choices, needs) depth 9
+returns-4 c = search (choices, needs) depth 12
 
 returns-5 : tie.Need-returns-5
 unfolding obeys
-returns-5 c = search (choices, needs) depth 9
+returns-5 c = search (choices, needs) depth 12
 
 returns-6 : tie.Need-returns-6
 unfolding obeys
-returns-6 c = search (choices, needs) depth 9
+returns-6 c = search (choices, needs) depth 12
 
 returns-7 : tie.Need-returns-7
 unfolding obeys
-returns-7 c = search (choices, needs) depth 9
+returns-7 c = search (choices, needs) depth 12
 
 returns-8 : tie.Need-returns-8
 unfolding obeys
-returns-8 c = search (choices, needs) depth 9
+returns-8 c = search (choices, needs) depth 12
 
 returns-9 : tie.Need-returns-9
 unfolding obeys
-returns-9 c = search (choices, needs) depth 9
+returns-9 c = search (choices, needs) depth 12
 
 returns-10 : tie.Need-returns-10
 unfolding obeys
-returns-10 c = search (choices, needs) depth 9
+returns-10 c = search (choices, needs) depth 12
+
+message-obeys-requires-2 : tie.Need-message-obeys-requires-2
+message-obeys-requires-2 c κs = search needs
 
 returns-11 : tie.Need-returns-11
 unfolding obeys
-returns-11 c = search (choices, needs) depth 9
+returns-11 c = search (choices, needs) depth 12
+
+number-alone-requires : tie.Need-number-alone-requires
+number-alone-requires c κs = search needs
 
 returns-12 : tie.Need-returns-12
 unfolding obeys
-returns-12 c = search (choices, needs) depth 9
+returns-12 c = search (choices, needs) depth 12
+
+returns-13 : tie.Need-returns-13
+unfolding obeys
+returns-13 c = search (choices, needs) depth 12
+
+number-alone-requires-2 : tie.Need-number-alone-requires-2
+number-alone-requires-2 c κs = search needs
+
+returns-14 : tie.Need-returns-14
+unfolding obeys
+returns-14 c = search (choices, needs) depth 12
 
 pub obeys-spec : {M : Type 1} → statement M
 obeys-spec =
@@ -60,6 +80,7 @@ obeys-spec =
     (tie.spec
     returns
     returns-2
+    message-obeys-requires
     returns-3
     returns-4
     returns-5
@@ -68,5 +89,10 @@ obeys-spec =
     returns-8
     returns-9
     returns-10
+    message-obeys-requires-2
     returns-11
-    returns-12)
+    number-alone-requires
+    returns-12
+    returns-13
+    number-alone-requires-2
+    returns-14)

@@ -20,6 +20,15 @@ enum-known-self-4 c = search needs
 enum-known-self-5 : tie.Need-enum-known-self-5
 enum-known-self-5 c = search needs
 
+enum-known-self-6 : tie.Need-enum-known-self-6
+enum-known-self-6 c = search needs
+
+enum-known-self-7 : tie.Need-enum-known-self-7
+enum-known-self-7 c = search needs
+
+enum-known-self-8 : tie.Need-enum-known-self-8
+enum-known-self-8 c = search needs
+
 returns : tie.Need-returns
 unfolding fieldsOf
 returns c = rw (c .before .self .given .1)
@@ -40,6 +49,18 @@ returns-5 : tie.Need-returns-5
 unfolding fieldsOf
 returns-5 c = rw (c .before .self5 .given .1)
 
+returns-6 : tie.Need-returns-6
+unfolding fieldsOf
+returns-6 c = rw (c .before .self6 .given .1)
+
+returns-7 : tie.Need-returns-7
+unfolding fieldsOf
+returns-7 c = rw (c .before .self7 .given .1)
+
+returns-8 : tie.Need-returns-8
+unfolding fieldsOf
+returns-8 c = rw (c .before .self8 .given .1)
+
 pub fields-spec : {M : Type 1} → statement M
 fields-spec =
     tie.close
@@ -49,8 +70,14 @@ fields-spec =
     enum-known-self-3
     enum-known-self-4
     enum-known-self-5
+    enum-known-self-6
+    enum-known-self-7
+    enum-known-self-8
     returns
     returns-2
     returns-3
     returns-4
-    returns-5)
+    returns-5
+    returns-6
+    returns-7
+    returns-8)

@@ -26,5 +26,17 @@ returns-5 : tie.Need-returns-5
 unfolding contentOf
 returns-5 c = search (choices, needs) depth 9
 
+returns-6 : tie.Need-returns-6
+unfolding contentOf
+returns-6 c = search (choices, needs) depth 9
+
+returns-7 : tie.Need-returns-7
+unfolding contentOf
+returns-7 c = search (choices, needs) depth 9
+
+returns-8 : tie.Need-returns-8
+unfolding contentOf
+returns-8 c = search (choices, needs) depth 9
+
 pub of-spec : {M : Type 1} → statement M
-of-spec = tie.close (tie.spec returns returns-2 returns-3 returns-4 returns-5)
+of-spec = tie.close (tie.spec returns returns-2 returns-3 returns-4 returns-5 returns-6 returns-7 returns-8)

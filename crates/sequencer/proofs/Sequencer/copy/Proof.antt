@@ -101,14 +101,14 @@ module _ {M : Type 1} (𝓤 : URA M) (H : Heap 𝓤) (A : Atoms 𝓤) (W : Given
   abbrev ref : ℕ → GName → List ℕ → RefT (List ℕ)
   ref d δ l = record { ptr = (b, o + d); name = δ; now = l }
 
-  abbrev args : Names arrays → Head × (RefT (List ℕ) × (RefT (List ℕ) × (RefT (List ℕ) × (RefT (List ℕ) × (RefT (List ℕ) × (RefT (List ℕ) × (RefT (List ℕ) × (SequenceNumber × (RefT (List ℕ) × (Unit {0}))))))))))
-  args ns = (h .head, (ref 16 (ns .0) (h .taken), (ref 80 (ns .1 .0) (h .counts), (ref 144 (ns .1 .1 .0) (h .repeats), (ref 208 (ns .1 .1 .1 .0) (h .kept), (ref 336 (ns .1 .1 .1 .1 .0) (h .originators), (ref 368 (ns .1 .1 .1 .1 .1 .0) (h .lengths), (ref 400 (ns .1 .1 .1 .1 .1 .1 .0) (h .payloads), (number, (out, tt))))))))))
+  abbrev args : Names arrays → Head × (RefT (List ℕ) × (RefT (List ℕ) × (RefT (List ℕ) × (RefT (List ℕ) × (RefT (List ℕ) × (RefT (List ℕ) × (RefT (List ℕ) × (RefT (List ℕ) × (SequenceNumber × (RefT (List ℕ) × (Unit {0})))))))))))
+  args ns = (h .head, (ref 20 (ns .0) (h .taken), (ref 84 (ns .1 .0) (h .counts), (ref 148 (ns .1 .1 .0) (h .repeats), (ref 212 (ns .1 .1 .1 .0) (h .kept), (ref 340 (ns .1 .1 .1 .1 .0) (h .marks), (ref 404 (ns .1 .1 .1 .1 .1 .0) (h .originators), (ref 436 (ns .1 .1 .1 .1 .1 .1 .0) (h .lengths), (ref 468 (ns .1 .1 .1 .1 .1 .1 .1 .0) (h .payloads), (number, (out, tt)))))))))))
 
-  abbrev lfts : ℕ → Lft × (Lft × (Lft × (Lft × (Lft × (Lft × (Lft × (Lft × (Unit {0}))))))))
-  lfts ν = (ν ∷ [], (ν ∷ [], (ν ∷ [], (ν ∷ [], (ν ∷ [], (ν ∷ [], (ν ∷ [], (κ₁, tt))))))))
+  abbrev lfts : ℕ → Lft × (Lft × (Lft × (Lft × (Lft × (Lft × (Lft × (Lft × (Lft × (Unit {0})))))))))
+  lfts ν = (ν ∷ [], (ν ∷ [], (ν ∷ [], (ν ∷ [], (ν ∷ [], (ν ∷ [], (ν ∷ [], (ν ∷ [], (κ₁, tt)))))))))
 
   abbrev to : ℕ → Names arrays → On 𝓤 H A at-mem run .Ghost
-  to ν ns = ((lfts ν, (PosShare·left fullShare, (PosShare·left (PosShare·right fullShare), (PosShare·left (PosShare·right (PosShare·right fullShare)), (PosShare·left (PosShare·right (PosShare·right (PosShare·right fullShare))), (PosShare·left (PosShare·right (PosShare·right (PosShare·right (PosShare·right fullShare)))), (PosShare·left (PosShare·right (PosShare·right (PosShare·right (PosShare·right (PosShare·right fullShare))))), (PosShare·right (PosShare·right (PosShare·right (PosShare·right (PosShare·right (PosShare·right fullShare))))), (q₁, tt)))))))), tt, args ns, (LL.val B.the-type B′.the-laws (h .head) ∷ [], (vptr b (o + 16) ∷ [], (vptr b (o + 80) ∷ [], (vptr b (o + 144) ∷ [], (vptr b (o + 208) ∷ [], (vptr b (o + 336) ∷ [], (vptr b (o + 368) ∷ [], (vptr b (o + 400) ∷ [], (number-val ∷ [], (out-val ∷ [], tt))))))))))), tt)
+  to ν ns = ((lfts ν, (PosShare·left fullShare, (PosShare·left (PosShare·right fullShare), (PosShare·left (PosShare·right (PosShare·right fullShare)), (PosShare·left (PosShare·right (PosShare·right (PosShare·right fullShare))), (PosShare·left (PosShare·right (PosShare·right (PosShare·right (PosShare·right fullShare)))), (PosShare·left (PosShare·right (PosShare·right (PosShare·right (PosShare·right (PosShare·right fullShare))))), (PosShare·left (PosShare·right (PosShare·right (PosShare·right (PosShare·right (PosShare·right (PosShare·right fullShare)))))), (PosShare·right (PosShare·right (PosShare·right (PosShare·right (PosShare·right (PosShare·right (PosShare·right fullShare)))))), (q₁, tt))))))))), tt, args ns, (LL.val B.the-type B′.the-laws (h .head) ∷ [], (vptr b (o + 20) ∷ [], (vptr b (o + 84) ∷ [], (vptr b (o + 148) ∷ [], (vptr b (o + 212) ∷ [], (vptr b (o + 340) ∷ [], (vptr b (o + 404) ∷ [], (vptr b (o + 436) ∷ [], (vptr b (o + 468) ∷ [], (number-val ∷ [], (out-val ∷ [], tt)))))))))))), tt)
 
   -- the other parameters' tokens
   abbrev Toks : Item 𝓤
@@ -119,17 +119,17 @@ module _ {M : Type 1} (𝓤 : URA M) (H : Heap 𝓤) (A : Atoms 𝓤) (W : Given
   Rest = fsep (N₁.the-row .own number (number-val ∷ [])) (fsep (MutSlice (named 1) κ₁ u8 .own out (out-val ∷ [])) (ftrue))
 
   goes-in : (ν : ℕ) (ns : Names arrays) → Is B.the-row (h .head) (LL.vals B.the-type B′.the-laws (h .head))
-      → ent 𝓤 (⋆ 𝓤 H A (‵ (shrsAt (named 0) (ν ∷ []) arrays (start lendable) (lendable .all h .1) ns b o Rest) ∷ raw (toksAt 𝓤 H A (ν ∷ []) 6 fullShare (mean 𝓤 H A Toks)) ∷ [])) (On 𝓤 H A at-mem run .pre (to ν ns))
+      → ent 𝓤 (⋆ 𝓤 H A (‵ (shrsAt (named 0) (ν ∷ []) arrays (start lendable) (lendable .all h .1) ns b o Rest) ∷ raw (toksAt 𝓤 H A (ν ∷ []) 7 fullShare (mean 𝓤 H A Toks)) ∷ [])) (On 𝓤 H A at-mem run .pre (to ν ns))
   goes-in ν ns is =
-      qed W (‵ (shrsAt (named 0) (ν ∷ []) arrays (start lendable) (lendable .all h .1) ns b o Rest) ∷ raw (toksAt 𝓤 H A (ν ∷ []) 6 fullShare (mean 𝓤 H A Toks)) ∷ []) ∵
+      qed W (‵ (shrsAt (named 0) (ν ∷ []) arrays (start lendable) (lendable .all h .1) ns b o Rest) ∷ raw (toksAt 𝓤 H A (ν ∷ []) 7 fullShare (mean 𝓤 H A Toks)) ∷ []) ∵
       owned ! B.the-row (Is B.the-row) (LL.makes B.the-type B′.the-plain 𝓤 H A) (h .head) _ is $ fjoin ! $ move ! (1 ∷ 0 ∷ []) $ join ! $ frame ! $ done !
 
   abbrev Ends : Type 0
-  Ends = Unit {0} × (Unit {0} × (Unit {0} × (Unit {0} × (Unit {0} × (Unit {0} × (Unit {0} × (Unit {0} × (Unit {0} × (List ℕ × (Unit {0}))))))))))
+  Ends = Unit {0} × (Unit {0} × (Unit {0} × (Unit {0} × (Unit {0} × (Unit {0} × (Unit {0} × (Unit {0} × (Unit {0} × (Unit {0} × (List ℕ × (Unit {0})))))))))))
 
   -- what the callee promises
   abbrev Said : Reply → Ends → Type 0
-  Said r zs = Copied h number (out .now) r (zs .1 .1 .1 .1 .1 .1 .1 .1 .1 .0)
+  Said r zs = Copied h number (out .now) r (zs .1 .1 .1 .1 .1 .1 .1 .1 .1 .1 .0)
 
   module _ (C : Calls 𝓤 H) (Λ : Loops 𝓤 H) (fm : FmC 𝓤 H (W .laws) C) (known : Triple 𝓤 (C #on) (On 𝓤 H A at-mem run)) where
     walk : ent 𝓤 (onEntry 𝓤 H A f.signature (κ, (κ₁, tt)) (q, (q₁, tt)) a vals) (WpFn 𝓤 H C Λ code.function (vptr b o ∷ number-val ∷ out-val ∷ []) Post)
@@ -139,44 +139,43 @@ module _ {M : Type 1} (𝓤 : URA M) (H : Heap 𝓤) (A : Atoms 𝓤) (W : Given
         -- [res; the fractured borrow; the other parameters; k; the other tokens]
         keep ! (1 ∷ 3 ∷ 2 ∷ 4 ∷ []) $
         enter ! C Λ code.function (vptr b o ∷ number-val ∷ out-val ∷ []) _ $
-        alloc1 ! (λ l₀. alloc1 ! (λ l₁. alloc1 ! (λ l₂. alloc1 ! (λ l₃. alloc1 ! (λ l₄. alloc1 ! (λ l₅. alloc1 ! (λ l₆. alloc1 ! (λ l₇. alloc1 ! (λ l₈. alloc1 ! (λ l₉. alloc1 ! (λ l₁₀. alloc1 ! (λ l₁₁. alloc1 ! (λ l₁₂. alloc1 ! (λ l₁₃. alloc0 ! $ params1 ! $
-        pass1 ! (init ! 24 refl (tt, tt)) $ pass1 ! (init ! 22 refl (LL.lawful N₁.the-type N₁′.the-laws 𝓤 H A W .typed number _ number-is .0)) $ pass1 ! (init ! 20 refl (tt, (tt, (record { fits = out-room .0 }, tt)))) $ pass0 ! $
-        move ! (28 ∷ 29 ∷ []) $ looks ! tt T.the-row (Is T.the-row) (shows 𝓤 H A T.the-row) (LL.vals T.the-type T′.the-laws) (LL.tells T.the-type T′.the-laws) (LL.copy T.the-type T′.the-copy 𝓤 H A W) h b o (λ q′ vs.
+        alloc1 ! (λ l₀. alloc1 ! (λ l₁. alloc1 ! (λ l₂. alloc1 ! (λ l₃. alloc1 ! (λ l₄. alloc1 ! (λ l₅. alloc1 ! (λ l₆. alloc1 ! (λ l₇. alloc1 ! (λ l₈. alloc1 ! (λ l₉. alloc1 ! (λ l₁₀. alloc1 ! (λ l₁₁. alloc1 ! (λ l₁₂. alloc1 ! (λ l₁₃. alloc1 ! (λ l₁₄. alloc0 ! $ params1 ! $
+        pass1 ! (init ! 26 refl (tt, tt)) $ pass1 ! (init ! 24 refl (LL.lawful N₁.the-type N₁′.the-laws 𝓤 H A W .typed number _ number-is .0)) $ pass1 ! (init ! 22 refl (tt, (tt, (record { fits = out-room .0 }, tt)))) $ pass0 ! $
+        move ! (30 ∷ 31 ∷ []) $ looks ! tt T.the-row (Is T.the-row) (shows 𝓤 H A T.the-row) (LL.vals T.the-type T′.the-laws) (LL.tells T.the-type T′.the-laws) (LL.copy T.the-type T′.the-copy 𝓤 H A W) h b o (λ q′ vs.
         spelt ! T.the-row (Is T.the-row) (shows 𝓤 H A T.the-row) (LL.vals T.the-type T′.the-laws) (LL.tells T.the-type T′.the-laws) q′ h vs b o $ use1 W (‵ (fat q′ T′.mir b o (hval h))) (W .laws .raw-at q′ T′.mir b o (hval h)) $
         move ! (1 ∷ []) $ peeks ! T.the-row (Is T.the-row) (shows 𝓤 H A T.the-row) h (hval h ∷ []) (λ was. move ! (1 ∷ 0 ∷ []) $
-        -- [the struct's cell; what it owns; what shuts it; the fractured borrow; _13 (4); …; _0 (30); …; the other parameters
-        -- (32); the other tokens]
-        assigns ! (of-opd ! (load ! (from ! (hop ! (look ! 28 refl) (fld ! refl (stop !)))) (look-in ! 0 (sub ! 0 refl (whole !))))) (from ! (stop !)) (init ! 22 refl (LL.lawful B.the-type B′.the-laws 𝓤 H A W .typed (h .head) _ (LL.owed T.the-type T′.the-laws h _ was .0) .0)) $
-        assigns ! (addr ! (from ! (hop ! (look ! 28 refl) (fld ! refl (stop !))))) (from ! (stop !)) (init ! 20 refl (tt, tt)) $
-        assigns ! (addr ! (from ! (hop ! (look ! 28 refl) (fld ! refl (stop !))))) (from ! (stop !)) (init ! 18 refl (tt, tt)) $
-        assigns ! (addr ! (from ! (hop ! (look ! 28 refl) (fld ! refl (stop !))))) (from ! (stop !)) (init ! 16 refl (tt, tt)) $
-        assigns ! (addr ! (from ! (hop ! (look ! 28 refl) (fld ! refl (stop !))))) (from ! (stop !)) (init ! 14 refl (tt, tt)) $
-        assigns ! (addr ! (from ! (hop ! (look ! 28 refl) (fld ! refl (stop !))))) (from ! (stop !)) (init ! 12 refl (tt, tt)) $
-        assigns ! (addr ! (from ! (hop ! (look ! 28 refl) (fld ! refl (stop !))))) (from ! (stop !)) (init ! 10 refl (tt, tt)) $
-        assigns ! (addr ! (from ! (hop ! (look ! 28 refl) (fld ! refl (stop !))))) (from ! (stop !)) (init ! 8 refl (tt, tt)) $
-        assigns ! (addr ! (from ! (fld ! refl (hop ! (look-in ! 24 (sub ! 0 refl (whole !))) (stop !))))) (from ! (stop !)) (init ! 6 refl (tt, tt)) $
-        assigns ! (agg ! (and-then ! (load ! (from ! (stop !)) (look ! 6 refl)) (and-then ! (load ! (from ! (fld ! refl (stop !))) (look-in ! 24 (sub ! 1 refl (whole !)))) (no-more !)))) (from ! (stop !)) (init ! 4 refl (tt, (tt, (record { fits = out-room .0 }, tt)))) $
+        -- [the struct's cell; what it owns; what shuts it; the fractured borrow; _14 (4); …; _0 (32); …; the other parameters (34); the other tokens]
+        assigns ! (of-opd ! (load ! (from ! (hop ! (look ! 30 refl) (fld ! refl (stop !)))) (look-in ! 0 (sub ! 0 refl (whole !))))) (from ! (stop !)) (init ! 24 refl (LL.lawful B.the-type B′.the-laws 𝓤 H A W .typed (h .head) _ (LL.owed T.the-type T′.the-laws h _ was .0) .0)) $
+        assigns ! (addr ! (from ! (hop ! (look ! 30 refl) (fld ! refl (stop !))))) (from ! (stop !)) (init ! 22 refl (tt, tt)) $
+        assigns ! (addr ! (from ! (hop ! (look ! 30 refl) (fld ! refl (stop !))))) (from ! (stop !)) (init ! 20 refl (tt, tt)) $
+        assigns ! (addr ! (from ! (hop ! (look ! 30 refl) (fld ! refl (stop !))))) (from ! (stop !)) (init ! 18 refl (tt, tt)) $
+        assigns ! (addr ! (from ! (hop ! (look ! 30 refl) (fld ! refl (stop !))))) (from ! (stop !)) (init ! 16 refl (tt, tt)) $
+        assigns ! (addr ! (from ! (hop ! (look ! 30 refl) (fld ! refl (stop !))))) (from ! (stop !)) (init ! 14 refl (tt, tt)) $
+        assigns ! (addr ! (from ! (hop ! (look ! 30 refl) (fld ! refl (stop !))))) (from ! (stop !)) (init ! 12 refl (tt, tt)) $
+        assigns ! (addr ! (from ! (hop ! (look ! 30 refl) (fld ! refl (stop !))))) (from ! (stop !)) (init ! 10 refl (tt, tt)) $
+        assigns ! (addr ! (from ! (hop ! (look ! 30 refl) (fld ! refl (stop !))))) (from ! (stop !)) (init ! 8 refl (tt, tt)) $
+        assigns ! (addr ! (from ! (fld ! refl (hop ! (look-in ! 26 (sub ! 0 refl (whole !))) (stop !))))) (from ! (stop !)) (init ! 6 refl (tt, tt)) $
+        assigns ! (agg ! (and-then ! (load ! (from ! (stop !)) (look ! 6 refl)) (and-then ! (load ! (from ! (fld ! refl (stop !))) (look-in ! 26 (sub ! 1 refl (whole !)))) (no-more !)))) (from ! (stop !)) (init ! 4 refl (tt, (tt, (record { fits = out-room .0 }, tt)))) $
         -- the arrays are cut out of the struct, and lent for a lifetime ν of the call
-        use2 W (‵ (partAt T.the-row q′ h b o)) (part-in 𝓤 H A W T.the-row refl q′ h b o (hval h)) $ lft-new ! tt (λ ν. move ! (1 ∷ 32 ∷ []) $
+        use2 W (‵ (partAt T.the-row q′ h b o)) (part-in 𝓤 H A W T.the-row refl q′ h b o (hval h)) $ lft-new ! tt (λ ν. move ! (1 ∷ 34 ∷ []) $
         use2 W (later (some (λ (ns : Names arrays). ‵ (shrsAt (named 0) (ν ∷ []) arrays (start lendable) (lendable .all h .1) ns b o Rest) ⊛ Held lendable 𝓤 H A (ν ∷ []) q′ h b o))) (show-out lendable 𝓤 H A W (named 0) (ν ∷ []) h b o q′ Rest) $ await ! tt $ pick ! (λ ns. split ! $
-        -- [the references and the other parameters; what is kept; kν; what shuts it; the fractured borrow; the locals (5); the
-        -- other tokens (33)]
-        move ! (2 ∷ 33 ∷ []) $ use2 W (raw (toksAt 𝓤 H A (ν ∷ []) 6 fullShare (mean 𝓤 H A Toks))) (toks-cut 𝓤 H A (ν ∷ []) W 6 fullShare (mean 𝓤 H A Toks)) $ move ! (1 ∷ 0 ∷ []) $ use2 W (raw (On 𝓤 H A at-mem run .pre (to ν ns))) (goes-in ν ns (LL.owed T.the-type T′.the-laws h _ was .0)) $
+        -- [the references and the other parameters; what is kept; kν; what shuts it; the fractured borrow; the locals (5); the other tokens (35)]
+        move ! (2 ∷ 35 ∷ []) $ use2 W (raw (toksAt 𝓤 H A (ν ∷ []) 7 fullShare (mean 𝓤 H A Toks))) (toks-cut 𝓤 H A (ν ∷ []) W 7 fullShare (mean 𝓤 H A Toks)) $ move ! (1 ∷ 0 ∷ []) $ use2 W (raw (On 𝓤 H A at-mem run .pre (to ν ns))) (goes-in ν ns (LL.owed T.the-type T′.the-laws h _ was .0)) $
         -- [its pre; what is kept; what shuts it; the fractured borrow; the locals (4)]
-        calls-at ! fm (On 𝓤 H A at-mem run) known (to ν ns) (and-then ! (load ! (from ! (stop !)) (look ! 22 refl)) (and-then ! (load ! (from ! (stop !)) (look ! 20 refl)) (and-then ! (load ! (from ! (stop !)) (look ! 18 refl)) (and-then ! (load ! (from ! (stop !)) (look ! 16 refl)) (and-then ! (load ! (from ! (stop !)) (look ! 14 refl)) (and-then ! (load ! (from ! (stop !)) (look ! 12 refl)) (and-then ! (load ! (from ! (stop !)) (look ! 10 refl)) (and-then ! (load ! (from ! (stop !)) (look ! 8 refl)) (and-then ! (load ! (from ! (stop !)) (look ! 26 refl)) (and-then ! (load ! (from ! (stop !)) (look ! 4 refl)) (no-more !))))))))))) (λ w.
-        use1 W (later (some (λ (r : Reply). (raw (toksAt 𝓤 H A (ν ∷ []) 6 fullShare (mean 𝓤 H A Toks)) ⊛ ‵ (Y.the-row .own r (w ∷ []))) ⊛ raw (ensured 𝓤 H A on.ended (on.clauses 𝓤 H A at-mem run) (lfts ν) (args ns) tt r)))) (id⊢ 𝓤 _) $ await ! tt $ pick ! (λ r.
+        calls-at ! fm (On 𝓤 H A at-mem run) known (to ν ns) (and-then ! (load ! (from ! (stop !)) (look ! 24 refl)) (and-then ! (load ! (from ! (stop !)) (look ! 22 refl)) (and-then ! (load ! (from ! (stop !)) (look ! 20 refl)) (and-then ! (load ! (from ! (stop !)) (look ! 18 refl)) (and-then ! (load ! (from ! (stop !)) (look ! 16 refl)) (and-then ! (load ! (from ! (stop !)) (look ! 14 refl)) (and-then ! (load ! (from ! (stop !)) (look ! 12 refl)) (and-then ! (load ! (from ! (stop !)) (look ! 10 refl)) (and-then ! (load ! (from ! (stop !)) (look ! 8 refl)) (and-then ! (load ! (from ! (stop !)) (look ! 28 refl)) (and-then ! (load ! (from ! (stop !)) (look ! 4 refl)) (no-more !)))))))))))) (λ w.
+        use1 W (later (some (λ (r : Reply). (raw (toksAt 𝓤 H A (ν ∷ []) 7 fullShare (mean 𝓤 H A Toks)) ⊛ ‵ (Y.the-row .own r (w ∷ []))) ⊛ raw (ensured 𝓤 H A on.ended (on.clauses 𝓤 H A at-mem run) (lfts ν) (args ns) tt r)))) (id⊢ 𝓤 _) $ await ! tt $ pick ! (λ r.
         split ! $ move ! (1 ∷ []) $ use1 W (some (λ (zs : Ends). ‵ (lasts on.ended (lfts ν) (args ns) zs) ⊛ raw (fact 𝓤 (Said r zs)))) (id⊢ 𝓤 _) $ pick ! (λ zs.
         split ! $ move ! (1 ∷ []) $ heard ! (Said r zs) (λ e. fsplit ! $ drop ! $
-        fsplit ! $ drop ! $ fsplit ! $ drop ! $ fsplit ! $ drop ! $ fsplit ! $ drop ! $ fsplit ! $ drop ! $ fsplit ! $ drop ! $ fsplit ! $ drop ! $
+        fsplit ! $ drop ! $ fsplit ! $ drop ! $ fsplit ! $ drop ! $ fsplit ! $ drop ! $ fsplit ! $ drop ! $ fsplit ! $ drop ! $ fsplit ! $ drop ! $ fsplit ! $ drop ! $
         fsplit ! $ drop ! $ fsplit ! $ fsplit ! $ move ! (1 ∷ []) $ feqL ! (λ out-len. move ! (1 ∷ []) $ drop ! $
         -- [the outputs' lasts; tokens and the reply; what is kept; what shuts it; the fractured borrow; the locals (5)]
-        move ! (1 ∷ []) $ split ! $ move ! (1 ∷ []) $ facts ! Y.the-row (Is Y.the-row) (shows 𝓤 H A Y.the-row) r (w ∷ []) (λ is. land ! (from ! (stop !)) (init ! 31 refl (LL.lawful Y.the-type Y′.the-laws 𝓤 H A W .typed r _ is .0)) $
+        move ! (1 ∷ []) $ split ! $ move ! (1 ∷ []) $ facts ! Y.the-row (Is Y.the-row) (shows 𝓤 H A Y.the-row) r (w ∷ []) (λ is. land ! (from ! (stop !)) (init ! 33 refl (LL.lawful Y.the-type Y′.the-laws 𝓤 H A W .typed r _ is .0)) $
         -- the lifetime is ended, the share is back, and the borrow is shut
-        use1 W (‵ (flft (ν ∷ []) fullShare) ⊛ Toks) (toks-join 𝓤 H A (ν ∷ []) W 6 fullShare (mean 𝓤 H A Toks)) $ split ! $ lft-end ! tt $ move ! (0 ∷ 3 ∷ []) $ use2 W (later (‵ (partAt T.the-row q′ h b o))) (show-back lendable 𝓤 H A W (named 0) (ν ∷ []) h b o q′) $ await ! tt $ move ! (3 ∷ 0 ∷ []) $ obor-close ! tt $ drop ! $
+        use1 W (‵ (flft (ν ∷ []) fullShare) ⊛ Toks) (toks-join 𝓤 H A (ν ∷ []) W 7 fullShare (mean 𝓤 H A Toks)) $ split ! $ lft-end ! tt $ move ! (0 ∷ 3 ∷ []) $ use2 W (later (‵ (partAt T.the-row q′ h b o))) (show-back lendable 𝓤 H A W (named 0) (ν ∷ []) h b o q′) $ await ! tt $ move ! (3 ∷ 0 ∷ []) $ obor-close ! tt $ drop ! $
         -- [k; the other tokens; the outputs' lasts; the fractured borrow; the locals (4)]
-        returns ! (look ! 30 refl) $ forget ! 4 refl $ forget ! 6 refl $ forget ! 8 refl $ forget ! 10 refl $ forget ! 12 refl $ forget ! 14 refl $ forget ! 16 refl $ forget ! 18 refl $ forget ! 20 refl $ forget ! 22 refl $ forget ! 24 refl $ forget ! 26 refl $ forget ! 28 refl $ forget ! 30 refl $
-        move ! (30 ∷ 31 ∷ []) $ free1 ! $ move ! (28 ∷ 29 ∷ []) $ free1 ! $ move ! (26 ∷ 27 ∷ []) $ free1 ! $ move ! (24 ∷ 25 ∷ []) $ free1 ! $ move ! (22 ∷ 23 ∷ []) $ free1 ! $ move ! (20 ∷ 21 ∷ []) $ free1 ! $ move ! (18 ∷ 19 ∷ []) $ free1 ! $ move ! (16 ∷ 17 ∷ []) $ free1 ! $ move ! (14 ∷ 15 ∷ []) $ free1 ! $ move ! (12 ∷ 13 ∷ []) $ free1 ! $ move ! (10 ∷ 11 ∷ []) $ free1 ! $ move ! (8 ∷ 9 ∷ []) $ free1 ! $ move ! (6 ∷ 7 ∷ []) $ free1 ! $ move ! (4 ∷ 5 ∷ []) $ free1 ! $ free0 ! $
-        keep ! (0 ∷ 1 ∷ 2 ∷ []) $ by ! (exits r w is (zs .1 .1 .1 .1 .1 .1 .1 .1 .1 .0) out-len e)))))))))))))))))))))))))
+        returns ! (look ! 32 refl) $ forget ! 4 refl $ forget ! 6 refl $ forget ! 8 refl $ forget ! 10 refl $ forget ! 12 refl $ forget ! 14 refl $ forget ! 16 refl $ forget ! 18 refl $ forget ! 20 refl $ forget ! 22 refl $ forget ! 24 refl $ forget ! 26 refl $ forget ! 28 refl $ forget ! 30 refl $ forget ! 32 refl $
+        move ! (32 ∷ 33 ∷ []) $ free1 ! $ move ! (30 ∷ 31 ∷ []) $ free1 ! $ move ! (28 ∷ 29 ∷ []) $ free1 ! $ move ! (26 ∷ 27 ∷ []) $ free1 ! $ move ! (24 ∷ 25 ∷ []) $ free1 ! $ move ! (22 ∷ 23 ∷ []) $ free1 ! $ move ! (20 ∷ 21 ∷ []) $ free1 ! $ move ! (18 ∷ 19 ∷ []) $ free1 ! $ move ! (16 ∷ 17 ∷ []) $ free1 ! $ move ! (14 ∷ 15 ∷ []) $ free1 ! $ move ! (12 ∷ 13 ∷ []) $ free1 ! $ move ! (10 ∷ 11 ∷ []) $ free1 ! $ move ! (8 ∷ 9 ∷ []) $ free1 ! $ move ! (6 ∷ 7 ∷ []) $ free1 ! $ move ! (4 ∷ 5 ∷ []) $ free1 ! $ free0 ! $
+        keep ! (0 ∷ 1 ∷ 2 ∷ []) $ by ! (exits r w is (zs .1 .1 .1 .1 .1 .1 .1 .1 .1 .1 .0) out-len e))))))))))))))))))))))))))
 
 module _ {M : Type 1} (𝓤 : URA M) (H : Heap 𝓤) (A : Atoms 𝓤) (W : Given 𝓤 H A) (at-mem : Memory → SProp 𝓤) (run : Routine → Fun 𝓤) where
   walks : (C : Calls 𝓤 H) (Λ : Loops 𝓤 H) → FmC 𝓤 H (W .laws) C → Triple 𝓤 (C #on) (On 𝓤 H A at-mem run) → Walks 𝓤 H A f.ended stayed (WpFn 𝓤 H C Λ code.function) (f.clauses 𝓤 H A at-mem run)

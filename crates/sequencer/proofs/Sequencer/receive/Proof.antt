@@ -112,14 +112,14 @@ module _ {M : Type 1} (𝓤 : URA M) (H : Heap 𝓤) (A : Atoms 𝓤) (W : Given
   abbrev ref : ℕ → GName → List ℕ → RefT (List ℕ)
   ref d δ l = record { ptr = (b, o + d); name = δ; now = l }
 
-  abbrev args : Names arrays → Head × (RefT (List ℕ) × (RefT (List ℕ) × (RefT (List ℕ) × (RefT (List ℕ) × (RefT (List ℕ) × (RefT (List ℕ) × (RefT (List ℕ) × (RefT (List ℕ) × (RefT (List ℕ) × (Unit {0}))))))))))
-  args ns = (h .head, (ref 16 (ns .0) (h .taken), (ref 80 (ns .1 .0) (h .counts), (ref 144 (ns .1 .1 .0) (h .repeats), (ref 208 (ns .1 .1 .1 .0) (h .kept), (ref 336 (ns .1 .1 .1 .1 .0) (h .originators), (ref 368 (ns .1 .1 .1 .1 .1 .0) (h .lengths), (ref 400 (ns .1 .1 .1 .1 .1 .1 .0) (h .payloads), (packet, (out, tt))))))))))
+  abbrev args : Names arrays → Head × (RefT (List ℕ) × (RefT (List ℕ) × (RefT (List ℕ) × (RefT (List ℕ) × (RefT (List ℕ) × (RefT (List ℕ) × (RefT (List ℕ) × (RefT (List ℕ) × (RefT (List ℕ) × (RefT (List ℕ) × (Unit {0})))))))))))
+  args ns = (h .head, (ref 20 (ns .0) (h .taken), (ref 84 (ns .1 .0) (h .counts), (ref 148 (ns .1 .1 .0) (h .repeats), (ref 212 (ns .1 .1 .1 .0) (h .kept), (ref 340 (ns .1 .1 .1 .1 .0) (h .marks), (ref 404 (ns .1 .1 .1 .1 .1 .0) (h .originators), (ref 436 (ns .1 .1 .1 .1 .1 .1 .0) (h .lengths), (ref 468 (ns .1 .1 .1 .1 .1 .1 .1 .0) (h .payloads), (packet, (out, tt)))))))))))
 
-  abbrev lfts : ℕ → Lft × (Lft × (Lft × (Lft × (Lft × (Lft × (Lft × (Lft × (Lft × (Unit {0})))))))))
-  lfts ν = (ν ∷ [], (ν ∷ [], (ν ∷ [], (ν ∷ [], (ν ∷ [], (ν ∷ [], (ν ∷ [], (κ₁, (κ₂, tt)))))))))
+  abbrev lfts : ℕ → Lft × (Lft × (Lft × (Lft × (Lft × (Lft × (Lft × (Lft × (Lft × (Lft × (Unit {0}))))))))))
+  lfts ν = (ν ∷ [], (ν ∷ [], (ν ∷ [], (ν ∷ [], (ν ∷ [], (ν ∷ [], (ν ∷ [], (ν ∷ [], (κ₁, (κ₂, tt))))))))))
 
   abbrev to : ℕ → Names arrays → On 𝓤 H A at-mem run .Ghost
-  to ν ns = ((lfts ν, (PosShare·left fullShare, (PosShare·left (PosShare·right fullShare), (PosShare·left (PosShare·right (PosShare·right fullShare)), (PosShare·left (PosShare·right (PosShare·right (PosShare·right fullShare))), (PosShare·left (PosShare·right (PosShare·right (PosShare·right (PosShare·right fullShare)))), (PosShare·left (PosShare·right (PosShare·right (PosShare·right (PosShare·right (PosShare·right fullShare))))), (PosShare·right (PosShare·right (PosShare·right (PosShare·right (PosShare·right (PosShare·right fullShare))))), (q₁, (q₂, tt))))))))), tt, args ns, (LL.val B.the-type B′.the-laws (h .head) ∷ [], (vptr b (o + 16) ∷ [], (vptr b (o + 80) ∷ [], (vptr b (o + 144) ∷ [], (vptr b (o + 208) ∷ [], (vptr b (o + 336) ∷ [], (vptr b (o + 368) ∷ [], (vptr b (o + 400) ∷ [], (packet-val ∷ [], (out-val ∷ [], tt))))))))))), tt)
+  to ν ns = ((lfts ν, (PosShare·left fullShare, (PosShare·left (PosShare·right fullShare), (PosShare·left (PosShare·right (PosShare·right fullShare)), (PosShare·left (PosShare·right (PosShare·right (PosShare·right fullShare))), (PosShare·left (PosShare·right (PosShare·right (PosShare·right (PosShare·right fullShare)))), (PosShare·left (PosShare·right (PosShare·right (PosShare·right (PosShare·right (PosShare·right fullShare))))), (PosShare·left (PosShare·right (PosShare·right (PosShare·right (PosShare·right (PosShare·right (PosShare·right fullShare)))))), (PosShare·right (PosShare·right (PosShare·right (PosShare·right (PosShare·right (PosShare·right (PosShare·right fullShare)))))), (q₁, (q₂, tt)))))))))), tt, args ns, (LL.val B.the-type B′.the-laws (h .head) ∷ [], (vptr b (o + 20) ∷ [], (vptr b (o + 84) ∷ [], (vptr b (o + 148) ∷ [], (vptr b (o + 212) ∷ [], (vptr b (o + 340) ∷ [], (vptr b (o + 404) ∷ [], (vptr b (o + 436) ∷ [], (vptr b (o + 468) ∷ [], (packet-val ∷ [], (out-val ∷ [], tt)))))))))))), tt)
 
   -- the other parameters' tokens
   abbrev Toks : Item 𝓤
@@ -133,20 +133,20 @@ module _ {M : Type 1} (𝓤 : URA M) (H : Heap 𝓤) (A : Atoms 𝓤) (W : Given
   Left out-end = fsep ftrue (fsep (fsep (finally u8 (out .name) out-end) (feq ℕ (length out-end) (length (out .now)))) (ftrue))
 
   goes-in : (ν : ℕ) (ns : Names arrays) → Is B.the-row (h .head) (LL.vals B.the-type B′.the-laws (h .head))
-      → ent 𝓤 (⋆ 𝓤 H A (‵ (refsAt (named 0) (ν ∷ []) arrays (start lendable) (lendable .all h .1) ns b o Rest) ∷ raw (toksAt 𝓤 H A (ν ∷ []) 6 fullShare (mean 𝓤 H A Toks)) ∷ [])) (On 𝓤 H A at-mem run .pre (to ν ns))
+      → ent 𝓤 (⋆ 𝓤 H A (‵ (refsAt (named 0) (ν ∷ []) arrays (start lendable) (lendable .all h .1) ns b o Rest) ∷ raw (toksAt 𝓤 H A (ν ∷ []) 7 fullShare (mean 𝓤 H A Toks)) ∷ [])) (On 𝓤 H A at-mem run .pre (to ν ns))
   goes-in ν ns is =
-      qed W (‵ (refsAt (named 0) (ν ∷ []) arrays (start lendable) (lendable .all h .1) ns b o Rest) ∷ raw (toksAt 𝓤 H A (ν ∷ []) 6 fullShare (mean 𝓤 H A Toks)) ∷ []) ∵
+      qed W (‵ (refsAt (named 0) (ν ∷ []) arrays (start lendable) (lendable .all h .1) ns b o Rest) ∷ raw (toksAt 𝓤 H A (ν ∷ []) 7 fullShare (mean 𝓤 H A Toks)) ∷ []) ∵
       owned ! B.the-row (Is B.the-row) (LL.makes B.the-type B′.the-plain 𝓤 H A) (h .head) _ is $ fjoin ! $ move ! (1 ∷ 0 ∷ []) $ join ! $ frame ! $ done !
 
   abbrev Ends : Type 0
-  Ends = Unit {0} × (List ℕ × (List ℕ × (List ℕ × (List ℕ × (List ℕ × (List ℕ × (List ℕ × (Unit {0} × (List ℕ × (Unit {0}))))))))))
+  Ends = Unit {0} × (List ℕ × (List ℕ × (List ℕ × (List ℕ × (List ℕ × (List ℕ × (List ℕ × (List ℕ × (Unit {0} × (List ℕ × (Unit {0})))))))))))
 
   abbrev ended : Ends → Values lendable
-  ended zs = (zs .1 .0, (zs .1 .1 .0, (zs .1 .1 .1 .0, (zs .1 .1 .1 .1 .0, (zs .1 .1 .1 .1 .1 .0, (zs .1 .1 .1 .1 .1 .1 .0, (zs .1 .1 .1 .1 .1 .1 .1 .0, tt)))))))
+  ended zs = (zs .1 .0, (zs .1 .1 .0, (zs .1 .1 .1 .0, (zs .1 .1 .1 .1 .0, (zs .1 .1 .1 .1 .1 .0, (zs .1 .1 .1 .1 .1 .1 .0, (zs .1 .1 .1 .1 .1 .1 .1 .0, (zs .1 .1 .1 .1 .1 .1 .1 .1 .0, tt))))))))
 
   -- what the callee promises
   abbrev Said : Step → Ends → Type 0
-  Said r zs = Received h (packet .now) (out .now) (r .reply) (headed (r .head) (with h (ended zs))) (zs .1 .1 .1 .1 .1 .1 .1 .1 .1 .0)
+  Said r zs = Received h (packet .now) (out .now) (r .reply) (headed (r .head) (with h (ended zs))) (zs .1 .1 .1 .1 .1 .1 .1 .1 .1 .1 .0)
 
   module _ (C : Calls 𝓤 H) (Λ : Loops 𝓤 H) (fm : FmC 𝓤 H (W .laws) C) (known : Triple 𝓤 (C #on) (On 𝓤 H A at-mem run)) where
     walk : ent 𝓤 (onEntry 𝓤 H A f.signature (κ, (κ₁, (κ₂, tt))) (q, (q₁, (q₂, tt))) a vals) (WpFn 𝓤 H C Λ code.function (vptr b o ∷ packet-val ∷ out-val ∷ []) Post)
@@ -156,52 +156,51 @@ module _ {M : Type 1} (𝓤 : URA M) (H : Heap 𝓤) (A : Atoms 𝓤) (W : Given
         -- [obs; bor; the other parameters; k; the other tokens]
         move ! (0 ∷ 1 ∷ 3 ∷ []) $
         enter ! C Λ code.function (vptr b o ∷ packet-val ∷ out-val ∷ []) _ $
-        alloc1 ! (λ l₀. alloc1 ! (λ l₁. alloc1 ! (λ l₂. alloc1 ! (λ l₃. alloc1 ! (λ l₄. alloc1 ! (λ l₅. alloc1 ! (λ l₆. alloc1 ! (λ l₇. alloc1 ! (λ l₈. alloc1 ! (λ l₉. alloc1 ! (λ l₁₀. alloc1 ! (λ l₁₁. alloc1 ! (λ l₁₂. alloc1 ! (λ l₁₃. alloc1 ! (λ l₁₄. alloc0 ! $ params1 ! $
-        pass1 ! (init ! 26 refl (tt, tt)) $ pass1 ! (init ! 24 refl (tt, (tt, (record { fits = packet-room .0 }, tt)))) $ pass1 ! (init ! 22 refl (tt, (tt, (record { fits = out-room .0 }, tt)))) $ pass0 ! $
-        move ! (30 ∷ 31 ∷ 32 ∷ []) $ opens ! tt T.the-row {h = h} b o (λ vs.
+        alloc1 ! (λ l₀. alloc1 ! (λ l₁. alloc1 ! (λ l₂. alloc1 ! (λ l₃. alloc1 ! (λ l₄. alloc1 ! (λ l₅. alloc1 ! (λ l₆. alloc1 ! (λ l₇. alloc1 ! (λ l₈. alloc1 ! (λ l₉. alloc1 ! (λ l₁₀. alloc1 ! (λ l₁₁. alloc1 ! (λ l₁₂. alloc1 ! (λ l₁₃. alloc1 ! (λ l₁₄. alloc1 ! (λ l₁₅. alloc0 ! $ params1 ! $
+        pass1 ! (init ! 28 refl (tt, tt)) $ pass1 ! (init ! 26 refl (tt, (tt, (record { fits = packet-room .0 }, tt)))) $ pass1 ! (init ! 24 refl (tt, (tt, (record { fits = out-room .0 }, tt)))) $ pass0 ! $
+        move ! (32 ∷ 33 ∷ 34 ∷ []) $ opens ! tt T.the-row {h = h} b o (λ vs.
         spelt ! T.the-row (Is T.the-row) (shows 𝓤 H A T.the-row) (LL.vals T.the-type T′.the-laws) (LL.tells T.the-type T′.the-laws) fullShare h vs b o $ use1 W (‵ (fat fullShare T′.mir b o (hval h))) (W .laws .raw-at fullShare T′.mir b o (hval h)) $
         move ! (1 ∷ []) $ peeks ! T.the-row (Is T.the-row) (shows 𝓤 H A T.the-row) h (hval h ∷ []) (λ was. move ! (1 ∷ 0 ∷ []) $
-        -- [the struct's cell; what it owns; the open borrow; obs; auth; _14 (5); …; _0 (33); …; the other parameters (35); the
-        -- other tokens]
-        assigns ! (of-opd ! (load ! (from ! (hop ! (look ! 31 refl) (fld ! refl (stop !)))) (look-in ! 0 (sub ! 0 refl (whole !))))) (from ! (stop !)) (init ! 23 refl (LL.lawful B.the-type B′.the-laws 𝓤 H A W .typed (h .head) _ (LL.owed T.the-type T′.the-laws h _ was .0) .0)) $
-        assigns ! (addr ! (from ! (hop ! (look ! 31 refl) (fld ! refl (stop !))))) (from ! (stop !)) (init ! 21 refl (tt, tt)) $
-        assigns ! (addr ! (from ! (hop ! (look ! 31 refl) (fld ! refl (stop !))))) (from ! (stop !)) (init ! 19 refl (tt, tt)) $
-        assigns ! (addr ! (from ! (hop ! (look ! 31 refl) (fld ! refl (stop !))))) (from ! (stop !)) (init ! 17 refl (tt, tt)) $
-        assigns ! (addr ! (from ! (hop ! (look ! 31 refl) (fld ! refl (stop !))))) (from ! (stop !)) (init ! 15 refl (tt, tt)) $
-        assigns ! (addr ! (from ! (hop ! (look ! 31 refl) (fld ! refl (stop !))))) (from ! (stop !)) (init ! 13 refl (tt, tt)) $
-        assigns ! (addr ! (from ! (hop ! (look ! 31 refl) (fld ! refl (stop !))))) (from ! (stop !)) (init ! 11 refl (tt, tt)) $
-        assigns ! (addr ! (from ! (hop ! (look ! 31 refl) (fld ! refl (stop !))))) (from ! (stop !)) (init ! 9 refl (tt, tt)) $
-        assigns ! (addr ! (from ! (fld ! refl (hop ! (look-in ! 27 (sub ! 0 refl (whole !))) (stop !))))) (from ! (stop !)) (init ! 7 refl (tt, tt)) $
-        assigns ! (agg ! (and-then ! (load ! (from ! (stop !)) (look ! 7 refl)) (and-then ! (load ! (from ! (fld ! refl (stop !))) (look-in ! 27 (sub ! 1 refl (whole !)))) (no-more !)))) (from ! (stop !)) (init ! 5 refl (tt, (tt, (record { fits = out-room .0 }, tt)))) $
+        -- [the struct's cell; what it owns; the open borrow; obs; auth; _15 (5); …; _0 (35); …; the other parameters (37); the other tokens]
+        assigns ! (of-opd ! (load ! (from ! (hop ! (look ! 33 refl) (fld ! refl (stop !)))) (look-in ! 0 (sub ! 0 refl (whole !))))) (from ! (stop !)) (init ! 25 refl (LL.lawful B.the-type B′.the-laws 𝓤 H A W .typed (h .head) _ (LL.owed T.the-type T′.the-laws h _ was .0) .0)) $
+        assigns ! (addr ! (from ! (hop ! (look ! 33 refl) (fld ! refl (stop !))))) (from ! (stop !)) (init ! 23 refl (tt, tt)) $
+        assigns ! (addr ! (from ! (hop ! (look ! 33 refl) (fld ! refl (stop !))))) (from ! (stop !)) (init ! 21 refl (tt, tt)) $
+        assigns ! (addr ! (from ! (hop ! (look ! 33 refl) (fld ! refl (stop !))))) (from ! (stop !)) (init ! 19 refl (tt, tt)) $
+        assigns ! (addr ! (from ! (hop ! (look ! 33 refl) (fld ! refl (stop !))))) (from ! (stop !)) (init ! 17 refl (tt, tt)) $
+        assigns ! (addr ! (from ! (hop ! (look ! 33 refl) (fld ! refl (stop !))))) (from ! (stop !)) (init ! 15 refl (tt, tt)) $
+        assigns ! (addr ! (from ! (hop ! (look ! 33 refl) (fld ! refl (stop !))))) (from ! (stop !)) (init ! 13 refl (tt, tt)) $
+        assigns ! (addr ! (from ! (hop ! (look ! 33 refl) (fld ! refl (stop !))))) (from ! (stop !)) (init ! 11 refl (tt, tt)) $
+        assigns ! (addr ! (from ! (hop ! (look ! 33 refl) (fld ! refl (stop !))))) (from ! (stop !)) (init ! 9 refl (tt, tt)) $
+        assigns ! (addr ! (from ! (fld ! refl (hop ! (look-in ! 29 (sub ! 0 refl (whole !))) (stop !))))) (from ! (stop !)) (init ! 7 refl (tt, tt)) $
+        assigns ! (agg ! (and-then ! (load ! (from ! (stop !)) (look ! 7 refl)) (and-then ! (load ! (from ! (fld ! refl (stop !))) (look-in ! 29 (sub ! 1 refl (whole !)))) (no-more !)))) (from ! (stop !)) (init ! 5 refl (tt, (tt, (record { fits = out-room .0 }, tt)))) $
         -- the arrays are cut out of the struct, and lent for a lifetime ν of the call
-        use2 W (‵ (partAt T.the-row fullShare h b o)) (part-in 𝓤 H A W T.the-row refl fullShare h b o (hval h)) $ lft-new ! tt (λ ν. move ! (1 ∷ 35 ∷ []) $
+        use2 W (‵ (partAt T.the-row fullShare h b o)) (part-in 𝓤 H A W T.the-row refl fullShare h b o (hval h)) $ lft-new ! tt (λ ν. move ! (1 ∷ 37 ∷ []) $
         use2 W (later (some (λ (ns : Names arrays). ‵ (refsAt (named 0) (ν ∷ []) arrays (start lendable) (lendable .all h .1) ns b o Rest) ⊛ Kept lendable 𝓤 H A (ν ∷ []) h b o ns))) (lend lendable 𝓤 H A W (named 0) (ν ∷ []) h b o Rest) $ await ! tt $ pick ! (λ ns. split ! $
-        -- [the references and the other parameters; what is kept; kν; the open borrow; obs; auth; the locals (6); the other tokens
-        -- (36)]
-        move ! (2 ∷ 36 ∷ []) $ use2 W (raw (toksAt 𝓤 H A (ν ∷ []) 6 fullShare (mean 𝓤 H A Toks))) (toks-cut 𝓤 H A (ν ∷ []) W 6 fullShare (mean 𝓤 H A Toks)) $ move ! (1 ∷ 0 ∷ []) $ use2 W (raw (On 𝓤 H A at-mem run .pre (to ν ns))) (goes-in ν ns (LL.owed T.the-type T′.the-laws h _ was .0)) $
+        -- [the references and the other parameters; what is kept; kν; the open borrow; obs; auth; the locals (6); the other tokens (38)]
+        move ! (2 ∷ 38 ∷ []) $ use2 W (raw (toksAt 𝓤 H A (ν ∷ []) 7 fullShare (mean 𝓤 H A Toks))) (toks-cut 𝓤 H A (ν ∷ []) W 7 fullShare (mean 𝓤 H A Toks)) $ move ! (1 ∷ 0 ∷ []) $ use2 W (raw (On 𝓤 H A at-mem run .pre (to ν ns))) (goes-in ν ns (LL.owed T.the-type T′.the-laws h _ was .0)) $
         -- [its pre; what is kept; the open borrow; obs; auth; the locals (5)]
-        calls-at ! fm (On 𝓤 H A at-mem run) known (to ν ns) (and-then ! (load ! (from ! (stop !)) (look ! 23 refl)) (and-then ! (load ! (from ! (stop !)) (look ! 21 refl)) (and-then ! (load ! (from ! (stop !)) (look ! 19 refl)) (and-then ! (load ! (from ! (stop !)) (look ! 17 refl)) (and-then ! (load ! (from ! (stop !)) (look ! 15 refl)) (and-then ! (load ! (from ! (stop !)) (look ! 13 refl)) (and-then ! (load ! (from ! (stop !)) (look ! 11 refl)) (and-then ! (load ! (from ! (stop !)) (look ! 9 refl)) (and-then ! (load ! (from ! (stop !)) (look ! 29 refl)) (and-then ! (load ! (from ! (stop !)) (look ! 5 refl)) (no-more !))))))))))) (λ w.
-        use1 W (later (some (λ (r : Step). (raw (toksAt 𝓤 H A (ν ∷ []) 6 fullShare (mean 𝓤 H A Toks)) ⊛ ‵ (S.the-row .own r (w ∷ []))) ⊛ raw (ensured 𝓤 H A on.ended (on.clauses 𝓤 H A at-mem run) (lfts ν) (args ns) tt r)))) (id⊢ 𝓤 _) $ await ! tt $ pick ! (λ r.
+        calls-at ! fm (On 𝓤 H A at-mem run) known (to ν ns) (and-then ! (load ! (from ! (stop !)) (look ! 25 refl)) (and-then ! (load ! (from ! (stop !)) (look ! 23 refl)) (and-then ! (load ! (from ! (stop !)) (look ! 21 refl)) (and-then ! (load ! (from ! (stop !)) (look ! 19 refl)) (and-then ! (load ! (from ! (stop !)) (look ! 17 refl)) (and-then ! (load ! (from ! (stop !)) (look ! 15 refl)) (and-then ! (load ! (from ! (stop !)) (look ! 13 refl)) (and-then ! (load ! (from ! (stop !)) (look ! 11 refl)) (and-then ! (load ! (from ! (stop !)) (look ! 9 refl)) (and-then ! (load ! (from ! (stop !)) (look ! 31 refl)) (and-then ! (load ! (from ! (stop !)) (look ! 5 refl)) (no-more !)))))))))))) (λ w.
+        use1 W (later (some (λ (r : Step). (raw (toksAt 𝓤 H A (ν ∷ []) 7 fullShare (mean 𝓤 H A Toks)) ⊛ ‵ (S.the-row .own r (w ∷ []))) ⊛ raw (ensured 𝓤 H A on.ended (on.clauses 𝓤 H A at-mem run) (lfts ν) (args ns) tt r)))) (id⊢ 𝓤 _) $ await ! tt $ pick ! (λ r.
         split ! $ move ! (1 ∷ []) $ use1 W (some (λ (zs : Ends). ‵ (lasts on.ended (lfts ν) (args ns) zs) ⊛ raw (fact 𝓤 (Said r zs)))) (id⊢ 𝓤 _) $ pick ! (λ zs.
         split ! $ move ! (1 ∷ []) $ heard ! (Said r zs) (λ e. fsplit ! $ drop ! $
         -- [the lasts; tokens and the result; what is kept; the open borrow; obs; auth; the locals (6)]
-        move ! (1 ∷ []) $ split ! $ move ! (1 ∷ []) $ facts ! S.the-row (Is S.the-row) (shows 𝓤 H A S.the-row) r (w ∷ []) (λ is. land ! (from ! (stop !)) (init ! 26 refl (LL.lawful S.the-type S′.the-laws 𝓤 H A W .typed r _ is .0)) $
-        rewrite ! 26 (λ (u : Val). ‵ (fat fullShare S′.mir l₄ 0 u)) (ap only (LL.tells S.the-type S′.the-laws r (w ∷ []) is)) refl $
+        move ! (1 ∷ []) $ split ! $ move ! (1 ∷ []) $ facts ! S.the-row (Is S.the-row) (shows 𝓤 H A S.the-row) r (w ∷ []) (λ is. land ! (from ! (stop !)) (init ! 28 refl (LL.lawful S.the-type S′.the-laws 𝓤 H A W .typed r _ is .0)) $
+        rewrite ! 28 (λ (u : Val). ‵ (fat fullShare S′.mir l₄ 0 u)) (ap only (LL.tells S.the-type S′.the-laws r (w ∷ []) is)) refl $
         -- the lifetime is ended, the arrays are back, and the struct is put together
-        use1 W (‵ (flft (ν ∷ []) fullShare) ⊛ Toks) (toks-join 𝓤 H A (ν ∷ []) W 6 fullShare (mean 𝓤 H A Toks)) $ split ! $ lft-end ! tt $ move ! (0 ∷ 3 ∷ 2 ∷ []) $ use3 W (later (‵ (partAt T.the-row fullShare (with h (ended zs)) b o) ⊛ ‵ (Left (zs .1 .1 .1 .1 .1 .1 .1 .1 .1 .0)))) (back lendable 𝓤 H A W (named 0) (ν ∷ []) h b o (Left (zs .1 .1 .1 .1 .1 .1 .1 .1 .1 .0)) ns (ended zs) (with h (ended zs)) refl) $ await ! tt $ split ! $ move ! (1 ∷ []) $
+        use1 W (‵ (flft (ν ∷ []) fullShare) ⊛ Toks) (toks-join 𝓤 H A (ν ∷ []) W 7 fullShare (mean 𝓤 H A Toks)) $ split ! $ lft-end ! tt $ move ! (0 ∷ 3 ∷ 2 ∷ []) $ use3 W (later (‵ (partAt T.the-row fullShare (with h (ended zs)) b o) ⊛ ‵ (Left (zs .1 .1 .1 .1 .1 .1 .1 .1 .1 .1 .0)))) (back lendable 𝓤 H A W (named 0) (ν ∷ []) h b o (Left (zs .1 .1 .1 .1 .1 .1 .1 .1 .1 .1 .0)) ns (ended zs) (with h (ended zs)) refl) $ await ! tt $ split ! $ move ! (1 ∷ []) $
         fsplit ! $ drop ! $ fsplit ! $ fsplit ! $ move ! (1 ∷ []) $ feqL ! (λ out-len. move ! (1 ∷ []) $ drop ! $
         move ! (1 ∷ []) $ use1 W (some (λ (v : Val). ‵ (fat fullShare T′.mir b o v) ⊛ ‵ (T.the-row .own (with h (ended zs)) (v ∷ [])))) (part-out 𝓤 H A W T.the-row refl fullShare (with h (ended zs)) b o) $ pick ! (λ v. split ! $ move ! (1 ∷ []) $
         facts ! T.the-row (Is T.the-row) (shows 𝓤 H A T.the-row) (with h (ended zs)) (v ∷ []) (λ was′. rewrite ! 0 (λ (u : Val). ‵ (fat fullShare T′.mir b o u)) (ap only (LL.tells T.the-type T′.the-laws (with h (ended zs)) (v ∷ []) was′)) refl $
         -- [the struct's cell; the outputs' lasts; the other tokens; the open borrow; obs; auth; the locals (6)]
-        assigns ! (of-opd ! (load ! (from ! (fld ! refl (stop !))) (look-in ! 26 (sub ! 0 refl (whole !))))) (from ! (hop ! (look ! 32 refl) (fld ! refl (stop !)))) (store-in ! 0 (sub ! 0 refl (whole !)) (LL.lawful B.the-type B′.the-laws 𝓤 H A W .typed (r .head) _ (owed-done r w is .0) .0)) $
-        assigns ! (of-opd ! (load ! (from ! (fld ! refl (stop !))) (look-in ! 26 (sub ! 1 refl (whole !))))) (from ! (stop !)) (init ! 34 refl (LL.lawful Y.the-type Y′.the-laws 𝓤 H A W .typed (r .reply) _ (owed-done r w is .1) .0)) $
+        assigns ! (of-opd ! (load ! (from ! (fld ! refl (stop !))) (look-in ! 28 (sub ! 0 refl (whole !))))) (from ! (hop ! (look ! 34 refl) (fld ! refl (stop !)))) (store-in ! 0 (sub ! 0 refl (whole !)) (LL.lawful B.the-type B′.the-laws 𝓤 H A W .typed (r .head) _ (owed-done r w is .0) .0)) $
+        assigns ! (of-opd ! (load ! (from ! (fld ! refl (stop !))) (look-in ! 28 (sub ! 1 refl (whole !))))) (from ! (stop !)) (init ! 36 refl (LL.lawful Y.the-type Y′.the-laws 𝓤 H A W .typed (r .reply) _ (owed-done r w is .1) .0)) $
         use1 W (‵ (cellAt fullShare (T.the-row .mir) (hval (headed (r .head) (with h (ended zs))) ∷ []) b o)) (W .laws .at-raw fullShare T′.mir b o (hval (headed (r .head) (with h (ended zs))))) $
         owned ! T.the-row (Is T.the-row) (LL.makes T.the-type T′.the-plain 𝓤 H A) (headed (r .head) (with h (ended zs))) _ (made (r .head) (owed-done r w is .0) (with h (ended zs)) v was′) $
         move ! (1 ∷ 0 ∷ 4 ∷ 5 ∷ 6 ∷ []) $ closes ! tt T.the-row (headed (r .head) (with h (ended zs))) (hval (headed (r .head) (with h (ended zs))) ∷ []) b o $
         -- [obs; bor; k; the outputs' lasts; the other tokens; the locals (5)]
-        returns ! (look ! 33 refl) $ forget ! 5 refl $ forget ! 7 refl $ forget ! 9 refl $ forget ! 11 refl $ forget ! 13 refl $ forget ! 15 refl $ forget ! 17 refl $ forget ! 19 refl $ forget ! 21 refl $ forget ! 23 refl $ forget ! 25 refl $ forget ! 27 refl $ forget ! 29 refl $ forget ! 31 refl $ forget ! 33 refl $
-        move ! (33 ∷ 34 ∷ []) $ free1 ! $ move ! (31 ∷ 32 ∷ []) $ free1 ! $ move ! (29 ∷ 30 ∷ []) $ free1 ! $ move ! (27 ∷ 28 ∷ []) $ free1 ! $ move ! (25 ∷ 26 ∷ []) $ free1 ! $ move ! (23 ∷ 24 ∷ []) $ free1 ! $ move ! (21 ∷ 22 ∷ []) $ free1 ! $ move ! (19 ∷ 20 ∷ []) $ free1 ! $ move ! (17 ∷ 18 ∷ []) $ free1 ! $ move ! (15 ∷ 16 ∷ []) $ free1 ! $ move ! (13 ∷ 14 ∷ []) $ free1 ! $ move ! (11 ∷ 12 ∷ []) $ free1 ! $ move ! (9 ∷ 10 ∷ []) $ free1 ! $ move ! (7 ∷ 8 ∷ []) $ free1 ! $ move ! (5 ∷ 6 ∷ []) $ free1 ! $ free0 ! $
-        keep ! (0 ∷ 1 ∷ 2 ∷ 4 ∷ 3 ∷ []) $ by ! (exits (r .reply) (owed-done r w is .1) (headed (r .head) (with h (ended zs))) (zs .1 .1 .1 .1 .1 .1 .1 .1 .1 .0) out-len e))))))))))))))))))))))))))))
+        returns ! (look ! 35 refl) $ forget ! 5 refl $ forget ! 7 refl $ forget ! 9 refl $ forget ! 11 refl $ forget ! 13 refl $ forget ! 15 refl $ forget ! 17 refl $ forget ! 19 refl $ forget ! 21 refl $ forget ! 23 refl $ forget ! 25 refl $ forget ! 27 refl $ forget ! 29 refl $ forget ! 31 refl $ forget ! 33 refl $ forget ! 35 refl $
+        move ! (35 ∷ 36 ∷ []) $ free1 ! $ move ! (33 ∷ 34 ∷ []) $ free1 ! $ move ! (31 ∷ 32 ∷ []) $ free1 ! $ move ! (29 ∷ 30 ∷ []) $ free1 ! $ move ! (27 ∷ 28 ∷ []) $ free1 ! $ move ! (25 ∷ 26 ∷ []) $ free1 ! $ move ! (23 ∷ 24 ∷ []) $ free1 ! $ move ! (21 ∷ 22 ∷ []) $ free1 ! $ move ! (19 ∷ 20 ∷ []) $ free1 ! $ move ! (17 ∷ 18 ∷ []) $ free1 ! $ move ! (15 ∷ 16 ∷ []) $ free1 ! $ move ! (13 ∷ 14 ∷ []) $ free1 ! $ move ! (11 ∷ 12 ∷ []) $ free1 ! $ move ! (9 ∷ 10 ∷ []) $ free1 ! $ move ! (7 ∷ 8 ∷ []) $ free1 ! $ move ! (5 ∷ 6 ∷ []) $ free1 ! $ free0 ! $
+        keep ! (0 ∷ 1 ∷ 2 ∷ 4 ∷ 3 ∷ []) $ by ! (exits (r .reply) (owed-done r w is .1) (headed (r .head) (with h (ended zs))) (zs .1 .1 .1 .1 .1 .1 .1 .1 .1 .1 .0) out-len e)))))))))))))))))))))))))))))
 
 module _ {M : Type 1} (𝓤 : URA M) (H : Heap 𝓤) (A : Atoms 𝓤) (W : Given 𝓤 H A) (at-mem : Memory → SProp 𝓤) (run : Routine → Fun 𝓤) where
   walks : (C : Calls 𝓤 H) (Λ : Loops 𝓤 H) → FmC 𝓤 H (W .laws) C → Triple 𝓤 (C #on) (On 𝓤 H A at-mem run) → Walks 𝓤 H A f.ended stayed (WpFn 𝓤 H C Λ code.function) (f.clauses 𝓤 H A at-mem run)

@@ -15,7 +15,7 @@ fresh-members-requires c κs = search needs
 returns : tie.Need-returns
 returns c =
     let a = c .before .before .before .args in
-    opens (a .n) (a .number) _ (c .before .before .open-sequencer .ensures) (c .fresh-members .ensures) refl refl
+    opens (a .n) (a .number) (a .resilience) _ (c .before .before .open-sequencer .ensures) (c .fresh-members .ensures) refl refl
 
 pub fresh-spec : {M : Type 1} → statement M
 fresh-spec = tie.close (tie.spec open-sequencer-requires fresh-members-requires returns)

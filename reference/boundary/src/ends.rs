@@ -38,6 +38,8 @@ impl Told {
             Answer::Again(number) => (36, [number, 0, 0], 0),
             Answer::Numbered(number) => (37, [number, 0, 0], 0),
             Answer::Wanted(first, last) => (38, [first, last, 0], 0),
+            Answer::Accepted => (39, [0; 3], 0),
+            Answer::Marked => (40, [0; 3], 0),
             Answer::Kept => (48, [0; 3], 0),
             Answer::KeptGap => (49, [0; 3], 0),
             Answer::Beyond => (50, [0; 3], 0),
@@ -72,8 +74,8 @@ impl Told {
 
 /// A sequencer of either side.
 pub trait Sequencing: Clone {
-    /// Opened, with an allowed n.
-    fn opened(n: u8, group: u32) -> Self;
+    /// Opened, with an allowed n and resilience degree.
+    fn opened(n: u8, group: u32, resilience: u8) -> Self;
     /// Takes a packet.
     fn receive(&mut self, packet: &[u8], out: &mut [u8]) -> Told;
     /// Writes the poll packet.
@@ -83,8 +85,9 @@ pub trait Sequencing: Clone {
 }
 
 impl Sequencing for sequencer::Sequencer {
-    fn opened(n: u8, group: u32) -> Self {
-        sequencer::Sequencer::fresh(n.into(), group).expect("an allowed opening")
+    fn opened(n: u8, group: u32, resilience: u8) -> Self {
+        sequencer::Sequencer::resilient(n.into(), group, resilience.into())
+            .expect("an allowed opening")
     }
     fn receive(&mut self, packet: &[u8], out: &mut [u8]) -> Told {
         Told::of(sequencer::Sequencer::receive(self, packet, out))
@@ -99,8 +102,8 @@ impl Sequencing for sequencer::Sequencer {
 
 /// A member of either side.
 pub trait Membership: Clone {
-    /// Opened, with an allowed n and number.
-    fn opened(n: u8, number: u8, group: u32) -> Self;
+    /// Opened, with an allowed n, number and resilience degree.
+    fn opened(n: u8, number: u8, group: u32, resilience: u8) -> Self;
     /// Submits a message.
     fn submit(&mut self, payload: &[u8], out: &mut [u8]) -> Told;
     /// Takes a packet.
@@ -114,8 +117,9 @@ pub trait Membership: Clone {
 }
 
 impl Membership for member::Member {
-    fn opened(n: u8, number: u8, group: u32) -> Self {
-        member::Member::fresh(n.into(), number.into(), group).expect("an allowed opening")
+    fn opened(n: u8, number: u8, group: u32, resilience: u8) -> Self {
+        member::Member::resilient(n.into(), number.into(), group, resilience.into())
+            .expect("an allowed opening")
     }
     fn submit(&mut self, payload: &[u8], out: &mut [u8]) -> Told {
         Told::of(member::Member::submit(self, payload, out))
@@ -152,7 +156,7 @@ fn rounds_from<S: Clone>(
 
 /// The sequencer of a description.
 pub fn sequencer<S: Sequencing>(end: Sequencer<'_>, out: &mut [u8]) -> S {
-    let mut state = S::opened(end.n, end.group);
+    let mut state = S::opened(end.n, end.group, end.resilience);
     for packet in packets(end.heard) {
         state.receive(packet, out);
     }
@@ -195,7 +199,7 @@ pub fn sequencer_copy<S: Sequencing>(
 
 /// The member of a description.
 pub fn member<M: Membership>(end: Member<'_>, out: &mut [u8]) -> M {
-    let mut state = M::opened(end.n, end.number, end.group);
+    let mut state = M::opened(end.n, end.number, end.group, end.resilience);
     for packet in packets(end.heard) {
         state.receive(packet, out);
     }
@@ -207,7 +211,7 @@ pub fn member<M: Membership>(end: Member<'_>, out: &mut [u8]) -> M {
 
 /// The member of a description that has submitted so often before it heard.
 fn typist<M: Membership>(end: Member<'_>, payload: &[u8], waiting: u32, out: &mut [u8]) -> M {
-    let mut state = M::opened(end.n, end.number, end.group);
+    let mut state = M::opened(end.n, end.number, end.group, end.resilience);
     for _ in 0..waiting {
         state.submit(payload, out);
     }

@@ -30,6 +30,8 @@ pub struct Sequencer<'a> {
     pub n: u8,
     /// The group number.
     pub group: u32,
+    /// The resilience degree.
+    pub resilience: u8,
     /// What it has heard.
     pub heard: &'a [u8],
 }
@@ -44,6 +46,8 @@ pub struct Member<'a> {
     pub number: u8,
     /// The group number.
     pub group: u32,
+    /// The resilience degree.
+    pub resilience: u8,
     /// What it has heard.
     pub heard: &'a [u8],
     /// How often it was asked to take since.

@@ -16,10 +16,14 @@ use model::{member, sequencer};
 pub struct SequencerState {
     /// Members of the group.
     pub n: u8,
+    /// The resilience degree.
+    pub resilience: u8,
     /// The group number.
     pub group: u32,
     /// The last number given.
     pub top: u32,
+    /// The last accepted number.
+    pub accepted: u32,
     /// The smallest number that all have taken.
     pub floor: u32,
     /// For each member the last number known taken.
@@ -30,6 +34,8 @@ pub struct SequencerState {
     pub repeats: Table,
     /// Of each place of the history the count of its message, 0 for none.
     pub kept: [u32; HISTORY],
+    /// Who answered the offer of its number, one bit a member.
+    pub marks: [u16; HISTORY],
     /// Its originator.
     pub originators: [u8; HISTORY],
     /// How many bytes its payload has.
@@ -38,7 +44,7 @@ pub struct SequencerState {
     pub payloads: [[u8; PAYLOAD]; HISTORY],
 }
 
-const _: () = assert!(size_of::<SequencerState>() == 8080);
+const _: () = assert!(size_of::<SequencerState>() == 8148);
 
 /// A member as the proved library lays it in memory.
 #[repr(C)]
@@ -46,12 +52,16 @@ const _: () = assert!(size_of::<SequencerState>() == 8080);
 pub struct MemberState {
     /// Members of the group.
     pub n: u8,
+    /// The resilience degree.
+    pub resilience: u8,
     /// The group number.
     pub group: u32,
     /// This member's number.
     pub number: u8,
     /// The last number taken.
     pub taken: u32,
+    /// The last number known accepted.
+    pub accepted: u32,
     /// How many messages it has submitted.
     pub submitted: u32,
     /// How many of them wait.
@@ -74,40 +84,46 @@ pub struct MemberState {
     pub held_payloads: [[u8; PAYLOAD]; WINDOW],
 }
 
-const _: () = assert!(size_of::<MemberState>() == 3224);
+const _: () = assert!(size_of::<MemberState>() == 3228);
 
 impl SequencerState {
     /// All zero: closed.
     pub const CLOSED: SequencerState = SequencerState {
         n: 0,
+        resilience: 0,
         group: 0,
         top: 0,
+        accepted: 0,
         floor: 0,
         taken: [0; _],
         counts: [0; _],
         repeats: [0; _],
         kept: [0; _],
+        marks: [0; _],
         originators: [0; _],
         lengths: [0; _],
         payloads: [[0; _]; _],
     };
 
     /// Opens it.
-    pub fn open(&mut self, n: u8, group: u32) -> Told {
+    pub fn open(&mut self, n: u8, group: u32, resilience: u8) -> Told {
         // SAFETY: the state lives through the call.
-        unsafe { ffi::warghytes_sequencer_open(self, n, group) }
+        unsafe { ffi::warghytes_sequencer_open(self, n, group, resilience) }
     }
 
     /// The same state of the reference.
     pub fn as_reference(&self) -> sequencer::Sequencer {
         sequencer::Sequencer {
             n: self.n,
+            resilience: self.resilience,
             group: self.group,
             acknowledged: self.taken,
             counts: self.counts,
             repeats: self.repeats,
             top: self.top,
             floor: self.floor,
+            accepted: self.accepted,
+            marks: self.marks,
             history: places(&self.kept, &self.originators, &self.lengths, &self.payloads),
         }
     }
@@ -120,9 +136,9 @@ impl SequencerState {
 }
 
 impl Sequencing for SequencerState {
-    fn opened(n: u8, group: u32) -> Self {
+    fn opened(n: u8, group: u32, resilience: u8) -> Self {
         let mut state = SequencerState::CLOSED;
-        state.open(n, group);
+        state.open(n, group, resilience);
         state
     }
     fn receive(&mut self, packet: &[u8], out: &mut [u8]) -> Told {
@@ -144,9 +160,11 @@ impl MemberState {
     /// All zero: closed.
     pub const CLOSED: MemberState = MemberState {
         n: 0,
+        resilience: 0,
         group: 0,
         number: 0,
         taken: 0,
+        accepted: 0,
         submitted: 0,
         waiting: 0,
         queued: [0; _],
@@ -160,9 +178,9 @@ impl MemberState {
     };
 
     /// Opens it.
-    pub fn open(&mut self, n: u8, number: u8, group: u32) -> Told {
+    pub fn open(&mut self, n: u8, number: u8, group: u32, resilience: u8) -> Told {
         // SAFETY: the state lives through the call.
-        unsafe { ffi::warghytes_member_open(self, n, number, group) }
+        unsafe { ffi::warghytes_member_open(self, n, number, group, resilience) }
     }
 
     /// The same state of the reference, whose number of waiting messages is a
@@ -171,9 +189,11 @@ impl MemberState {
         let held = self.held.iter().rev();
         member::Member {
             n: self.n,
+            resilience: self.resilience,
             number: self.number,
             group: self.group,
             taken: self.taken,
+            accepted: self.accepted,
             submitted: self.submitted,
             waiting: self.waiting.try_into().unwrap_or(u8::MAX),
             queue: places(
@@ -194,9 +214,9 @@ impl MemberState {
 }
 
 impl Membership for MemberState {
-    fn opened(n: u8, number: u8, group: u32) -> Self {
+    fn opened(n: u8, number: u8, group: u32, resilience: u8) -> Self {
         let mut state = MemberState::CLOSED;
-        state.open(n, number, group);
+        state.open(n, number, group, resilience);
         state
     }
     fn submit(&mut self, payload: &[u8], out: &mut [u8]) -> Told {
@@ -229,7 +249,12 @@ mod ffi {
     use crate::ends::{Table, Told};
 
     unsafe extern "C" {
-        pub fn warghytes_sequencer_open(state: *mut SequencerState, n: u8, group: u32) -> Told;
+        pub fn warghytes_sequencer_open(
+            state: *mut SequencerState,
+            n: u8,
+            group: u32,
+            resilience: u8,
+        ) -> Told;
         pub fn warghytes_sequencer_receive(
             state: *mut SequencerState,
             packet: *const u8,
@@ -253,6 +278,7 @@ mod ffi {
             n: u8,
             number: u8,
             group: u32,
+            resilience: u8,
         ) -> Told;
         pub fn warghytes_member_submit(
             state: *mut MemberState,

@@ -67,7 +67,12 @@ fn refusals_are_numbers_and_change_nothing() {
 #[test]
 fn odd_slices() {
     let (n, group, heard) = (2, 7, &[][..]);
-    let end = Sequencer { n, group, heard };
+    let end = Sequencer {
+        n,
+        group,
+        resilience: 0,
+        heard,
+    };
     for packets in [
         &[][..],
         &[0],
@@ -109,7 +114,12 @@ fn long_packets() {
 #[test]
 fn packets_over_255_bytes() {
     let (n, group, heard) = (2, 7, &[][..]);
-    let end = Sequencer { n, group, heard };
+    let end = Sequencer {
+        n,
+        group,
+        resilience: 0,
+        heard,
+    };
     for size in 256..=PACKET {
         let mut out = [0; PACKET];
         let payload = vec![0x5a; size - 20];
@@ -183,7 +193,12 @@ fn rounds_of_every_call() {
 
     let (n, number, group) = (2, 1, 7);
     let heard = &requests[..];
-    let end = Sequencer { n, group, heard };
+    let end = Sequencer {
+        n,
+        group,
+        resilience: 0,
+        heard,
+    };
     same_sequencer!(sequencer_poll(end, 5));
     same_sequencer!(sequencer_copy(end, 1, 5));
     same_sequencer!(sequencer_copy(end, 2, 5));
@@ -191,7 +206,12 @@ fn rounds_of_every_call() {
 
     // The second and the third are Again: member 1's count and the sum are 2.
     let heard = &[heard, heard, heard].concat()[..];
-    let end = Sequencer { n, group, heard };
+    let end = Sequencer {
+        n,
+        group,
+        resilience: 0,
+        heard,
+    };
     let sequencer: SequencerState = ends::sequencer(end, &mut out);
     let other: sequencer::Sequencer = ends::sequencer(end, &mut out);
     assert_eq!(sequencer.as_reference(), other);
@@ -203,6 +223,7 @@ fn rounds_of_every_call() {
         n,
         number,
         group,
+        resilience: 0,
         heard,
         takes: 0,
     };
@@ -217,8 +238,54 @@ fn rounds_of_every_call() {
     same_member!(member_take(end, 3, 5));
     same!(terminal_take(end, 3));
     same_member!(member_status(end, 5));
-    for kind in 0..7 {
+    for kind in 0..10 {
         same!(write(&Header { kind, ..HEADER }, b"ab"));
+    }
+}
+
+/// With a resilience degree of 2 an offer is marked, then accepted, and taken.
+#[test]
+fn offered_then_accepted() {
+    let mut out = [0; PACKET];
+    let mut sequencer = SequencerState::CLOSED;
+    assert_eq!(sequencer.open(3, 7, 3), told(24, [0; 3], 0));
+    assert_eq!(sequencer.open(3, 7, 2), told(39, [0; 3], 0));
+    let mut members = [MemberState::CLOSED, MemberState::CLOSED];
+    for (member, number) in members.iter_mut().zip(1..) {
+        assert_eq!(member.open(3, number, 7, 3), told(24, [0; 3], 0));
+        assert_eq!(member.open(3, number, 7, 2), told(39, [0; 3], 0));
+    }
+    members[0].submit(b"ab", &mut out);
+    let request = out;
+    assert_eq!(
+        sequencer.receive(&request[..22], &mut out),
+        told(37, [1, 0, 0], 22)
+    );
+    assert_eq!(out[0], 6);
+    let offer = out;
+    for (member, expected) in members.iter_mut().zip([(40, 0), (39, 20)]) {
+        let mut answer = [0; PACKET];
+        assert_eq!(
+            member.receive(&offer[..22], &mut answer),
+            told(48, [0; 3], 20)
+        );
+        assert_eq!(answer[0], 7);
+        assert_eq!(member.take(&mut [0; PACKET]), told(54, [0; 3], 0));
+        let (code, written) = expected;
+        assert_eq!(
+            sequencer.receive(&answer[..20], &mut out),
+            told(code, [0; 3], written)
+        );
+    }
+    assert_eq!(out[0], 8);
+    let accepted = out;
+    for member in &mut members {
+        assert_eq!(
+            member.receive(&accepted[..20], &mut out),
+            told(34, [0; 3], 0)
+        );
+        assert_eq!(member.take(&mut out), told(55, [1, 1, 1], 2));
+        assert_eq!(out[..2], *b"ab");
     }
 }
 
@@ -227,16 +294,16 @@ fn rounds_of_every_call() {
 fn what_is_told() {
     let mut out = [0; PACKET];
     let mut member = MemberState::CLOSED;
-    assert_eq!(member.open(0, 0, 7), told(18, [0; 3], 0));
+    assert_eq!(member.open(0, 0, 7, 0), told(18, [0; 3], 0));
     assert_eq!(member.status(&mut out), told(1, [0; 3], 0));
     assert_eq!(member, MemberState::CLOSED);
-    assert_eq!(member.open(2, 1, 7), told(39, [0; 3], 0));
+    assert_eq!(member.open(2, 1, 7, 0), told(39, [0; 3], 0));
     assert_eq!(member.submit(b"ab", &mut out), told(35, [0; 3], 22));
     assert_eq!(member.submit(b"cd", &mut out), told(56, [2, 0, 0], 0));
 
     let mut sequencer = SequencerState::CLOSED;
-    assert_eq!(sequencer.open(17, 7), told(18, [0; 3], 0));
-    assert_eq!(sequencer.open(2, 7), told(39, [0; 3], 0));
+    assert_eq!(sequencer.open(17, 7, 0), told(18, [0; 3], 0));
+    assert_eq!(sequencer.open(2, 7, 0), told(39, [0; 3], 0));
     member.repeat(&mut out);
     let request = out;
     assert_eq!(

@@ -12,11 +12,11 @@ pub enum Refusal {
     ShortOutput = 2,
     /// The packet is not 20 to 260 bytes long.
     PacketSize = 3,
-    /// The kind is not 1 to 5.
+    /// The kind is not 1 to 8.
     Kind = 4,
-    /// The length is not 20 + L, or L is not zero in kinds 3 to 5.
+    /// The length is not 20 + L, or L is not zero in kinds 3, 4, 5, 7 and 8.
     Length = 5,
-    /// A, B, C (or byte 1 of a poll) do not obey the kind.
+    /// A, B, C (or byte 1 of kinds 5 and 8) do not obey the kind.
     Fields = 6,
     /// The group number is another's.
     OtherGroup = 7,
@@ -24,8 +24,9 @@ pub enum Refusal {
     OtherEnd = 8,
     /// Byte 1 is not below n.
     NoSuchMember = 9,
-    /// An acknowledgement above top.
-    AckAboveTop = 10,
+    /// An acknowledgement above the last accepted number, or a kind 7 above
+    /// top.
+    NumberAhead = 10,
     /// A request's count above p+1.
     CountAhead = 11,
     /// A gap that ends above top.
@@ -53,6 +54,11 @@ pub enum Refusal {
     ManyUnits = 22,
     /// An output shorter than the plan or the rewritten journal.
     NoRoom = 23,
+    /// Opened with a resilience degree not below n.
+    Resilience = 24,
+    /// A kind 7 for an unaccepted number from a member that is not expected
+    /// to answer.
+    NotExpected = 25,
 }
 
 impl Refusal {
@@ -78,21 +84,30 @@ pub enum Answer {
     /// Member: the message waits behind another, with this count.
     Queued(u32),
 
-    /// Sequencer: the message has this number and is broadcast.
+    /// Sequencer: the message has this number; its broadcast or offer.
     Numbered(u32),
-    /// Sequencer: the message already has this number; its broadcast again.
+    /// Sequencer: the message already has this number; its broadcast or offer
+    /// again.
     Again(u32),
     /// Sequencer: the history is full; a poll.
     Full,
-    /// Sequencer: the acknowledgement was noted.
-    Noted,
     /// Sequencer: the numbers a member still needs, first and last.
     Wanted(u32, u32),
+    /// Sequencer: who answered an offer is marked, and no number has marks
+    /// enough.
+    Marked,
+    /// Sequencer: who answered is marked, and so a number is accepted, with
+    /// those before it; a kind 8.
+    Accepted,
 
-    /// Either end: the message is already past.
+    /// Either end: an acknowledgement, or what is accepted, was noted.
+    Noted,
+    /// Either end: the message is already past. Of an offer a member may
+    /// write a kind 7.
     Old,
 
-    /// Member: kept, nothing is missing below it.
+    /// Member: kept, nothing is missing below it. Of an offer it may write a
+    /// kind 7.
     Kept,
     /// Member: kept, with a gap packet for what is missing below it.
     KeptGap,
@@ -112,10 +127,10 @@ pub enum Answer {
         originator: u8,
         /// The originator's count for it.
         count: u32,
-        /// Whether the following number is held too.
+        /// Whether the following number is held and accepted too.
         more: bool,
     },
-    /// Member: the next message in order is not held.
+    /// Member: the next message in order is not held, or not yet accepted.
     None,
 }
 
@@ -131,6 +146,8 @@ impl fmt::Display for Answer {
             Answer::Full => f.write_str("full"),
             Answer::Noted => f.write_str("noted"),
             Answer::Wanted(first, last) => write!(f, "wanted {first} {last}"),
+            Answer::Marked => f.write_str("marked"),
+            Answer::Accepted => f.write_str("accepted"),
             Answer::Old => f.write_str("old"),
             Answer::Kept => f.write_str("kept"),
             Answer::KeptGap => f.write_str("keptgap"),

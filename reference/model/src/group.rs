@@ -93,12 +93,17 @@ pub struct Group {
 }
 
 impl Group {
-    /// A fresh group: question 18.
+    /// A fresh group without offers: question 18.
     pub fn fresh(n: u32, group: u32) -> Result<Group, Refusal> {
+        Group::resilient(n, group, 0)
+    }
+
+    /// A fresh group with a resilience degree: questions 18 and 24.
+    pub fn resilient(n: u32, group: u32, resilience: u32) -> Result<Group, Refusal> {
         Ok(Group {
-            sequencer: Sequencer::fresh(n, group)?,
+            sequencer: Sequencer::resilient(n, group, resilience)?,
             members: (0..n)
-                .map(|number| Member::fresh(n, number, group))
+                .map(|number| Member::resilient(n, number, group, resilience))
                 .collect::<Result<_, _>>()?,
             packets: Vec::new(),
         })
@@ -185,9 +190,14 @@ pub struct Run {
 }
 
 impl Run {
-    /// A fresh group with empty lists and an empty log.
+    /// A fresh group without offers, with empty lists and an empty log.
     pub fn fresh(n: u32, group: u32) -> Result<Run, Refusal> {
-        let group = Group::fresh(n, group)?;
+        Run::resilient(n, group, 0)
+    }
+
+    /// The same of a group with a resilience degree.
+    pub fn resilient(n: u32, group: u32, resilience: u32) -> Result<Run, Refusal> {
+        let group = Group::resilient(n, group, resilience)?;
         let lists = Lists::empty(group.members.len());
         Ok(Run {
             group,
@@ -244,14 +254,21 @@ impl Run {
             .collect()
     }
 
-    /// The messages that a member holds above the last one that it took,
-    /// without a hole, then the history's above them; lowest first.
+    /// The accepted messages of the order.
+    pub fn accepted(&self) -> Vec<Message> {
+        let mut order = self.order();
+        order.truncate(self.group.sequencer.accepted as usize);
+        order
+    }
+
+    /// The messages that a member acknowledges above the last one that it
+    /// took, then the history's accepted ones above them; lowest first.
     pub fn owed(&self, member: usize) -> Vec<Message> {
         let sequencer = &self.group.sequencer;
         let state = &self.group.members[member];
         let end = state.row_end();
         let row = (state.taken..end).map(|below| message(below + 1, &state.places));
-        let rest = (sequencer.floor.max(end)..sequencer.top)
+        let rest = (sequencer.floor.max(end)..sequencer.accepted)
             .map(|below| message(below + 1, &sequencer.history));
         row.chain(rest).collect()
     }
@@ -271,7 +288,8 @@ impl Run {
         (1..).zip(payloads).collect()
     }
 
-    /// The closing round; how many events it took.
+    /// The closing round, up to the last accepted number; how many events it
+    /// took.
     pub fn closing_round(&mut self) -> usize {
         let before = self.log.len();
         for member in 0..self.group.members.len() {
@@ -280,7 +298,7 @@ impl Run {
             for _ in taken..end {
                 self.step(Event::Take { member });
             }
-            for below in end..self.group.sequencer.top {
+            for below in end..self.group.sequencer.accepted {
                 let number = below + 1;
                 if let Some(packet) = self.write(Event::Copy { number }) {
                     self.step(Event::ToMember { packet, member });

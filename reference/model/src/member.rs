@@ -1,9 +1,10 @@
-//! A member: submits messages, up to five of which wait, and takes all
-//! messages in the order of their numbers.
+//! A member: submits messages, up to five of which wait, answers offers, and
+//! takes all accepted messages in the order of their numbers.
 
 use crate::answer::{Answer, Outcome, Refusal, settle};
+use crate::expected;
 use crate::limits::{LARGEST, MEMBERS, PACKET, PAYLOAD, WAITING, WINDOW};
-use crate::packet::{self, BROADCAST, GAP, Header, POLL, REQUEST, STATUS};
+use crate::packet::{self, ACCEPT, BROADCAST, CONFIRM, GAP, Header, OFFER, POLL, REQUEST, STATUS};
 use crate::place::Place;
 
 /// A member's state.
@@ -15,8 +16,12 @@ pub struct Member {
     pub number: u8,
     /// The group number.
     pub group: u32,
+    /// The resilience degree r, below n.
+    pub resilience: u8,
     /// t, the last number taken.
     pub taken: u32,
+    /// The last number known accepted, at least t.
+    pub accepted: u32,
     /// u, the submissions so far.
     pub submitted: u32,
     /// How many messages wait: the last ones submitted.
@@ -31,14 +36,23 @@ pub struct Member {
 }
 
 impl Member {
-    /// Opens member `number` of n: question 18.
+    /// Opens member `number` of n, of a group without offers: question 18.
     pub fn fresh(n: u32, number: u32, group: u32) -> Result<Member, Refusal> {
+        Member::resilient(n, number, group, 0)
+    }
+
+    /// Opens member `number` of n with a resilience degree: questions 18 and
+    /// 24.
+    pub fn resilient(n: u32, number: u32, group: u32, resilience: u32) -> Result<Member, Refusal> {
         Refusal::Opening.unless((1..=MEMBERS as u32).contains(&n) && number < n)?;
+        Refusal::Resilience.unless(resilience < n)?;
         Ok(Member {
             n: n as u8,
             number: number as u8,
             group,
+            resilience: resilience as u8,
             taken: 0,
+            accepted: 0,
             submitted: 0,
             waiting: 0,
             queue: [Place::EMPTY; WAITING],
@@ -53,6 +67,8 @@ impl Member {
         let left = LARGEST - self.taken;
         (1..=MEMBERS).contains(&usize::from(self.n))
             && self.number < self.n
+            && self.resilience < self.n
+            && self.taken <= self.accepted
             && usize::from(self.waiting) <= WAITING
             && u32::from(self.waiting) <= self.submitted
             && self.queue_is_sound()
@@ -93,8 +109,8 @@ impl Member {
         settle(self.try_repeat(out))
     }
 
-    /// Hands out the next message in order, if it is held; the payload goes
-    /// to the front of `out`, the length is the payload's.
+    /// Hands out the next message in order, if it is held and accepted; the
+    /// payload goes to the front of `out`, the length is the payload's.
     pub fn take(&mut self, out: &mut [u8]) -> (Answer, usize) {
         settle(self.try_take(out))
     }
@@ -113,9 +129,15 @@ impl Member {
     }
 
     /// The last number through which a sound member has everything, taken or
-    /// held: what it acknowledges.
-    pub fn row_end(&self) -> u32 {
+    /// held.
+    pub fn reach(&self) -> u32 {
         self.taken + self.run()
+    }
+
+    /// The last number through which a sound member has everything that is
+    /// accepted: what it acknowledges.
+    pub fn row_end(&self) -> u32 {
+        self.reach().min(self.accepted)
     }
 
     /// Questions 1 and 2.
@@ -148,8 +170,8 @@ impl Member {
 
     fn try_take(&mut self, out: &mut [u8]) -> Outcome {
         self.ready(out)?;
-        let window = self.window();
-        if window & 1 == 0 {
+        let row = self.row_end() - self.taken;
+        if row == 0 {
             return Ok((Answer::None, 0));
         }
         self.taken += 1;
@@ -172,7 +194,7 @@ impl Member {
             number: self.taken,
             originator,
             count,
-            more: window & 2 != 0,
+            more: row >= 2,
         };
         Ok((took, length))
     }
@@ -181,18 +203,44 @@ impl Member {
         self.ready(out)?;
         let header = packet::read(packet)?;
         Refusal::OtherGroup.unless(header.group == self.group)?;
-        Refusal::OtherEnd.unless(matches!(header.kind, BROADCAST | POLL))?;
+        Refusal::OtherEnd.unless(matches!(header.kind, BROADCAST | POLL | OFFER | ACCEPT))?;
         Refusal::NoSuchMember.unless(header.member < self.n)?;
-        Ok(if header.kind == BROADCAST {
-            self.broadcast(&header, packet::payload(packet), out)
-        } else {
-            self.poll(header.a, out)
+        Ok(match header.kind {
+            BROADCAST => {
+                // First, so that a gap packet acknowledges what it accepts.
+                self.accept(header.a);
+                self.message(&header, packet::payload(packet), out)
+            }
+            OFFER => self.offer(&header, packet::payload(packet), out),
+            ACCEPT => {
+                self.accept(header.a);
+                (Answer::Noted, 0)
+            }
+            _ => self.poll(header.a, out),
         })
     }
 
-    /// Numbers are compared by their distance above t: t+8 may pass the
-    /// largest, a distance never does.
-    fn broadcast(&mut self, header: &Header, payload: &[u8], out: &mut [u8]) -> (Answer, usize) {
+    /// All up to a number is accepted, also what comes later.
+    fn accept(&mut self, number: u32) {
+        self.accepted = self.accepted.max(number);
+    }
+
+    /// An expected member that has everything up to the offer says so.
+    fn offer(&mut self, header: &Header, payload: &[u8], out: &mut [u8]) -> (Answer, usize) {
+        let (answer, length) = self.message(header, payload, out);
+        let answers = matches!(answer, Answer::Kept | Answer::Old)
+            && header.a <= self.reach()
+            && expected::contains(self.resilience, self.number);
+        if answers {
+            (answer, self.put(CONFIRM, [header.a, 0, 0], &[], out))
+        } else {
+            (answer, length)
+        }
+    }
+
+    /// A message with its number, offered or accepted. Numbers are compared by
+    /// their distance above t: t+8 may pass the largest, a distance never does.
+    fn message(&mut self, header: &Header, payload: &[u8], out: &mut [u8]) -> (Answer, usize) {
         let number = header.a;
         if number <= self.taken {
             return (Answer::Old, 0);
@@ -243,7 +291,8 @@ impl Member {
     fn put_request(&self, out: &mut [u8]) -> usize {
         let count = self.first_count();
         let first = &self.queue[queue_place(count)];
-        self.put(REQUEST, count, 0, first.payload.as_slice(), out)
+        let fields = [self.row_end(), count, 0];
+        self.put(REQUEST, fields, first.payload.as_slice(), out)
     }
 
     /// The count of the first message that waits, of one that does.
@@ -252,21 +301,22 @@ impl Member {
     }
 
     fn put_status(&self, out: &mut [u8]) -> usize {
-        self.put(STATUS, 0, 0, &[], out)
+        self.put(STATUS, [self.row_end(), 0, 0], &[], out)
     }
 
     /// A gap from the lowest missing number to t + `last`.
     fn put_gap(&self, run: u32, last: u32, out: &mut [u8]) -> usize {
-        self.put(GAP, self.taken + run + 1, self.taken + last, &[], out)
+        let (first, last) = (self.taken + run + 1, self.taken + last);
+        self.put(GAP, [self.row_end(), first, last], &[], out)
     }
 
-    /// Every packet of a member carries its number and its row end.
-    fn put(&self, kind: u8, b: u32, c: u32, payload: &[u8], out: &mut [u8]) -> usize {
+    /// Every packet of a member carries its number.
+    fn put(&self, kind: u8, [a, b, c]: [u32; 3], payload: &[u8], out: &mut [u8]) -> usize {
         let header = Header {
             kind,
             member: self.number,
             group: self.group,
-            a: self.row_end(),
+            a,
             b,
             c,
         };

@@ -13,17 +13,23 @@ pub const GAP: u8 = 3;
 pub const STATUS: u8 = 4;
 /// Kind 5, sequencer to members: what is missing?
 pub const POLL: u8 = 5;
+/// Kind 6, sequencer to members: a numbered message that is not yet accepted.
+pub const OFFER: u8 = 6;
+/// Kind 7, member to sequencer: it has everything up to an offer.
+pub const CONFIRM: u8 = 7;
+/// Kind 8, sequencer to members: everything up to a number is accepted.
+pub const ACCEPT: u8 = 8;
 
 /// The fields of a packet. L is not among them: it is the payload's length.
 #[derive(Clone, Copy, Debug, PartialEq, Eq)]
 pub struct Header {
-    /// Byte 0, 1 to 5.
+    /// Byte 0, 1 to 8.
     pub kind: u8,
-    /// Byte 1, sender or originator; zero in a poll.
+    /// Byte 1, sender or originator; zero in kinds 5 and 8.
     pub member: u8,
     /// Bytes 4-7.
     pub group: u32,
-    /// Bytes 8-11: last taken, sequence number or top.
+    /// Bytes 8-11: last acknowledged, sequence number or top.
     pub a: u32,
     /// Bytes 12-15: count, or first number wanted.
     pub b: u32,
@@ -33,12 +39,12 @@ pub struct Header {
 
 impl Header {
     fn kind_is_known(&self) -> bool {
-        (REQUEST..=POLL).contains(&self.kind)
+        (REQUEST..=ACCEPT).contains(&self.kind)
     }
 
     /// Whether this kind may have a payload.
     fn carries_payload(&self) -> bool {
-        self.kind <= BROADCAST
+        matches!(self.kind, REQUEST | BROADCAST | OFFER)
     }
 
     /// Question 6, for a known kind.
@@ -46,10 +52,12 @@ impl Header {
         let Header { a, b, c, .. } = *self;
         match self.kind {
             REQUEST => b >= 1 && c == 0,
-            BROADCAST => a >= 1 && b >= 1 && c < a,
+            BROADCAST | OFFER => a >= 1 && b >= 1 && c < a,
             GAP => a < b && b <= c,
             STATUS => b == 0 && c == 0,
-            _ => self.member == 0 && b == 0 && c <= a,
+            POLL => self.member == 0 && b == 0 && c <= a,
+            CONFIRM => a >= 1 && b == 0 && c == 0,
+            _ => self.member == 0 && a >= 1 && b == 0 && c == 0,
         }
     }
 }

@@ -42,7 +42,7 @@ pub fn inspect(input: impl Read, output: impl Write) -> io::Result<()> {
 fn open(lines: &mut Lines<impl Read>, output: &mut impl Write) -> io::Result<Option<Group>> {
     match lines.next_line()?.and_then(Line::opening) {
         None => writeln!(output, "bad line")?,
-        Some((n, group)) => match Group::fresh(n, group) {
+        Some((n, group, resilience)) => match Group::resilient(n, group, resilience) {
             Err(refusal) => writeln!(output, "{}", Answer::Refused(refusal))?,
             Ok(group) => return Ok(Some(group)),
         },
@@ -116,7 +116,7 @@ fn closing_line(group: &Group, output: &mut impl Write) -> io::Result<()> {
 fn table(group: &Group, output: &mut impl Write) -> io::Result<()> {
     writeln!(output, "terminal taken row submitted waiting repeats")?;
     for (terminal, member) in group.members.iter().enumerate() {
-        let (taken, row) = (member.taken, member.row_end());
+        let (taken, row) = (member.taken, member.reach());
         let (submitted, waiting) = (member.submitted, u32::from(member.waiting));
         let repeats = group.sequencer.repeats[terminal];
         writeln!(
@@ -145,8 +145,9 @@ fn work_lists(lists: &Lists, output: &mut impl Write) -> io::Result<()> {
     Ok(())
 }
 
-/// Reads a first line, given without its line feed: n and the group number.
-pub fn opening(line: &[u8]) -> Option<(u32, u32)> {
+/// Reads a first line, given without its line feed: n, the group number and
+/// the resilience degree.
+pub fn opening(line: &[u8]) -> Option<(u32, u32, u32)> {
     Line(line).opening()
 }
 
@@ -188,10 +189,15 @@ impl<R: Read> Lines<R> {
 pub(crate) struct Line<'a>(&'a [u8]);
 
 impl<'a> Line<'a> {
-    /// The first line: n and the group number.
-    fn opening(self) -> Option<(u32, u32)> {
+    /// The first line: n, the group number and, if it has one, the resilience
+    /// degree, else 0.
+    fn opening(self) -> Option<(u32, u32, u32)> {
         match self.fields()? {
-            [Some(b"N"), Some(n), Some(group), None] => Some((number(n)?, number(group)?)),
+            [Some(b"N"), Some(n), Some(group), resilience, None] => Some((
+                number(n)?,
+                number(group)?,
+                number(resilience.unwrap_or(b"0"))?,
+            )),
             _ => None,
         }
     }

@@ -1,9 +1,10 @@
-//! The sequencer: numbers every message and keeps those that some member
-//! has not yet acknowledged.
+//! The sequencer: numbers every message, accepts it once enough members have
+//! it, and keeps those that some member has not yet acknowledged.
 
 use crate::answer::{Answer, Outcome, Refusal, settle};
+use crate::expected;
 use crate::limits::{HISTORY, LARGEST, MEMBERS, PACKET};
-use crate::packet::{self, BROADCAST, GAP, Header, POLL, REQUEST, STATUS};
+use crate::packet::{self, ACCEPT, BROADCAST, CONFIRM, GAP, Header, OFFER, POLL, REQUEST, STATUS};
 use crate::place::Place;
 
 /// The sequencer's state.
@@ -13,7 +14,10 @@ pub struct Sequencer {
     pub n: u8,
     /// The group number.
     pub group: u32,
-    /// For each member the last number known taken.
+    /// The resilience degree r, below n: how many members other than 0 have
+    /// a message before it is taken.
+    pub resilience: u8,
+    /// For each member the last number it acknowledged.
     pub acknowledged: [u32; MEMBERS],
     /// For each member the last own count numbered.
     pub counts: [u32; MEMBERS],
@@ -23,22 +27,38 @@ pub struct Sequencer {
     pub top: u32,
     /// The smallest of the n acknowledgements.
     pub floor: u32,
+    /// The last accepted number, floor to top.
+    pub accepted: u32,
+    /// Who answered the offers of accepted+1 to top, one bit a member, number
+    /// s in place s modulo 32; else zeros.
+    pub marks: [u16; HISTORY],
     /// The messages floor+1 to top, number s in place s modulo 32.
     pub history: [Place; HISTORY],
 }
 
 impl Sequencer {
-    /// Opens a sequencer for n members: question 18.
+    /// Opens a sequencer for n members that accepts what it numbers: question
+    /// 18.
     pub fn fresh(n: u32, group: u32) -> Result<Sequencer, Refusal> {
+        Sequencer::resilient(n, group, 0)
+    }
+
+    /// Opens a sequencer for n members with a resilience degree: questions 18
+    /// and 24.
+    pub fn resilient(n: u32, group: u32, resilience: u32) -> Result<Sequencer, Refusal> {
         Refusal::Opening.unless((1..=MEMBERS as u32).contains(&n))?;
+        Refusal::Resilience.unless(resilience < n)?;
         Ok(Sequencer {
             n: n as u8,
             group,
+            resilience: resilience as u8,
             acknowledged: [0; MEMBERS],
             counts: [0; MEMBERS],
             repeats: [0; MEMBERS],
             top: 0,
             floor: 0,
+            accepted: 0,
+            marks: [0; HISTORY],
             history: [Place::EMPTY; HISTORY],
         })
     }
@@ -46,7 +66,7 @@ impl Sequencer {
     /// Question 1.
     pub fn is_sound(&self) -> bool {
         let n = usize::from(self.n);
-        if !(1..=MEMBERS).contains(&n) {
+        if !(1..=MEMBERS).contains(&n) || self.resilience >= self.n {
             return false;
         }
         let (acks, spare_acks) = self.acknowledged.split_at(n);
@@ -60,14 +80,14 @@ impl Sequencer {
             || self.floor != floor
             || highest > self.top
             || self.top - floor > HISTORY as u32
+            || !(floor..=self.top).contains(&self.accepted)
+            || !self.marks_are_sound()
         {
             return false;
         }
-        // 32 divides the range of u32, so the distance may wrap.
-        let first = floor.wrapping_add(1);
         let kept = self.top - floor;
-        (0..).zip(&self.history).all(|(at, place): (u32, _)| {
-            let fits = if at.wrapping_sub(first) % (HISTORY as u32) < kept {
+        (0..).zip(&self.history).all(|(at, place)| {
+            let fits = if distance(floor, at) < kept {
                 place.originator < self.n
                     && place.count >= 1
                     && place.count <= self.counts[usize::from(place.originator)]
@@ -76,6 +96,18 @@ impl Sequencer {
             };
             fits && place.payload.is_sound()
         })
+    }
+
+    /// Only expected members have marks, and only at accepted+1 to top.
+    fn marks_are_sound(&self) -> bool {
+        let unaccepted = self.top - self.accepted;
+        let expected = expected::mask(self.resilience);
+        let marks = (0..).zip(&self.marks);
+        let wrong = marks.fold(0, |seen, (at, mark)| {
+            let is_unaccepted = distance(self.accepted, at) < unaccepted;
+            seen | (mark & !if is_unaccepted { expected } else { 0 })
+        });
+        wrong == 0
     }
 
     /// How many requests were answered Old or Again: the members' counts
@@ -96,7 +128,8 @@ impl Sequencer {
         settle(self.ready(out).map(|()| (Answer::Sent, self.put_poll(out))))
     }
 
-    /// Writes the broadcast of a number in the history, with today's floor.
+    /// Writes the broadcast or offer of a number in the history, with today's
+    /// floor.
     pub fn copy(&self, number: u32, out: &mut [u8]) -> (Answer, usize) {
         settle(self.try_copy(number, out))
     }
@@ -110,19 +143,22 @@ impl Sequencer {
     fn try_copy(&self, number: u32, out: &mut [u8]) -> Outcome {
         self.ready(out)?;
         Refusal::NotInHistory.unless(self.floor < number && number <= self.top)?;
-        Ok((Answer::Sent, self.put_broadcast(number, out)))
+        Ok((Answer::Sent, self.put_message(number, out)))
     }
 
     fn try_receive(&mut self, packet: &[u8], out: &mut [u8]) -> Outcome {
         self.ready(out)?;
         let header = packet::read(packet)?;
         Refusal::OtherGroup.unless(header.group == self.group)?;
-        Refusal::OtherEnd.unless(matches!(header.kind, REQUEST | GAP | STATUS))?;
+        Refusal::OtherEnd.unless(matches!(header.kind, REQUEST | GAP | STATUS | CONFIRM))?;
         Refusal::NoSuchMember.unless(header.member < self.n)?;
-        Refusal::AckAboveTop.unless(header.a <= self.top)?;
+        let is_confirm = header.kind == CONFIRM;
+        let last = if is_confirm { self.top } else { self.accepted };
+        Refusal::NumberAhead.unless(header.a <= last)?;
         match header.kind {
             REQUEST => self.request(&header, packet::payload(packet), out),
             GAP => self.gap(&header),
+            CONFIRM => self.confirm(&header, out),
             _ => {
                 self.note(&header);
                 Ok((Answer::Noted, 0))
@@ -149,7 +185,7 @@ impl Sequencer {
                 None
             };
             return Ok(match kept {
-                Some(number) => (Answer::Again(number), self.put_broadcast(number, out)),
+                Some(number) => (Answer::Again(number), self.put_message(number, out)),
                 None => (Answer::Old, 0),
             });
         }
@@ -159,10 +195,40 @@ impl Sequencer {
         self.top += 1;
         self.counts[member] = count;
         self.history[place(self.top)].keep(header.member, count, payload);
-        Ok((
-            Answer::Numbered(self.top),
-            self.put_broadcast(self.top, out),
-        ))
+        if self.resilience == 0 {
+            self.accept(self.top);
+        }
+        Ok((Answer::Numbered(self.top), self.put_message(self.top, out)))
+    }
+
+    /// A member has everything up to A: it answers the offers of all these.
+    fn confirm(&mut self, header: &Header, out: &mut [u8]) -> Outcome {
+        if header.a <= self.accepted {
+            return Ok((Answer::Old, 0));
+        }
+        Refusal::NotExpected.unless(expected::contains(self.resilience, header.member))?;
+        for below in self.accepted..header.a {
+            self.marks[place(below + 1)] |= 1 << header.member;
+        }
+        let enough = (self.accepted..self.top)
+            .rev()
+            .map(|below| below + 1)
+            .find(|&number| self.marks[place(number)].count_ones() >= self.resilience.into());
+        Ok(match enough {
+            Some(number) => {
+                self.accept(number);
+                (Answer::Accepted, self.put_accept(out))
+            }
+            None => (Answer::Marked, 0),
+        })
+    }
+
+    /// Accepts all up to a number; their marks are no longer wanted.
+    fn accept(&mut self, number: u32) {
+        for below in self.accepted..number {
+            self.marks[place(below + 1)] = 0;
+        }
+        self.accepted = number;
     }
 
     fn gap(&mut self, header: &Header) -> Outcome {
@@ -210,10 +276,24 @@ impl Sequencer {
         packet::put(&header, &[], out)
     }
 
-    fn put_broadcast(&self, number: u32, out: &mut [u8]) -> usize {
-        let kept = &self.history[place(number)];
+    fn put_accept(&self, out: &mut [u8]) -> usize {
         let header = Header {
-            kind: BROADCAST,
+            kind: ACCEPT,
+            member: 0,
+            group: self.group,
+            a: self.accepted,
+            b: 0,
+            c: 0,
+        };
+        packet::put(&header, &[], out)
+    }
+
+    /// The broadcast of an accepted number, else its offer.
+    fn put_message(&self, number: u32, out: &mut [u8]) -> usize {
+        let kept = &self.history[place(number)];
+        let is_accepted = number <= self.accepted;
+        let header = Header {
+            kind: if is_accepted { BROADCAST } else { OFFER },
             member: kept.originator,
             group: self.group,
             a: number,
@@ -222,6 +302,12 @@ impl Sequencer {
         };
         packet::put(&header, kept.payload.as_slice(), out)
     }
+}
+
+/// How far the number of a place lies above `below`, less one. The distance
+/// may wrap: 32 divides the range of u32.
+fn distance(below: u32, at: u32) -> u32 {
+    at.wrapping_sub(below.wrapping_add(1)) % HISTORY as u32
 }
 
 /// The place of a number in the history.

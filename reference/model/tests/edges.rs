@@ -141,22 +141,24 @@ fn the_members_window() {
         let mut member = holding(t, 1..=7);
         let eighth = broadcast(2, t + 8, 1, 0, b"8");
         assert_eq!(give(&mut member, &eighth), (Kept, vec![]));
-        let before = member.clone();
+        let mut expected = member.clone();
+        expected.accepted = t + 9;
         let ninth = broadcast(2, t + 9, 2, 0, b"9");
         assert_eq!(give(&mut member, &ninth), (Beyond, vec![]));
-        assert_eq!(member, before);
+        assert_eq!(member, expected);
 
         let mut member = holding(t, []);
         assert_eq!(
             give(&mut member.clone(), &eighth),
             (KeptGap, gap(1, t, t + 1, t + 7))
         );
-        let before = member.clone();
+        let mut expected = member.clone();
+        expected.accepted = t + 9;
         assert_eq!(
             give(&mut member, &ninth),
             (BeyondGap, gap(1, t, t + 1, t + 8))
         );
-        assert_eq!(member, before);
+        assert_eq!(member, expected);
     }
 }
 

@@ -1,6 +1,8 @@
 //! Demand 3: whatever happens to a group, what a member took and what it is
-//! owed, its row and the history above it, is the whole order, and a closing
-//! round hands it all out. Beside it the work lists, which takes feed.
+//! owed, its row and the history above it, is the whole of the accepted
+//! messages, and a closing round hands them all out. With a resilience degree
+//! r, r members other than 0 have what was taken. Beside it the work lists,
+//! which takes feed.
 
 mod common;
 
@@ -15,28 +17,41 @@ use model::place::Place;
 use model::sequencer::Sequencer;
 use std::collections::BTreeSet;
 
+/// Whether a member has a message, taken or held.
+fn has(member: &Member, number: u32) -> bool {
+    let is_held = || member.held >> (number % 8) & 1 == 1;
+    number <= member.taken || number <= member.taken + 8 && is_held()
+}
+
 /// The last number up to which a member has everything, a number at a time.
-fn row_end(member: &Member) -> u32 {
+fn reach(member: &Member) -> u32 {
     let mut end = member.taken;
-    while end < member.taken + 8 && member.held >> ((end + 1) % 8) & 1 == 1 {
+    while has(member, end + 1) {
         end += 1;
     }
     end
 }
 
+/// The last number up to which it has everything and knows it accepted.
+fn row_end(member: &Member) -> u32 {
+    reach(member).min(member.accepted)
+}
+
 /// What a member acknowledges is its row end, which lies between floor and
-/// top; what it is owed is that row and the history above it, nothing twice.
+/// the last accepted number; what it is owed is that row and the history above
+/// it, nothing twice.
 fn check_row(run: &Run, at: usize) {
     let member = &run.group.members[at];
     let sequencer = &run.group.sequencer;
     let end = row_end(member);
-    assert_eq!(member.row_end(), end);
-    assert!((sequencer.floor..=sequencer.top).contains(&end));
+    assert_eq!((member.reach(), member.row_end()), (reach(member), end));
+    assert!((sequencer.floor..=sequencer.accepted).contains(&end));
+    assert!((member.taken..=sequencer.accepted).contains(&member.accepted));
     let owed = run.owed(at);
     assert!(
         owed.iter()
             .map(|m| m.number)
-            .eq(member.taken + 1..=sequencer.top)
+            .eq(member.taken + 1..=sequencer.accepted)
     );
     for message in owed {
         let place = if message.number <= end {
@@ -51,21 +66,43 @@ fn check_row(run: &Run, at: usize) {
     }
 }
 
-/// A packet that was just written acknowledges the row end of the state that
-/// the call left.
-fn check_written(run: &Run, packet: usize) {
-    let bytes = &run.group.packets[packet];
-    if matches!(bytes[0], 1 | 3 | 4) {
-        let a = u32::from_be_bytes(bytes[8..12].try_into().unwrap());
-        assert_eq!(a, row_end(&run.group.members[usize::from(bytes[1])]));
+/// Each message that anyone took, r members other than 0 have.
+fn check_resilience(run: &Run) {
+    let members = &run.group.members;
+    let taken = members.iter().map(|member| member.taken);
+    // What all took, all have.
+    let (least, most) = (taken.clone().min().unwrap(), taken.max().unwrap());
+    for number in least + 1..=most {
+        let having = members[1..].iter().filter(|member| has(member, number));
+        assert!(having.count() >= run.group.sequencer.resilience.into());
     }
 }
 
-/// How long the closing round is: the row, three events for each number above
-/// it, a status and its handing over.
+/// A packet that was just written acknowledges the row end of the state that
+/// the call left; an answer says what its sender has. The sequencer sends a
+/// kind 2 or 8 of accepted numbers, and a kind 6 of the others.
+fn check_written(run: &Run, packet: usize) {
+    let bytes = &run.group.packets[packet];
+    let a = u32::from_be_bytes(bytes[8..12].try_into().unwrap());
+    let sequencer = &run.group.sequencer;
+    match bytes[0] {
+        1 | 3 | 4 => assert_eq!(a, row_end(&run.group.members[usize::from(bytes[1])])),
+        2 => assert!(a <= sequencer.accepted),
+        6 => assert!(a > sequencer.accepted),
+        7 => {
+            assert!((1..=sequencer.resilience).contains(&bytes[1]));
+            assert!(a <= reach(&run.group.members[usize::from(bytes[1])]));
+        }
+        8 => assert_eq!(a, sequencer.accepted),
+        _ => assert_eq!(a, sequencer.top),
+    }
+}
+
+/// How long the closing round is: the row, three events for each accepted
+/// number above it, a status and its handing over.
 fn closing_length(run: &Run) -> usize {
-    let top = run.group.sequencer.top;
-    let member = |state: &Member| row_end(state) - state.taken + 3 * (top - row_end(state)) + 2;
+    let last = run.group.sequencer.accepted;
+    let member = |state: &Member| row_end(state) - state.taken + 3 * (last - row_end(state)) + 2;
     run.group.members.iter().map(member).sum::<u32>() as usize
 }
 
@@ -134,13 +171,18 @@ fn check(run: &Run) {
     let order = run.order();
     assert!(order.iter().map(|m| m.number).eq(1..=order.len() as u32));
     assert_eq!(run.group.sequencer.top as usize, order.len());
+    let accepted = &order[..run.group.sequencer.accepted as usize];
+    assert_eq!(run.accepted(), accepted);
+    if run.group.sequencer.resilience == 0 {
+        assert_eq!(accepted, order);
+    }
     let mut sum = 0;
     for member in 0..n {
         let taken = run.taken(member);
         let owed = run.owed(member);
         assert_eq!(run.group.members[member].taken as usize, taken.len());
         sum += taken.len() + owed.len();
-        assert_eq!([taken, owed].concat(), order);
+        assert_eq!([taken, owed].concat(), accepted);
         check_row(run, member);
 
         let submissions = run.submissions(member);
@@ -152,7 +194,8 @@ fn check(run: &Run) {
         assert!(own.len() <= submissions.len() && submissions.len() <= own.len() + 5);
         assert_eq!(own[..], submissions[..own.len()]);
     }
-    assert_eq!(sum, n * order.len());
+    assert_eq!(sum, n * accepted.len());
+    check_resilience(run);
     assert!(run.group.sequencer.is_sound());
     assert!(run.group.members.iter().all(|member| member.is_sound()));
 }
@@ -161,15 +204,34 @@ fn check(run: &Run) {
 fn close(run: &mut Run) {
     let n = run.group.members.len();
     let order = run.order();
+    let Sequencer {
+        accepted,
+        resilience,
+        ..
+    } = run.group.sequencer;
+    let (first, others) = order.split_at(accepted as usize);
     let submissions: Vec<_> = (0..n).map(|member| run.submissions(member)).collect();
+    let written = run.group.packets.len();
     let length = closing_length(run);
-    assert!(length <= longest_closing(n));
+    assert!(length <= 106 * n);
+    assert!(resilience > 0 || length <= longest_closing(n));
     assert_eq!(run.closing_round(), length);
     assert_eq!(run.order(), order);
-    assert_eq!(run.group.sequencer.floor, run.group.sequencer.top);
-    assert_eq!(run.group.sequencer.history, [Place::EMPTY; 32]);
+    // Its copies are kind 2, and no member answers them.
+    let new = &run.group.packets[written..];
+    assert!(new.iter().all(|bytes| matches!(bytes[0], 2 | 4)));
+    let sequencer = &run.group.sequencer;
+    assert_eq!((sequencer.floor, sequencer.accepted), (accepted, accepted));
+    let mut history = [Place::EMPTY; 32];
+    for message in others {
+        let place = &mut history[message.number as usize % 32];
+        (place.originator, place.count) = (message.originator, message.count);
+        place.payload.length = message.payload.len() as u8;
+        place.payload.bytes[..message.payload.len()].copy_from_slice(&message.payload);
+    }
+    assert_eq!(sequencer.history, history);
     for (member, submissions) in submissions.iter().enumerate() {
-        assert_eq!(run.taken(member), order);
+        assert_eq!(run.taken(member), first);
         assert!(run.owed(member).is_empty());
         assert_eq!(run.submissions(member), *submissions);
     }
@@ -251,7 +313,7 @@ impl Scheduler {
     /// Makes deliveries due, but not all and some twice.
     fn follow(&mut self, run: &Run, outcome: &Outcome) {
         if let Some(packet) = outcome.packet {
-            if matches!(run.group.packets[packet][0], 2 | 5) {
+            if matches!(run.group.packets[packet][0], 2 | 5 | 6 | 8) {
                 for member in 0..run.group.members.len() {
                     self.deliver(Event::ToMember { packet, member });
                 }
@@ -336,20 +398,33 @@ const COMMON: [&str; 22] = [
 /// numbered only after it took the one before.
 const SEVERAL: [&str; 4] = ["beyond", "beyondgap", "full", "keptgap"];
 
-/// The names of the answers met, the longest order, and how far floor lay
-/// above what a member took.
+/// What only a group with offers can meet, and one with resilience degree 1
+/// cannot: there the first mark accepts.
+const OFFERS: [&str; 2] = ["accepted", "marked"];
+
+/// The names of the answers met, how many were accepted at most, how far
+/// floor lay above what a member took, and how far top above the last accepted.
+struct Met {
+    names: BTreeSet<String>,
+    longest: u32,
+    ahead: u32,
+    offered: u32,
+}
+
+/// Lists of so many events, one a seed, which gives the resilience degree;
+/// the claim is asked after every so many of them, resilience after each.
 fn random_runs(
     n: u32,
+    resilience: impl Fn(u64) -> u32,
     seeds: std::ops::Range<u64>,
     events: usize,
     every: usize,
-) -> (BTreeSet<String>, u32, u32) {
+) -> Met {
     let mut seen = BTreeSet::new();
-    let mut longest = 0;
-    let mut ahead = 0;
+    let (mut longest, mut ahead, mut offered) = (0, 0, 0);
     for seed in seeds {
         let mut scheduler = Scheduler::seeded(seed * 31 + u64::from(n));
-        let mut run = Run::fresh(n, GROUP).unwrap();
+        let mut run = Run::resilient(n, GROUP, resilience(seed)).unwrap();
         let mut lists = run.lists.clone();
         for at in 0..events {
             let event = scheduler.next(&run);
@@ -366,10 +441,15 @@ fn random_runs(
                 assert_eq!(run.group.packets.len(), written);
             }
             seen.insert(name(answer));
+            let sequencer = &run.group.sequencer;
+            assert!(ends.0.accepted <= sequencer.accepted);
+            offered = offered.max(sequencer.top - sequencer.accepted);
             for (before, after) in ends.1.iter().zip(&run.group.members) {
-                assert!(row_end(before) <= row_end(after));
-                ahead = ahead.max(run.group.sequencer.floor.saturating_sub(after.taken));
+                assert!(reach(before) <= reach(after));
+                assert!(before.accepted <= after.accepted);
+                ahead = ahead.max(sequencer.floor.saturating_sub(after.taken));
             }
+            check_resilience(&run);
             if let Some(outcome) = outcome {
                 outcome
                     .packet
@@ -378,36 +458,87 @@ fn random_runs(
             }
             if at % every == 0 {
                 check(&run);
+                close(&mut run.clone());
             }
         }
         check(&run);
         check_lists(&run);
         assert_eq!(run.lists, lists);
-        longest = longest.max(run.group.sequencer.top);
+        longest = longest.max(run.group.sequencer.accepted);
         close(&mut run);
         // A second round finds everything in place.
         assert_eq!(run.closing_round(), 2 * n as usize);
         check(&run);
     }
-    (seen, longest, ahead)
+    Met {
+        names: seen,
+        longest,
+        ahead,
+        offered,
+    }
 }
 
 fn long_lists(n: u32, seeds: u64, events: usize, at_least: u32) {
-    let (seen, longest, ahead) = random_runs(n, 1000..1000 + seeds, events, 500);
+    let met = random_runs(n, |_| 0, 1000..1000 + seeds, events, 500);
     let mut expected: BTreeSet<String> = COMMON.map(String::from).into();
     if n > 1 {
         expected.extend(SEVERAL.map(String::from));
     }
-    assert_eq!(seen, expected);
+    assert_eq!(met.names, expected);
+    let Met { longest, ahead, .. } = met;
     assert!(longest >= at_least, "only {longest} numbered");
     assert!((1..=8).contains(&ahead), "floor {ahead} ahead");
+    assert_eq!(met.offered, 0);
+}
+
+/// The same with every resilience degree from 1 to n-1, in turn.
+fn long_lists_with_offers(n: u32, seeds: u64, events: usize, at_least: u32) {
+    let resilience = |seed: u64| 1 + seed as u32 % (n - 1);
+    let met = random_runs(n, resilience, 2000..2000 + seeds, events, 500);
+    let expected = COMMON.iter().chain(&SEVERAL).chain(&OFFERS);
+    let expected: BTreeSet<String> = expected
+        .filter(|&&name| name != "marked" || n > 2)
+        .map(|&name| name.into())
+        .collect();
+    assert_eq!(met.names, expected);
+    let Met { longest, ahead, .. } = met;
+    assert!(longest >= at_least, "only {longest} accepted");
+    assert!((1..=8).contains(&ahead), "floor {ahead} ahead");
+    assert!((2..=n).contains(&met.offered), "{} offered", met.offered);
 }
 
 #[test]
 fn short_lists_checked_after_every_event() {
     for n in [1, 2, 3, 5, 16] {
-        random_runs(n, 0..60, 120, 1);
+        random_runs(n, |_| 0, 0..60, 120, 1);
     }
+}
+
+#[test]
+fn short_lists_with_offers_checked_after_every_event() {
+    for (n, seeds) in [(2, 60), (3, 60), (5, 60), (9, 30), (16, 30)] {
+        random_runs(n, |seed| 1 + seed as u32 % (n - 1), 0..seeds, 150, 1);
+    }
+}
+
+#[test]
+fn long_lists_of_2_with_offers() {
+    long_lists_with_offers(2, 100, 4000, 100);
+}
+
+#[test]
+fn long_lists_of_3_with_offers() {
+    long_lists_with_offers(3, 100, 4000, 80);
+}
+
+#[test]
+fn long_lists_of_5_with_offers() {
+    long_lists_with_offers(5, 100, 6000, 80);
+}
+
+#[test]
+fn long_lists_of_16_with_offers() {
+    long_lists_with_offers(16, 60, 15_000, 40);
 }
 
 #[test]
@@ -468,6 +599,26 @@ fn every_short_list() {
         let mut lists = 0;
         every_list(&Run::fresh(n, GROUP).unwrap(), depth, &mut lists);
         assert!(lists > least, "{lists}");
+    }
+}
+
+/// After each event of a list with offers, every event that can follow.
+#[test]
+fn every_next_event_with_offers() {
+    for (n, r) in [(2, 1), (3, 1), (3, 2), (5, 3)] {
+        let mut lists = 0;
+        for seed in 0..5 {
+            let mut scheduler = Scheduler::seeded(7000 + seed);
+            let mut run = Run::resilient(n, GROUP, r).unwrap();
+            for _ in 0..50 {
+                let event = scheduler.next(&run);
+                if let Some(outcome) = run.step(event) {
+                    scheduler.follow(&run, &outcome);
+                }
+                every_list(&run, 1, &mut lists);
+            }
+        }
+        assert!(lists > 5_000, "{lists}");
     }
 }
 

@@ -18,6 +18,15 @@ fn a_line_a_terminal() {
     assert_eq!(inspected("N 1 7"), format!("{HEADING}0 0 0 0 0 0\n{LISTS}"));
 }
 
+/// The row has offered messages too, which are not taken before they are
+/// accepted.
+#[test]
+fn offered_messages() {
+    let left = inspected("N 2 7 1\nS 0 61\nQ 0\nM 1 1\nT 1\n");
+    assert_eq!(left, format!("{HEADING}0 0 0 1 1 0\n1 0 1 0 0 0\n{LISTS}"));
+    assert_eq!(inspected("N 2 7 2\nS 0 61\n"), "refused 24\n");
+}
+
 /// A line of another form ends the events; what they left is printed.
 #[test]
 fn events_that_end_early() {

@@ -112,7 +112,7 @@ fn the_first_line_opens_the_group() {
     for (n, group) in [(1, 0), (16, u32::MAX), (4, 7)] {
         let text = text(9, n, group, 2).unwrap();
         let first = text.split(|&byte| byte == b'\n').next().unwrap();
-        assert_eq!(opening(first), Some((n, group)));
+        assert_eq!(opening(first), Some((n, group, 0)));
     }
 }
 

@@ -28,6 +28,7 @@ fn place(originator: u8, count: u32, bytes: &[u8]) -> Place {
 fn at(t: u32, distances: &[u32]) -> Member {
     let mut state = Member::fresh(3, 1, GROUP).unwrap();
     state.taken = t;
+    state.accepted = t + distances.iter().max().unwrap_or(&0);
     for distance in distances {
         let index = ((t + distance) % 8) as usize;
         state.held |= 1 << index;
@@ -120,8 +121,19 @@ fn unsound_states_are_refused_by_every_call() {
             s.places[6].payload.bytes[PAYLOAD - 1] = 1
         }),
         // Place 4 would be t+8, or t+5.
-        ("held above the largest", |s| s.taken = MAX - 3),
-        ("no number left", |s| s.taken = MAX),
+        ("held above the largest", |s| {
+            s.taken = MAX - 3;
+            s.accepted = MAX;
+        }),
+        ("no number left", |s| {
+            s.taken = MAX;
+            s.accepted = MAX;
+        }),
+        ("resilience n", |s| s.resilience = 3),
+        ("resilience 16", |s| s.resilience = 16),
+        ("resilience 255", |s| s.resilience = 255),
+        ("accepted below t", |s| s.accepted = 10),
+        ("nothing accepted", |s| s.accepted = 0),
     ];
     for (name, change) in changes {
         let mut state = busy();
@@ -134,6 +146,7 @@ fn unsound_states_are_refused_by_every_call() {
         for distance in 1..=8 {
             let mut state = at(0, &[]);
             state.taken = MAX - left;
+            state.accepted = state.taken;
             let index = state.taken.wrapping_add(distance) as usize % 8;
             state.held = 1 << index;
             state.places[index] = place(0, 1, b"");
@@ -174,7 +187,16 @@ fn nothing_else_is_unsound() {
             s.queue[0] = place(1, MAX, b"next");
         },
         // 15 becomes the largest.
-        |s| s.taken = MAX - 4,
+        |s| {
+            s.taken = MAX - 4;
+            s.accepted = MAX;
+        },
+        |s| s.resilience = 2,
+        // What is held need not be accepted, nor what is accepted held.
+        |s| s.accepted = 11,
+        |s| s.accepted = 12,
+        |s| s.accepted = 14,
+        |s| s.accepted = MAX,
         |s| s.queue[0].payload = Payload::EMPTY,
         |s| s.queue[0].payload = payload(&[0; PAYLOAD]),
         |s| s.n = 16,
@@ -221,6 +243,7 @@ fn opening() {
             assert_eq!(opened, (n, number, 0x0102_0304));
             assert_eq!((state.taken, state.submitted), (0, 0));
             assert_eq!((state.waiting, state.held), (0, 0));
+            assert_eq!((state.accepted, state.resilience), (0, 0));
             assert_eq!(state.queue, [Place::EMPTY; 5]);
             assert_eq!(state.places, [Place::EMPTY; 8]);
         }
@@ -281,7 +304,7 @@ fn single_refusals() {
     for length in [0, 19, PACKET + 1, 1000] {
         assert_eq!(give_refused(&state, &vec![5; length]), 3);
     }
-    for kind in [0, 6, 255] {
+    for kind in [0, 9, 255] {
         assert_eq!(give_refused(&state, &packet(kind, 0, [0; 3], b"")), 4);
     }
     let mut faulty = broadcast(0, 14, 1, 0, b"x");
@@ -467,6 +490,7 @@ fn broadcasts() {
             let packet = broadcast(1, number, 9, floor, b"new");
             assert_eq!(give(&mut state, &packet), answer);
             let mut expected = busy();
+            expected.accepted = number.max(15);
             expected.held |= 1 << (number % 8);
             expected.places[(number % 8) as usize] = place(1, 9, b"new");
             assert_eq!(state, expected);
@@ -477,7 +501,9 @@ fn broadcasts() {
         let mut state = busy();
         let answer = give(&mut state, &broadcast(1, number, 9, 0, b"new"));
         assert_eq!(answer, (BeyondGap, gap(1, 13, 14, 19)));
-        assert_eq!(state, busy());
+        let mut expected = busy();
+        expected.accepted = number;
+        assert_eq!(state, expected);
     }
 }
 

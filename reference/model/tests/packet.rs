@@ -56,10 +56,12 @@ fn layout() {
 fn obeys(kind: u8, member: u8, [a, b, c]: [u32; 3]) -> bool {
     match kind {
         1 => b != 0 && c == 0,
-        2 => a != 0 && b != 0 && c < a,
+        2 | 6 => a != 0 && b != 0 && c < a,
         3 => a < b && b <= c,
         4 => [b, c] == [0, 0],
         5 => member == 0 && b == 0 && a >= c,
+        7 => a != 0 && [b, c] == [0, 0],
+        8 => a != 0 && [b, c] == [0, 0] && member == 0,
         _ => unreachable!(),
     }
 }
@@ -70,7 +72,7 @@ fn every_kind_with_edge_fields() {
     let payloads =
         [0, 1, 2, PAYLOAD - 1, PAYLOAD, PAYLOAD + 1, 300].map(|length| vec![0x5a; length]);
     let mut allowed = 0;
-    for kind in [0, 1, 2, 3, 4, 5, 6, 255] {
+    for kind in [0, 1, 2, 3, 4, 5, 6, 7, 8, 9, 255] {
         for member in [0, 1, 15, 16, 255] {
             for fields in words
                 .iter()
@@ -79,9 +81,9 @@ fn every_kind_with_edge_fields() {
                 for payload in &payloads {
                     let header = header(kind, member, fields);
                     let bytes = packet(kind, member, fields, payload);
-                    let verdict = if !(1..=5).contains(&kind) {
+                    let verdict = if !(1..=8).contains(&kind) {
                         4
-                    } else if kind >= 3 && !payload.is_empty() {
+                    } else if [3, 4, 5, 7, 8].contains(&kind) && !payload.is_empty() {
                         5
                     } else if !obeys(kind, member, fields) {
                         6
@@ -125,7 +127,7 @@ fn sizes_and_lengths() {
         faulty[2..4].copy_from_slice(&length.to_be_bytes());
         assert_eq!(read_refused(&faulty), 5);
     }
-    for kind in 3..=5 {
+    for kind in [3, 4, 5, 7, 8] {
         let mut faulty = packet(kind, 0, [2, 3, 4], b"");
         faulty[3] = 1;
         assert_eq!(read_refused(&faulty), 5);
@@ -150,7 +152,7 @@ fn the_first_question_counts() {
     assert_eq!(read(&bytes), Ok(header(1, 1, [0, 1, 0])));
 
     let long = [0; PAYLOAD + 1];
-    let faulty = header(6, 1, [0, 0, 1]);
+    let faulty = header(9, 1, [0, 0, 1]);
     for lent in [0, 1, 20, PACKET - 1] {
         assert_eq!(write_refused(&faulty, &long, lent), 2);
     }

@@ -170,7 +170,16 @@ fn first_lines_of_another_form() {
         "N 1",
         "N 1 ",
         "N 1 7 ",
-        "N 1 7 7",
+        "N 1 7 0 ",
+        "N 1 7  0",
+        "N 1 7 0 0",
+        "N 1 7 x",
+        "N 1 7 -",
+        "N 1 7 -0",
+        "N 1 7 +0",
+        "N 1 7 0x0",
+        "N 1 7 4294967296",
+        "N 17 7 x",
         " N 1 7",
         "N  1 7",
         "N 1  7",
@@ -231,6 +240,24 @@ fn first_lines_refused() {
     ] {
         assert_eq!(played(line), "refused 18\n");
         assert_eq!(played(format!("{line}\nP\nx\n")), "refused 18\n");
+        // Question 18 comes before 24.
+        for resilience in ["0", "1", "17", "4294967295"] {
+            assert_eq!(played(format!("{line} {resilience}")), "refused 18\n");
+        }
+    }
+    for line in [
+        "N 1 7 1",
+        "N 1 7 7",
+        "N 2 7 2",
+        "N 2 7 16",
+        "N 2 7 256",
+        "N 2 7 257",
+        "N 16 7 16",
+        "N 16 7 255",
+        "N 16 7 4294967295",
+    ] {
+        assert_eq!(played(line), "refused 24\n");
+        assert_eq!(played(format!("{line}\nP\nx\n")), "refused 24\n");
     }
 }
 
@@ -239,6 +266,11 @@ fn first_lines_accepted() {
     assert_eq!(played("N 1 7"), "top 0 floor 0 taken 0\n");
     assert_eq!(played("N 1 0\n"), "top 0 floor 0 taken 0\n");
     assert_eq!(played("N 0003 007"), "top 0 floor 0 taken 0 0 0\n");
+    for resilience in ["0", "1", "2", "002"] {
+        let line = format!("N 3 7 {resilience}");
+        assert_eq!(played(line), "top 0 floor 0 taken 0 0 0\n");
+    }
+    assert_eq!(played("N 1 7 0\n"), "top 0 floor 0 taken 0\n");
     let zeros = "0".repeat(40);
     assert_eq!(
         played(format!("N {zeros}1 {zeros}")),
@@ -246,6 +278,7 @@ fn first_lines_accepted() {
     );
     let sixteen = format!("top 0 floor 0 taken{}\n", " 0".repeat(16));
     assert_eq!(played("N 16 4294967295"), sixteen);
+    assert_eq!(played("N 16 4294967295 15"), sixteen);
 }
 
 #[test]
@@ -573,7 +606,7 @@ fn anything_can_be_read() {
         let output = played(&input);
         let lines: Vec<&str> = output.split_terminator('\n').collect();
         let (last, answers) = lines.split_last().unwrap();
-        if ["bad line", "refused 18"].contains(last) {
+        if ["bad line", "refused 18", "refused 24"].contains(last) {
             assert!(answers.is_empty());
             continue;
         }

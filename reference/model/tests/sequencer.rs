@@ -28,6 +28,7 @@ fn kept(originator: u8, count: u32, bytes: &[u8]) -> Place {
 fn busy() -> Sequencer {
     let mut state = Sequencer::fresh(3, GROUP).unwrap();
     state.top = 5;
+    state.accepted = 5;
     state.floor = 2;
     state.acknowledged[..3].copy_from_slice(&[2, 3, 4]);
     state.counts[..3].copy_from_slice(&[2, 1, 9]);
@@ -43,6 +44,7 @@ fn busy() -> Sequencer {
 fn full(top: u32) -> Sequencer {
     let mut state = Sequencer::fresh(1, GROUP).unwrap();
     state.top = top;
+    state.accepted = top;
     state.floor = top - 32;
     state.acknowledged[0] = top - 32;
     state.counts[0] = top;
@@ -109,6 +111,12 @@ fn unsound_states_are_refused_by_every_call() {
         ("last last count", |s| s.counts[15] = 1),
         ("spare repeat count", |s| s.repeats[3] = 1),
         ("last repeat count", |s| s.repeats[15] = 1),
+        ("resilience n", |s| s.resilience = 3),
+        ("resilience 16", |s| s.resilience = 16),
+        ("resilience 255", |s| s.resilience = 255),
+        ("accepted below floor", |s| s.accepted = 1),
+        ("accepted above top", |s| s.accepted = 6),
+        ("accepted largest", |s| s.accepted = MAX),
     ];
     for (name, change) in changes {
         let mut state = busy();
@@ -142,6 +150,10 @@ fn nothing_else_is_unsound() {
     let changes: &[Change] = &[
         |s| s.group = MAX,
         |s| s.repeats[..3].copy_from_slice(&[MAX; 3]),
+        // Acknowledgements may lie above the last accepted number, and with
+        // no resilience it may lie below top.
+        |s| s.accepted = 2,
+        |s| s.accepted = 4,
         // Counts need not rise and may be equal.
         |s| s.history[5] = kept(0, 1, b"x"),
         |s| s.history[5] = s.history[3],
@@ -177,6 +189,8 @@ fn opening() {
         assert_eq!((state.top, state.floor, state.all_repeats()), (0, 0, 0));
         assert_eq!((state.acknowledged, state.counts), ([0; 16], [0; 16]));
         assert_eq!(state.repeats, [0; 16]);
+        assert_eq!((state.resilience, state.accepted), (0, 0));
+        assert_eq!(state.marks, [0; 32]);
         assert_eq!(state.history, [Place::EMPTY; 32]);
     }
 }
@@ -205,7 +219,7 @@ fn short_outputs() {
 fn packets_go_down_the_questions() {
     // Everything is wrong; each step repairs what was refused.
     let state = busy();
-    let mut bytes = packet(6, 200, [MAX, 0, 1], &[0; PAYLOAD + 1]);
+    let mut bytes = packet(9, 200, [MAX, 0, 1], &[0; PAYLOAD + 1]);
     bytes[4] = 1;
     assert_eq!(hand_refused(&state, &bytes), 3);
     bytes.truncate(22);
@@ -235,7 +249,7 @@ fn single_refusals() {
     for length in [0, 19, PACKET + 1, 1000] {
         assert_eq!(hand_refused(&state, &vec![4; length]), 3);
     }
-    for kind in [0, 6, 255] {
+    for kind in [0, 9, 255] {
         assert_eq!(hand_refused(&state, &packet(kind, 0, [0; 3], b"")), 4);
     }
     let mut faulty = status(0, 0);
@@ -318,6 +332,7 @@ fn a_numbered_request() {
     expected.history[3] = Place::EMPTY;
     expected.history[6] = kept(0, 3, b"new");
     expected.top = 6;
+    expected.accepted = 6;
     expected.counts[0] = 3;
     assert_eq!(state, expected);
 }

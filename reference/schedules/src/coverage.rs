@@ -1,22 +1,27 @@
 //! What a schedule reaches: every answer of both ends, every refusal and
 //! every way in which the events can end.
 
-use model::Answer;
 use model::group::{Event, Group, Outcome};
 use model::limits::PAYLOAD;
 use model::member::Member;
-use model::packet;
+use model::packet::{self, Header};
 use model::play::{self, PACKETS};
+use model::sequencer::Sequencer;
+use model::{Answer, Refusal};
 use std::collections::BTreeMap;
 
-/// Everything that `play` can reach. Questions 1 to 7, 9 to 12 and 16 never
-/// answer no here: the group's states are sound, its packets are of its own
-/// making, and 200 of them use up no numbers.
-pub const REACHABLE: [&str; 79] = [
+/// Everything that `play` can reach. Questions 1 to 7, 9 to 12, 16 and 25
+/// never answer no here: the group's states are sound, its packets are of its
+/// own making, and 200 of them use up no numbers.
+pub const REACHABLE: [&str; 109] = [
     "opening: missing",
     "opening: bad line",
     "opening: refused 18, n below 1",
     "opening: refused 18, n above 16",
+    "opening: refused 24",
+    "opening: r 0, written",
+    "opening: r 1 to n-2",
+    "opening: r n-1",
     "opening: n 1",
     "opening: n 16",
     "end: with a line feed",
@@ -51,18 +56,24 @@ pub const REACHABLE: [&str; 79] = [
     "take: took what was purged",
     "take: none, nothing held",
     "take: none, a number above held",
+    "take: none, offered",
+    "take: took, last, the next offered",
     "take: absent",
     "status: sent",
     "status: sent, a row held",
     "status: sent, a row held and more behind a hole",
+    "status: sent, more held in a row than is accepted",
     "status: absent",
     "poll: sent",
     "copy: sent",
+    "copy: sent, an offer",
     "copy: refused 17, at floor or below",
     "copy: refused 17, above top",
     "request: numbered",
     "request: numbered in a place it freed",
+    "request: numbered, an offer",
     "request: again",
+    "request: again, an offer",
     "request: old, below the last count, kept",
     "request: old, below the last count, purged",
     "request: old, the last count, purged",
@@ -74,6 +85,12 @@ pub const REACHABLE: [&str; 79] = [
     "status packet: noted, floor grows",
     "status packet: noted, floor stays",
     "status packet: noted, late",
+    "confirm: accepted",
+    "confirm: accepted, with one before it",
+    "confirm: accepted, below its own number",
+    "confirm: marked",
+    "confirm: marked, a second time",
+    "confirm: old",
     "sequencer: refused 8",
     "sequencer: absent packet",
     "broadcast: kept",
@@ -84,6 +101,20 @@ pub const REACHABLE: [&str; 79] = [
     "broadcast: old, held",
     "broadcast: beyond",
     "broadcast: beyondgap",
+    "broadcast: old, it accepts what was offered",
+    "broadcast: keptgap, it accepts what was offered",
+    "offer: kept, answered",
+    "offer: kept, not expected",
+    "offer: keptgap",
+    "offer: old, answered, taken",
+    "offer: old, answered, held",
+    "offer: old, behind a hole",
+    "offer: old, not expected",
+    "offer: beyond",
+    "offer: beyondgap",
+    "accept packet: noted, all held",
+    "accept packet: noted, before its message",
+    "accept packet: noted, late",
     "poll packet: gap",
     "poll packet: gap, a row held",
     "poll packet: status",
@@ -104,16 +135,23 @@ pub fn count(text: &[u8], counts: &mut Counts) {
     let Some(first) = lines.next() else {
         return reached("opening: missing");
     };
-    let Some((n, group)) = play::opening(bare(first)) else {
+    let Some((n, group, resilience)) = play::opening(bare(first)) else {
         return reached("opening: bad line");
     };
-    let Ok(mut group) = Group::fresh(n, group) else {
-        return reached(if n < 1 {
-            "opening: refused 18, n below 1"
-        } else {
-            "opening: refused 18, n above 16"
-        });
+    let mut group = match Group::resilient(n, group, resilience) {
+        Ok(group) => group,
+        Err(Refusal::Resilience) => return reached("opening: refused 24"),
+        Err(_) if n < 1 => return reached("opening: refused 18, n below 1"),
+        Err(_) => return reached("opening: refused 18, n above 16"),
     };
+    match resilience {
+        0 if first.iter().filter(|&&byte| byte == b' ').count() == 3 => {
+            reached("opening: r 0, written");
+        }
+        0 => (),
+        _ if resilience < n - 1 => reached("opening: r 1 to n-2"),
+        _ => reached("opening: r n-1"),
+    }
     match n {
         1 => reached("opening: n 1"),
         16 => reached("opening: n 16"),
@@ -235,14 +273,17 @@ fn each(
                 if after.members[member].taken <= before.sequencer.floor {
                     reached("take: took what was purged");
                 }
+                if !more && offered(&after.members[member]) {
+                    reached("take: took, last, the next offered");
+                }
                 if outcome.is_some_and(|outcome| outcome.payload.is_empty()) {
                     reached("take: took an empty payload");
                 }
             }
-            _ => reached(if before.members[member].held == 0 {
-                "take: none, nothing held"
-            } else {
-                "take: none, a number above held"
+            _ => reached(match &before.members[member] {
+                state if state.held == 0 => "take: none, nothing held",
+                state if offered(state) => "take: none, offered",
+                _ => "take: none, a number above held",
             }),
         },
         Event::Status { member } => match answer {
@@ -252,9 +293,12 @@ fn each(
                 let state = &before.members[member];
                 if has_row(state) {
                     reached("status: sent, a row held");
-                    if state.held.count_ones() > state.row_end() - state.taken {
+                    if state.held.count_ones() > state.reach() - state.taken {
                         reached("status: sent, a row held and more behind a hole");
                     }
+                }
+                if state.reach() > state.row_end() {
+                    reached("status: sent, more held in a row than is accepted");
                 }
             }
         },
@@ -262,6 +306,7 @@ fn each(
         Event::Copy { number } => reached(match question {
             17 if number <= before.sequencer.floor => "copy: refused 17, at floor or below",
             17 => "copy: refused 17, above top",
+            _ if number > before.sequencer.accepted => "copy: sent, an offer",
             _ => "copy: sent",
         }),
         Event::ToSequencer { packet } => match before.packets.get(packet) {
@@ -276,9 +321,20 @@ fn each(
                 (None, _) => reached("member: absent packet"),
                 (_, None) => reached("member: absent member"),
                 (Some(bytes), Some(state)) => {
-                    reached(at_member(bytes, state.taken, answer));
-                    let end = after.members[member].row_end();
+                    let new = &after.members[member];
+                    if bytes[0] == packet::OFFER {
+                        return reached(offer(bytes, new, outcome));
+                    }
+                    reached(at_member(bytes, state, answer));
+                    let end = new.row_end();
+                    let frees = offered(state) && !offered(new);
                     match answer {
+                        Some(Answer::Old) if frees => {
+                            reached("broadcast: old, it accepts what was offered");
+                        }
+                        Some(Answer::KeptGap) if frees => {
+                            reached("broadcast: keptgap, it accepts what was offered");
+                        }
                         Some(Answer::Kept) if end > state.row_end() + 1 => {
                             reached("broadcast: kept, the row jumps");
                         }
@@ -313,6 +369,11 @@ fn requested(group: &Group, member: usize) -> bool {
     })
 }
 
+/// Whether a member holds the next number, which it may not take yet.
+fn offered(member: &Member) -> bool {
+    member.reach() > member.taken && member.row_end() == member.taken
+}
+
 /// Whether a member holds what it could take.
 fn has_row(member: &Member) -> bool {
     member.row_end() > member.taken
@@ -330,6 +391,9 @@ fn at_sequencer(
     let (old, new) = (&before.sequencer, &after.sequencer);
     let is_full = old.top - old.floor == 32;
     let state = &before.members[member];
+    if header.kind == packet::CONFIRM {
+        return reached(confirm(header, old, answer, new));
+    }
     if matches!(answer, Some(Answer::Old)) && state.waiting > 0 && header.b == first_count(state) {
         reached("request: old, its message purged and not yet taken");
     }
@@ -337,7 +401,13 @@ fn at_sequencer(
         (packet::REQUEST, Some(Answer::Numbered(_))) if is_full => {
             "request: numbered in a place it freed"
         }
+        (packet::REQUEST, Some(Answer::Numbered(number))) if number > new.accepted => {
+            "request: numbered, an offer"
+        }
         (packet::REQUEST, Some(Answer::Numbered(_))) => "request: numbered",
+        (packet::REQUEST, Some(Answer::Again(number))) if number > new.accepted => {
+            "request: again, an offer"
+        }
         (packet::REQUEST, Some(Answer::Again(_))) => "request: again",
         (packet::REQUEST, Some(Answer::Full)) => "request: full",
         (packet::REQUEST, _) if header.b == new.counts[member] => {
@@ -363,12 +433,55 @@ fn at_sequencer(
     });
 }
 
-fn at_member(bytes: &[u8], taken: u32, answer: Option<Answer>) -> &'static str {
+fn confirm(
+    header: Header,
+    old: &Sequencer,
+    answer: Option<Answer>,
+    new: &Sequencer,
+) -> &'static str {
+    match answer {
+        Some(Answer::Accepted) if new.accepted < header.a => {
+            "confirm: accepted, below its own number"
+        }
+        Some(Answer::Accepted) if new.accepted > old.accepted + 1 => {
+            "confirm: accepted, with one before it"
+        }
+        Some(Answer::Accepted) => "confirm: accepted",
+        Some(Answer::Marked) if new.marks == old.marks => "confirm: marked, a second time",
+        Some(Answer::Marked) => "confirm: marked",
+        _ => "confirm: old",
+    }
+}
+
+/// An offer; it leaves the member so.
+fn offer(bytes: &[u8], member: &Member, outcome: Option<&Outcome>) -> &'static str {
+    let header = packet::read(bytes).expect("a packet of the group");
+    let answered = outcome.is_some_and(|outcome| outcome.packet.is_some());
+    let expected = (1..=member.resilience).contains(&member.number);
+    match outcome.map(|outcome| outcome.answer) {
+        Some(Answer::Kept) if answered => "offer: kept, answered",
+        Some(Answer::Kept) => "offer: kept, not expected",
+        Some(Answer::KeptGap) => "offer: keptgap",
+        Some(Answer::Old) if answered && header.a <= member.taken => "offer: old, answered, taken",
+        Some(Answer::Old) if answered => "offer: old, answered, held",
+        Some(Answer::Old) if expected => "offer: old, behind a hole",
+        Some(Answer::Old) => "offer: old, not expected",
+        Some(Answer::Beyond) => "offer: beyond",
+        _ => "offer: beyondgap",
+    }
+}
+
+fn at_member(bytes: &[u8], member: &Member, answer: Option<Answer>) -> &'static str {
     let header = packet::read(bytes).expect("a packet of the group");
     match answer {
+        Some(Answer::Noted) if header.a <= member.accepted => "accept packet: noted, late",
+        Some(Answer::Noted) if header.a > member.reach() => {
+            "accept packet: noted, before its message"
+        }
+        Some(Answer::Noted) => "accept packet: noted, all held",
         Some(Answer::Kept) => "broadcast: kept",
         Some(Answer::KeptGap) => "broadcast: keptgap",
-        Some(Answer::Old) if header.a <= taken => "broadcast: old, taken",
+        Some(Answer::Old) if header.a <= member.taken => "broadcast: old, taken",
         Some(Answer::Old) => "broadcast: old, held",
         Some(Answer::Beyond) => "broadcast: beyond",
         Some(Answer::BeyondGap) => "broadcast: beyondgap",

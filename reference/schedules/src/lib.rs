@@ -10,6 +10,7 @@ pub mod journals;
 pub mod loads;
 pub mod longest;
 pub mod malformed;
+pub mod offers;
 pub mod random;
 pub mod script;
 pub mod store;
@@ -54,5 +55,7 @@ pub fn all() -> Vec<Schedule> {
     schedules.extend(random::stored());
     schedules.extend(longest::schedules());
     schedules.extend(loads::schedules());
+    schedules.extend(offers::schedules());
+    schedules.extend(random::stored_with_offers());
     schedules
 }

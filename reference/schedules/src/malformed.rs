@@ -66,7 +66,7 @@ fn openings() -> Vec<Schedule> {
         ("one number", "N 1"),
         ("one number and a space", "N 1 "),
         ("a trailing space", "N 2 7 "),
-        ("three numbers", "N 2 7 7"),
+        ("four numbers", "N 2 7 1 7"),
         ("a leading space", " N 2 7"),
         ("two spaces, then n", "N  2 7"),
         ("two spaces, then the group", "N 2  7"),

@@ -69,10 +69,43 @@ pub fn stored() -> Vec<Schedule> {
     schedules
 }
 
+/// The stored random schedules with a resilience degree.
+pub fn stored_with_offers() -> Vec<Schedule> {
+    let sizes = [(10, 150), (4, 400), (1, 1000)];
+    let sizes = sizes.iter().flat_map(|&(many, events)| vec![events; many]);
+    (201..)
+        .zip(sizes)
+        .map(|(seed, events)| Schedule {
+            shows: format!("random with r, seed {seed}, up to {events} events"),
+            text: with_offers(seed, events),
+            expected: None,
+        })
+        .collect()
+}
+
 /// A random schedule of at most so many events, all of a good form.
 pub fn schedule(seed: u64, events: usize) -> Vec<u8> {
     let mut random = Random::seeded(seed);
     let n = random.one(&[1, 2, 2, 3, 3, 4, 5, 8, 16]);
+    played(random, n, None, events)
+}
+
+/// The same of a group with a resilience degree, 1 to n-1.
+pub fn with_offers(seed: u64, events: usize) -> Vec<u8> {
+    let mut random = Random::seeded(seed);
+    let n = random.one(&[2, 2, 3, 3, 4, 5, 8, 16]);
+    let most = n as usize - 1;
+    let resilience = match random.below(3) {
+        0 => 1,
+        1 => most,
+        _ => 1 + random.below(most),
+    };
+    played(random, n, Some(resilience as u32), events)
+}
+
+/// A random schedule of n members, with that resilience degree in its first
+/// line.
+fn played(mut random: Random, n: u32, resilience: Option<u32>, events: usize) -> Vec<u8> {
     let number = match random.below(4) {
         0 => 0,
         1 => 4_294_967_295,
@@ -80,7 +113,7 @@ pub fn schedule(seed: u64, events: usize) -> Vec<u8> {
         _ => random.bits() as u32,
     };
     let mut network = Network {
-        group: Group::fresh(n, number).expect("an allowed opening"),
+        group: Group::resilient(n, number, resilience.unwrap_or(0)).expect("an allowed opening"),
         in_flight: Vec::new(),
         wanted: Vec::new(),
         loss: random.one(&[0, 5, 20, 50]),
@@ -96,7 +129,10 @@ pub fn schedule(seed: u64, events: usize) -> Vec<u8> {
         },
         random,
     };
-    let mut text = format!("N {n} {number}\n");
+    let mut text = match resilience {
+        None => format!("N {n} {number}\n"),
+        Some(resilience) => format!("N {n} {number} {resilience}\n"),
+    };
     for _ in 0..events {
         let full = network.group.packets.len() >= PACKETS;
         let event = network.event();
@@ -365,7 +401,13 @@ impl Network {
             return;
         };
         let kind = self.group.packets[index][0];
-        if matches!(kind, packet::BROADCAST | packet::POLL) {
+        let to_members = [
+            packet::BROADCAST,
+            packet::POLL,
+            packet::OFFER,
+            packet::ACCEPT,
+        ];
+        if to_members.contains(&kind) {
             for member in 0..self.group.members.len() {
                 self.send(index, Some(member));
             }

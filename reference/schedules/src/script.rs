@@ -27,8 +27,18 @@ impl Script {
         }
     }
 
+    /// A group of n members with a resilience degree.
+    pub fn resilient(n: u32, group: u32, r: u32) -> Script {
+        Script {
+            group: Group::resilient(n, group, r).expect("an allowed opening"),
+            text: format!("N {n} {group} {r}\n"),
+            ..Script::open(n, group)
+        }
+    }
+
     /// An event of a good form and its answer without the index of the
-    /// packet written; returns that index, or that of the next packet.
+    /// packet written, if one is; returns that index, or that of the next
+    /// packet.
     pub fn line(&mut self, line: &str, answer: &str) -> usize {
         let event = play::event(line.as_bytes()).expect("a line of an event");
         let index = self.group.packets.len();
@@ -93,7 +103,23 @@ impl Script {
         self.line(&format!("M {packet} {member}"), answer)
     }
 
-    /// Submit, and the request is numbered; the broadcast's index.
+    /// Gives an offer to a member that is expected to answer it; the index of
+    /// its answer.
+    pub fn confirm(&mut self, offer: usize, member: usize, answer: &str) -> usize {
+        let written = self.group.packets.len();
+        let index = self.give(offer, member, answer);
+        assert_eq!(self.group.packets.len(), written + 1, "no kind 7");
+        index
+    }
+
+    /// Gives an offer to a member that writes no answer.
+    pub fn leave(&mut self, offer: usize, member: usize, answer: &str) {
+        let written = self.group.packets.len();
+        self.give(offer, member, answer);
+        assert_eq!(self.group.packets.len(), written, "a packet");
+    }
+
+    /// Submit, and the request is numbered; the broadcast's or offer's index.
     pub fn number(&mut self, member: usize, hex: &str, number: u32) -> usize {
         let request = self.submit(member, hex);
         self.hand(request, &format!("numbered {number}"))

@@ -1,17 +1,19 @@
-//! Random schedules: what their takes feed to the work lists.
+//! Random schedules: what their takes feed to the work lists, and what those
+//! with a resilience degree reach.
 
 use model::group::{Group, Lists};
 use model::jobs::{Fed, GIVEN, WAITING};
 use model::limits::JOB;
 use model::play::{self, PACKETS};
-use schedules::random::schedule;
+use schedules::coverage::{self, Counts, REACHABLE};
+use schedules::random::{schedule, with_offers};
 use std::collections::BTreeMap;
 
 /// The lists that a schedule leaves; each answer of a list is counted.
 fn lists(text: &[u8], counts: &mut BTreeMap<String, usize>) -> Lists {
     let mut lines = text.split(|&byte| byte == b'\n');
-    let (n, number) = lines.next().and_then(play::opening).unwrap();
-    let mut group = Group::fresh(n, number).unwrap();
+    let (n, number, resilience) = lines.next().and_then(play::opening).unwrap();
+    let mut group = Group::resilient(n, number, resilience).unwrap();
     let mut lists = Lists::empty(n as usize);
     for event in lines.map_while(play::event) {
         if group.packets.len() == PACKETS {
@@ -55,4 +57,23 @@ fn lists_are_fed() {
     }
     assert_eq!(counts.len(), 11, "{counts:?}");
     assert!(counts.values().all(|&times| times > 0), "{counts:?}");
+}
+
+/// A fuzz run with a resilience degree meets every answer to kinds 6, 7 and 8.
+#[test]
+fn offers_are_met() {
+    let mut counts = Counts::new();
+    for seed in 1..=400 {
+        coverage::count(&with_offers(seed, 300), &mut counts);
+    }
+    let about_offers = |what: &&str| {
+        let kinds = ["offer:", "confirm:", "accept packet:"];
+        kinds.iter().any(|kind| what.starts_with(kind)) || what.contains("offer")
+    };
+    let missed: Vec<&str> = REACHABLE
+        .into_iter()
+        .filter(about_offers)
+        .filter(|what| !counts.contains_key(what))
+        .collect();
+    assert_eq!(missed, Vec::<&str>::new(), "{counts:?}");
 }

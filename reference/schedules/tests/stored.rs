@@ -2,8 +2,9 @@
 //! were written by hand.
 
 use model::journal::{BLOCK, found};
+use model::play::opening;
 use schedules::coverage::{self, Counts, REACHABLE};
-use schedules::{all, journals, loads, store};
+use schedules::{all, inspected, journals, loads, played, store};
 use std::collections::BTreeSet;
 
 #[test]
@@ -52,6 +53,27 @@ fn none_is_there_twice() {
     let shows: BTreeSet<&str> = schedules.iter().map(|s| s.shows.as_str()).collect();
     assert_eq!(shows.len(), schedules.len());
     assert_eq!(store::name(7), "007");
+}
+
+/// Without a resilience degree in the first line it is 0, and all is as with
+/// a 0 there.
+#[test]
+fn no_degree_is_degree_0() {
+    let mut without = 0;
+    for schedule in all() {
+        let text = &schedule.text;
+        let end = text.iter().position(|&byte| byte == b'\n');
+        let (first, rest) = text.split_at(end.unwrap_or(text.len()));
+        let fields = first.split(|&byte| byte == b' ').count();
+        // A first line may not get longer than 1,000 characters.
+        if opening(first).is_some() && fields == 3 && first.len() < 999 {
+            let written = [first, b" 0", rest].concat();
+            assert_eq!(played(&written), schedule.played(), "{}", schedule.shows);
+            assert_eq!(inspected(&written), inspected(text), "{}", schedule.shows);
+            without += 1;
+        }
+    }
+    assert!(without > 200, "{without}");
 }
 
 /// No line of a load is of another form; the long ones end with `no space`.

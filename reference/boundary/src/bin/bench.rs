@@ -9,7 +9,7 @@ use boundary::{
 use model::jobs::{ADD, FETCH, List};
 use model::journal::{BLOCK, Message};
 use model::limits::{HISTORY, JOBS, PACKET, PAYLOAD, UNITS, WAITING, WINDOW};
-use model::packet::{self, BROADCAST, GAP, Header, POLL, REQUEST, STATUS};
+use model::packet::{self, ACCEPT, BROADCAST, CONFIRM, GAP, Header, OFFER, POLL, REQUEST, STATUS};
 use model::plan::SET;
 use model::{member, sequencer};
 use std::collections::BTreeMap;
@@ -130,6 +130,7 @@ fn main() -> ExitCode {
             for held in [0, WINDOW / 2, WINDOW] {
                 cases.extend(member(n, payload, held));
             }
+            cases.extend(offers(n, payload));
         }
     }
     cases.extend(work_lists());
@@ -408,8 +409,13 @@ fn sequencer(n: u8, length: usize, kept: usize) -> Vec<Case> {
             with: with.clone(),
             calls,
             rounds: Box::new(move |side, many, out| {
-                let (group, heard) = (GROUP, &heard[..]);
-                rounds(side, Sequencer { n, group, heard }, many, out)
+                let end = Sequencer {
+                    n,
+                    group: GROUP,
+                    resilience: 0,
+                    heard: &heard,
+                };
+                rounds(side, end, many, out)
             }),
         });
     };
@@ -508,6 +514,7 @@ fn member(n: u8, length: usize, held: usize) -> Vec<Case> {
                     n,
                     number,
                     group,
+                    resilience: 0,
                     heard,
                     takes: 0,
                 };
@@ -624,6 +631,72 @@ fn member(n: u8, length: usize, held: usize) -> Vec<Case> {
             on_member!(side, member_take(end, rounds.each(calls), rounds.many, out))
         }),
     );
+    cases
+}
+
+/// The calls of offers: messages numbered where r is 1, their confirmations, and a member that confirms and hears of acceptances.
+fn offers(n: u8, length: usize) -> Vec<Case> {
+    let text = payload(length);
+    let numbers = 1..=HISTORY as u32;
+    let held = 1..=WINDOW as u32;
+    let request = |number| laid(REQUEST, 0, GROUP, [0, number, 0], &text);
+    let confirm = |number| laid(CONFIRM, 1, GROUP, [number, 0, 0], &[]);
+    let offer = |number| laid(OFFER, 0, GROUP, [number, number, 0], &text);
+    let accept = |number| laid(ACCEPT, 0, GROUP, [number, 0, 0], &[]);
+    let (none, requests) = (Vec::new(), list(numbers.clone().map(request)));
+    let confirms = list(numbers.clone().map(confirm));
+    let mut cases = Vec::new();
+    let with = format!("n {n}, payload {length}");
+    let mut numbering = |call, resilience, heard: &[u8], packets: &[u8]| {
+        let (heard, packets) = (heard.to_vec(), packets.to_vec());
+        cases.push(Case {
+            call,
+            with: with.clone(),
+            calls: HISTORY,
+            rounds: Box::new(move |side, rounds, out| {
+                let (group, heard) = (GROUP, &heard[..]);
+                let end = Sequencer {
+                    n,
+                    group,
+                    resilience,
+                    heard,
+                };
+                on_sequencer!(
+                    side,
+                    sequencer_receive(end, rounds.each(&packets[..]), rounds.many, out)
+                )
+            }),
+        });
+    };
+    numbering("sequencer.receive numbered, offered", 1, &none, &requests);
+    numbering("sequencer.receive accepted", 1, &requests, &confirms);
+    numbering("sequencer.receive marked", 2, &requests, &confirms);
+    let mut holding = |call, packets: Vec<u8>| {
+        cases.push(Case {
+            call,
+            with: with.clone(),
+            calls: WINDOW,
+            rounds: Box::new(move |side, rounds, out| {
+                let end = Member {
+                    n,
+                    number: 1,
+                    group: GROUP,
+                    resilience: 1,
+                    heard: &[],
+                    takes: 0,
+                };
+                on_member!(
+                    side,
+                    member_receive(end, rounds.each(&packets[..]), rounds.many, out)
+                )
+            }),
+        });
+    };
+    holding(
+        "member.receive kept, confirmed",
+        list(held.clone().map(offer)),
+    );
+    holding("member.receive noted", list(held.map(accept)));
     cases
 }
 

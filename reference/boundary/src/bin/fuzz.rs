@@ -293,15 +293,16 @@ fn payload(random: &mut Random) -> Vec<u8> {
 }
 
 /// Packets as its members might send them, and others.
-fn requests(random: &mut Random, n: u8, group: u32) -> Vec<Vec<u8>> {
-    let mut state = sequencer::Sequencer::fresh(n.into(), group).expect("an allowed opening");
+fn requests(random: &mut Random, n: u8, group: u32, resilience: u8) -> Vec<Vec<u8>> {
+    let mut state: sequencer::Sequencer = Sequencing::opened(n, group, resilience);
     let many = random.below(90);
     (0..many)
         .map(|_| {
             let member = random.below(usize::from(n)) as u8;
             let count = state.counts[usize::from(member)];
-            let taken = random.one(&[state.floor, state.floor, state.top, 0, state.floor + 1]);
-            let packet = match random.below(20) {
+            let (floor, accepted) = (state.floor, state.accepted);
+            let taken = random.one(&[floor, floor, accepted, state.top, 0, floor + 1]);
+            let packet = match random.below(if resilience == 0 { 21 } else { 30 }) {
                 0 => bytes(random),
                 1 => laid(4, member, near(random, group), [taken, 0, 0], &[]),
                 2..4 => laid(4, member, group, [near(random, taken), 0, 0], &[]),
@@ -312,6 +313,11 @@ fn requests(random: &mut Random, n: u8, group: u32) -> Vec<Vec<u8>> {
                 }
                 6 => laid(2, member, group, [1, 1, 0], &[]),
                 7 => laid(1, near(random, n.into()) as u8, group, [0, 1, 0], &[]),
+                20.. => {
+                    let member = random.one(&[member, 1, resilience]);
+                    let answered = random.one(&[state.top, accepted.saturating_add(1)]);
+                    laid(7, member, group, [near(random, answered), 0, 0], &[])
+                }
                 _ => {
                     let next = near(random, count.saturating_add(1));
                     laid(1, member, group, [taken, next, 0], &payload(random))
@@ -323,17 +329,31 @@ fn requests(random: &mut Random, n: u8, group: u32) -> Vec<Vec<u8>> {
         .collect()
 }
 
+/// A resilience degree that n allows, often 0.
+fn resilience_of(random: &mut Random, n: u8) -> u8 {
+    if random.percent(40) {
+        0
+    } else {
+        random.below(n.into()) as u8
+    }
+}
+
 fn sequencing(seed: u64) -> Option<String> {
     let random = &mut Random::seeded(seed);
     let n = 1 + random.below(16) as u8;
+    let resilience = resilience_of(random, n);
     let group = number(random);
     let lent = lent(random);
-    let packets = requests(random, n, group);
+    let packets = requests(random, n, group, resilience);
     let differs = |packets: &[Vec<u8>]| {
         let list = list(packets);
         let (mut here, mut there) = (lent.clone(), lent.clone());
-        let heard = &[];
-        let end = Sequencer { n, group, heard };
+        let end = Sequencer {
+            n,
+            group,
+            resilience,
+            heard: &[],
+        };
         let sum = ends::sequencer_receive::<SequencerState>(end, &list, 1, &mut here);
         let other = ends::sequencer_receive::<sequencer::Sequencer>(end, &list, 1, &mut there);
         // The state after the list, and all repeat counts added up.
@@ -354,7 +374,9 @@ fn sequencing(seed: u64) -> Option<String> {
         .into_iter()
         .find(|packets| differs(packets))?;
     let fewer = shrink(packets, differs);
-    Some(format!("n {n}, group {group}, packets {fewer:02x?}"))
+    Some(format!(
+        "n {n}, group {group}, r {resilience}, packets {fewer:02x?}"
+    ))
 }
 
 /// Packets as its sequencer might send them, and others.
@@ -371,16 +393,18 @@ fn broadcasts(random: &mut Random, n: u8, group: u32) -> Vec<Vec<u8>> {
             } else {
                 1 + random.below(19) as u32
             };
-            match random.below(12) {
+            match random.below(14) {
                 0 => bytes(random),
+                12.. => laid(8, 0, group, [near(random, ahead), 0, 0], &[]),
                 1 => laid(2, member, near(random, group), [ahead, 1, 0], &[]),
                 2 => laid(2, near(random, n.into()) as u8, group, [ahead, 1, 0], &[]),
-                3 => laid(random.one(&[1, 3, 4]), member, group, [0, 1, 1], &[]),
+                3 => laid(random.one(&[1, 3, 4, 7]), member, group, [0, 1, 1], &[]),
                 4..6 => laid(5, 0, group, [near(random, ahead), 0, 0], &[]),
                 _ => {
                     let number = near(random, ahead).max(1);
                     let count = near(random, number).max(1);
-                    laid(2, member, group, [number, count, 0], &payload(random))
+                    let kind = random.one(&[2, 6]);
+                    laid(kind, member, group, [number, count, 0], &payload(random))
                 }
             }
         })
@@ -407,6 +431,7 @@ fn own(random: &mut Random, n: u8, number_of: u8, group: u32) -> Vec<Vec<u8>> {
 fn membership(seed: u64) -> Option<String> {
     let random = &mut Random::seeded(seed);
     let n = 1 + random.below(16) as u8;
+    let resilience = resilience_of(random, n);
     let number_of = random.below(usize::from(n)) as u8;
     let group = number(random);
     let lent = lent(random);
@@ -425,6 +450,7 @@ fn membership(seed: u64) -> Option<String> {
             n,
             number: number_of,
             group,
+            resilience,
             heard,
             takes,
         };
@@ -459,7 +485,7 @@ fn membership(seed: u64) -> Option<String> {
     }
     let fewer = shrink(&packets, differs);
     Some(format!(
-        "n {n}, member {number_of}, group {group}, {takes} taken, packets {fewer:02x?}"
+        "n {n}, member {number_of}, group {group}, r {resilience}, {takes} taken, packets {fewer:02x?}"
     ))
 }
 
@@ -523,6 +549,10 @@ fn change_number(random: &mut Random, number: &mut u32) {
     *number = other_number(random, *number);
 }
 
+fn change_mask(random: &mut Random, mask: &mut u16) {
+    *mask = other_number(random, (*mask).into()) as u16;
+}
+
 fn change_byte(random: &mut Random, byte: &mut u8) {
     *byte = other_byte(random, *byte);
 }
@@ -531,8 +561,11 @@ fn change_byte(random: &mut Random, byte: &mut u8) {
 fn change_sequencer(random: &mut Random, state: &mut SequencerState) {
     let (member, place) = (random.below(MEMBERS), random.below(HISTORY));
     let at = random.below(PAYLOAD);
-    match random.below(12) {
+    match random.below(15) {
         0 => change_byte(random, &mut state.n),
+        12 => change_byte(random, &mut state.resilience),
+        13 => change_number(random, &mut state.accepted),
+        14 => change_mask(random, &mut state.marks[place]),
         1 => change_number(random, &mut state.group),
         2 => change_number(random, &mut state.top),
         3 => change_number(random, &mut state.floor),
@@ -550,8 +583,10 @@ fn change_sequencer(random: &mut Random, state: &mut SequencerState) {
 fn change_member(random: &mut Random, state: &mut MemberState) {
     let (queued, held) = (random.below(limits::WAITING), random.below(WINDOW));
     let at = random.below(PAYLOAD);
-    match random.below(15) {
+    match random.below(17) {
         0 => change_byte(random, &mut state.n),
+        15 => change_byte(random, &mut state.resilience),
+        16 => change_number(random, &mut state.accepted),
         1 => change_number(random, &mut state.group),
         2 => change_byte(random, &mut state.number),
         3 => change_number(random, &mut state.taken),
@@ -571,9 +606,13 @@ fn change_member(random: &mut Random, state: &mut MemberState) {
 /// A state of any bytes.
 fn any_sequencer(random: &mut Random) -> SequencerState {
     let mut state = SequencerState::CLOSED;
-    state.n = random.bits() as u8;
-    for number in [&mut state.group, &mut state.top, &mut state.floor] {
+    (state.n, state.resilience) = (random.bits() as u8, random.bits() as u8);
+    let numbers = [&mut state.top, &mut state.accepted, &mut state.floor];
+    for number in numbers.into_iter().chain([&mut state.group]) {
         *number = random.bits() as u32;
+    }
+    for mask in &mut state.marks {
+        *mask = random.bits() as u16;
     }
     let tables = [&mut state.taken, &mut state.counts, &mut state.repeats];
     for number in tables.into_iter().flatten().chain(&mut state.kept) {
@@ -590,9 +629,11 @@ fn any_sequencer(random: &mut Random) -> SequencerState {
 fn any_member(random: &mut Random) -> MemberState {
     let mut state = MemberState::CLOSED;
     (state.n, state.number) = (random.bits() as u8, random.bits() as u8);
+    state.resilience = random.bits() as u8;
     let numbers = [
         &mut state.group,
         &mut state.taken,
+        &mut state.accepted,
         &mut state.submitted,
         &mut state.waiting,
     ];
@@ -617,13 +658,19 @@ fn any_member(random: &mut Random) -> MemberState {
 fn forged_sequencer(seed: u64) -> (u8, Option<String>) {
     let random = &mut Random::seeded(seed);
     let n = 1 + random.below(16) as u8;
+    let resilience = resilience_of(random, n);
     let group = number(random);
-    let packets = requests(random, n, group);
+    let packets = requests(random, n, group, resilience);
     let mut start = if random.percent(5) {
         any_sequencer(random)
     } else {
-        let heard = &list(&packets)[..];
-        ends::sequencer(Sequencer { n, group, heard }, &mut [0; PACKET])
+        let end = Sequencer {
+            n,
+            group,
+            resilience,
+            heard: &list(&packets),
+        };
+        ends::sequencer(end, &mut [0; PACKET])
     };
     for _ in 0..random.one(&[0, 1, 1, 1, 2, 3]) {
         change_sequencer(random, &mut start);
@@ -636,6 +683,7 @@ fn forged_sequencer(seed: u64) -> (u8, Option<String>) {
     let calls = [
         SequencerCall::Receive(laid(1, member, group, [taken, count, 0], &payload(random))),
         SequencerCall::Receive(laid(4, member, group, [near(random, start.top), 0, 0], &[])),
+        SequencerCall::Receive(laid(7, member, group, [near(random, start.top), 0, 0], &[])),
         SequencerCall::Receive(again),
         SequencerCall::Receive(bytes(random)),
         SequencerCall::Poll,
@@ -658,12 +706,14 @@ fn forged_sequencer(seed: u64) -> (u8, Option<String>) {
     }
     // Opening: whatever stood there, the state is fresh, or closed.
     let (n, mut opened) = (random.below(20) as u8, start);
-    let told = opened.open(n, group);
-    let expected = match sequencer::Sequencer::fresh(n.into(), group) {
+    let resilience = random.below(20) as u8;
+    let told = opened.open(n, group, resilience);
+    let fresh = sequencer::Sequencer::resilient(n.into(), group, resilience.into());
+    let expected = match fresh {
         Ok(fresh) => told.code == 39 && opened.as_reference() == fresh,
         Err(refused) => told.code == refused.number().into() && opened == SequencerState::CLOSED,
     };
-    let difference = (!expected).then(|| format!("opened with {n}: {told:?}"));
+    let difference = (!expected).then(|| format!("opened with {n}, {resilience}: {told:?}"));
     (refusal, difference)
 }
 
@@ -676,7 +726,8 @@ fn forged_member(seed: u64) -> (u8, Option<String>) {
     let mut start = if random.percent(5) {
         any_member(random)
     } else {
-        let mut state = MemberState::opened(n, number_of, group);
+        let resilience = resilience_of(random, n);
+        let mut state = MemberState::opened(n, number_of, group, resilience);
         let heard = if random.percent(50) {
             broadcasts(random, n, group)
         } else {
@@ -697,6 +748,7 @@ fn forged_member(seed: u64) -> (u8, Option<String>) {
     // Numbers near the largest.
     if random.percent(10) {
         start.taken = LARGEST - random.below(10) as u32;
+        start.accepted = start.taken.saturating_add(random.below(10) as u32);
     }
     for _ in 0..random.one(&[0, 1, 1, 1, 2, 3]) {
         change_member(random, &mut start);
@@ -708,6 +760,8 @@ fn forged_member(seed: u64) -> (u8, Option<String>) {
     let calls = [
         MemberCall::Submit(payload(random)),
         MemberCall::Receive(laid(2, from, group, fields, &payload(random))),
+        MemberCall::Receive(laid(6, from, group, fields, &payload(random))),
+        MemberCall::Receive(laid(8, 0, group, [near(random, ahead), 0, 0], &[])),
         MemberCall::Receive(laid(5, 0, group, [near(random, ahead), 0, 0], &[])),
         MemberCall::Receive(bytes(random)),
         MemberCall::Take,
@@ -731,12 +785,15 @@ fn forged_member(seed: u64) -> (u8, Option<String>) {
         }
     }
     let (n, number_of, mut opened) = (random.below(20) as u8, random.below(20) as u8, start);
-    let told = opened.open(n, number_of, group);
-    let expected = match member::Member::fresh(n.into(), number_of.into(), group) {
+    let resilience = random.below(20) as u8;
+    let told = opened.open(n, number_of, group, resilience);
+    let fresh = member::Member::resilient(n.into(), number_of.into(), group, resilience.into());
+    let expected = match fresh {
         Ok(fresh) => told.code == 39 && opened.as_reference() == fresh,
         Err(refused) => told.code == refused.number().into() && opened == MemberState::CLOSED,
     };
-    let difference = (!expected).then(|| format!("opened with {n}, {number_of}: {told:?}"));
+    let difference =
+        (!expected).then(|| format!("opened with {n}, {number_of}, {resilience}: {told:?}"));
     (refusal, difference)
 }
 
@@ -838,6 +895,7 @@ fn terminal(seed: u64) -> Option<String> {
             n,
             number: number_of,
             group,
+            resilience: 0,
             heard,
             takes: 0,
         };

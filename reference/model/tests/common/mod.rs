@@ -43,6 +43,18 @@ pub fn poll(top: u32, floor: u32) -> Vec<u8> {
     packet(5, 0, [top, 0, floor], &[])
 }
 
+pub fn offer(originator: u8, number: u32, count: u32, floor: u32, payload: &[u8]) -> Vec<u8> {
+    packet(6, originator, [number, count, floor], payload)
+}
+
+pub fn confirm(member: u8, number: u32) -> Vec<u8> {
+    packet(7, member, [number, 0, 0], &[])
+}
+
+pub fn accept(number: u32) -> Vec<u8> {
+    packet(8, 0, [number, 0, 0], &[])
+}
+
 /// An accepted call: its answer and what it wrote. Outputs just long enough
 /// and longer ones must give the same; bytes behind keep their values.
 pub fn accepted<S: Clone + PartialEq + Debug>(

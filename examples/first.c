@@ -7,8 +7,8 @@ int main(void)
     struct warghytes_sequencer sequencer = { 0 };
     struct warghytes_member member = { 0 };
     uint8_t request[WARGHYTES_PACKET], broadcast[WARGHYTES_PACKET], out[WARGHYTES_PACKET];
-    warghytes_sequencer_open(&sequencer, 1, 7);
-    warghytes_member_open(&member, 1, 0, 7);
+    warghytes_sequencer_open(&sequencer, 1, 7, 0);
+    warghytes_member_open(&member, 1, 0, 7, 0);
 
     struct warghytes_told told = warghytes_member_submit(&member, (const uint8_t *)"saw", 3, request, sizeof request);
     if (told.code != WARGHYTES_SENT)

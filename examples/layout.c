@@ -41,13 +41,13 @@ static void sizes(void)
 {
     enum { ROOM = 16384 };
     uint8_t *x = filled(0xaa, ROOM), *y = filled(0x55, ROOM);
-    warghytes_sequencer_open((struct warghytes_sequencer *)(void *)x, 3, 7);
-    warghytes_sequencer_open((struct warghytes_sequencer *)(void *)y, 3, 7);
+    warghytes_sequencer_open((struct warghytes_sequencer *)(void *)x, 3, 7, 2);
+    warghytes_sequencer_open((struct warghytes_sequencer *)(void *)y, 3, 7, 2);
     CHECK(end_of(x, y, ROOM) == sizeof(struct warghytes_sequencer));
     memset(x, 0xaa, ROOM);
     memset(y, 0x55, ROOM);
-    warghytes_member_open((struct warghytes_member *)(void *)x, 3, 2, 7);
-    warghytes_member_open((struct warghytes_member *)(void *)y, 3, 2, 7);
+    warghytes_member_open((struct warghytes_member *)(void *)x, 3, 2, 7, 2);
+    warghytes_member_open((struct warghytes_member *)(void *)y, 3, 2, 7, 2);
     CHECK(end_of(x, y, ROOM) == sizeof(struct warghytes_member));
     free(x);
     free(y);
@@ -65,11 +65,11 @@ static void opened(void)
     CHECK(told.code == WARGHYTES_UNSOUND_STATE && told.written == 0);
     told = warghytes_member_take(&m, out, sizeof out);
     CHECK(told.code == WARGHYTES_UNSOUND_STATE && m.n == 0xaa && m.held_payloads[WARGHYTES_HELD * WARGHYTES_PAYLOAD - 1] == 0xaa);
-    CHECK(warghytes_sequencer_open(&s, 3, 0x01020304).code == WARGHYTES_ACCEPTED);
-    CHECK(s.n == 3 && s.group == 0x01020304 && s.top == 0 && s.payloads[sizeof s.payloads - 1] == 0);
-    CHECK(warghytes_member_open(&m, 3, 3, 0x01020304).code == WARGHYTES_OPENING);
-    CHECK(warghytes_member_open(&m, 3, 2, 0x01020304).code == WARGHYTES_ACCEPTED);
-    CHECK(m.n == 3 && m.group == 0x01020304 && m.number == 2 && m.submitted == 0 && m.held_payloads[sizeof m.held_payloads - 1] == 0);
+    CHECK(warghytes_sequencer_open(&s, 3, 0x01020304, 0).code == WARGHYTES_ACCEPTED);
+    CHECK(s.n == 3 && s.resilience == 0 && s.group == 0x01020304 && s.top == 0 && s.payloads[sizeof s.payloads - 1] == 0);
+    CHECK(warghytes_member_open(&m, 3, 3, 0x01020304, 0).code == WARGHYTES_OPENING);
+    CHECK(warghytes_member_open(&m, 3, 2, 0x01020304, 0).code == WARGHYTES_ACCEPTED);
+    CHECK(m.n == 3 && m.resilience == 0 && m.group == 0x01020304 && m.number == 2 && m.submitted == 0 && m.held_payloads[sizeof m.held_payloads - 1] == 0);
 }
 
 static void member_fields(void)
@@ -85,12 +85,12 @@ static void member_fields(void)
 static void sequencer_fields(void)
 {
     struct warghytes_told told = warghytes_sequencer_receive(&s, request, 23, broadcast, sizeof broadcast);
-    CHECK(told.code == WARGHYTES_NUMBERED && told.first == 1 && told.written == 23 && s.top == 1 && s.counts[2] == 1);
+    CHECK(told.code == WARGHYTES_NUMBERED && told.first == 1 && told.written == 23 && s.top == 1 && s.accepted == 1 && s.counts[2] == 1);
     CHECK(s.kept[1] == 1 && s.originators[1] == 2 && s.lengths[1] == 3 && memcmp(s.payloads + WARGHYTES_PAYLOAD, "saw", 4) == 0);
     told = warghytes_sequencer_receive(&s, request, 23, out, sizeof out);
     CHECK(told.code == WARGHYTES_AGAIN && told.first == 1 && s.repeats[2] == 1);
     told = warghytes_member_receive(&m, broadcast, 23, out, sizeof out);
-    CHECK(told.code == WARGHYTES_KEPT && m.held[1] == 1 && m.held_originators[1] == 2 && m.held_lengths[1] == 3);
+    CHECK(told.code == WARGHYTES_KEPT && told.written == 0 && m.accepted == 1 && m.held[1] == 1 && m.held_originators[1] == 2 && m.held_lengths[1] == 3);
     CHECK(memcmp(m.held_payloads + WARGHYTES_PAYLOAD, "saw", 4) == 0);
     told = warghytes_member_take(&m, out, sizeof out);
     CHECK(told.code == WARGHYTES_TOOK && told.first == 1 && told.second == 2 && told.third == 1 && told.more == 0 && told.written == 3);
@@ -98,6 +98,57 @@ static void sequencer_fields(void)
     told = warghytes_member_status(&m, out, sizeof out);
     CHECK(told.code == WARGHYTES_SENT && warghytes_sequencer_receive(&s, out, told.written, request, sizeof request).code == WARGHYTES_NOTED);
     CHECK(s.taken[2] == 1 && s.floor == 0);
+}
+
+/* Terminal 0 types with a resilience degree of 1: nobody takes the message before terminal 1 has confirmed that it has it. */
+static void offered(void)
+{
+    static struct warghytes_sequencer q;
+    static struct warghytes_member t[2];
+    uint8_t offer[WARGHYTES_PACKET], confirmation[WARGHYTES_PACKET], acceptance[WARGHYTES_PACKET];
+    CHECK(warghytes_sequencer_open(&q, 2, 7, 2).code == WARGHYTES_RESILIENCE && q.n == 0);
+    CHECK(warghytes_sequencer_open(&q, 2, 7, 1).code == WARGHYTES_ACCEPTED && q.resilience == 1);
+    for (uint8_t i = 0; i < 2; i++) {
+        CHECK(warghytes_member_open(&t[i], 2, i, 7, 2).code == WARGHYTES_RESILIENCE);
+        CHECK(warghytes_member_open(&t[i], 2, i, 7, 1).code == WARGHYTES_ACCEPTED && t[i].resilience == 1);
+    }
+    warghytes_member_submit(&t[0], (const uint8_t *)"saw", 3, request, sizeof request);
+    struct warghytes_told told = warghytes_sequencer_receive(&q, request, 23, offer, sizeof offer);
+    CHECK(told.code == WARGHYTES_NUMBERED && told.written == 23 && offer[0] == WARGHYTES_KIND_OFFER && q.top == 1 && q.accepted == 0);
+    told = warghytes_member_receive(&t[0], offer, 23, out, sizeof out);
+    CHECK(told.code == WARGHYTES_KEPT && told.written == 0 && t[0].held[1] == 1 && t[0].accepted == 0);
+    told = warghytes_member_receive(&t[1], offer, 23, confirmation, sizeof confirmation);
+    CHECK(told.code == WARGHYTES_KEPT && told.written == 20 && confirmation[0] == WARGHYTES_KIND_CONFIRM);
+    told = warghytes_member_receive(&t[1], offer, 23, out, sizeof out);
+    CHECK(told.code == WARGHYTES_OLD && told.written == 20 && memcmp(out, confirmation, 20) == 0);
+    for (int i = 0; i < 2; i++)
+        CHECK(warghytes_member_take(&t[i], out, sizeof out).code == WARGHYTES_NONE);
+    confirmation[1] = 0;
+    CHECK(warghytes_sequencer_receive(&q, confirmation, 20, out, sizeof out).code == WARGHYTES_NOT_EXPECTED && q.accepted == 0);
+    confirmation[1] = 1;
+    told = warghytes_sequencer_receive(&q, confirmation, 20, acceptance, sizeof acceptance);
+    CHECK(told.code == WARGHYTES_ACCEPTED && told.written == 20 && acceptance[0] == WARGHYTES_KIND_ACCEPT && q.accepted == 1 && q.marks[1] == 0);
+    for (int i = 0; i < 2; i++) {
+        told = warghytes_member_receive(&t[i], acceptance, 20, out, sizeof out);
+        CHECK(told.code == WARGHYTES_NOTED && told.written == 0 && t[i].accepted == 1);
+        told = warghytes_member_take(&t[i], out, sizeof out);
+        CHECK(told.code == WARGHYTES_TOOK && told.first == 1 && told.second == 0 && told.written == 3 && memcmp(out, "saw", 3) == 0);
+    }
+}
+
+/* With a degree of 2 the first confirmation is a mark. */
+static void marked(void)
+{
+    static struct warghytes_sequencer q;
+    static struct warghytes_member t;
+    uint8_t offer[WARGHYTES_PACKET];
+    warghytes_sequencer_open(&q, 3, 7, 2);
+    warghytes_member_open(&t, 3, 2, 7, 2);
+    warghytes_member_submit(&t, (const uint8_t *)"saw", 3, request, sizeof request);
+    warghytes_sequencer_receive(&q, request, 23, offer, sizeof offer);
+    CHECK(warghytes_member_receive(&t, offer, 23, out, sizeof out).written == 20);
+    struct warghytes_told told = warghytes_sequencer_receive(&q, out, 20, request, sizeof request);
+    CHECK(told.code == WARGHYTES_MARKED && told.written == 0 && q.accepted == 0 && q.marks[1] == 4);
 }
 
 static void packet_fields(void)
@@ -161,6 +212,8 @@ int main(void)
     opened();
     member_fields();
     sequencer_fields();
+    offered();
+    marked();
     packet_fields();
     job_fields();
     journal_fields();

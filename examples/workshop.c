@@ -301,10 +301,10 @@ int main(int argc, char **argv)
     journal = fopen(name, "wb");
     if (journal == NULL)
         fail("the journal could not be opened", 0);
-    if (warghytes_sequencer_open(&sequencer, TERMINALS, GROUP).code != WARGHYTES_ACCEPTED)
+    if (warghytes_sequencer_open(&sequencer, TERMINALS, GROUP, 0).code != WARGHYTES_ACCEPTED)
         fail("the sequencer did not open", 0);
     for (int i = 0; i < TERMINALS; i++)
-        if (warghytes_member_open(&terminals[i].member, TERMINALS, (uint8_t)i, GROUP).code != WARGHYTES_ACCEPTED)
+        if (warghytes_member_open(&terminals[i].member, TERMINALS, (uint8_t)i, GROUP, 0).code != WARGHYTES_ACCEPTED)
             fail("a member did not open", 0);
     int rounds = run();
     printf("%d rounds: %zu packets sent, %zu lost, %zu doubled, %zu slept through, %zu requests again, %zu times full\n", rounds, sent, lost, doubled, slept_through, again, full);

@@ -69,22 +69,25 @@ enum {
     WARGHYTES_LIST_FULL = 20,
     WARGHYTES_WRONG_JOURNAL = 21,
     WARGHYTES_MANY_UNITS = 22,
-    WARGHYTES_NO_ROOM = 23
+    WARGHYTES_NO_ROOM = 23,
+    WARGHYTES_RESILIENCE = 24,
+    WARGHYTES_NOT_EXPECTED = 25
 };
 
 /* The codes from here on are words. */
 #define WARGHYTES_WORDS 32
 
 enum {
-    WARGHYTES_OLD = 32,         /* nothing new */
+    WARGHYTES_OLD = 32,         /* nothing new; member: to an offer, its confirmation may have been written, for the sequencer */
     WARGHYTES_FULL = 33,        /* sequencer: no place in the history; a poll was written, for every member */
-    WARGHYTES_NOTED = 34,       /* sequencer: an acknowledgement */
+    WARGHYTES_NOTED = 34,       /* sequencer: an acknowledgement; member: what is accepted */
     WARGHYTES_SENT = 35,        /* a packet was written: a member's, for the sequencer; the sequencer's, for every member */
-    WARGHYTES_AGAIN = 36,       /* sequencer: a request again; first: its number; its broadcast was written again */
-    WARGHYTES_NUMBERED = 37,    /* sequencer: first: the number that the message got; its broadcast was written, for every member */
+    WARGHYTES_AGAIN = 36,       /* sequencer: a request again; first: its number; its broadcast or offer was written again */
+    WARGHYTES_NUMBERED = 37,    /* sequencer: first: the number that the message got; its broadcast or offer was written, for every member */
     WARGHYTES_WANTED = 38,      /* sequencer: a member misses the numbers first to second: copy each */
-    WARGHYTES_ACCEPTED = 39,    /* opening: the state is fresh */
-    WARGHYTES_KEPT = 48,        /* member: the broadcast is held; journal: the message is in hand */
+    WARGHYTES_ACCEPTED = 39,    /* opening: the state is fresh; sequencer: offered messages are accepted: that was written, for every member */
+    WARGHYTES_MARKED = 40,      /* sequencer: a confirmation, and more are needed */
+    WARGHYTES_KEPT = 48,        /* member: the message is held; its confirmation may have been written, for the sequencer; journal: it is in hand */
     WARGHYTES_KEPT_GAP = 49,    /* member: the same, and a gap stands before it: a packet was written, for the sequencer */
     WARGHYTES_BEYOND = 50,      /* member: no place for that number yet */
     WARGHYTES_BEYOND_GAP = 51,  /* member: the same, and a gap stands before it: a packet was written, for the sequencer */
@@ -103,13 +106,17 @@ enum {
     WARGHYTES_GIVEN = 65        /* number: the place of the job that the member was given */
 };
 
-/* The kinds of packet: requests, gaps and statuses go to the sequencer, broadcasts and polls to every member. */
+/* The kinds of packet: requests, gaps, statuses and confirmations go to the sequencer, broadcasts, polls, offers and acceptances to every
+ * member. */
 enum {
     WARGHYTES_KIND_REQUEST = 1,
     WARGHYTES_KIND_BROADCAST = 2,
     WARGHYTES_KIND_GAP = 3,
     WARGHYTES_KIND_STATUS = 4,
-    WARGHYTES_KIND_POLL = 5
+    WARGHYTES_KIND_POLL = 5,
+    WARGHYTES_KIND_OFFER = 6,
+    WARGHYTES_KIND_CONFIRM = 7,
+    WARGHYTES_KIND_ACCEPT = 8
 };
 
 /* ---- states ---- */
@@ -117,13 +124,16 @@ enum {
 /* The sequencer. Fields may be read; only the calls write them. Zeros are a closed one. */
 struct warghytes_sequencer {
     uint8_t n;
+    uint8_t resilience;                                    /* how many other members have a message before it is taken */
     uint32_t group;
     uint32_t top;                                          /* the last number given */
+    uint32_t accepted;                                     /* the last number that may be taken */
     uint32_t floor;                                        /* every member is known to have taken everything through it */
     uint32_t taken[WARGHYTES_MEMBERS];                     /* of each member: the last number that it is known to have taken */
     uint32_t counts[WARGHYTES_MEMBERS];                    /* of each member: the count of its last message that was numbered */
     uint32_t repeats[WARGHYTES_MEMBERS];                   /* of each member: how often a request came again */
     uint32_t kept[WARGHYTES_PLACES];                       /* the history: the count of each message, 0 for none */
+    uint16_t marks[WARGHYTES_PLACES];                      /* who confirmed it while it was offered, one bit a member */
     uint8_t originators[WARGHYTES_PLACES];
     uint8_t lengths[WARGHYTES_PLACES];
     uint8_t payloads[WARGHYTES_PLACES * WARGHYTES_PAYLOAD];
@@ -132,13 +142,15 @@ struct warghytes_sequencer {
 /* A member. */
 struct warghytes_member {
     uint8_t n;
+    uint8_t resilience;
     uint32_t group;
     uint8_t number;                                        /* its own */
     uint32_t taken;                                        /* the last number that it took */
+    uint32_t accepted;                                     /* the last number that it knows to be accepted */
     uint32_t submitted;                                    /* how many messages it submitted */
     uint32_t waiting;                                      /* how many of them wait for their number */
     uint32_t queued[WARGHYTES_WAITING];                    /* those that wait: the count of each, 0 for none */
-    uint32_t held[WARGHYTES_HELD];                         /* broadcasts that are held: the count of each, 0 for none */
+    uint32_t held[WARGHYTES_HELD];                         /* messages that are held: the count of each, 0 for none */
     uint8_t queued_originators[WARGHYTES_WAITING];
     uint8_t queued_lengths[WARGHYTES_WAITING];
     uint8_t held_originators[WARGHYTES_HELD];
@@ -169,8 +181,8 @@ struct warghytes_writer {
 
 /* ---- what calls tell; a number that the answer does not have is 0 ---- */
 
-/* A call of an end: the answer's numbers in their order, whether the number behind a taken one is held (1) or not (0), and how many bytes
- * were written. */
+/* A call of an end: the answer's numbers in their order, whether the number behind a taken one may be taken too (1) or not (0), and how many
+ * bytes were written. */
 struct warghytes_told {
     uint32_t code;
     uint32_t first;
@@ -215,8 +227,8 @@ struct warghytes_fields {
 
 /* The sizes that the library was built for. */
 #define WARGHYTES_SAME(name, type, size) typedef char warghytes_size_of_##name[sizeof(type) == (size) ? 1 : -1]
-WARGHYTES_SAME(sequencer, struct warghytes_sequencer, 8080);
-WARGHYTES_SAME(member, struct warghytes_member, 3224);
+WARGHYTES_SAME(sequencer, struct warghytes_sequencer, 8148);
+WARGHYTES_SAME(member, struct warghytes_member, 3228);
 WARGHYTES_SAME(job, struct warghytes_job, 256);
 WARGHYTES_SAME(writer, struct warghytes_writer, 20);
 WARGHYTES_SAME(told, struct warghytes_told, 32);
@@ -227,30 +239,34 @@ WARGHYTES_SAME(fields, struct warghytes_fields, 24);
 
 /* ---- the sequencer ---- */
 
-/* The sequencer of n members, 1 to 16, in the group with that number: ACCEPTED, and it is fresh; else refused by OPENING, and it is closed. */
-struct warghytes_told warghytes_sequencer_open(struct warghytes_sequencer *s, uint8_t n, uint32_t group);
+/* The sequencer of n members, 1 to 16, in the group with that number: ACCEPTED, and it is fresh; else refused by OPENING or RESILIENCE, and it
+ * is closed. The resilience degree is below n, and the same at every end: a message is taken only when so many members other than 0 have it.
+ * With 0 each is broadcast as it is numbered; else it is offered first. */
+struct warghytes_told warghytes_sequencer_open(struct warghytes_sequencer *s, uint8_t n, uint32_t group, uint8_t resilience);
 
-/* A packet that came: NUMBERED, AGAIN, FULL (send what was written to every member), WANTED (copy each number), NOTED, OLD. */
+/* A packet that came: NUMBERED, AGAIN, FULL, ACCEPTED (send what was written to every member), WANTED (copy each number), MARKED, NOTED, OLD. */
 struct warghytes_told warghytes_sequencer_receive(struct warghytes_sequencer *s, const uint8_t *packet, size_t size, uint8_t *out, size_t room);
 
 /* SENT: a poll, for every member. */
 struct warghytes_told warghytes_sequencer_poll(const struct warghytes_sequencer *s, uint8_t *out, size_t room);
 
-/* SENT: the broadcast of a number in the history again. */
+/* SENT: the broadcast of a number in the history again, or its offer if it is not accepted. */
 struct warghytes_told warghytes_sequencer_copy(const struct warghytes_sequencer *s, uint32_t number, uint8_t *out, size_t room);
 
 /* ---- a member ---- */
 
-/* Member `number` of n in the group with that number: ACCEPTED, and it is fresh; else refused by OPENING, and it is closed. */
-struct warghytes_told warghytes_member_open(struct warghytes_member *m, uint8_t n, uint8_t number, uint32_t group);
+/* Member `number` of n in the group with that number and resilience degree: ACCEPTED, and it is fresh; else refused by OPENING or RESILIENCE,
+ * and it is closed. */
+struct warghytes_told warghytes_member_open(struct warghytes_member *m, uint8_t n, uint8_t number, uint32_t group, uint8_t resilience);
 
 /* A message for all: SENT (its request was written, for the sequencer), or QUEUED behind up to four that wait. */
 struct warghytes_told warghytes_member_submit(struct warghytes_member *m, const uint8_t *payload, size_t size, uint8_t *out, size_t room);
 
-/* A packet that came: KEPT, KEPT_GAP, BEYOND, BEYOND_GAP, GAP, STATUS, OLD. What is written is for the sequencer. */
+/* A packet that came: KEPT, KEPT_GAP, BEYOND, BEYOND_GAP, GAP, STATUS, NOTED, OLD. What is written is for the sequencer: KEPT and OLD write a
+ * confirmation to an offer that this member is to confirm, else nothing. */
 struct warghytes_told warghytes_member_receive(struct warghytes_member *m, const uint8_t *packet, size_t size, uint8_t *out, size_t room);
 
-/* The next message in order: TOOK, with its payload, or NONE. */
+/* The next message in order, if it is held and accepted: TOOK, with its payload, or NONE. */
 struct warghytes_told warghytes_member_take(struct warghytes_member *m, uint8_t *out, size_t room);
 
 /* SENT: the request of the first message that waits, again; behind a take this sends the next one. */

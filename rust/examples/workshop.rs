@@ -285,11 +285,11 @@ fn main() -> Result<(), Box<dyn Error>> {
     let mut args = std::env::args().skip(1);
     let seed = args.next().map_or(Ok(2026), |seed| seed.parse())?;
     let name = args.next().unwrap_or_else(|| "workshop.journal".into());
-    let mut sequencer = Sequencer::open(TERMINALS, GROUP)?;
+    let mut sequencer = Sequencer::open(TERMINALS, GROUP, 0)?;
     let mut terminals = Vec::new();
     for i in 0..TERMINALS {
         terminals.push(Terminal {
-            member: Member::open(TERMINALS, i, GROUP)?,
+            member: Member::open(TERMINALS, i, GROUP, 0)?,
             jobs: WorkList::new(),
             order: Vec::new(),
         });

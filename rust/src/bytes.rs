@@ -106,7 +106,7 @@ fn packets() {
     let mut bytes = Bytes(7);
     for _ in 0..20_000 {
         let mut packet: [u8; 24] = core::array::from_fn(|_| bytes.next());
-        packet[0] %= 7;
+        packet[0] %= 10;
         let mut fields = Fields::default();
         let size = 20 + usize::from(packet[3] % 5);
         (packet[2], packet[3]) = (0, size as u8 - 20);

@@ -6,13 +6,16 @@ use crate::{BLOCK, HELD, JOB, MEMBERS, PAYLOAD, PLACES, WAITING};
 #[derive(Clone)]
 pub struct Sequencer {
     pub n: u8,
+    pub resilience: u8,
     pub group: u32,
     pub top: u32,
+    pub accepted: u32,
     pub floor: u32,
     pub taken: [u32; MEMBERS],
     pub counts: [u32; MEMBERS],
     pub repeats: [u32; MEMBERS],
     pub kept: [u32; PLACES],
+    pub marks: [u16; PLACES],
     pub originators: [u8; PLACES],
     pub lengths: [u8; PLACES],
     pub payloads: [u8; PLACES * PAYLOAD],
@@ -22,9 +25,11 @@ pub struct Sequencer {
 #[derive(Clone)]
 pub struct Member {
     pub n: u8,
+    pub resilience: u8,
     pub group: u32,
     pub number: u8,
     pub taken: u32,
+    pub accepted: u32,
     pub submitted: u32,
     pub waiting: u32,
     pub queued: [u32; WAITING],
@@ -102,8 +107,8 @@ pub struct Fields {
 
 /// The sizes for which the library was built.
 const _: () = {
-    assert!(size_of::<Sequencer>() == 8080);
-    assert!(size_of::<Member>() == 3224);
+    assert!(size_of::<Sequencer>() == 8148);
+    assert!(size_of::<Member>() == 3228);
     assert!(size_of::<Job>() == 256);
     assert!(size_of::<Writer>() == 20);
     assert!(size_of::<Told>() == 32);
@@ -122,6 +127,7 @@ pub mod code {
     pub const NUMBERED: u32 = 37;
     pub const WANTED: u32 = 38;
     pub const ACCEPTED: u32 = 39;
+    pub const MARKED: u32 = 40;
     pub const KEPT: u32 = 48;
     pub const KEPT_GAP: u32 = 49;
     pub const BEYOND: u32 = 50;
@@ -143,11 +149,11 @@ pub mod code {
 
 #[rustfmt::skip]
 unsafe extern "C" {
-    pub fn warghytes_sequencer_open(s: *mut Sequencer, n: u8, group: u32) -> Told;
+    pub fn warghytes_sequencer_open(s: *mut Sequencer, n: u8, group: u32, resilience: u8) -> Told;
     pub fn warghytes_sequencer_receive(s: *mut Sequencer, packet: *const u8, size: usize, out: *mut u8, room: usize) -> Told;
     pub fn warghytes_sequencer_poll(s: *const Sequencer, out: *mut u8, room: usize) -> Told;
     pub fn warghytes_sequencer_copy(s: *const Sequencer, number: u32, out: *mut u8, room: usize) -> Told;
-    pub fn warghytes_member_open(m: *mut Member, n: u8, number: u8, group: u32) -> Told;
+    pub fn warghytes_member_open(m: *mut Member, n: u8, number: u8, group: u32, resilience: u8) -> Told;
     pub fn warghytes_member_submit(m: *mut Member, payload: *const u8, size: usize, out: *mut u8, room: usize) -> Told;
     pub fn warghytes_member_receive(m: *mut Member, packet: *const u8, size: usize, out: *mut u8, room: usize) -> Told;
     pub fn warghytes_member_take(m: *mut Member, out: *mut u8, room: usize) -> Told;

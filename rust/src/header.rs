@@ -100,6 +100,9 @@ fn kinds() {
         ("GAP", crate::Fields::GAP),
         ("STATUS", crate::Fields::STATUS),
         ("POLL", crate::Fields::POLL),
+        ("OFFER", crate::Fields::OFFER),
+        ("CONFIRM", crate::Fields::CONFIRM),
+        ("ACCEPT", crate::Fields::ACCEPT),
     ] {
         assert_eq!(source[name], kind.to_string(), "{name}");
         assert_eq!(

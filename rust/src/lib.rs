@@ -10,15 +10,43 @@
 //! use warghytes::{Heard, Member, Received, Sequencer, Submitted, PACKET};
 //!
 //! # fn main() -> Result<(), warghytes::Refusal> {
-//! let mut sequencer = Sequencer::open(1, 7)?;
-//! let mut member = Member::open(1, 0, 7)?;
+//! let mut sequencer = Sequencer::open(1, 7, 0)?;
+//! let mut member = Member::open(1, 0, 7, 0)?;
 //! let (mut request, mut broadcast, mut out) = ([0; PACKET], [0; PACKET], [0; PACKET]);
 //!
 //! let Submitted::Sent(request) = member.submit(b"saw", &mut request)? else { panic!() };
-//! let Received::Numbered { number: 1, broadcast } = sequencer.receive(request, &mut broadcast)? else { panic!() };
-//! assert_eq!(member.receive(broadcast, &mut out)?, Heard::Kept);
+//! let Received::Numbered { number: 1, packet: broadcast } = sequencer.receive(request, &mut broadcast)? else { panic!() };
+//! assert_eq!(member.receive(broadcast, &mut out)?, Heard::Kept(None));
 //! let taken = member.take(&mut out)?.unwrap();
 //! assert_eq!((taken.number, taken.originator, taken.payload), (1, 0, &b"saw"[..]));
+//! # Ok(())
+//! # }
+//! ```
+//!
+//! With a resilience degree a message is offered first, and taken only when so
+//! many members other than 0 have confirmed that they have it.
+//!
+//! ```
+//! use warghytes::{Heard, Member, Received, Sequencer, Submitted, PACKET};
+//!
+//! # fn main() -> Result<(), warghytes::Refusal> {
+//! let mut sequencer = Sequencer::open(2, 7, 1)?;
+//! let (mut typist, mut bench) = (Member::open(2, 0, 7, 1)?, Member::open(2, 1, 7, 1)?);
+//! let (mut request, mut offer, mut confirmation, mut acceptance, mut out) =
+//!     ([0; PACKET], [0; PACKET], [0; PACKET], [0; PACKET], [0; PACKET]);
+//!
+//! let Submitted::Sent(request) = typist.submit(b"saw", &mut request)? else { panic!() };
+//! let Received::Numbered { number: 1, packet: offer } = sequencer.receive(request, &mut offer)? else { panic!() };
+//! assert_eq!(typist.receive(offer, &mut out)?, Heard::Kept(None));
+//! let Heard::Kept(Some(confirmation)) = bench.receive(offer, &mut confirmation)? else { panic!() };
+//! assert_eq!(typist.take(&mut out)?, None);
+//! assert_eq!(bench.take(&mut out)?, None);
+//!
+//! let Received::Accepted(acceptance) = sequencer.receive(confirmation, &mut acceptance)? else { panic!() };
+//! for member in [&mut typist, &mut bench] {
+//!     assert_eq!(member.receive(acceptance, &mut out)?, Heard::Noted);
+//!     assert_eq!(member.take(&mut out)?.map(|taken| taken.payload), Some(&b"saw"[..]));
+//! }
 //! # Ok(())
 //! # }
 //! ```
@@ -55,7 +83,7 @@ pub const HEADER: usize = 20;
 pub const PACKET: usize = HEADER + PAYLOAD;
 /// The messages in the sequencer's history.
 pub const PLACES: usize = 32;
-/// The broadcasts that a member holds.
+/// The messages that a member holds.
 pub const HELD: usize = 8;
 /// The messages of a member that wait for their numbers.
 pub const WAITING: usize = 5;

@@ -21,11 +21,11 @@ pub enum Submitted<'o> {
 #[derive(Clone, Copy, Debug, PartialEq, Eq)]
 #[non_exhaustive]
 pub enum Heard<'o> {
-    /// Nothing new.
-    Old,
-    /// The broadcast is held.
-    Kept,
-    /// The broadcast is held, and a gap stands before it.
+    /// Nothing new; with its confirmation, if an offer asks this member for it.
+    Old(Option<&'o [u8]>),
+    /// The message is held; with its confirmation, if an offer asks this member for it.
+    Kept(Option<&'o [u8]>),
+    /// The message is held, and a gap stands before it.
     KeptGap(&'o [u8]),
     /// There is no place for that number yet.
     Beyond,
@@ -35,6 +35,8 @@ pub enum Heard<'o> {
     Gap(&'o [u8]),
     /// Its status, as a poll asks.
     Status(&'o [u8]),
+    /// What is accepted was noted.
+    Noted,
 }
 
 impl<'o> Heard<'o> {
@@ -43,7 +45,8 @@ impl<'o> Heard<'o> {
     pub const fn packet(self) -> Option<&'o [u8]> {
         match self {
             Heard::KeptGap(p) | Heard::BeyondGap(p) | Heard::Gap(p) | Heard::Status(p) => Some(p),
-            Heard::Old | Heard::Kept | Heard::Beyond => None,
+            Heard::Old(confirmation) | Heard::Kept(confirmation) => confirmation,
+            Heard::Beyond | Heard::Noted => None,
         }
     }
 }
@@ -59,28 +62,35 @@ pub struct Taken<'o> {
     pub count: u32,
     /// What it says.
     pub payload: &'o [u8],
-    /// Whether the next message is held too.
+    /// Whether the next message may be taken too.
     pub more: bool,
 }
 
+/// What was written, if anything was.
+fn confirmation(written: &[u8]) -> Option<&[u8]> {
+    (!written.is_empty()).then_some(written)
+}
+
 impl Member {
-    /// Member `number` of `n` in the group with that number.
+    /// Member `number` of `n` in the group with that number and resilience degree.
     ///
     /// # Errors
     ///
-    /// [`Refusal::Opening`], if n is not 1 to 16 or `number` is not below it.
+    /// [`Refusal::Opening`], if n is not 1 to 16 or `number` is not below it; [`Refusal::Resilience`], if the degree is not below n.
     ///
     /// ```
     /// use warghytes::{Member, Refusal};
     ///
-    /// assert!(Member::open(3, 2, 7).is_ok());
-    /// assert_eq!(Member::open(3, 3, 7).err(), Some(Refusal::Opening));
+    /// assert!(Member::open(3, 2, 7, 2).is_ok());
+    /// assert_eq!(Member::open(3, 3, 7, 0).err(), Some(Refusal::Opening));
+    /// assert_eq!(Member::open(3, 2, 7, 3).err(), Some(Refusal::Resilience));
     /// ```
-    pub fn open(n: u8, number: u8, group: u32) -> Result<Self, Refusal> {
+    pub fn open(n: u8, number: u8, group: u32, resilience: u8) -> Result<Self, Refusal> {
         // SAFETY: the state is numbers and arrays of them, for which zeros are values.
         let mut state: ffi::Member = unsafe { core::mem::zeroed() };
         // SAFETY: the state is lent alone, for the call.
-        let told = unsafe { ffi::warghytes_member_open(&raw mut state, n, number, group) };
+        let told =
+            unsafe { ffi::warghytes_member_open(&raw mut state, n, number, group, resilience) };
         match told.code {
             code::ACCEPTED => Ok(Self(state)),
             code => Err(Refusal::of(code)),
@@ -96,7 +106,7 @@ impl Member {
     /// ```
     /// use warghytes::{Member, Refusal, Submitted, PACKET};
     ///
-    /// let mut member = Member::open(2, 1, 7)?;
+    /// let mut member = Member::open(2, 1, 7, 0)?;
     /// let mut out = [0; PACKET];
     /// assert!(matches!(member.submit(b"board", &mut out)?, Submitted::Sent(request) if request.len() == 25));
     /// assert_eq!(member.submit(b"board", &mut out)?, Submitted::Queued(2));
@@ -148,18 +158,19 @@ impl Member {
         };
         let (told, written) = told.said(out)?;
         Ok(match told.code {
-            code::OLD => Heard::Old,
-            code::KEPT => Heard::Kept,
+            code::OLD => Heard::Old(confirmation(written)),
+            code::KEPT => Heard::Kept(confirmation(written)),
             code::KEPT_GAP => Heard::KeptGap(written),
             code::BEYOND => Heard::Beyond,
             code::BEYOND_GAP => Heard::BeyondGap(written),
             code::GAP => Heard::Gap(written),
             code::STATUS => Heard::Status(written),
+            code::NOTED => Heard::Noted,
             code => no_such(code),
         })
     }
 
-    /// Takes the next message in order, if it is held.
+    /// Takes the next message in order, if it is held and accepted.
     ///
     /// # Errors
     ///
@@ -192,7 +203,7 @@ impl Member {
     /// ```
     /// use warghytes::{Member, Refusal, PACKET};
     ///
-    /// let member = Member::open(2, 1, 7)?;
+    /// let member = Member::open(2, 1, 7, 0)?;
     /// assert_eq!(member.repeat(&mut [0; PACKET]), Err(Refusal::NothingWaiting));
     /// # Ok::<(), Refusal>(())
     /// ```
@@ -223,6 +234,12 @@ impl Member {
     #[must_use]
     pub const fn taken(&self) -> u32 {
         self.0.taken
+    }
+
+    /// The last number that it knows to be accepted.
+    #[must_use]
+    pub const fn accepted(&self) -> u32 {
+        self.0.accepted
     }
 
     /// How many messages it submitted.

@@ -26,6 +26,12 @@ impl Fields {
     pub const STATUS: u8 = 4;
     /// The sequencer asks every member for its status.
     pub const POLL: u8 = 5;
+    /// A message with its number that is not accepted yet, for every member.
+    pub const OFFER: u8 = 6;
+    /// A member has everything up to an offer, for the sequencer.
+    pub const CONFIRM: u8 = 7;
+    /// What was offered is accepted, for every member.
+    pub const ACCEPT: u8 = 8;
 
     /// Reads a packet: its fields and its payload.
     ///
@@ -37,7 +43,7 @@ impl Fields {
     /// use warghytes::{Fields, Refusal, Sequencer, PACKET};
     ///
     /// let mut out = [0; PACKET];
-    /// let (fields, payload) = Fields::read(Sequencer::open(2, 7)?.poll(&mut out)?)?;
+    /// let (fields, payload) = Fields::read(Sequencer::open(2, 7, 0)?.poll(&mut out)?)?;
     /// assert_eq!((fields.kind, fields.group, payload), (Fields::POLL, 7, &[][..]));
     /// assert_eq!(Fields::read(b"no packet"), Err(Refusal::PacketSize));
     /// # Ok::<(), Refusal>(())

@@ -50,7 +50,7 @@ refusals! {
     /// Question 9.
     UnknownMember = 9, "the group has no such member";
     /// Question 10.
-    AcknowledgedAhead = 10, "a number is acknowledged that was not given";
+    AcknowledgedAhead = 10, "a number is acknowledged that was not given or not accepted";
     /// Question 11.
     CountAhead = 11, "the count is not the member's next";
     /// Question 12.
@@ -77,6 +77,10 @@ refusals! {
     ManyUnits = 22, "the journal has more than 512 units";
     /// Question 23.
     NoRoom = 23, "the output has no room for the result";
+    /// Question 24.
+    Resilience = 24, "the resilience degree is not below the number of members";
+    /// Question 25.
+    NotExpected = 25, "the member is not one that confirms offers";
 }
 
 impl Refusal {

@@ -20,16 +20,20 @@ pub enum Received<'o> {
     Numbered {
         /// Its place in the order.
         number: u32,
-        /// Its broadcast.
-        broadcast: &'o [u8],
+        /// Its broadcast, or its offer.
+        packet: &'o [u8],
     },
     /// The message had its number already.
     Again {
         /// Its place in the order.
         number: u32,
-        /// Its broadcast, again.
-        broadcast: &'o [u8],
+        /// Its broadcast or offer, again.
+        packet: &'o [u8],
     },
+    /// A member confirmed an offer, and more members have to.
+    Marked,
+    /// What was offered is accepted, up to a number.
+    Accepted(&'o [u8]),
     /// The history has no place: members have to acknowledge first, as this poll asks.
     Full(&'o [u8]),
     /// A member misses these numbers: [`Sequencer::copy`] each.
@@ -41,34 +45,36 @@ impl<'o> Received<'o> {
     #[must_use]
     pub const fn packet(&self) -> Option<&'o [u8]> {
         match self {
-            Received::Numbered { broadcast, .. } | Received::Again { broadcast, .. } => {
-                Some(broadcast)
-            }
-            Received::Full(poll) => Some(poll),
-            Received::Old | Received::Noted | Received::Wanted(_) => None,
+            Received::Numbered { packet, .. }
+            | Received::Again { packet, .. }
+            | Received::Accepted(packet)
+            | Received::Full(packet) => Some(packet),
+            Received::Old | Received::Noted | Received::Marked | Received::Wanted(_) => None,
         }
     }
 }
 
 impl Sequencer {
-    /// The sequencer of `n` members in the group with that number.
+    /// The sequencer of `n` members in the group with that number and resilience degree. A message is taken only when so many members
+    /// other than 0 have it: with 0 each is broadcast as it is numbered, else it is offered first. Every end has the same degree.
     ///
     /// # Errors
     ///
-    /// [`Refusal::Opening`], if n is not 1 to 16.
+    /// [`Refusal::Opening`], if n is not 1 to 16; [`Refusal::Resilience`], if the degree is not below n.
     ///
     /// ```
     /// use warghytes::{Refusal, Sequencer};
     ///
-    /// assert_eq!(Sequencer::open(17, 7).err(), Some(Refusal::Opening));
-    /// assert_eq!(Sequencer::open(16, 7)?.top(), 0);
+    /// assert_eq!(Sequencer::open(17, 7, 0).err(), Some(Refusal::Opening));
+    /// assert_eq!(Sequencer::open(16, 7, 16).err(), Some(Refusal::Resilience));
+    /// assert_eq!(Sequencer::open(16, 7, 15)?.top(), 0);
     /// # Ok::<(), Refusal>(())
     /// ```
-    pub fn open(n: u8, group: u32) -> Result<Self, Refusal> {
+    pub fn open(n: u8, group: u32, resilience: u8) -> Result<Self, Refusal> {
         // SAFETY: the state is numbers and arrays of them, for which zeros are values.
         let mut state: ffi::Sequencer = unsafe { core::mem::zeroed() };
         // SAFETY: the state is lent alone, for the call.
-        let told = unsafe { ffi::warghytes_sequencer_open(&raw mut state, n, group) };
+        let told = unsafe { ffi::warghytes_sequencer_open(&raw mut state, n, group, resilience) };
         match told.code {
             code::ACCEPTED => Ok(Self(state)),
             code => Err(Refusal::of(code)),
@@ -103,12 +109,14 @@ impl Sequencer {
             code::NOTED => Received::Noted,
             code::NUMBERED => Received::Numbered {
                 number: told.first,
-                broadcast: written,
+                packet: written,
             },
             code::AGAIN => Received::Again {
                 number: told.first,
-                broadcast: written,
+                packet: written,
             },
+            code::MARKED => Received::Marked,
+            code::ACCEPTED => Received::Accepted(written),
             code::FULL => Received::Full(written),
             code::WANTED => Received::Wanted(told.first..=told.second),
             code => no_such(code),
@@ -129,7 +137,7 @@ impl Sequencer {
         Ok(told.said(out)?.1)
     }
 
-    /// The broadcast of a number in the history, again.
+    /// The broadcast of a number in the history again, or its offer if it is not accepted.
     ///
     /// # Errors
     ///
@@ -138,7 +146,7 @@ impl Sequencer {
     /// ```
     /// use warghytes::{Refusal, Sequencer, PACKET};
     ///
-    /// let sequencer = Sequencer::open(1, 7)?;
+    /// let sequencer = Sequencer::open(1, 7, 0)?;
     /// assert_eq!(sequencer.copy(1, &mut [0; PACKET]), Err(Refusal::NotInHistory));
     /// # Ok::<(), Refusal>(())
     /// ```
@@ -156,6 +164,12 @@ impl Sequencer {
     #[must_use]
     pub const fn top(&self) -> u32 {
         self.0.top
+    }
+
+    /// The last number that is accepted.
+    #[must_use]
+    pub const fn accepted(&self) -> u32 {
+        self.0.accepted
     }
 
     /// The number through which every member is known to have taken everything.

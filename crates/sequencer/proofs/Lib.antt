@@ -19,3 +19,4 @@ pub mod Lends
 pub mod Outcomes
 pub mod Owed
 pub mod Confirmed
+pub mod Deciding

@@ -246,29 +246,6 @@ sound-as head taken counts repeats kept marks originators lengths payloads fits 
     frame i and all (entrySound (head .group .n) (head .top .0)) 0 (tableIn taken counts repeats) and allAbove (places i) (head .floor .0) placesMost
     and allAbove (markSound (expectedOf (head .group)) marks (head .accepted .0) (head .top .0)) (head .floor .0) placesMost
 
--- a packet that was read, with the verdict on it as the code asks it
-module _ (head : Head) (taken counts repeats kept marks originators lengths payloads : List ℕ) (fits : Fits (whole head taken counts repeats kept marks originators lengths payloads))
-    (h : Header) (payload : List ℕ) (v : Verdict) (asked : v ≡ packetVerdict (head .group) (countsOnly counts) (head .accepted .0) (head .top .0) (h .group) (contentOf h)) where
-  abbrev held : Sequencer
-  held = viewOf (whole head taken counts repeats kept marks originators lengths payloads)
-
-  verdict-is : packetVerdict (held .group) (held .acknowledgements) (held .accepted .0) (held .top .0) (h .group) (contentOf h) ≡ v
-  unfolding viewOf
-  verdict-is =
-      let size = fits .entries .counts-size ∙ sym (fits .entries .taken-size) in
-      sym (packet-only taken counts repeats size (head .group) (head .accepted .0) (head .top .0) (h .group) (contentOf h)) ∙ sym asked
-
-  pub read-accepted : v ≡ Verdict.Accepted
-      → (contentVerdict (held .group) (held .acknowledgements) (held .accepted .0) (held .top .0) (contentOf h) ≡ Verdict.Accepted)
-      × (acceptedStep held (contentOf h) payload ≡ readStep held (Reading.Fields h) payload)
-  read-accepted e = (
-    content-was _ _ _ _ _ _ (verdict-is ∙ e),
-    judged-yes _ (refused held) _ (verdict-is ∙ e) ∙ sym (read-is held h payload),
-  )
-
-  pub read-refused : (r : Refusal) → v ≡ Verdict.Refused r → refused held r ≡ readStep held (Reading.Fields h) payload
-  read-refused r e = judged-no _ (refused held) (acceptedStep held (contentOf h) payload) r (verdict-is ∙ e) ∙ sym (read-is held h payload)
-
 -- the first bytes of a place, as they are lent
 place-bytes : (payloads : List ℕ) (at size : ℕ) → size ≤ payloadMost → take (at * payloadMost + size - at * payloadMost) (drop (at * payloadMost) payloads) ≡ take size (partOf payloads at)
 place-bytes payloads at size h =

@@ -1,16 +1,24 @@
 -- What the functions below the calls promise, and what they are owed by the questions before them.
 use mathlib.Core.Path.{_≡_}
 use mathlib.Core.Bool.{true}
+use mathlib.Core.List.{List}
 use Prim.Native.Nat.{ℕ, _≤_, _<_}
-use Rattle.group.specs.Limits.{payloadMost, longestPacket, largestNumber}
+use lib.ListN.{length}
+use Rattle.group.specs.Limits.{membersMost, headerSize, payloadMost, longestPacket, largestNumber}
 use Rattle.group.specs.declared.Refusal.{Refusal}
 use Rattle.group.specs.declared.SequenceNumber.{SequenceNumber}
 use Rattle.group.specs.declared.Verdict.{Verdict}
 use Rattle.message.specs.Message.{Message}
+use Rattle.packet.specs.Packet.{payloadAt}
 use Rattle.packet.specs.declared.Packet.{Packet}
 use Rattle.packet.specs.declared.Packet.the-variants.{Request, Broadcast, Gap, Status, Poll, Offer, Confirm, Accept}
 use Rattle.history.specs.Ask.{contentVerdict}
+use Rattle.sequencer.specs.Calls.{refused, confirmOf, receiveOf}
 use Rattle.sequencer.specs.Sound.{soundOf}
+use Rattle.sequencer.specs.Steps.{acceptedStep, confirmationOf}
+use Rattle.sequencer.specs.declared.Confirmation.{Confirmation}
+use Rattle.sequencer.specs.declared.Decision.{Decision}
+use Rattle.sequencer.specs.declared.Decision.the-variants.{Refuse, Mark, Note}
 use Rattle.sequencer.specs.declared.Answer.{Answer}
 use Rattle.sequencer.specs.declared.Answer.the-variants.{Old, Again, Full, Numbered, Noted, Wanted, Sent, Marked}
 use Rattle.sequencer.specs.State.{Sequencer}
@@ -47,6 +55,16 @@ pub record Sized (s : Sequencer) (size room : ℕ) : Type 0 where
 pub record Due (s : Sequencer) (packet : Packet) (size room : ℕ) : Type 0 where
   pub sizes : Sized s size room
   pub accepted : contentVerdict (s .group) (s .acknowledgements) (s .accepted .0) (s .top .0) packet ≡ Verdict.Accepted
+
+-- what a decision on a packet says: a refusal is the call's; who is to be marked is a member; what is to be noted is due, and lies
+-- behind a header
+abbrev pub Judged : Sequencer → List ℕ → ℕ → Decision → Type 0
+Judged s packet room (Refuse refusal) = refused s refusal ≡ receiveOf s packet room
+Judged s packet room (Mark m number) =
+    (m .0 < membersMost) × (longestPacket ≤ room) × (confirmOf s m number ≡ receiveOf s packet room)
+Judged s packet room (Note content) =
+    (confirmationOf content ≡ Confirmation.None) × Due s content (length (payloadAt packet)) room × (headerSize ≤ length packet)
+    × (acceptedStep s content (payloadAt packet) ≡ receiveOf s packet room)
 
 -- a next number is left where a request wants one
 abbrev pub Left : Packet → ℕ → ℕ → Type 0

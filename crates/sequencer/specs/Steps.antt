@@ -4,15 +4,20 @@ use Prim.Native.Nat.{ℕ, _+_, _-_}
 use lib.ListN.{set}
 use Rattle.group.specs.Choice.{if_then_else_, _<?_, _≤?_, _=?_}
 use Rattle.group.specs.Limits.{placesMost}
+use Rattle.group.specs.Question.{judged}
+use Rattle.group.specs.declared.Group.{Group}
 use Rattle.group.specs.declared.MemberNumber.{MemberNumber}
 use Rattle.group.specs.declared.SequenceNumber.{SequenceNumber}
 use Rattle.message.specs.Message.{Message, messageOf, payloadOf}
-use Rattle.packet.specs.Packet.{fieldsOf, packetOf}
+use Rattle.packet.specs.Packet.{contentOf, fieldsOf, packetOf}
 use Rattle.packet.specs.declared.Packet.{Packet}
 use Rattle.packet.specs.declared.Packet.the-variants.{Request, Broadcast, Gap, Status, Poll, Offer, Confirm, Accept}
+use Rattle.packet.specs.declared.Reading.{Reading}
+use Rattle.packet.specs.declared.Reading.the-variants.{Fields}
+use Rattle.history.specs.Ask.{packetVerdict}
 use Rattle.history.specs.Note.{largerOf, withCounts}
 use Rattle.history.specs.Repeat.{oneMore, findOf}
-use Rattle.history.specs.State.{acknowledgementOf, placeOf, messageAt}
+use Rattle.history.specs.State.{Acknowledgement, acknowledgementOf, placeOf, messageAt}
 use Rattle.sequencer.specs.Calls.{Outcome, answered, announced, requestOf, gapOf, confirmOf}
 use Rattle.sequencer.specs.Note.{noteOf}
 use Rattle.sequencer.specs.declared.Answer.{Answer}
@@ -20,6 +25,8 @@ use Rattle.sequencer.specs.declared.Answer.the-variants.{Old, Again, Ful
 use Rattle.sequencer.specs.declared.Change.{Change}
 use Rattle.sequencer.specs.declared.Confirmation.{Confirmation}
 use Rattle.sequencer.specs.declared.Confirmation.the-variants.{None, Of}
+use Rattle.sequencer.specs.declared.Decision.{Decision}
+use Rattle.sequencer.specs.declared.Decision.the-variants.{Refuse, Mark, Note}
 use Rattle.sequencer.specs.State.{Sequencer}
 
 -- what is done with a packet that no question refuses; of the kinds for the other end none is left
@@ -43,6 +50,18 @@ confirmationOf (Poll top floor) = None
 confirmationOf (Offer originator number count floor) = None
 confirmationOf (Confirm sender number) = Of sender number
 confirmationOf (Accept number) = None
+
+-- what becomes of a packet that no question refuses
+unfoldable pub sortedBy : Confirmation → Packet → Decision
+sortedBy None packet = Note packet
+sortedBy (Of member number) packet = Mark member number
+
+-- what becomes of a packet that was read: its questions, in a group with a table of acknowledgements, and then whether it confirms
+unfoldable pub decisionOf : Group → List Acknowledgement → SequenceNumber → SequenceNumber → Reading → Decision
+decisionOf group table accepted top (Fields h) =
+    judged (packetVerdict group table (accepted .0) (top .0) (h .group) (contentOf h)) Refuse
+    (sortedBy (confirmationOf (contentOf h)) (contentOf h))
+decisionOf group table accepted top (Reading.Refused refusal) = Refuse refusal
 
 -- a change of the sender's repeat count at most
 abbrev pub quiet : ℕ → SequenceNumber → SequenceNumber → ℕ → Answer → Change

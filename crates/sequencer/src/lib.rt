@@ -19,18 +19,18 @@ ghost use Rattle.group.specs.Limits.{membersMost, placesMost, payloadMost, long
 ghost use Rattle.group.specs.Members.{expectedOf};
 ghost use Rattle.group.specs.Opening.{descriptionOf};
 ghost use Rattle.message.specs.Message.{blank, payloadOf};
-ghost use Rattle.packet.specs.Packet.{fieldsOf, packetOf, writeOf};
+ghost use Rattle.packet.specs.Packet.{fieldsOf, packetOf, readOf, writeOf};
 ghost use Rattle.store.specs.Places.{messagesIn, partOf, Lies};
 ghost use Rattle.history.specs.Marks.{markSound};
 ghost use Rattle.history.specs.Sound.{placeSound};
 ghost use Rattle.history.specs.View.{Places, countsOnly, listed};
 ghost use Rattle.sequencer.specs.State.{freshSequencer};
 ghost use Rattle.sequencer.specs.Sound.{soundOf};
-ghost use Rattle.sequencer.specs.Calls.{announced, confirmOf, readStep, callVerdict, copyOf};
+ghost use Rattle.sequencer.specs.Calls.{announced, confirmOf, callVerdict, copyOf};
 ghost use Rattle.sequencer.specs.View.{Fits, Placed, whole, marksOnly, viewOf};
 ghost use Rattle.sequencer.specs.Promise.{Changed, Told, Received, Polled, Copied, Opens};
-ghost use Rattle.sequencer.specs.Owed.{MayBroadcast, MaySend, Sized, Left, Due, Refuses};
-ghost use Rattle.sequencer.specs.Steps.{acceptedStep, quiet, requestChange, gapAnswer, changeOf, confirmationOf, sentOf};
+ghost use Rattle.sequencer.specs.Owed.{MayBroadcast, MaySend, Left, Due, Judged, Refuses};
+ghost use Rattle.sequencer.specs.Steps.{acceptedStep, quiet, requestChange, gapAnswer, changeOf, confirmationOf, decisionOf, sentOf};
 
 // The numbers of the whole: the group's description, the last number given, the last accepted, and the number through which every
 // member has everything.
@@ -105,6 +105,13 @@ struct Change {
 enum Confirmation {
     None,
     Of(MemberNumber, SequenceNumber),
+}
+
+// What becomes of a packet: it is refused, it marks who confirms a number, or it is noted.
+enum Decision {
+    Refuse(Refusal),
+    Mark(MemberNumber, SequenceNumber),
+    Note(Packet),
 }
 
 // Writes a packet with the first bytes of a place as its payload, if its questions allow it.
@@ -690,82 +697,66 @@ fn confirm(
     Step { head: next, reply }
 }
 
-// A packet that no question refuses.
-fn accepted(
-    head: Head,
-    taken: &mut [u32; Group::MEMBERS],
-    counts: &mut [u32],
-    repeats: &mut [u32],
-    kept: &mut [u32],
-    marks: &mut [u16],
-    originators: &mut [u8],
-    lengths: &mut [u8],
-    payloads: &mut [u8],
-    packet: Packet,
-    payload: &[u8],
-    out: &mut [u8],
-) -> Step
-    requires { ⌜ Due (viewOf (whole head (now taken) (now counts) (now repeats) (now kept) (now marks) (now originators) (now lengths) (now payloads))) packet (length (now payload)) (length (now out)) × Fits (whole head (now taken) (now counts) (now repeats) (now kept) (now marks) (now originators) (now lengths) (now payloads)) ⌝ }
-    ensures { λ r. ⌜ Changed (acceptedStep (viewOf (whole head (now (taken .entry)) (now (counts .entry)) (now (repeats .entry)) (now (kept .entry)) (now (marks .entry)) (now (originators .entry)) (now (lengths .entry)) (now (payloads .entry)))) packet (now (payload .entry))) (r .reply) (whole (r .head) (now (taken .exit)) (now (counts .exit)) (now (repeats .exit)) (now (kept .exit)) (now (marks .exit)) (now (originators .exit)) (now (lengths .exit)) (now (payloads .exit))) (now (out .entry)) (now (out .exit)) ⌝ }
+// Questions 3 to 12, 25, and 16, of a packet; then what becomes of it.
+fn decide(head: Head, counts: &[u32], packet: &[u8]) -> Decision
+    requires { ⌜ (1 ≤ head .group .n) × (head .group .n ≤ membersMost) × (length (now counts) ≡ membersMost) ⌝ }
+    ensures { λ r. ⌜ r ≡ decisionOf (head .group) (countsOnly (now (counts .entry))) (head .accepted) (head .top) (readOf (now (packet .entry))) ⌝ }
 {
-    let who = confirmed_by(packet);
-    match who {
-        Confirmation::Of(member, number) => confirm(head, marks, member, number, out),
-        Confirmation::None => noted(
-            head,
-            taken,
-            counts,
-            repeats,
-            kept,
-            marks,
-            originators,
-            lengths,
-            payloads,
-            packet,
-            payload,
-            out,
-        ),
+    let reading = packet::read(packet);
+    match reading {
+        Reading::Fields(h) => {
+            let content = Packet::of(h);
+            let group = head.group;
+            let top = head.top;
+            let v = history::ask_packet(group, counts, head.accepted, top, h.group, content);
+            match v {
+                Verdict::Accepted => {
+                    let who = confirmed_by(content);
+                    match who {
+                        Confirmation::Of(member, number) => Decision::Mark(member, number),
+                        Confirmation::None => Decision::Note(content),
+                    }
+                }
+                Verdict::Refused(q) => Decision::Refuse(q),
+            }
+        }
+        Reading::Refused(q) => Decision::Refuse(q),
     }
 }
 
-// Fields that were read: what they mean is asked questions 7 to 12, 25, and 16.
-fn take(
+// Every question of the call for packets.
+fn judge(
     head: Head,
-    taken: &mut [u32; Group::MEMBERS],
-    counts: &mut [u32],
-    repeats: &mut [u32],
-    kept: &mut [u32],
-    marks: &mut [u16],
-    originators: &mut [u8],
-    lengths: &mut [u8],
-    payloads: &mut [u8],
-    h: Header,
-    payload: &[u8],
-    out: &mut [u8],
-) -> Step
-    requires { ⌜ Sized (viewOf (whole head (now taken) (now counts) (now repeats) (now kept) (now marks) (now originators) (now lengths) (now payloads))) (length (now payload)) (length (now out)) × Fits (whole head (now taken) (now counts) (now repeats) (now kept) (now marks) (now originators) (now lengths) (now payloads)) ⌝ }
-    ensures { λ r. ⌜ Changed (readStep (viewOf (whole head (now (taken .entry)) (now (counts .entry)) (now (repeats .entry)) (now (kept .entry)) (now (marks .entry)) (now (originators .entry)) (now (lengths .entry)) (now (payloads .entry)))) (Reading.Fields h) (now (payload .entry))) (r .reply) (whole (r .head) (now (taken .exit)) (now (counts .exit)) (now (repeats .exit)) (now (kept .exit)) (now (marks .exit)) (now (originators .exit)) (now (lengths .exit)) (now (payloads .exit))) (now (out .entry)) (now (out .exit)) ⌝ }
+    taken: &[u32; Group::MEMBERS],
+    counts: &[u32],
+    repeats: &[u32],
+    kept: &[u32],
+    marks: &[u16],
+    originators: &[u8],
+    lengths: &[u8],
+    payloads: &[u8],
+    packet: &[u8],
+    room: usize,
+) -> Decision
+    requires { ⌜ Placed (whole head (now taken) (now counts) (now repeats) (now kept) (now marks) (now originators) (now lengths) (now payloads)) ⌝ }
+    ensures judged { λ r. ⌜ Judged (viewOf (whole head (now (taken .entry)) (now (counts .entry)) (now (repeats .entry)) (now (kept .entry)) (now (marks .entry)) (now (originators .entry)) (now (lengths .entry)) (now (payloads .entry)))) (now (packet .entry)) room r ⌝ }
+    ensures sizes { λ _. ⌜ Fits (whole head (now (taken .entry)) (now (counts .entry)) (now (repeats .entry)) (now (kept .entry)) (now (marks .entry)) (now (originators .entry)) (now (lengths .entry)) (now (payloads .entry))) ⌝ }
 {
-    let packet = Packet::of(h);
-    let group = head.group;
-    let top = head.top;
-    let v = history::ask_packet(group, counts, head.accepted, top, h.group, packet);
+    let v = ask(
+        head,
+        taken,
+        counts,
+        repeats,
+        kept,
+        marks,
+        originators,
+        lengths,
+        payloads,
+        room,
+    );
     match v {
-        Verdict::Accepted => accepted(
-            head,
-            taken,
-            counts,
-            repeats,
-            kept,
-            marks,
-            originators,
-            lengths,
-            payloads,
-            packet,
-            payload,
-            out,
-        ),
-        Verdict::Refused(q) => unchanged(head, q),
+        Verdict::Accepted => decide(head, counts, packet),
+        Verdict::Refused(q) => Decision::Refuse(q),
     }
 }
 
@@ -785,7 +776,7 @@ pub fn receive_on(
 ) -> Step
     ensures { λ r. ⌜ Received (whole head (now (taken .entry)) (now (counts .entry)) (now (repeats .entry)) (now (kept .entry)) (now (marks .entry)) (now (originators .entry)) (now (lengths .entry)) (now (payloads .entry))) (now (packet .entry)) (now (out .entry)) (r .reply) (whole (r .head) (now (taken .exit)) (now (counts .exit)) (now (repeats .exit)) (now (kept .exit)) (now (marks .exit)) (now (originators .exit)) (now (lengths .exit)) (now (payloads .exit))) (now (out .exit)) ⌝ }
 {
-    let v = ask(
+    let d = judge(
         head,
         taken,
         counts,
@@ -795,33 +786,26 @@ pub fn receive_on(
         originators,
         lengths,
         payloads,
+        packet,
         out.len(),
     );
-    match v {
-        Verdict::Accepted => {
-            let reading = packet::read(packet);
-            match reading {
-                Reading::Fields(h) => {
-                    let end = Group::HEADER + packet::payload_length(packet);
-                    take(
-                        head,
-                        taken,
-                        counts,
-                        repeats,
-                        kept,
-                        marks,
-                        originators,
-                        lengths,
-                        payloads,
-                        h,
-                        &packet[Group::HEADER..end],
-                        out,
-                    )
-                }
-                Reading::Refused(q) => unchanged(head, q),
-            }
-        }
-        Verdict::Refused(q) => unchanged(head, q),
+    match d {
+        Decision::Refuse(q) => unchanged(head, q),
+        Decision::Mark(member, number) => confirm(head, marks, member, number, out),
+        Decision::Note(content) => noted(
+            head,
+            taken,
+            counts,
+            repeats,
+            kept,
+            marks,
+            originators,
+            lengths,
+            payloads,
+            content,
+            &packet[Group::HEADER..],
+            out,
+        ),
     }
 }
 

@@ -1,91 +1,92 @@
--- The verdict on state and output, then what was read, each as the definition has it.
+-- What is decided, and then what is done.
 -- Assumes nothing.
-use mathlib.Core.Path.{sym, _∙_}
+use native.Mathlib.Omega.{arith}
+use lib.ListN.{length}
 use denote.Ref.{now}
-use Rattle.packet.proofs.Verdicts.{readable, payload-part}
-use Rattle.history.proofs.Asking.{judged-yes, judged-no}
-use Rattle.sequencer.specs.Calls.{readStep, receiveOf}
-use Rattle.sequencer.specs.View.{whole}
+use Rattle.sequencer.specs.View.{whole, viewOf}
+use Rattle.sequencer.proofs.Confirmed.{confirm-changed}
+use Rattle.sequencer.proofs.Deciding.{judged-as, payload-lent}
 use Rattle.sequencer.proofs.Outcomes.{changed-as, refusal-changed}
-use Rattle.sequencer.proofs.Owed.{call-asked}
 use borrow.Author.Needs.{needs}
 use Rattle.sequencer.proofs.receive_on.Statement.{statement}
 use Rattle.sequencer.proofs.receive_on.Tie as tie
 
-ask-requires : tie.Need-ask-requires
-ask-requires c κs = record { counts-long = search needs; repeats-long = search needs; places = record { kept-size = search needs; originators-size = search needs; lengths-size = search needs; payloads-size = search needs }; marks-size = search needs }
+judge-requires : tie.Need-judge-requires
+judge-requires c κs = record { counts-long = search needs; repeats-long = search needs; places = record { kept-size = search needs; originators-size = search needs; lengths-size = search needs; payloads-size = search needs }; marks-size = search needs }
 
-enum-told : tie.Need-enum-told
-enum-told c = search needs
-
-read-requires : tie.Need-read-requires
-read-requires c κs = search needs
-
-enum-known-reading : tie.Need-enum-known-reading
-enum-known-reading c = search needs
-
-payload-length-requires : tie.Need-payload-length-requires
-payload-length-requires c κs = readable _ _ (sym (c .before .before .before .read .ensures .0) ∙ c .before .reading .given .1) .long
-
-add-end : tie.Need-add-end
-add-end c = let e = payload-part _ _ (sym (c .before .before .before .before .read .ensures .0) ∙ c .before .before .reading .given .1) in let g = c .before .before .before .before .before .before .before .before .before .before .before .before .before .before .before .before .before .before .before .before .before .before .before .before .before .good .1 .1 .1 .1 .1 .1 .1 .1 .1 .0 in rw (c .payload-length .ensures, e .0) (search needs)
-
-sub-take : tie.Need-sub-take
-sub-take c = search needs
-
-part-take-start : tie.Need-part-take-start
-part-take-start c = search needs
-
-part-take-end : tie.Need-part-take-end
-part-take-end c = let e = payload-part _ _ (sym (c .before .before .before .before .before .before .before .before .before .before .before .before .read .ensures .0) ∙ c .before .before .before .before .before .before .before .before .before .before .reading .given .1) in rw (c .before .before .before .before .before .before .before .before .payload-length .ensures, e .0) (search needs)
-
-take-requires : tie.Need-take-requires
-take-requires c κs =
-    let e = sym (c .before .before .before .before .before .before .before .before .before .before .before .before .before .before .read .ensures .0) ∙ c .before .before .before .before .before .before .before .before .before .before .before .before .reading .given .1 in
-    let w = call-asked _ _ (sym (c .before .before .before .before .before .before .before .before .before .before .before .before .before .before .before .before .before .ask .ensures .0) ∙ c .before .before .before .before .before .before .before .before .before .before .before .before .before .before .before .enum-told .given .1) in (
-      record {
-        sound = w .0;
-        payload = rw (c .before .before .before .before .before .before .before .before .before .before .payload-length .ensures, payload-part _ _ e .1) (readable _ _ e .payload);
-        output = w .1;
-      },
-      c .before .before .before .before .before .before .before .before .before .before .before .before .before .before .before .before .before .ask .ensures .1,
-    )
-
-enum-known-reading-2 : tie.Need-enum-known-reading-2
-enum-known-reading-2 c = search needs
+enum-known-d : tie.Need-enum-known-d
+enum-known-d c = search needs
 
 unchanged-requires : tie.Need-unchanged-requires
 unchanged-requires c κs = search needs
 
-enum-known-v : tie.Need-enum-known-v
-enum-known-v c = search needs
+enum-known-d-2 : tie.Need-enum-known-d-2
+enum-known-d-2 c = search needs
 
-unchanged-requires-2 : tie.Need-unchanged-requires-2
-unchanged-requires-2 c κs = search needs
+confirm-requires : tie.Need-confirm-requires
+confirm-requires c κs =
+    let a = c .before .before .before .before .before .before .before .before .before .before .before .before .before .before .before .before .before .before .before .before .before .before .before .args in
+    let s = whole (a .head) (now (a .taken)) (now (a .counts)) (now (a .repeats)) (now (a .kept)) (now (a .marks)) (now (a .originators)) (now (a .lengths)) (now (a .payloads)) in
+    let j = judged-as (viewOf s) (now (a .packet)) (length (now (a .out))) _ _ (c .before .before .before .d2 .given .1) (c .before .before .before .before .before .judge .ensures .0) in
+    (j .0, c .before .before .before .before .before .judge .ensures .1 .marks-size, j .1)
+
+enum-known-d-3 : tie.Need-enum-known-d-3
+enum-known-d-3 c = search needs
+
+sub-noted : tie.Need-sub-noted
+sub-noted c =
+    let a = c .before .before .before .before .before .before .before .before .before .before .before .before .before .before .before .before .before .before .before .before .before .before .before .before .before .before .before .before .before .before .args in
+    let s = whole (a .head) (now (a .taken)) (now (a .counts)) (now (a .repeats)) (now (a .kept)) (now (a .marks)) (now (a .originators)) (now (a .lengths)) (now (a .payloads)) in
+    let j = judged-as (viewOf s) (now (a .packet)) (length (now (a .out))) _ _ (c .before .before .before .before .before .before .before .before .before .before .d3 .given .1) (c .before .before .before .before .before .before .before .before .before .before .before .before .judge .ensures .0) in
+    let h = j .2 in search needs
+
+part-noted-start : tie.Need-part-noted-start
+part-noted-start c =
+    let a = c .before .before .before .before .before .before .before .before .before .before .before .before .before .before .before .before .before .before .before .before .before .before .before .before .before .before .before .before .before .before .args in
+    let s = whole (a .head) (now (a .taken)) (now (a .counts)) (now (a .repeats)) (now (a .kept)) (now (a .marks)) (now (a .originators)) (now (a .lengths)) (now (a .payloads)) in
+    let j = judged-as (viewOf s) (now (a .packet)) (length (now (a .out))) _ _ (c .before .before .before .before .before .before .before .before .before .before .d3 .given .1) (c .before .before .before .before .before .before .before .before .before .before .before .before .judge .ensures .0) in
+    let h = j .2 in search needs
+
+part-noted-end : tie.Need-part-noted-end
+part-noted-end c =
+    let a = c .before .before .before .before .before .before .before .before .before .before .before .before .before .before .before .before .before .before .before .before .before .before .before .before .before .before .before .before .before .before .args in
+    let s = whole (a .head) (now (a .taken)) (now (a .counts)) (now (a .repeats)) (now (a .kept)) (now (a .marks)) (now (a .originators)) (now (a .lengths)) (now (a .payloads)) in
+    let j = judged-as (viewOf s) (now (a .packet)) (length (now (a .out))) _ _ (c .before .before .before .before .before .before .before .before .before .before .d3 .given .1) (c .before .before .before .before .before .before .before .before .before .before .before .before .judge .ensures .0) in
+    let h = j .2 in search needs
+
+noted-requires : tie.Need-noted-requires
+noted-requires c κs =
+    let a = c .before .before .before .before .before .before .before .before .before .before .before .before .before .before .before .before .before .before .before .before .before .before .before .before .before .before .before .before .before .before .before .before .args in
+    let s = whole (a .head) (now (a .taken)) (now (a .counts)) (now (a .repeats)) (now (a .kept)) (now (a .marks)) (now (a .originators)) (now (a .lengths)) (now (a .payloads)) in
+    let j = judged-as (viewOf s) (now (a .packet)) (length (now (a .out))) _ _ (c .before .before .before .before .before .before .before .before .before .before .before .before .d3 .given .1) (c .before .before .before .before .before .before .before .before .before .before .before .before .before .before .judge .ensures .0) in
+    (j .0, rw (payload-lent (now (a .packet))) (j .1), c .before .before .before .before .before .before .before .before .before .before .before .before .before .before .judge .ensures .1)
+
+returns : tie.Need-returns
+returns c =
+    let a = c .before .before .before .before .before .before .before .before .before .before .before .before .before .before .before .before .before .before .before .before .before .before .args in
+    let s = whole (a .head) (now (a .taken)) (now (a .counts)) (now (a .repeats)) (now (a .kept)) (now (a .marks)) (now (a .originators)) (now (a .lengths)) (now (a .payloads)) in
+    let j = judged-as (viewOf s) (now (a .packet)) (length (now (a .out))) _ _ (c .before .before .d .given .1) (c .before .before .before .before .judge .ensures .0) in
+    rw (c .unchanged .ensures .0) (changed-as j (refusal-changed _ _ (now (a .out)) (c .unchanged .ensures .1) s))
 
 same-length : tie.Need-same-length
 same-length c = search needs
 
-returns : tie.Need-returns
-unfolding receiveOf
-returns c =
-    let e = sym (c .before .before .before .before .before .before .before .before .before .before .before .before .before .before .before .before .before .read .ensures .0) ∙ c .before .before .before .before .before .before .before .before .before .before .before .before .before .before .before .reading .given .1 in
-    let v = sym (c .before .before .before .before .before .before .before .before .before .before .before .before .before .before .before .before .before .before .before .before .ask .ensures .0) ∙ c .before .before .before .before .before .before .before .before .before .before .before .before .before .before .before .before .before .before .enum-told .given .1 in
-    changed-as (rw (c .before .before .before .before .before .before .before .before .before .before .before .before .before .payload-length .ensures, payload-part _ _ e .1, e) (judged-yes _ _ _ v)) (c .before .before .take .ensures)
-
 returns-2 : tie.Need-returns-2
-unfolding receiveOf readStep
 returns-2 c =
-    let a = c .before .before .before .before .before .before .before .before .before .before .before .before .before .before .before .before .before .before .before .before .before .before .before .before .before .args in
-    let e = sym (c .before .before .before .before .read .ensures .0) ∙ c .before .before .reading2 .given .1 in
-    let v = sym (c .before .before .before .before .before .before .before .ask .ensures .0) ∙ c .before .before .before .before .before .enum-told .given .1 in
-    rw (c .unchanged .ensures .0) (changed-as (rw e (judged-yes _ _ _ v)) (refusal-changed _ _ (now (a .out)) (c .unchanged .ensures .1) (whole (a .head) (now (a .taken)) (now (a .counts)) (now (a .repeats)) (now (a .kept)) (now (a .marks)) (now (a .originators)) (now (a .lengths)) (now (a .payloads)))))
+    let a = c .before .before .before .before .before .before .before .before .before .before .before .before .before .before .before .before .before .before .before .before .before .before .before .before .before .before .args in
+    let s = whole (a .head) (now (a .taken)) (now (a .counts)) (now (a .repeats)) (now (a .kept)) (now (a .marks)) (now (a .originators)) (now (a .lengths)) (now (a .payloads)) in
+    let j = judged-as (viewOf s) (now (a .packet)) (length (now (a .out))) _ _ (c .before .before .before .before .before .before .d2 .given .1) (c .before .before .before .before .before .before .before .before .judge .ensures .0) in
+    changed-as (j .2) (confirm-changed (a .head) _ (now (a .taken)) (now (a .counts)) (now (a .repeats)) (now (a .kept)) (now (a .marks)) _ (now (a .originators)) (now (a .lengths)) (now (a .payloads)) _ _ (c .before .before .confirm .ensures))
+
+same-length-2 : tie.Need-same-length-2
+same-length-2 c = search needs
 
 returns-3 : tie.Need-returns-3
-unfolding receiveOf
 returns-3 c =
-    let a = c .before .before .before .before .before .before .before .before .before .before .before .before .before .before .before .before .before .before .before .before .before .before .args in
-    changed-as (judged-no _ _ _ _ (sym (c .before .before .before .before .ask .ensures .0) ∙ c .before .before .v .given .1)) (rw (c .unchanged2 .ensures .0) (refusal-changed _ _ (now (a .out)) (c .unchanged2 .ensures .1) (whole (a .head) (now (a .taken)) (now (a .counts)) (now (a .repeats)) (now (a .kept)) (now (a .marks)) (now (a .originators)) (now (a .lengths)) (now (a .payloads)))))
+    let a = c .before .before .before .before .before .before .before .before .before .before .before .before .before .before .before .before .before .before .before .before .before .before .before .before .before .before .before .before .before .before .before .before .before .before .before .args in
+    let s = whole (a .head) (now (a .taken)) (now (a .counts)) (now (a .repeats)) (now (a .kept)) (now (a .marks)) (now (a .originators)) (now (a .lengths)) (now (a .payloads)) in
+    let j = judged-as (viewOf s) (now (a .packet)) (length (now (a .out))) _ _ (c .before .before .before .before .before .before .before .before .before .before .before .before .before .before .before .d3 .given .1) (c .before .before .before .before .before .before .before .before .before .before .before .before .before .before .before .before .before .judge .ensures .0) in
+    changed-as (rw (payload-lent (now (a .packet))) (j .3)) (c .before .before .noted .ensures)
 
 pub receive-on-spec : {M : Type 1} → statement M
-receive-on-spec = tie.close (tie.spec ask-requires enum-told read-requires enum-known-reading payload-length-requires add-end sub-take part-take-start part-take-end take-requires enum-known-reading-2 unchanged-requires enum-known-v unchanged-requires-2 same-length returns returns-2 returns-3)
+receive-on-spec = tie.close (tie.spec judge-requires enum-known-d unchanged-requires enum-known-d-2 confirm-requires enum-known-d-3 sub-noted part-noted-start part-noted-end noted-requires returns same-length returns-2 same-length-2 returns-3)

@@ -20,7 +20,7 @@ use Rattle.packet.specs.declared.Reading.{Reading}
 use Rattle.packet.proofs.Verdicts.{readable}
 use Rattle.history.specs.Ask.{packetVerdict}
 use Rattle.history.specs.State.{Acknowledgement}
-use Rattle.history.specs.View.{tableIn, countsOnly}
+use Rattle.history.specs.View.{countsOnly}
 use Rattle.history.proofs.Asking.{judged-yes, judged-no}
 use Rattle.history.proofs.View.{packet-only}
 use Rattle.sequencer.specs.Calls.{refused, readStep, callVerdict, receiveOf}

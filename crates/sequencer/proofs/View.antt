@@ -15,30 +15,28 @@ use Rattle.group.specs.Members.{neededOf, expectedOf}
 use Rattle.group.proofs.Lists.{if-elim}
 use Rattle.group.specs.declared.Group.{Group}
 use Rattle.group.specs.declared.MemberNumber.{MemberNumber}
-use Rattle.group.specs.declared.Refusal.{Refusal}
 use Rattle.group.specs.declared.SequenceNumber.{SequenceNumber}
 use Rattle.group.specs.declared.Verdict.{Verdict}
 use Rattle.message.proofs.Kept.{payload-short}
 use Rattle.message.specs.Message.{Message, messageOf, payloadOf, blank}
 use Rattle.packet.proofs.Permitted.{broadcast-fields, offer-fields, laid-whole}
-use Rattle.packet.specs.Packet.{contentOf, fieldsOf, fieldsVerdict, packetOf, writeOf}
+use Rattle.packet.specs.Packet.{fieldsOf, fieldsVerdict, packetOf, writeOf}
 use Rattle.packet.specs.declared.Header.{Header}
 use Rattle.packet.specs.declared.Packet.{Packet}
 use Rattle.packet.specs.declared.Packet.the-variants.{Request, Broadcast, Gap, Status, Poll, Offer, Confirm, Accept}
-use Rattle.packet.specs.declared.Reading.{Reading}
 use Rattle.store.specs.Places.{partOf, messageIn, messagesIn}
 use Rattle.store.proofs.Places.{length-messages, message-in, messages-none}
-use Rattle.history.specs.Ask.{senderOf, contentVerdict, packetVerdict}
+use Rattle.history.specs.Ask.{senderOf}
 use Rattle.history.specs.Marks.{markSound}
 use Rattle.history.specs.Note.{largerOf, withTaken, withCounts, tableNoted, clearedOf}
 use Rattle.history.specs.Sound.{entrySound, placeSound, frameSound}
 use Rattle.history.specs.State.{Acknowledgement, noAcknowledgement, acknowledgementOf, placeOf, messageAt, floorOf}
+use Rattle.history.specs.declared.Sender.{Sender}
 use Rattle.history.specs.View.{tableIn, takenOnly, countsOnly, listed}
-use Rattle.history.proofs.Asking.{judged-yes, judged-no}
 use Rattle.history.proofs.Noting.{cleared-length}
-use Rattle.history.proofs.View.{set-own, length-table, entry-in, table-laid, taken-laid, floor-taken, frame-taken, places-only, packet-only, find-listed, table-none}
+use Rattle.history.proofs.View.{set-own, length-table, entry-in, table-laid, taken-laid, floor-taken, frame-taken, places-only, find-listed, table-none}
 use Rattle.sequencer.specs.Owed.{MayBroadcast, MaySend, Due, Left}
-use Rattle.sequencer.specs.Calls.{refused, announced, readStep}
+use Rattle.sequencer.specs.Calls.{announced}
 use Rattle.sequencer.specs.Note.{withTable, noteOf}
 use Rattle.sequencer.specs.Promise.{Changed}
 use Rattle.sequencer.specs.State.{Sequencer, lastCount, repeatCount, freshSequencer}
@@ -52,7 +50,7 @@ use Rattle.sequencer.specs.declared.Sequencer.{Sequencer as InPlace}
 use Rattle.sequencer.proofs.Outcomes.{changed-as, changed-laid}
 use Rattle.sequencer.proofs.Owed.{accepted-sender, accepted-left}
 use Rattle.sequencer.proofs.Sending.{change-sends, noted-sound}
-use Rattle.sequencer.proofs.Settling.{outcomeOf, accepted-is, read-is, content-was}
+use Rattle.sequencer.proofs.Settling.{outcomeOf, accepted-is}
 use Rattle.sequencer.proofs.Soundness.{Sound, sound-of}
 
 -- what a packet changes, of a history of which only counts and originators are asked
@@ -147,7 +145,7 @@ module _ (head : Head) (taken counts repeats kept marks originators lengths payl
     unfolding viewOf
     repeats-is = ap (λ (a : Acknowledgement). a .repeats) (sym (entry-in taken′ counts repeats (m .0) member-inside))
 
-    pub next-left : Left packet (getD counts (m .0) 0) (head .top .0)
+    next-left : Left packet (getD counts (m .0) 0) (head .top .0)
     unfolding viewOf
     next-left =
         let last : getD counts (m .0) 0 ≡ acknowledgementOf (tableNoted (tableIn taken counts repeats) m (senderOf packet .taken)) m .count
@@ -156,7 +154,7 @@ module _ (head : Head) (taken counts repeats kept marks originators lengths payl
         (accepted-left (head .group) (tableIn taken counts repeats) (head .accepted .0) (head .top .0) packet (senderOf packet .taken) (due .accepted))
 
     -- what the packet changes
-    abbrev pub change : Change
+    abbrev change : Change
     change = changeOf (listed kept′ originators′) packet (getD counts (m .0) 0) (floor .0) (head .top) (head .accepted) (head .group .resilience) (getD repeats (m .0) 0)
 
     abbrev changeIn : Sequencer → Change
@@ -192,7 +190,7 @@ module _ (head : Head) (taken counts repeats kept marks originators lengths payl
           sym (ap (λ (h : List Message). getD h (placeOf (change .number .0)) blank) laid-is
           ∙ getD-set-same (messagesIn kept′ originators′ lengths′ payloads′) (placeOf (change .number .0)) message blank (omega arith))
 
-      pub next-sends : MaySend (change .answer) (change .top) floor (getD (messagesIn kept″ originators″ lengths″ payloads″) (placeOf (change .number .0)) blank)
+      next-sends : MaySend (change .answer) (change .top) floor (getD (messagesIn kept″ originators″ lengths″ payloads″) (placeOf (change .number .0)) blank)
       unfolding viewOf
       next-sends =
           subst (λ (x : Message). MaySend (change .answer) (change .top) floor x) message-is
@@ -221,7 +219,7 @@ module _ (head : Head) (taken counts repeats kept marks originators lengths payl
           ∙ ap (λ (s : Sequencer). outcomeOf s m payload (changeIn s)) noted-is
           ∙ sym (accepted-is state packet payload (due .accepted) none size)
 
-      pub accepted-changed : confirmationOf packet ≡ Confirmation.None → (written : ℕ) (x y : List ℕ)
+      accepted-changed : confirmationOf packet ≡ Confirmation.None → (written : ℕ) (x y : List ℕ)
           → Laid (sentOf (change .answer) (head .group .number) (change .top) (change .accepted) floor (getD (messagesIn kept″ originators″ lengths″ payloads″) (placeOf (change .number .0)) blank)) written x y
           → Changed (acceptedStep state packet payload) (record { answer = change .answer; written = written }) last x y
       unfolding viewOf
@@ -229,6 +227,62 @@ module _ (head : Head) (taken counts repeats kept marks originators lengths payl
           changed-as (outcome-is none)
           (changed-laid (outcomeOf (viewOf next) m payload change) last written x y last-view
           (subst (λ (b : Message). Laid (sentOf (change .answer) (head .group .number) (change .top) (change .accepted) floor b) written x y) (sym message-is) l))
+
+-- the same, of what the functions gave back: the sender, the change and the place of its number
+module _ (head : Head) (taken counts repeats kept marks originators lengths payloads : List ℕ) (fits : Fits (whole head taken counts repeats kept marks originators lengths payloads))
+    (packet : Packet) (payload : List ℕ) (room : ℕ) (due : Due (viewOf (whole head taken counts repeats kept marks originators lengths payloads)) packet (length payload) room) (from : Sender) (sent-by : from ≡ senderOf packet) where
+  pub sender-inside : from .member .0 < membersMost
+  sender-inside = subst (λ (x : Sender). x .member .0 < membersMost) (sym sent-by) (inside head taken counts repeats kept marks originators lengths payloads fits packet payload room due)
+
+  module _ (taken′ kept′ originators′ lengths′ payloads′ : List ℕ) (floor : SequenceNumber)
+      (noted : taken′ ≡ set taken (from .member .0) (largerOf (getD taken (from .member .0) 0) (from .taken .0)))
+      (smallest : floor .0 ≡ floorOf (head .group .n) (takenOnly taken′))
+      (cleared : messagesIn kept′ originators′ lengths′ payloads′ ≡ clearedOf (messagesIn kept originators lengths payloads) (head .floor .0) (floor .0 - head .floor .0)) where
+    noted-by : taken′ ≡ set taken (senderOf packet .member .0) (largerOf (getD taken (senderOf packet .member .0) 0) (senderOf packet .taken .0))
+    noted-by = noted ∙ ap (λ (x : Sender). set taken (x .member .0) (largerOf (getD taken (x .member .0) 0) (x .taken .0))) sent-by
+
+    pub found-left : Left packet (getD counts (from .member .0) 0) (head .top .0)
+    found-left =
+        subst (λ (x : Sender). Left packet (getD counts (x .member .0) 0) (head .top .0)) (sym sent-by)
+        (next-left head taken counts repeats kept marks originators lengths payloads fits packet payload room due taken′ kept′ originators′ lengths′ payloads′ floor noted-by smallest cleared)
+
+    abbrev changeBy : Sender → Change
+    changeBy x = changeOf (listed kept′ originators′) packet (getD counts (x .member .0) 0) (floor .0) (head .top) (head .accepted) (head .group .resilience) (getD repeats (x .member .0) 0)
+
+    abbrev laidBy : Sender → Change → List Message
+    laidBy x c =
+        set (messagesIn kept′ originators′ lengths′ payloads′) (placeOf (c .number .0))
+        (if c .number .0 ≤? head .top .0 then messageAt (messagesIn kept′ originators′ lengths′ payloads′) (c .number .0) else messageOf (x .member) (c .count) payload)
+
+    module _ (c : Change) (changes : c ≡ changeBy from) (kept″ originators″ lengths″ payloads″ : List ℕ)
+        (laid : messagesIn kept″ originators″ lengths″ payloads″ ≡ laidBy from c) (at : ℕ) (place : at ≡ placeOf (c .number .0)) where
+      change-by : c ≡ changeBy (senderOf packet)
+      change-by = changes ∙ ap changeBy sent-by
+
+      laid-by : messagesIn kept″ originators″ lengths″ payloads″ ≡ laidBy (senderOf packet) (changeBy (senderOf packet))
+      laid-by = laid ∙ (λ i. laidBy (sent-by i) (change-by i))
+
+      pub found-sends : MaySend (c .answer) (c .top) floor (getD (messagesIn kept″ originators″ lengths″ payloads″) at blank)
+      found-sends =
+          subst (λ (k : ℕ). MaySend (c .answer) (c .top) floor (getD (messagesIn kept″ originators″ lengths″ payloads″) k blank)) (sym place)
+          (subst (λ (x : Change). MaySend (x .answer) (x .top) floor (getD (messagesIn kept″ originators″ lengths″ payloads″) (placeOf (x .number .0)) blank)) (sym change-by)
+          (next-sends head taken counts repeats kept marks originators lengths payloads fits packet payload room due taken′ kept′ originators′ lengths′ payloads′ floor noted-by smallest cleared kept″ originators″ lengths″ payloads″ laid-by))
+
+      abbrev Wrote : Change → ℕ → ℕ → List ℕ → List ℕ → Type 0
+      Wrote k place written x y =
+          Laid (sentOf (k .answer) (head .group .number) (k .top) (k .accepted) floor (getD (messagesIn kept″ originators″ lengths″ payloads″) place blank)) written x y
+
+      abbrev Gave : Sender → Change → ℕ → List ℕ → List ℕ → Type 0
+      Gave s k written x y =
+          Changed (acceptedStep (viewOf (whole head taken counts repeats kept marks originators lengths payloads)) packet payload) (record { answer = k .answer; written = written })
+          (whole (record { group = head .group; top = k .top; accepted = k .accepted; floor = floor }) taken′ (set counts (s .member .0) (k .count)) (set repeats (s .member .0) (k .repeats)) kept″ marks originators″ lengths″ payloads″) x y
+
+      pub found-changed : confirmationOf packet ≡ Confirmation.None → (written : ℕ) (x y : List ℕ) → Wrote c at written x y → Gave from c written x y
+      found-changed none written x y l =
+          subst (λ (s : Sender). Gave s c written x y) (sym sent-by)
+          (subst (λ (k : Change). Gave (senderOf packet) k written x y) (sym change-by)
+          (accepted-changed head taken counts repeats kept marks originators lengths payloads fits packet payload room due taken′ kept′ originators′ lengths′ payloads′ floor noted-by smallest cleared kept″ originators″ lengths″ payloads″ laid-by none written x y
+          (subst (λ (k : Change). Wrote k (placeOf (k .number .0)) written x y) change-by (subst (λ (k : ℕ). Wrote c k written x y) place l))))
 
 -- question 1 as the code asks it: each part of the arrays that it reads
 pub sound-as : (head : Head) (taken counts repeats kept marks originators lengths payloads : List ℕ) → Fits (whole head taken counts repeats kept marks originators lengths payloads)

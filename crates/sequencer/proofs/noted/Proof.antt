@@ -1,12 +1,11 @@
 -- A is noted, what the floor passes is cleared, and the change is laid in: by the law of `View` this is the step.
 -- Assumes nothing.
-use mathlib.Core.Path.{sym, ap, _∙_}
+use mathlib.Core.Path.{_∙_}
 use native.Mathlib.Omega.{arith}
 use denote.Ref.{now}
-use Rattle.history.specs.declared.Sender.{Sender}
 use Rattle.sequencer.specs.View.{viewOf}
 use Rattle.sequencer.proofs.Soundness.{sound-of}
-use Rattle.sequencer.proofs.View.{inside, next-left, next-sends, accepted-changed}
+use Rattle.sequencer.proofs.View.{sender-inside, found-left, found-sends, found-changed}
 use borrow.Author.Needs.{needs}
 use Rattle.sequencer.proofs.noted.Statement.{statement}
 use Rattle.sequencer.proofs.noted.Tie as tie
@@ -19,7 +18,7 @@ unfolding viewOf
 note-requires c κs =
     let a = c .before .before .before .before .before .before .before .before .before .before .before .before .before .before .before .before .args in
     let p = c .before .before .before .before .before .before .before .before .before .before .before .before .before .before .before .before .pre in
-    (sound-of _ (p .1 .sizes .sound) .n-most, rw (c .before .before .before .before .before .before .sender-of .ensures) (inside (a .head) (now (a .taken)) (now (a .counts)) (now (a .repeats)) (now (a .kept)) (now (a .marks)) (now (a .originators)) (now (a .lengths)) (now (a .payloads)) (p .2) (a .packet) (now (a .payload)) _ (p .1)))
+    (sound-of _ (p .1 .sizes .sound) .n-most, sender-inside (a .head) (now (a .taken)) (now (a .counts)) (now (a .repeats)) (now (a .kept)) (now (a .marks)) (now (a .originators)) (now (a .lengths)) (now (a .payloads)) (p .2) (a .packet) (now (a .payload)) _ (p .1) _ (c .before .before .before .before .before .before .sender-of .ensures))
 
 clear-requires : tie.Need-clear-requires
 clear-requires c κs = c .before .before .before .before .before .before .before .before .before .before .before .before .before .before .before .before .before .before .before .before .before .pre .2 .places
@@ -34,11 +33,8 @@ slice-read-count : tie.Need-slice-read-count
 slice-read-count c =
     let a = c .before .before .before .before .before .before .before .before .before .before .before .before .before .before .before .before .before .before .before .before .before .before .before .before .before .before .before .before .before .before .before .before .args in
     let p = c .before .before .before .before .before .before .before .before .before .before .before .before .before .before .before .before .before .before .before .before .before .before .before .before .before .before .before .before .before .before .before .before .pre in
-    let from = c .before .before .before .before .before .before .before .before .before .before .before .before .before .before .before .before .before .before .before .before .before .before .sender-of .ensures in
-    let i = inside (a .head) (now (a .taken)) (now (a .counts)) (now (a .repeats)) (now (a .kept)) (now (a .marks)) (now (a .originators)) (now (a .lengths)) (now (a .payloads)) (p .2) (a .packet) (now (a .payload)) _ (p .1) in
-    let e = ap (λ (x : Sender). x .member .0) from in
-    let n = p .2 .entries in
-    omega (arith, i, e, n .counts-size)
+    let i = sender-inside (a .head) (now (a .taken)) (now (a .counts)) (now (a .repeats)) (now (a .kept)) (now (a .marks)) (now (a .originators)) (now (a .lengths)) (now (a .payloads)) (p .2) (a .packet) (now (a .payload)) _ (p .1) _ (c .before .before .before .before .before .before .before .before .before .before .before .before .before .before .before .before .before .before .before .before .before .before .sender-of .ensures) in
+    omega (arith, i, p .2 .entries .counts-size)
 
 mul-again : tie.Need-mul-again
 mul-again c = search needs
@@ -47,20 +43,14 @@ slice-read-again : tie.Need-slice-read-again
 slice-read-again c =
     let a = c .before .before .before .before .before .before .before .before .before .before .before .before .before .before .before .before .before .before .before .before .before .before .before .before .before .before .before .before .before .before .before .before .before .args in
     let p = c .before .before .before .before .before .before .before .before .before .before .before .before .before .before .before .before .before .before .before .before .before .before .before .before .before .before .before .before .before .before .before .before .before .pre in
-    let from = c .before .before .before .before .before .before .before .before .before .before .before .before .before .before .before .before .before .before .before .before .before .before .before .sender-of .ensures in
-    let i = inside (a .head) (now (a .taken)) (now (a .counts)) (now (a .repeats)) (now (a .kept)) (now (a .marks)) (now (a .originators)) (now (a .lengths)) (now (a .payloads)) (p .2) (a .packet) (now (a .payload)) _ (p .1) in
-    let e = ap (λ (x : Sender). x .member .0) from in
-    let n = p .2 .entries in
-    omega (arith, i, e, n .repeats-size)
+    let i = sender-inside (a .head) (now (a .taken)) (now (a .counts)) (now (a .repeats)) (now (a .kept)) (now (a .marks)) (now (a .originators)) (now (a .lengths)) (now (a .payloads)) (p .2) (a .packet) (now (a .payload)) _ (p .1) _ (c .before .before .before .before .before .before .before .before .before .before .before .before .before .before .before .before .before .before .before .before .before .before .before .sender-of .ensures) in
+    omega (arith, i, p .2 .entries .repeats-size)
 
 packet-change-requires : tie.Need-packet-change-requires
 packet-change-requires c κs =
     let a = c .before .before .before .before .before .before .before .before .before .before .before .before .before .before .before .before .before .before .before .before .before .before .before .before .before .before .before .before .before .before .before .before .before .before .before .args in
     let p = c .before .before .before .before .before .before .before .before .before .before .before .before .before .before .before .before .before .before .before .before .before .before .before .before .before .before .before .before .before .before .before .before .before .before .before .pre in
-    let from = c .before .before .before .before .before .before .before .before .before .before .before .before .before .before .before .before .before .before .before .before .before .before .before .before .before .sender-of .ensures in
-    let noted = rw from at (c .before .before .before .before .before .before .before .before .before .before .before .before .before .before .before .before .before .before .note .ensures .0) in
-    let next = c .before .before .before .before .before .before .before .before .before .before .before .before .before .before .before .before .before .before .note .ensures .1 in
-    (rw from (next-left (a .head) (now (a .taken)) (now (a .counts)) (now (a .repeats)) (now (a .kept)) (now (a .marks)) (now (a .originators)) (now (a .lengths)) (now (a .payloads)) (p .2) (a .packet) (now (a .payload)) _ (p .1) _ _ _ _ _ _ noted next (c .before .before .before .before .before .before .before .before .before .before .before .before .before .clear .ensures)), c .before .before .before .before .before .before .before .before .before .before .before .before .kept .given ∙ p .2 .places .kept-size, c .before .before .before .before .before .before .before .before .before .before .originators .given ∙ p .2 .places .originators-size)
+    (found-left (a .head) (now (a .taken)) (now (a .counts)) (now (a .repeats)) (now (a .kept)) (now (a .marks)) (now (a .originators)) (now (a .lengths)) (now (a .payloads)) (p .2) (a .packet) (now (a .payload)) _ (p .1) _ (c .before .before .before .before .before .before .before .before .before .before .before .before .before .before .before .before .before .before .before .before .before .before .before .before .before .sender-of .ensures) _ _ _ _ _ _ (c .before .before .before .before .before .before .before .before .before .before .before .before .before .before .before .before .before .before .note .ensures .0) (c .before .before .before .before .before .before .before .before .before .before .before .before .before .before .before .before .before .before .note .ensures .1) (c .before .before .before .before .before .before .before .before .before .before .before .before .before .clear .ensures), c .before .before .before .before .before .before .before .before .before .before .before .before .kept .given ∙ p .2 .places .kept-size, c .before .before .before .before .before .before .before .before .before .before .originators .given ∙ p .2 .places .originators-size)
 
 mul-counts : tie.Need-mul-counts
 mul-counts c = search needs
@@ -69,11 +59,8 @@ slice-write-counts : tie.Need-slice-write-counts
 slice-write-counts c =
     let a = c .before .before .before .before .before .before .before .before .before .before .before .before .before .before .before .before .before .before .before .before .before .before .before .before .before .before .before .before .before .before .before .before .before .before .before .before .args in
     let p = c .before .before .before .before .before .before .before .before .before .before .before .before .before .before .before .before .before .before .before .before .before .before .before .before .before .before .before .before .before .before .before .before .before .before .before .before .pre in
-    let from = c .before .before .before .before .before .before .before .before .before .before .before .before .before .before .before .before .before .before .before .before .before .before .before .before .before .before .sender-of .ensures in
-    let i = inside (a .head) (now (a .taken)) (now (a .counts)) (now (a .repeats)) (now (a .kept)) (now (a .marks)) (now (a .originators)) (now (a .lengths)) (now (a .payloads)) (p .2) (a .packet) (now (a .payload)) _ (p .1) in
-    let e = ap (λ (x : Sender). x .member .0) from in
-    let n = p .2 .entries in
-    omega (arith, i, e, n .counts-size)
+    let i = sender-inside (a .head) (now (a .taken)) (now (a .counts)) (now (a .repeats)) (now (a .kept)) (now (a .marks)) (now (a .originators)) (now (a .lengths)) (now (a .payloads)) (p .2) (a .packet) (now (a .payload)) _ (p .1) _ (c .before .before .before .before .before .before .before .before .before .before .before .before .before .before .before .before .before .before .before .before .before .before .before .before .before .before .sender-of .ensures) in
+    omega (arith, i, p .2 .entries .counts-size)
 
 mul-repeats : tie.Need-mul-repeats
 mul-repeats c = search needs
@@ -82,11 +69,8 @@ slice-write-repeats : tie.Need-slice-write-repeats
 slice-write-repeats c =
     let a = c .before .before .before .before .before .before .before .before .before .before .before .before .before .before .before .before .before .before .before .before .before .before .before .before .before .before .before .before .before .before .before .before .before .before .before .before .args in
     let p = c .before .before .before .before .before .before .before .before .before .before .before .before .before .before .before .before .before .before .before .before .before .before .before .before .before .before .before .before .before .before .before .before .before .before .before .before .pre in
-    let from = c .before .before .before .before .before .before .before .before .before .before .before .before .before .before .before .before .before .before .before .before .before .before .before .before .before .before .sender-of .ensures in
-    let i = inside (a .head) (now (a .taken)) (now (a .counts)) (now (a .repeats)) (now (a .kept)) (now (a .marks)) (now (a .originators)) (now (a .lengths)) (now (a .payloads)) (p .2) (a .packet) (now (a .payload)) _ (p .1) in
-    let e = ap (λ (x : Sender). x .member .0) from in
-    let n = p .2 .entries in
-    omega (arith, i, e, n .repeats-size)
+    let i = sender-inside (a .head) (now (a .taken)) (now (a .counts)) (now (a .repeats)) (now (a .kept)) (now (a .marks)) (now (a .originators)) (now (a .lengths)) (now (a .payloads)) (p .2) (a .packet) (now (a .payload)) _ (p .1) _ (c .before .before .before .before .before .before .before .before .before .before .before .before .before .before .before .before .before .before .before .before .before .before .before .before .before .before .sender-of .ensures) in
+    omega (arith, i, p .2 .entries .repeats-size)
 
 lay-requires : tie.Need-lay-requires
 lay-requires c κs =
@@ -103,13 +87,8 @@ send-answer-requires : tie.Need-send-answer-requires
 send-answer-requires c κs =
     let a = c .before .before .before .before .before .before .before .before .before .before .before .before .before .before .before .before .before .before .before .before .before .before .before .before .before .before .before .before .before .before .before .before .before .before .before .before .before .before .before .before .before .before .before .before .before .before .before .before .before .before .before .before .before .before .before .before .before .before .before .args in
     let p = c .before .before .before .before .before .before .before .before .before .before .before .before .before .before .before .before .before .before .before .before .before .before .before .before .before .before .before .before .before .before .before .before .before .before .before .before .before .before .before .before .before .before .before .before .before .before .before .before .before .before .before .before .before .before .before .before .before .before .before .pre in
-    let from = c .before .before .before .before .before .before .before .before .before .before .before .before .before .before .before .before .before .before .before .before .before .before .before .before .before .before .before .before .before .before .before .before .before .before .before .before .before .before .before .before .before .before .before .before .before .before .before .before .before .sender-of .ensures in
-    let noted = rw from at (c .before .before .before .before .before .before .before .before .before .before .before .before .before .before .before .before .before .before .before .before .before .before .before .before .before .before .before .before .before .before .before .before .before .before .before .before .before .before .before .before .before .before .note .ensures .0) in
-    let next = c .before .before .before .before .before .before .before .before .before .before .before .before .before .before .before .before .before .before .before .before .before .before .before .before .before .before .before .before .before .before .before .before .before .before .before .before .before .before .before .before .before .before .note .ensures .1 in
-    let change = rw from at (c .before .before .before .before .before .before .before .before .before .before .before .before .before .before .before .before .before .before .before .before .before .before .before .packet-change .ensures) in
-    let laid = rw (change, from) at (c .before .before .before .before .before .before .before .before .before .before .before .before .before .before .before .before .before .lay .ensures) in
     let at = c .before .before .before .before .before .before .before .place .ensures in
-    (omega (arith, at), rw (at, change) (next-sends (a .head) (now (a .taken)) (now (a .counts)) (now (a .repeats)) (now (a .kept)) (now (a .marks)) (now (a .originators)) (now (a .lengths)) (now (a .payloads)) (p .2) (a .packet) (now (a .payload)) _ (p .1) _ _ _ _ _ _ noted next (c .before .before .before .before .before .before .before .before .before .before .before .before .before .before .before .before .before .before .before .before .before .before .before .before .before .before .before .before .before .before .before .before .before .before .before .before .before .clear .ensures) _ _ _ _ laid), p .1 .sizes .output, record { kept-size = c .before .before .before .before .before .before .before .before .before .before .before .before .before .before .before .before .kept2 .given ∙ c .before .before .before .before .before .before .before .before .before .before .before .before .before .before .before .before .before .before .before .before .before .before .before .before .before .before .before .before .before .before .before .before .before .before .before .before .kept .given ∙ p .2 .places .kept-size; originators-size = c .before .before .before .before .before .before .before .before .before .before .before .before .before .before .originators2 .given ∙ c .before .before .before .before .before .before .before .before .before .before .before .before .before .before .before .before .before .before .before .before .before .before .before .before .before .before .before .before .before .before .before .before .before .before .originators .given ∙ p .2 .places .originators-size; lengths-size = c .before .before .before .before .before .before .before .before .before .before .before .before .lengths2 .given ∙ c .before .before .before .before .before .before .before .before .before .before .before .before .before .before .before .before .before .before .before .before .before .before .before .before .before .before .before .before .before .before .before .before .lengths .given ∙ p .2 .places .lengths-size; payloads-size = c .before .before .before .before .before .before .before .before .before .before .payloads2 .given ∙ c .before .before .before .before .before .before .before .before .before .before .before .before .before .before .before .before .before .before .before .before .before .before .before .before .before .before .before .before .before .before .payloads .given ∙ p .2 .places .payloads-size })
+    (omega (arith, at), found-sends (a .head) (now (a .taken)) (now (a .counts)) (now (a .repeats)) (now (a .kept)) (now (a .marks)) (now (a .originators)) (now (a .lengths)) (now (a .payloads)) (p .2) (a .packet) (now (a .payload)) _ (p .1) _ (c .before .before .before .before .before .before .before .before .before .before .before .before .before .before .before .before .before .before .before .before .before .before .before .before .before .before .before .before .before .before .before .before .before .before .before .before .before .before .before .before .before .before .before .before .before .before .before .before .before .sender-of .ensures) _ _ _ _ _ _ (c .before .before .before .before .before .before .before .before .before .before .before .before .before .before .before .before .before .before .before .before .before .before .before .before .before .before .before .before .before .before .before .before .before .before .before .before .before .before .before .before .before .before .note .ensures .0) (c .before .before .before .before .before .before .before .before .before .before .before .before .before .before .before .before .before .before .before .before .before .before .before .before .before .before .before .before .before .before .before .before .before .before .before .before .before .before .before .before .before .before .note .ensures .1) (c .before .before .before .before .before .before .before .before .before .before .before .before .before .before .before .before .before .before .before .before .before .before .before .before .before .before .before .before .before .before .before .before .before .before .before .before .before .clear .ensures) _ (c .before .before .before .before .before .before .before .before .before .before .before .before .before .before .before .before .before .before .before .before .before .before .before .packet-change .ensures) _ _ _ _ (c .before .before .before .before .before .before .before .before .before .before .before .before .before .before .before .before .before .lay .ensures) _ (c .before .before .before .before .before .before .before .place .ensures), p .1 .sizes .output, record { kept-size = c .before .before .before .before .before .before .before .before .before .before .before .before .before .before .before .before .kept2 .given ∙ c .before .before .before .before .before .before .before .before .before .before .before .before .before .before .before .before .before .before .before .before .before .before .before .before .before .before .before .before .before .before .before .before .before .before .before .before .kept .given ∙ p .2 .places .kept-size; originators-size = c .before .before .before .before .before .before .before .before .before .before .before .before .before .before .originators2 .given ∙ c .before .before .before .before .before .before .before .before .before .before .before .before .before .before .before .before .before .before .before .before .before .before .before .before .before .before .before .before .before .before .before .before .before .before .originators .given ∙ p .2 .places .originators-size; lengths-size = c .before .before .before .before .before .before .before .before .before .before .before .before .lengths2 .given ∙ c .before .before .before .before .before .before .before .before .before .before .before .before .before .before .before .before .before .before .before .before .before .before .before .before .before .before .before .before .before .before .before .before .lengths .given ∙ p .2 .places .lengths-size; payloads-size = c .before .before .before .before .before .before .before .before .before .before .payloads2 .given ∙ c .before .before .before .before .before .before .before .before .before .before .before .before .before .before .before .before .before .before .before .before .before .before .before .before .before .before .before .before .before .before .payloads .given ∙ p .2 .places .payloads-size })
 
 same-length : tie.Need-same-length
 same-length c = search needs
@@ -136,13 +115,7 @@ returns : tie.Need-returns
 returns c =
     let a = c .before .before .before .before .before .before .before .before .before .before .before .before .before .before .before .before .before .before .before .before .before .before .before .before .before .before .before .before .before .before .before .before .before .before .before .before .before .before .before .before .before .before .before .before .before .before .before .before .before .before .before .before .before .before .before .before .before .before .before .before .before .before .args in
     let p = c .before .before .before .before .before .before .before .before .before .before .before .before .before .before .before .before .before .before .before .before .before .before .before .before .before .before .before .before .before .before .before .before .before .before .before .before .before .before .before .before .before .before .before .before .before .before .before .before .before .before .before .before .before .before .before .before .before .before .before .before .before .before .pre in
-    let from = c .before .before .before .before .before .before .before .before .before .before .before .before .before .before .before .before .before .before .before .before .before .before .before .before .before .before .before .before .before .before .before .before .before .before .before .before .before .before .before .before .before .before .before .before .before .before .before .before .before .before .before .before .sender-of .ensures in
-    let noted = rw from at (c .before .before .before .before .before .before .before .before .before .before .before .before .before .before .before .before .before .before .before .before .before .before .before .before .before .before .before .before .before .before .before .before .before .before .before .before .before .before .before .before .before .before .before .before .before .note .ensures .0) in
-    let next = c .before .before .before .before .before .before .before .before .before .before .before .before .before .before .before .before .before .before .before .before .before .before .before .before .before .before .before .before .before .before .before .before .before .before .before .before .before .before .before .before .before .before .before .before .before .note .ensures .1 in
-    let change = rw from at (c .before .before .before .before .before .before .before .before .before .before .before .before .before .before .before .before .before .before .before .before .before .before .before .before .before .before .packet-change .ensures) in
-    let laid = rw (change, from) at (c .before .before .before .before .before .before .before .before .before .before .before .before .before .before .before .before .before .before .before .before .lay .ensures) in
-    let sent = rw (c .before .before .before .before .before .before .before .before .before .before .place .ensures, change) at (c .before .before .send-answer .ensures) in
-    rw (change, from) (accepted-changed (a .head) (now (a .taken)) (now (a .counts)) (now (a .repeats)) (now (a .kept)) (now (a .marks)) (now (a .originators)) (now (a .lengths)) (now (a .payloads)) (p .2) (a .packet) (now (a .payload)) _ (p .1) _ _ _ _ _ _ noted next (c .before .before .before .before .before .before .before .before .before .before .before .before .before .before .before .before .before .before .before .before .before .before .before .before .before .before .before .before .before .before .before .before .before .before .before .before .before .before .before .before .clear .ensures) _ _ _ _ laid (p .0) _ _ _ sent)
+    found-changed (a .head) (now (a .taken)) (now (a .counts)) (now (a .repeats)) (now (a .kept)) (now (a .marks)) (now (a .originators)) (now (a .lengths)) (now (a .payloads)) (p .2) (a .packet) (now (a .payload)) _ (p .1) _ (c .before .before .before .before .before .before .before .before .before .before .before .before .before .before .before .before .before .before .before .before .before .before .before .before .before .before .before .before .before .before .before .before .before .before .before .before .before .before .before .before .before .before .before .before .before .before .before .before .before .before .before .before .sender-of .ensures) _ _ _ _ _ _ (c .before .before .before .before .before .before .before .before .before .before .before .before .before .before .before .before .before .before .before .before .before .before .before .before .before .before .before .before .before .before .before .before .before .before .before .before .before .before .before .before .before .before .before .before .before .note .ensures .0) (c .before .before .before .before .before .before .before .before .before .before .before .before .before .before .before .before .before .before .before .before .before .before .before .before .before .before .before .before .before .before .before .before .before .before .before .before .before .before .before .before .before .before .before .before .before .note .ensures .1) (c .before .before .before .before .before .before .before .before .before .before .before .before .before .before .before .before .before .before .before .before .before .before .before .before .before .before .before .before .before .before .before .before .before .before .before .before .before .before .before .before .clear .ensures) _ (c .before .before .before .before .before .before .before .before .before .before .before .before .before .before .before .before .before .before .before .before .before .before .before .before .before .before .packet-change .ensures) _ _ _ _ (c .before .before .before .before .before .before .before .before .before .before .before .before .before .before .before .before .before .before .before .before .lay .ensures) _ (c .before .before .before .before .before .before .before .before .before .before .place .ensures) (p .0) _ _ _ (c .before .before .send-answer .ensures)
 
 pub noted-spec : {M : Type 1} → statement M
 noted-spec = tie.close (tie.spec sender-of-requires note-requires clear-requires cast-member mul-count slice-read-count mul-again slice-read-again packet-change-requires mul-counts slice-write-counts mul-repeats slice-write-repeats lay-requires cast-place place-requires send-answer-requires same-length same-length-2 same-length-3 same-length-4 same-length-5 same-length-6 same-length-7 returns)

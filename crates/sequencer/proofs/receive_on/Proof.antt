@@ -1,6 +1,5 @@
 -- What is decided, and then what is done.
 -- Assumes nothing.
-use native.Mathlib.Omega.{arith}
 use lib.ListN.{length}
 use denote.Ref.{now}
 use Rattle.sequencer.specs.View.{whole, viewOf}

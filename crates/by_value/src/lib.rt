@@ -2,12 +2,12 @@
 use group::MemberNumber;
 use group::SequenceNumber;
 use group::Verdict;
-use member::Member;
-use sequencer::Sequencer;
+use states::Member;
+use states::Sequencer;
 ghost use Rattle.member.specs.Calls as memberCalls;
-ghost use Rattle.member.specs.Promise as memberPromise;
 ghost use Rattle.sequencer.specs.Calls as sequencerCalls;
-ghost use Rattle.sequencer.specs.Promise as sequencerPromise;
+ghost use Rattle.states.specs.Member as memberInPlace;
+ghost use Rattle.states.specs.Sequencer as sequencerInPlace;
 
 // What a call leaves, and what it says.
 pub struct MemberStep {
@@ -33,7 +33,7 @@ pub struct SequencerOpening {
 
 // Opens a member: questions 18 and 24.
 pub fn open_member(n: u8, number: MemberNumber, group: u32, resilience: u8) -> MemberOpening
-    ensures { λ r. ⌜ memberPromise.Opens (memberCalls.freshOf n number group resilience) (r .verdict) (r .member) ⌝ }
+    ensures { λ r. ⌜ memberInPlace.Opens (memberCalls.freshOf n number group resilience) (r .verdict) (r .member) ⌝ }
 {
     let closed = Member::closed();
     let mut queued = closed.queued;
@@ -77,7 +77,7 @@ pub fn open_member(n: u8, number: MemberNumber, group: u32, resilience: u8) -> M
 
 // A message is submitted.
 pub fn submit_member(member: Member, payload: &[u8], out: &mut [u8]) -> MemberStep
-    ensures { λ r. ⌜ memberPromise.Submitted member (now (payload .entry)) (now (out .entry)) (r .reply) (r .member) (now (out .exit)) ⌝ }
+    ensures { λ r. ⌜ memberInPlace.Submitted member (now (payload .entry)) (now (out .entry)) (r .reply) (r .member) (now (out .exit)) ⌝ }
 {
     let mut queued = member.queued;
     let mut held = member.held;
@@ -121,7 +121,7 @@ pub fn submit_member(member: Member, payload: &[u8], out: &mut [u8]) -> MemberSt
 
 // The call for packets, of a member.
 pub fn receive_member(member: Member, packet: &[u8], out: &mut [u8]) -> MemberStep
-    ensures { λ r. ⌜ memberPromise.Received member (now (packet .entry)) (now (out .entry)) (r .reply) (r .member) (now (out .exit)) ⌝ }
+    ensures { λ r. ⌜ memberInPlace.Received member (now (packet .entry)) (now (out .entry)) (r .reply) (r .member) (now (out .exit)) ⌝ }
 {
     let mut queued = member.queued;
     let mut held = member.held;
@@ -165,7 +165,7 @@ pub fn receive_member(member: Member, packet: &[u8], out: &mut [u8]) -> MemberSt
 
 // The following message is taken.
 pub fn take_member(member: Member, out: &mut [u8]) -> MemberStep
-    ensures { λ r. ⌜ memberPromise.Taken member (now (out .entry)) (r .reply) (r .member) (now (out .exit)) ⌝ }
+    ensures { λ r. ⌜ memberInPlace.Taken member (now (out .entry)) (r .reply) (r .member) (now (out .exit)) ⌝ }
 {
     let mut queued = member.queued;
     let mut held = member.held;
@@ -208,7 +208,7 @@ pub fn take_member(member: Member, out: &mut [u8]) -> MemberStep
 
 // The request of the first message that waits is written again.
 pub fn repeat_member(member: Member, out: &mut [u8]) -> member::Reply
-    ensures { λ r. ⌜ memberPromise.Repeated member (now (out .entry)) r (now (out .exit)) ⌝ }
+    ensures { λ r. ⌜ memberInPlace.Repeated member (now (out .entry)) r (now (out .exit)) ⌝ }
 {
     let queued = member.queued;
     let held = member.held;
@@ -234,7 +234,7 @@ pub fn repeat_member(member: Member, out: &mut [u8]) -> member::Reply
 
 // The status is written.
 pub fn status_member(member: Member, out: &mut [u8]) -> member::Reply
-    ensures { λ r. ⌜ memberPromise.Reported member (now (out .entry)) r (now (out .exit)) ⌝ }
+    ensures { λ r. ⌜ memberInPlace.Reported member (now (out .entry)) r (now (out .exit)) ⌝ }
 {
     let queued = member.queued;
     let held = member.held;
@@ -260,7 +260,7 @@ pub fn status_member(member: Member, out: &mut [u8]) -> member::Reply
 
 // The last number through which a member has everything, offered messages included.
 pub fn row_end_member(member: Member) -> SequenceNumber
-    ensures { λ r. ⌜ memberPromise.Ended member r ⌝ }
+    ensures { λ r. ⌜ memberInPlace.Ended member r ⌝ }
 {
     let queued = member.queued;
     let held = member.held;
@@ -285,7 +285,7 @@ pub fn row_end_member(member: Member) -> SequenceNumber
 
 // Opens a sequencer: questions 18 and 24.
 pub fn open_sequencer(n: u8, group: u32, resilience: u8) -> SequencerOpening
-    ensures { λ r. ⌜ sequencerPromise.Starts (sequencerCalls.freshOf n group resilience) (r .verdict) (r .sequencer) ⌝ }
+    ensures { λ r. ⌜ sequencerInPlace.Starts (sequencerCalls.freshOf n group resilience) (r .verdict) (r .sequencer) ⌝ }
 {
     let closed = Sequencer::closed();
     let mut taken = closed.taken;
@@ -328,7 +328,7 @@ pub fn open_sequencer(n: u8, group: u32, resilience: u8) -> SequencerOpening
 
 // The call for packets, of a sequencer.
 pub fn receive_sequencer(sequencer: Sequencer, packet: &[u8], out: &mut [u8]) -> SequencerStep
-    ensures { λ r. ⌜ sequencerPromise.Received sequencer (now (packet .entry)) (now (out .entry)) (r .reply) (r .sequencer) (now (out .exit)) ⌝ }
+    ensures { λ r. ⌜ sequencerInPlace.Received sequencer (now (packet .entry)) (now (out .entry)) (r .reply) (r .sequencer) (now (out .exit)) ⌝ }
 {
     let mut taken = sequencer.taken;
     let mut counts = sequencer.counts;
@@ -372,7 +372,7 @@ pub fn receive_sequencer(sequencer: Sequencer, packet: &[u8], out: &mut [u8]) ->
 
 // The poll packet is written.
 pub fn poll_sequencer(sequencer: Sequencer, out: &mut [u8]) -> sequencer::Reply
-    ensures { λ r. ⌜ sequencerPromise.Polled sequencer (now (out .entry)) r (now (out .exit)) ⌝ }
+    ensures { λ r. ⌜ sequencerInPlace.Polled sequencer (now (out .entry)) r (now (out .exit)) ⌝ }
 {
     let taken = sequencer.taken;
     let counts = sequencer.counts;
@@ -402,7 +402,7 @@ pub fn copy_sequencer(
     number: SequenceNumber,
     out: &mut [u8],
 ) -> sequencer::Reply
-    ensures { λ r. ⌜ sequencerPromise.Copied sequencer number (now (out .entry)) r (now (out .exit)) ⌝ }
+    ensures { λ r. ⌜ sequencerInPlace.Copied sequencer number (now (out .entry)) r (now (out .exit)) ⌝ }
 {
     let taken = sequencer.taken;
     let counts = sequencer.counts;

@@ -2,8 +2,8 @@
 use group::MemberNumber;
 use group::SequenceNumber;
 use group::Verdict;
-use member::Member;
-use sequencer::Sequencer;
+use states::Member;
+use states::Sequencer;
 ghost use mathlib.Core.Path.{_≡_};
 ghost use Rattle.group.specs.Codes.{flagOf};
 ghost use Rattle.ends.specs.Telling.{sequencerTold, memberTold, openingTold};

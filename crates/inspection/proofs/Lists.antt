@@ -12,13 +12,13 @@ use Rattle.group.specs.declared.MemberNumber.{MemberNumber}
 use Rattle.jobs.specs.Job.{unusedState, waitingState, noJob}
 use Rattle.jobs.specs.declared.Job.{Job}
 use Rattle.member.specs.State.{Member}
-use Rattle.member.specs.View.{viewOf}
 use Rattle.model.specs.World.{noMember}
 use Rattle.packet.specs.Packet.{readOf, payloadAt}
 use Rattle.simulator.proofs.Reading.{member-seen}
 use Rattle.simulator.specs.Whole.{packetIn, groupOf, sizeOf}
 use Rattle.simulator.specs.declared.Stored.{Stored}
 use Rattle.simulator.specs.declared.Whole.{Whole}
+use Rattle.states.specs.Member.{viewOf}
 use Rattle.terminal.specs.Left.{heardOf, heardAll, freshLeft, listIn}
 use Rattle.terminal.specs.declared.Left.{Left}
 use Rattle.text.specs.LaidAt.{LaidAt}

@@ -10,11 +10,11 @@ use lib.Seq.{length-take-le}
 use Rattle.group.specs.Lent.{front}
 use Rattle.history.proofs.View.{entry-in}
 use Rattle.history.specs.View.{tableIn}
-use Rattle.member.specs.View as member
 use Rattle.sequencer.specs.View as sequencer
 use Rattle.simulator.proofs.Reading.{member-seen}
 use Rattle.simulator.specs.Whole.{sizeOf, groupOf}
 use Rattle.simulator.specs.declared.Whole.{Whole}
+use Rattle.states.specs.Member as member
 use Rattle.text.proofs.Pieces.{laid-then}
 use Rattle.text.specs.LaidAt.{LaidAt}
 use Rattle.text.specs.Text.{lineFeed}

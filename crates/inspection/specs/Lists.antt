@@ -7,9 +7,9 @@ use Rattle.group.specs.Limits.{jobMost}
 use Rattle.group.specs.declared.MemberNumber.{MemberNumber}
 use Rattle.jobs.specs.Job.{unusedState, waitingState, noJob}
 use Rattle.jobs.specs.declared.Job.{Job}
-use Rattle.member.specs.View.{viewOf}
-use Rattle.member.specs.declared.Member.{Member}
 use Rattle.model.specs.World.{Group, noMember}
+use Rattle.states.specs.Member.{viewOf}
+use Rattle.states.specs.declared.Member.{Member}
 use Rattle.terminal.specs.Left.{heardAll, freshLeft, listIn}
 use Rattle.text.specs.Text.{textOf}
 use Rattle.text.specs.Written.{decimalOf, payloadText, line, numberDigits}

@@ -5,11 +5,11 @@ use lib.ListN.{length, getD}
 use Rattle.group.specs.Limits.{membersMost}
 use Rattle.history.specs.State.{Acknowledgement, noAcknowledgement}
 use Rattle.member.specs.State.{Member, reachOf}
-use Rattle.member.specs.View.{viewOf}
-use Rattle.member.specs.declared.Member.{Member as Stored}
 use Rattle.model.specs.World.{Group, noMember}
 use Rattle.player.specs.Play.{Stage, opening, running, ended, closed, Program, outputOf}
 use Rattle.report.specs.Print.{badOpening}
+use Rattle.states.specs.Member.{viewOf}
+use Rattle.states.specs.declared.Member.{Member as Stored}
 use Rattle.text.specs.Text.{textOf}
 use Rattle.text.specs.Written.{decimalOf, line, numberDigits}
 use Rattle.inspection.specs.Lists.{listsOf}

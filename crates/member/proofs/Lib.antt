@@ -13,7 +13,6 @@ pub mod Taking
 pub mod Closing
 pub mod View
 pub mod Opening
-pub mod Lends
 pub mod Outcomes
 pub mod Confirming
 pub mod Submitting

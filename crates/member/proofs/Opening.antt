@@ -12,9 +12,8 @@ use Rattle.store.proofs.Places.{messages-none}
 use Rattle.member.specs.Calls.{Opening}
 use Rattle.member.specs.Promise.{Opens}
 use Rattle.member.specs.State.{freshMember}
-use Rattle.member.specs.View.{whole, viewOf}
+use Rattle.member.specs.View.{Stored, whole, viewOf}
 use Rattle.member.specs.declared.Head.{Head}
-use Rattle.member.specs.declared.Member.{Member as Stored}
 
 abbrev pub idleHead : Group → MemberNumber → Head
 idleHead group number = record { group = group; number = number; taken = record { 0 = 0 }; accepted = record { 0 = 0 }; submitted = 0; waiting = 0 }

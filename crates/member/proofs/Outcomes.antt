@@ -33,12 +33,11 @@ use Rattle.member.specs.Promise.{replyOf, Changed, Told}
 use Rattle.member.specs.Sound.{soundOf}
 use Rattle.member.specs.State.{Member, reachOf, acknowledgedOf, firstCount}
 use Rattle.member.specs.Steps.{Spoken, Replied, memberOf}
-use Rattle.member.specs.View.{viewOf}
+use Rattle.member.specs.View.{Stored, viewOf}
 use Rattle.member.specs.Wording.{wordingOf}
 use Rattle.member.specs.declared.Answer.{Answer}
 use Rattle.member.specs.declared.Done.{Done}
 use Rattle.member.specs.declared.Head.{Head}
-use Rattle.member.specs.declared.Member.{Member as Stored}
 use Rattle.member.specs.declared.Reply.{Reply}
 use Rattle.member.proofs.Acknowledged.{left, in-left}
 use Rattle.member.proofs.Keeping.{own-first}

@@ -15,11 +15,9 @@ use Rattle.packet.specs.Packet.{broadcastKind, pollKind, offerKind, acceptKind,
 use Rattle.packet.specs.declared.Header.{Header}
 use Rattle.packet.specs.declared.Reading.{Reading}
 use Rattle.member.specs.Calls.{Outcome, refused, submitOf, repeatOf, statusOf, takeOf, receiveOf}
-use Rattle.member.specs.Promise.{Submitted, Received, Taken, Repeated, Reported}
+use Rattle.member.specs.Promise.{Told}
 use Rattle.member.specs.Sound.{soundOf}
-use Rattle.member.specs.View.{Sized, viewOf}
 use Rattle.member.specs.declared.Answer.{Answer}
-use Rattle.member.specs.declared.Member.{Member as Stored}
 use Rattle.member.specs.declared.Reply.{Reply}
 use Rattle.member.specs.State.{Member}
 
@@ -145,35 +143,15 @@ MoreSays = (m : Member) (room : ℕ) → Typed m → moreOf (takeOf m room .answ
 abbrev pub TakeKeeps : Type 0
 TakeKeeps = (m : Member) (room : ℕ) → Typed m → Keeps m (takeOf m room) × (length (takeOf m room .bytes) ≤ payloadMost)
 
--- the view loses nothing: two members in memory with the same view are the same, byte by byte
-abbrev pub ViewWhole : Type 0
-ViewWhole = (s t : Stored) → Sized s → Sized t → viewOf s ≡ viewOf t → s ≡ t
-
--- a call that is refused leaves the member in memory as it was, every byte, and the lent output
-abbrev pub RefusedSubmitLeaves : Type 0
-RefusedSubmitLeaves =
-    (s t : Stored) (payload before after : List ℕ) (reply : Reply) (refusal : Refusal) → Sized s → Sized t
-    → Submitted s payload before reply t after → reply .answer ≡ Answer.Refused refusal → (t ≡ s) × (after ≡ before)
-
-abbrev pub RefusedReceiveLeaves : Type 0
-RefusedReceiveLeaves =
-    (s t : Stored) (packet before after : List ℕ) (reply : Reply) (refusal : Refusal) → Sized s → Sized t
-    → Received s packet before reply t after → reply .answer ≡ Answer.Refused refusal → (t ≡ s) × (after ≡ before)
-
-abbrev pub RefusedTakeLeaves : Type 0
-RefusedTakeLeaves =
-    (s t : Stored) (before after : List ℕ) (reply : Reply) (refusal : Refusal) → Sized s → Sized t
-    → Taken s before reply t after → reply .answer ≡ Answer.Refused refusal → (t ≡ s) × (after ≡ before)
-
 -- a repeat and a status leave the state; where they are refused, also the lent output
 abbrev pub RepeatLeaves : Type 0
 RepeatLeaves =
-    (s : Stored) (before after : List ℕ) (reply : Reply)
-    → (repeatOf (viewOf s) (length before) .member ≡ viewOf s)
-    × ((refusal : Refusal) → Repeated s before reply after → reply .answer ≡ Answer.Refused refusal → after ≡ before)
+    (m : Member) (before after : List ℕ) (reply : Reply)
+    → (repeatOf m (length before) .member ≡ m)
+    × ((refusal : Refusal) → Told (repeatOf m (length before)) reply before after → reply .answer ≡ Answer.Refused refusal → after ≡ before)
 
 abbrev pub StatusLeaves : Type 0
 StatusLeaves =
-    (s : Stored) (before after : List ℕ) (reply : Reply)
-    → (statusOf (viewOf s) (length before) .member ≡ viewOf s)
-    × ((refusal : Refusal) → Reported s before reply after → reply .answer ≡ Answer.Refused refusal → after ≡ before)
+    (m : Member) (before after : List ℕ) (reply : Reply)
+    → (statusOf m (length before) .member ≡ m)
+    × ((refusal : Refusal) → Told (statusOf m (length before)) reply before after → reply .answer ≡ Answer.Refused refusal → after ≡ before)

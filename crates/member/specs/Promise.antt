@@ -10,9 +10,8 @@ use Rattle.group.specs.declared.SequenceNumber.{SequenceNumber}
 use Rattle.group.specs.declared.Verdict.{Verdict}
 use Rattle.member.specs.Calls.{Outcome, Opening, submitOf, repeatOf, statusOf, takeOf, receiveOf, freshOf}
 use Rattle.member.specs.State.{reachOf}
-use Rattle.member.specs.View.{viewOf}
+use Rattle.member.specs.View.{Stored, viewOf}
 use Rattle.member.specs.Wording.{wordingOf}
-use Rattle.member.specs.declared.Member.{Member as Stored}
 use Rattle.member.specs.declared.Reply.{Reply}
 
 -- what a call says of its outcome

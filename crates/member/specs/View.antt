@@ -1,4 +1,4 @@
--- A member in memory, read as the state that the calls' meaning speaks of: its numbers stand in its head, and its messages in arrays, their payloads side by side.
+-- A member in parts, read as the state that the calls' meaning speaks of: its numbers stand in its head, and its messages in arrays, their payloads side by side.
 use mathlib.Core.Path.{_≡_}
 use mathlib.Core.List.{List}
 use Prim.Native.Nat.{ℕ, _*_}
@@ -7,9 +7,20 @@ use Rattle.group.specs.Limits.{heldMost, waitingMost, payloadMost}
 use Rattle.store.specs.Places.{messagesIn}
 use Rattle.member.specs.State.{Member}
 use Rattle.member.specs.declared.Head.{Head}
-use Rattle.member.specs.declared.Member.{Member as Stored}
 
--- the member of a head and its arrays
+-- what the functions are lent: a head, and of each place of the waiting messages and of each that is held its count, 0 for none, its originator, its length
+-- and its payload
+pub record Stored : Type 0 where
+  pub head : Head
+  pub queued : List ℕ
+  pub held : List ℕ
+  pub «queued_originators» : List ℕ
+  pub «queued_lengths» : List ℕ
+  pub «held_originators» : List ℕ
+  pub «held_lengths» : List ℕ
+  pub «queued_payloads» : List ℕ
+  pub «held_payloads» : List ℕ
+
 abbrev pub whole : Head → List ℕ → List ℕ → List ℕ → List ℕ → List ℕ → List ℕ → List ℕ → List ℕ → Stored
 whole head queued held «queued_originators» «queued_lengths» «held_originators» «held_lengths» «queued_payloads» «held_payloads» =
     record {

@@ -1,5 +1,5 @@
-// The member: it submits messages, holds what comes until it can be taken in order, and acknowledges what it has. Its state lies behind
-// a reference: each call lends a function the head's numbers and all arrays.
+// The member: it submits messages, holds what comes until it can be taken in order, and acknowledges what it has. The work of each call is
+// lent its state in parts: the numbers of its head by value, and all arrays.
 use group::Group;
 use group::MemberNumber;
 use group::Opened;
@@ -19,7 +19,6 @@ ghost use Rattle.group.specs.Opening.{descriptionOf};
 ghost use Rattle.packet.specs.Packet.{obeys, fieldsVerdict, fieldsOf, packetOf};
 ghost use Rattle.store.specs.Places.{partOf, messagesIn};
 ghost use Rattle.window.specs.Places.{placeOf, queuePlace, smallerOf};
-ghost use Rattle.member.specs.State.{freshMember};
 ghost use Rattle.member.specs.Sound.{soundOf};
 ghost use Rattle.member.specs.Calls.{answered, callVerdict, submitVerdict, gapUpTo, keptOf, messageStep, broadcastOf, confirms, offerOf, pollOf, contentStep};
 ghost use Rattle.member.specs.View.{Sized, whole, viewOf};
@@ -35,21 +34,6 @@ pub struct Head {
     pub accepted: SequenceNumber,
     pub submitted: u32,
     pub waiting: u32,
-}
-
-// A member: its numbers; of each place of its waiting messages and of each that is held its count, 0 for none, its originator, its
-// length and its payload.
-#[repr(C)]
-pub struct Member {
-    pub head: Head,
-    pub queued: [u32; Group::WAITING],
-    pub held: [u32; Group::HELD],
-    pub queued_originators: [u8; Group::WAITING],
-    pub queued_lengths: [u8; Group::WAITING],
-    pub held_originators: [u8; Group::HELD],
-    pub held_lengths: [u8; Group::HELD],
-    pub queued_payloads: [u8; Group::WAITING_BYTES],
-    pub held_payloads: [u8; Group::HELD_BYTES],
 }
 
 // What a call answers. What a take hands out goes with its payload, which lies at the front of the lent output.
@@ -724,7 +708,7 @@ fn hand_out(
 }
 
 // The head of a member that has taken and submitted nothing.
-fn idle(group: Group, number: MemberNumber) -> Head
+pub fn idle(group: Group, number: MemberNumber) -> Head
     ensures { λ r. ⌜ r ≡ record { group = group; number = number; taken = record { 0 = 0 }; accepted = record { 0 = 0 }; submitted = 0; waiting = 0 } ⌝ }
 {
     Head {
@@ -1064,168 +1048,4 @@ pub fn row_end_on(
     ensures { λ r. ⌜ Ended (whole head (now (queued .entry)) (now (held .entry)) (now («queued_originators» .entry)) (now («queued_lengths» .entry)) (now («held_originators» .entry)) (now («held_lengths» .entry)) (now («queued_payloads» .entry)) (now («held_payloads» .entry))) r ⌝ }
 {
     window::row_end(held, head.taken)
-}
-
-impl Member {
-    // The member that is not opened, all zero: no call accepts it.
-    pub fn closed() -> Self
-        ensures { λ r. ⌜ viewOf r ≡ freshMember (descriptionOf 0 0 0) (record { 0 = 0 }) ⌝ }
-    {
-        let none = Group {
-            n: 0,
-            resilience: 0,
-            number: 0,
-        };
-        let head = idle(none, MemberNumber(0));
-        Member {
-            head,
-            queued: [0u32; Group::WAITING],
-            held: [0u32; Group::HELD],
-            queued_originators: [0u8; Group::WAITING],
-            queued_lengths: [0u8; Group::WAITING],
-            held_originators: [0u8; Group::HELD],
-            held_lengths: [0u8; Group::HELD],
-            queued_payloads: [0u8; Group::WAITING_BYTES],
-            held_payloads: [0u8; Group::HELD_BYTES],
-        }
-    }
-
-    // Opens a member: questions 18 and 24. Where it is refused, the state is all zero.
-    pub fn open(&mut self, n: u8, number: MemberNumber, group: u32, resilience: u8) -> Verdict
-        ensures { λ r. ⌜ Begins (now (self .entry)) n number group resilience r (now (self .exit)) ⌝ }
-    {
-        let done = open_on(
-            self.head,
-            &mut self.queued,
-            &mut self.held,
-            &mut self.queued_originators,
-            &mut self.queued_lengths,
-            &mut self.held_originators,
-            &mut self.held_lengths,
-            &mut self.queued_payloads,
-            &mut self.held_payloads,
-            n,
-            number,
-            group,
-            resilience,
-        );
-        self.head = done.head;
-        done.verdict
-    }
-
-    // Submits a message: its request is written, or, behind one that waits, nothing.
-    pub fn submit(&mut self, payload: &[u8], out: &mut [u8]) -> Reply
-        ensures { λ r. ⌜ Submitted (now (self .entry)) (now (payload .entry)) (now (out .entry)) r (now (self .exit)) (now (out .exit)) ⌝ }
-    {
-        let done = submit_on(
-            self.head,
-            &mut self.queued,
-            &mut self.held,
-            &mut self.queued_originators,
-            &mut self.queued_lengths,
-            &mut self.held_originators,
-            &mut self.held_lengths,
-            &mut self.queued_payloads,
-            &mut self.held_payloads,
-            payload,
-            out,
-        );
-        self.head = done.head;
-        done.reply
-    }
-
-    // The call for packets.
-    pub fn receive(&mut self, packet: &[u8], out: &mut [u8]) -> Reply
-        ensures { λ r. ⌜ Received (now (self .entry)) (now (packet .entry)) (now (out .entry)) r (now (self .exit)) (now (out .exit)) ⌝ }
-    {
-        let done = receive_on(
-            self.head,
-            &mut self.queued,
-            &mut self.held,
-            &mut self.queued_originators,
-            &mut self.queued_lengths,
-            &mut self.held_originators,
-            &mut self.held_lengths,
-            &mut self.queued_payloads,
-            &mut self.held_payloads,
-            packet,
-            out,
-        );
-        self.head = done.head;
-        done.reply
-    }
-
-    // Hands out the following number, if it is held and accepted: its place is cleared, and if it is the member's own that waits first, the
-    // next is first.
-    pub fn take(&mut self, out: &mut [u8]) -> Reply
-        ensures { λ r. ⌜ Taken (now (self .entry)) (now (out .entry)) r (now (self .exit)) (now (out .exit)) ⌝ }
-    {
-        let done = take_on(
-            self.head,
-            &mut self.queued,
-            &mut self.held,
-            &mut self.queued_originators,
-            &mut self.queued_lengths,
-            &mut self.held_originators,
-            &mut self.held_lengths,
-            &mut self.queued_payloads,
-            &mut self.held_payloads,
-            out,
-        );
-        self.head = done.head;
-        done.reply
-    }
-
-    // Writes the request of the first message that waits again, with what is acknowledged by then.
-    pub fn repeat(&self, out: &mut [u8]) -> Reply
-        ensures { λ r. ⌜ Repeated (now (self .entry)) (now (out .entry)) r (now (out .exit)) ⌝ }
-    {
-        repeat_on(
-            self.head,
-            &self.queued,
-            &self.held,
-            &self.queued_originators,
-            &self.queued_lengths,
-            &self.held_originators,
-            &self.held_lengths,
-            &self.queued_payloads,
-            &self.held_payloads,
-            out,
-        )
-    }
-
-    // Writes a status packet.
-    pub fn status(&self, out: &mut [u8]) -> Reply
-        ensures { λ r. ⌜ Reported (now (self .entry)) (now (out .entry)) r (now (out .exit)) ⌝ }
-    {
-        status_on(
-            self.head,
-            &self.queued,
-            &self.held,
-            &self.queued_originators,
-            &self.queued_lengths,
-            &self.held_originators,
-            &self.held_lengths,
-            &self.queued_payloads,
-            &self.held_payloads,
-            out,
-        )
-    }
-
-    // The last number through which the member has everything, taken or held, offered messages included.
-    pub fn row_end(&self) -> SequenceNumber
-        ensures { λ r. ⌜ Ended (now (self .entry)) r ⌝ }
-    {
-        row_end_on(
-            self.head,
-            &self.queued,
-            &self.held,
-            &self.queued_originators,
-            &self.queued_lengths,
-            &self.held_originators,
-            &self.held_lengths,
-            &self.queued_payloads,
-            &self.held_payloads,
-        )
-    }
 }

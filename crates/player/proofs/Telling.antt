@@ -18,8 +18,7 @@ use Rattle.group.specs.Choice.{if_then_else_, _and_, _<?_, _≤?_}
 use Rattle.group.specs.Lent.{front}
 use Rattle.group.specs.Limits.{membersMost, longestPacket}
 use Rattle.member.specs.State as State
-use Rattle.member.specs.View.{viewOf}
-use Rattle.member.specs.declared.Member.{Member}
+use Rattle.member.specs.View as View
 use Rattle.model.specs.World.{Event, submit, repeat, status, poll, copy, handMember, handSequencer, answerOf, Group, happen}
 use Rattle.model.specs.World as world
 use Rattle.report.specs.Print.{lineOf, noSpace, badLine, fitting}
@@ -31,6 +30,8 @@ use Rattle.simulator.proofs.Storing.{map-snoc}
 use Rattle.simulator.specs.Whole.{packetsMost, groupOf, sizeOf}
 use Rattle.simulator.specs.declared.Happening.{Happening}
 use Rattle.simulator.specs.declared.Whole.{Whole}
+use Rattle.states.specs.Member.{viewOf}
+use Rattle.states.specs.declared.Member.{Member}
 use Rattle.player.specs.Play.{Stage, running, ended, closed, nextNumber, eventTold}
 use Rattle.player.specs.Play as play
 use Rattle.player.specs.Player.{stageIn, phaseOf}
@@ -223,6 +224,6 @@ taken-on f members taken i d h k e =
 
 -- what the members took, seen
 pub taken-seen : (members : List Member) → map (λ (m : Member). m .head .taken .0) members ≡ map (λ (m : State.Member). m .taken .0) (map viewOf members)
-unfolding viewOf
+unfolding View.viewOf
 taken-seen [] = refl
 taken-seen (m ∷ members) = ap (λ (l : List ℕ). m .head .taken .0 ∷ l) (taken-seen members)

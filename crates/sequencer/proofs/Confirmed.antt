@@ -25,20 +25,19 @@ use Rattle.sequencer.specs.Owed.{Due}
 use Rattle.sequencer.specs.Promise.{Changed}
 use Rattle.sequencer.specs.State.{Sequencer}
 use Rattle.sequencer.specs.Steps.{acceptedStep, confirmationOf}
-use Rattle.sequencer.specs.View.{whole, marksOnly, viewOf, Fits}
+use Rattle.sequencer.specs.View.{Stored, whole, marksOnly, viewOf, Fits}
 use Rattle.sequencer.specs.Wording.{wordingOf}
 use Rattle.sequencer.specs.declared.Answer.{Answer}
 use Rattle.sequencer.specs.declared.Answer.the-variants.{Old, Marked}
 use Rattle.sequencer.specs.declared.Confirmation.{Confirmation}
 use Rattle.sequencer.specs.declared.Head.{Head}
 use Rattle.sequencer.specs.declared.Reply.{Reply}
-use Rattle.sequencer.specs.declared.Sequencer.{Sequencer as InPlace}
 use Rattle.sequencer.proofs.Outcomes.{changed-as, changed-laid}
 use Rattle.sequencer.proofs.Settling.{choose, none≢}
 use Rattle.sequencer.proofs.View.{inside}
 
 -- an answer that writes nothing
-answered-changed : (s : InPlace) (answer : Answer) (r : Reply) → r ≡ record { answer = answer; written = 0 } → (x : List ℕ) → Changed (answered (viewOf s) answer) r s x x
+answered-changed : (s : Stored) (answer : Answer) (r : Reply) → r ≡ record { answer = answer; written = 0 } → (x : List ℕ) → Changed (answered (viewOf s) answer) r s x x
 unfolding answered
 answered-changed s answer r e x = record { answer = e; state = refl; lent = refl; wording = ap (λ (a : Reply). wordingOf (a .answer)) e }
 

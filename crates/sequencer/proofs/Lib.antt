@@ -15,7 +15,6 @@ pub mod Repeating
 pub mod Settling
 pub mod Sending
 pub mod View
-pub mod Lends
 pub mod Outcomes
 pub mod Owed
 pub mod Confirmed

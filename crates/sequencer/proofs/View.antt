@@ -42,11 +42,10 @@ use Rattle.sequencer.specs.Promise.{Changed}
 use Rattle.sequencer.specs.State.{Sequencer, lastCount, repeatCount, freshSequencer}
 use Rattle.sequencer.specs.Sound.{soundOf}
 use Rattle.sequencer.specs.Steps.{acceptedStep, confirmationOf, requestChange, changeOf, sentOf, laidOf, changed}
-use Rattle.sequencer.specs.View.{whole, viewOf, Fits}
+use Rattle.sequencer.specs.View.{Stored, whole, viewOf, Fits}
 use Rattle.sequencer.specs.declared.Change.{Change}
 use Rattle.sequencer.specs.declared.Confirmation.{Confirmation}
 use Rattle.sequencer.specs.declared.Head.{Head}
-use Rattle.sequencer.specs.declared.Sequencer.{Sequencer as InPlace}
 use Rattle.sequencer.proofs.Outcomes.{changed-as, changed-laid}
 use Rattle.sequencer.proofs.Owed.{accepted-sender, accepted-left}
 use Rattle.sequencer.proofs.Sending.{change-sends, noted-sound}
@@ -101,7 +100,7 @@ module _ (head : Head) (taken counts repeats kept marks originators lengths payl
       (noted : taken′ ≡ set taken (m .0) (largerOf (getD taken (m .0) 0) (senderOf packet .taken .0)))
       (smallest : floor .0 ≡ floorOf (head .group .n) (takenOnly taken′))
       (cleared : messagesIn kept′ originators′ lengths′ payloads′ ≡ clearedOf (messagesIn kept originators lengths payloads) (head .floor .0) (floor .0 - head .floor .0)) where
-    abbrev next : InPlace
+    abbrev next : Stored
     next = whole (record { group = head .group; top = head .top; accepted = head .accepted; floor = floor }) taken′ counts repeats kept′ marks originators′ lengths′ payloads′
 
     sizes : (length taken ≡ membersMost) × (length counts ≡ membersMost) × (length repeats ≡ membersMost) × (length kept ≡ placesMost)
@@ -197,7 +196,7 @@ module _ (head : Head) (taken counts repeats kept marks originators lengths payl
           (subst (λ (c : Change). MaySend (c .answer) (c .top) floor (laidOf (viewOf next) m c payload)) (sym change-is)
           (change-sends (viewOf next) next-sound m payload (due .sizes .payload) packet (lastCount (viewOf next) m) (head .group .resilience) (repeatCount (viewOf next) m)))
 
-      abbrev last : InPlace
+      abbrev last : Stored
       last = whole (record { group = head .group; top = change .top; accepted = change .accepted; floor = floor }) taken′ (set counts (m .0) (change .count)) (set repeats (m .0) (change .repeats)) kept″ marks originators″ lengths″ payloads″
 
       last-view : viewOf last ≡ changed (viewOf next) m change message

@@ -24,12 +24,8 @@ use Rattle.history.specs.State.{noAcknowledgement}
 use Rattle.sequencer.specs.Calls.{Outcome, refused, confirmOf, receiveOf, pollOf, copyOf, freshOf}
 use Rattle.sequencer.specs.Sound.{soundOf}
 use Rattle.sequencer.specs.State.{Sequencer, lastCount}
-use Rattle.sequencer.specs.Promise.{Received}
-use Rattle.sequencer.specs.View.{viewOf, Fits}
 use Rattle.sequencer.specs.declared.Answer.{Answer}
 use Rattle.sequencer.specs.declared.Answer.the-variants.{Old, Again, Full, Numbered, Noted, Wanted, Sent, Marked}
-use Rattle.sequencer.specs.declared.Reply.{Reply}
-use Rattle.sequencer.specs.declared.Sequencer.{Sequencer as InPlace}
 
 -- questions 1 and 2, of every call
 abbrev pub callQuestions : Sequencer → ℕ → List Question
@@ -144,16 +140,6 @@ CopyOldCount = (s : Sequencer) (number : SequenceNumber) (room : ℕ) → OldCou
 -- and it is 0 when fresh
 abbrev pub FreshOldCount : Type 0
 FreshOldCount = (n number resilience : ℕ) → repeatsOf (freshOf n number resilience .sequencer .acknowledgements) ≡ 0
-
--- the view loses nothing: two structs whose arrays have their lengths, with one view, are one struct, every number and byte of it
-abbrev pub ViewWhole : Type 0
-ViewWhole = (s t : InPlace) → Fits s → Fits t → viewOf s ≡ viewOf t → s ≡ t
-
--- a packet that is refused leaves every number and byte of the struct, and of the lent output
-abbrev pub RefusedLeaves : Type 0
-RefusedLeaves =
-    (s s′ : InPlace) (packet before after : List ℕ) (reply : Reply) (refusal : Refusal) → Fits s → Fits s′
-    → Received s packet before reply s′ after → reply .answer ≡ Answer.Refused refusal → (s′ ≡ s) × (after ≡ before)
 
 -- a call that only reads has an outcome that leaves the state
 abbrev pub PollLeaves : Type 0

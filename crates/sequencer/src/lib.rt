@@ -1,4 +1,5 @@
 // The sequencer: it numbers every message, and keeps each until every member is known to have taken it.
+// The work of each call is lent its state in parts: the numbers of its head by value, and all arrays.
 use group::Group;
 use group::MemberNumber;
 use group::Opened;
@@ -17,18 +18,16 @@ ghost use Rattle.group.specs.Choice.{if_then_else_, _and_, _=?_};
 ghost use Rattle.group.specs.Fold.{allAbove};
 ghost use Rattle.group.specs.Limits.{membersMost, placesMost, payloadMost, longestPacket, largestNumber};
 ghost use Rattle.group.specs.Members.{expectedOf};
-ghost use Rattle.group.specs.Opening.{descriptionOf};
 ghost use Rattle.message.specs.Message.{blank, payloadOf};
 ghost use Rattle.packet.specs.Packet.{fieldsOf, packetOf, readOf, writeOf};
 ghost use Rattle.store.specs.Places.{messagesIn, partOf, Lies};
 ghost use Rattle.history.specs.Marks.{markSound};
 ghost use Rattle.history.specs.Sound.{placeSound};
 ghost use Rattle.history.specs.View.{Places, countsOnly, listed};
-ghost use Rattle.sequencer.specs.State.{freshSequencer};
 ghost use Rattle.sequencer.specs.Sound.{soundOf};
-ghost use Rattle.sequencer.specs.Calls.{announced, confirmOf, callVerdict, copyOf};
+ghost use Rattle.sequencer.specs.Calls.{announced, confirmOf, callVerdict};
 ghost use Rattle.sequencer.specs.View.{Fits, Placed, whole, marksOnly, viewOf};
-ghost use Rattle.sequencer.specs.Promise.{Changed, Told, Received, Polled, Copied, Opens};
+ghost use Rattle.sequencer.specs.Promise.{Changed, Received, Polled, Copied, Opens};
 ghost use Rattle.sequencer.specs.Owed.{MayBroadcast, MaySend, Left, Due, Judged, Refuses};
 ghost use Rattle.sequencer.specs.Steps.{acceptedStep, quiet, requestChange, gapAnswer, changeOf, confirmationOf, decisionOf, sentOf};
 
@@ -40,22 +39,6 @@ pub struct Head {
     pub top: SequenceNumber,
     pub accepted: SequenceNumber,
     pub floor: SequenceNumber,
-}
-
-// What the sequencer holds. Of each member: the last number that it is known to have taken, its last count that was numbered, and how
-// often it repeated itself. Of each place of the history: its message's count (0: none), who confirmed it, originator, length and
-// payload.
-#[repr(C)]
-pub struct Sequencer {
-    pub head: Head,
-    pub taken: [u32; Group::MEMBERS],
-    pub counts: [u32; Group::MEMBERS],
-    pub repeats: [u32; Group::MEMBERS],
-    pub kept: [u32; Group::PLACES],
-    pub marks: [u16; Group::PLACES],
-    pub originators: [u8; Group::PLACES],
-    pub lengths: [u8; Group::PLACES],
-    pub payloads: [u8; Group::HISTORY_BYTES],
 }
 
 // What a call answers.
@@ -445,7 +428,7 @@ fn confirmed_by(packet: Packet) -> Confirmation
 }
 
 // The head of a fresh state.
-fn fresh_head(group: Group) -> Head
+pub fn fresh_head(group: Group) -> Head
     ensures { λ r. ⌜ r ≡ record { group = group; top = record { 0 = 0 }; accepted = record { 0 = 0 }; floor = record { 0 = 0 } } ⌝ }
 {
     Head {
@@ -466,7 +449,7 @@ fn places_sound(
     lengths: &[u8],
     payloads: &[u8],
 ) -> bool
-    requires { ⌜ (1 ≤ head .group .n) × (head .group .n ≤ membersMost) × (length (now counts) ≡ membersMost) × (length (now marks) ≡ placesMost) × Places (now kept) (now originators) (now lengths) (now payloads) ⌝ }
+    requires { ⌜ (head .group .n ≤ membersMost) × (length (now counts) ≡ membersMost) × (length (now marks) ≡ placesMost) × Places (now kept) (now originators) (now lengths) (now payloads) ⌝ }
     ensures { λ r. ⌜ r ≡ (allAbove (placeSound (head .group .n) (countsOnly (now (counts .entry))) (messagesIn (now (kept .entry)) (now (originators .entry)) (now (lengths .entry)) (now (payloads .entry))) (head .top .0)) (head .floor .0) placesMost and allAbove (markSound (expectedOf (head .group)) (now (marks .entry)) (head .accepted .0) (head .top .0)) (head .floor .0) placesMost) ⌝ }
 {
     let group = head.group;
@@ -977,109 +960,5 @@ pub fn open_on(
             let verdict = Verdict::Refused(q);
             Start { head, verdict }
         }
-    }
-}
-
-impl Sequencer {
-    // All zero: what a caller has before it opens a group. No call accepts it.
-    pub fn closed() -> Self
-        ensures { λ r. ⌜ viewOf r ≡ freshSequencer (descriptionOf 0 0 0) ⌝ }
-    {
-        let head = fresh_head(Group {
-            n: 0,
-            resilience: 0,
-            number: 0,
-        });
-        Sequencer {
-            head,
-            taken: [0u32; Group::MEMBERS],
-            counts: [0u32; Group::MEMBERS],
-            repeats: [0u32; Group::MEMBERS],
-            kept: [0u32; Group::PLACES],
-            marks: [0u16; Group::PLACES],
-            originators: [0u8; Group::PLACES],
-            lengths: [0u8; Group::PLACES],
-            payloads: [0u8; Group::HISTORY_BYTES],
-        }
-    }
-
-    // Opening: questions 18 and 24. The state is fresh; where opening is refused, it is all zero, and no call accepts it.
-    pub fn open(&mut self, n: u8, group: u32, resilience: u8) -> Verdict
-        ensures { λ r. ⌜ Opens (now (self .entry)) n group resilience r (now (self .exit)) ⌝ }
-    {
-        let start = open_on(
-            self.head,
-            &mut self.taken,
-            &mut self.counts,
-            &mut self.repeats,
-            &mut self.kept,
-            &mut self.marks,
-            &mut self.originators,
-            &mut self.lengths,
-            &mut self.payloads,
-            n,
-            group,
-            resilience,
-        );
-        self.head = start.head;
-        start.verdict
-    }
-
-    // The call for packets.
-    pub fn receive(&mut self, packet: &[u8], out: &mut [u8]) -> Reply
-        ensures { λ r. ⌜ Received (now (self .entry)) (now (packet .entry)) (now (out .entry)) r (now (self .exit)) (now (out .exit)) ⌝ }
-    {
-        let step = receive_on(
-            self.head,
-            &mut self.taken,
-            &mut self.counts,
-            &mut self.repeats,
-            &mut self.kept,
-            &mut self.marks,
-            &mut self.originators,
-            &mut self.lengths,
-            &mut self.payloads,
-            packet,
-            out,
-        );
-        self.head = step.head;
-        step.reply
-    }
-
-    // The poll call: the poll packet.
-    pub fn poll(&self, out: &mut [u8]) -> Reply
-        ensures { λ r. ⌜ Polled (now (self .entry)) (now (out .entry)) r (now (out .exit)) ⌝ }
-    {
-        poll_on(
-            self.head,
-            &self.taken,
-            &self.counts,
-            &self.repeats,
-            &self.kept,
-            &self.marks,
-            &self.originators,
-            &self.lengths,
-            &self.payloads,
-            out,
-        )
-    }
-
-    // The copy call for a number: its packet, with today's floor.
-    pub fn copy(&self, number: SequenceNumber, out: &mut [u8]) -> Reply
-        ensures { λ r. ⌜ Copied (now (self .entry)) number (now (out .entry)) r (now (out .exit)) ⌝ }
-    {
-        copy_on(
-            self.head,
-            &self.taken,
-            &self.counts,
-            &self.repeats,
-            &self.kept,
-            &self.marks,
-            &self.originators,
-            &self.lengths,
-            &self.payloads,
-            number,
-            out,
-        )
     }
 }

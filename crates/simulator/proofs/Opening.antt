@@ -20,15 +20,15 @@ use Rattle.group.specs.declared.Refusal.{Refusal}
 use Rattle.group.specs.declared.Verdict.{Verdict}
 use Rattle.member.specs.Calls as member
 use Rattle.member.specs.State.{Member}
-use Rattle.member.proofs.Leaving as memberLeaving
-use Rattle.member.specs.View as memberView
-use Rattle.member.specs.declared.Member as stored
 use Rattle.model.specs.World.{freshMembers, fresh}
 use Rattle.sequencer.specs.Calls as sequencer
-use Rattle.sequencer.proofs.Leaving as sequencerLeaving
-use Rattle.sequencer.specs.Promise.{Starts}
 use Rattle.sequencer.specs.State.{Sequencer, freshSequencer}
 use Rattle.sequencer.specs.View as sequencerView
+use Rattle.states.specs.Member as memberInPlace
+use Rattle.states.specs.Sequencer.{Starts}
+use Rattle.states.specs.declared.Member as stored
+use Rattle.states.proofs.MemberLeaving as memberLeaving
+use Rattle.states.proofs.SequencerLeaving as sequencerLeaving
 use Rattle.simulator.specs.Course.{OpensWhole}
 use Rattle.simulator.specs.Whole.{packetsMost, sizeOf, groupOf, noPacket, packetIn, Opens}
 use Rattle.simulator.specs.declared.Opened.{Opened}
@@ -48,13 +48,13 @@ module _ (n number resilience : ℕ) where
 
   -- one member more
   pub members-on : (i : ℕ) (members : List stored.Member) (m : stored.Member) → i < length members
-      → map memberView.viewOf (take i members) ≡ freshMembers n number resilience 0 i → memberView.viewOf m ≡ freshAt i
-      → map memberView.viewOf (take (i + 1) (set members i m)) ≡ freshMembers n number resilience 0 (i + 1)
+      → map memberInPlace.viewOf (take i members) ≡ freshMembers n number resilience 0 i → memberInPlace.viewOf m ≡ freshAt i
+      → map memberInPlace.viewOf (take (i + 1) (set members i m)) ≡ freshMembers n number resilience 0 (i + 1)
   members-on i members m h e f =
       rw add-one
-      (ap (map memberView.viewOf) (take-suc-set members i m h)
-      ∙ map-snoc memberView.viewOf (take i members) m
-      ∙ ap (λ (l : List Member). l ++ (memberView.viewOf m ∷ [])) e
+      (ap (map memberInPlace.viewOf) (take-suc-set members i m h)
+      ∙ map-snoc memberInPlace.viewOf (take i members) m
+      ∙ ap (λ (l : List Member). l ++ (memberInPlace.viewOf m ∷ [])) e
       ∙ ap (λ (x : Member). freshMembers n number resilience 0 i ++ (x ∷ [])) f
       ∙ ap (λ (j : ℕ). freshMembers n number resilience 0 i ++ (freshAt j ∷ [])) (sym (zero-add i))
       ∙ sym (members-snoc 0 i))
@@ -83,7 +83,7 @@ module _ (n number resilience : ℕ) where
       (λ t. if-elim few (resilience <? n) (λ _. leb-true n membersMost (both-then (1 ≤? n) (n ≤? membersMost) t)) (λ _. omega arith)) (λ _. omega arith)
 
   pub opens : (r : Opened) → Starts (sequencer.freshOf n number resilience) (r .verdict) (r .whole .sequencer)
-      → map memberView.viewOf (r .whole .members) ≡ freshMembers n number resilience 0 membersMost → r .whole .packets ≡ replicate packetsMost noPacket → r .whole .count ≡ 0
+      → map memberInPlace.viewOf (r .whole .members) ≡ freshMembers n number resilience 0 membersMost → r .whole .packets ≡ replicate packetsMost noPacket → r .whole .count ≡ 0
       → Opens n number resilience r
   unfolding groupOf fresh sequencerView.viewOf
   opens r o m p z =
@@ -96,8 +96,8 @@ module _ (n number resilience : ℕ) where
         count = z;
         group = λ yes.
             let q = opened-yes (sym (o .answer) ∙ yes) in
-            let few : map memberView.viewOf (take (sizeOf (r .whole)) (r .whole .members)) ≡ freshMembers n number resilience 0 n =
-            sym (take-map memberView.viewOf (sizeOf (r .whole)) (r .whole .members))
+            let few : map memberInPlace.viewOf (take (sizeOf (r .whole)) (r .whole .members)) ≡ freshMembers n number resilience 0 n =
+            sym (take-map memberInPlace.viewOf (sizeOf (r .whole)) (r .whole .members))
             ∙ ap (take (sizeOf (r .whole))) m
             ∙ ap (λ (k : ℕ). take k (freshMembers n number resilience 0 membersMost)) (size ∙ q .1)
             ∙ members-take 0 n membersMost (q .0)
@@ -109,14 +109,14 @@ module _ (n number resilience : ℕ) where
 
 -- members whose arrays have their lengths, seen alike, are the same
 abbrev AllSized : List stored.Member → Type 0
-AllSized l = (i : ℕ) (m : stored.Member) → getElem? l i ≡ some m → memberView.Sized m
+AllSized l = (i : ℕ) (m : stored.Member) → getElem? l i ≡ some m → memberInPlace.Sized m
 
-members-whole : (l k : List stored.Member) → AllSized l → AllSized k → map memberView.viewOf l ≡ map memberView.viewOf k → l ≡ k
+members-whole : (l k : List stored.Member) → AllSized l → AllSized k → map memberInPlace.viewOf l ≡ map memberInPlace.viewOf k → l ≡ k
 members-whole [] [] a b e = refl
-members-whole [] (m ∷ k) a b e = absurd (let z : 0 ≡ suc (length (map memberView.viewOf k)) = ap length e in omega arith)
-members-whole (m ∷ l) [] a b e = absurd (let z : suc (length (map memberView.viewOf l)) ≡ 0 = ap length e in omega arith)
+members-whole [] (m ∷ k) a b e = absurd (let z : 0 ≡ suc (length (map memberInPlace.viewOf k)) = ap length e in omega arith)
+members-whole (m ∷ l) [] a b e = absurd (let z : suc (length (map memberInPlace.viewOf l)) ≡ 0 = ap length e in omega arith)
 members-whole (m ∷ l) (p ∷ k) a b e =
-    let first = memberLeaving.view-whole m p (a 0 m refl) (b 0 p refl) (ap (λ (s : List Member). getD s 0 (memberView.viewOf m)) e) in
+    let first = memberLeaving.view-whole m p (a 0 m refl) (b 0 p refl) (ap (λ (s : List Member). getD s 0 (memberInPlace.viewOf m)) e) in
     let rest = members-whole l k (λ i. a (suc i)) (λ i. b (suc i)) (ap (drop 1) e) in
     λ i. first i ∷ rest i
 

@@ -17,8 +17,6 @@ use Rattle.group.specs.Limits.{longestPacket}
 use Rattle.member.specs.Calls as member
 use Rattle.member.specs.Promise as memberPromise
 use Rattle.member.specs.State as memberState
-use Rattle.member.specs.View as memberView
-use Rattle.member.specs.declared.Member.{Member}
 use Rattle.member.specs.declared.Reply as memberReply
 use Rattle.model.specs.declared.Reply.{Reply}
 use Rattle.model.specs.World.{Event, answerOf, Group, Happened, missing, withMember, withSequencer, noMember, atMember, handToMember, happen}
@@ -28,7 +26,10 @@ use Rattle.sequencer.specs.Promise as sequencerPromise
 use Rattle.sequencer.specs.State as sequencerState
 use Rattle.sequencer.specs.View as sequencerView
 use Rattle.sequencer.specs.declared.Reply as sequencerReply
-use Rattle.sequencer.specs.declared.Sequencer.{Sequencer}
+use Rattle.states.specs.Member as memberInPlace
+use Rattle.states.specs.Sequencer as sequencerInPlace
+use Rattle.states.specs.declared.Member.{Member}
+use Rattle.states.specs.declared.Sequencer.{Sequencer}
 use Rattle.simulator.specs.Steps.{countAfter, Idle}
 use Rattle.simulator.specs.Whole.{packetsMost, sizeOf, groupOf, Room, Does, zeros, nothing, Free, Plays}
 use Rattle.simulator.specs.declared.Happening.{Happening}
@@ -120,14 +121,14 @@ module _ (w : Whole) (i : ℕ) where
   pub plays-member : There w i → (event : Event) (o : member.Outcome) (packets : member.Outcome → List (List ℕ)) (m : Member) (reply : memberReply.Reply)
       (out : List ℕ) (size count : ℕ)
       → (if i <? length (groupOf w .members) then withMember (groupOf w) i o (packets o) else missing (groupOf w)) ≡ happen (groupOf w) event
-      → memberPromise.Changed o reply m zeros out → packets (memberOutcome (memberView.viewOf m) reply out) ≡ written (take size out)
+      → memberInPlace.Changed o reply m zeros out → packets (memberOutcome (memberInPlace.viewOf m) reply out) ≡ written (take size out)
       → count ≡ countAfter (w .count) size → length (w .packets) ≡ packetsMost → length out ≡ longestPacket
       → Plays event w (memberAfter w i m reply out size count)
   plays-member there event o packets m reply out size count e done s n places room =
-      let q : member.Outcome = memberOutcome (memberView.viewOf m) reply out in
+      let q : member.Outcome = memberOutcome (memberInPlace.viewOf m) reply out in
       let z : reply .written ≡ length (o .bytes) = ap (λ (x : memberReply.Reply). x .written) (done .answer) in
       plays event w (memberAfter w i m reply out size count) (there .room) (withMember (groupOf w) i q (packets q))
-      (ap (λ (o : member.Outcome). withMember (groupOf w) i o (packets o)) (member-outcome o (memberView.viewOf m) reply out (done .state) (done .answer) (done .lent))
+      (ap (λ (o : member.Outcome). withMember (groupOf w) i o (packets o)) (member-outcome o (memberInPlace.viewOf m) reply out (done .state) (done .answer) (done .lent))
       ∙ if-true _ _ _ _ (lt-ltb i (length (groupOf w .members)) (there .member)) refl
       ∙ e)
       (same-n w)
@@ -142,13 +143,13 @@ module _ (w : Whole) (i : ℕ) where
   -- a call that leaves member i as it was
   pub plays-told : There w i → (event : Event) (call : memberState.Member → member.Outcome) (d : Member) (reply : memberReply.Reply) (out : List ℕ) (count : ℕ)
       → atMember (groupOf w) i call ≡ happen (groupOf w) event
-      → memberPromise.Told (call (memberView.viewOf (getD (w .members) i d))) reply zeros out
-      → call (memberView.viewOf (getD (w .members) i d)) .member ≡ memberView.viewOf (getD (w .members) i d)
+      → memberPromise.Told (call (memberInPlace.viewOf (getD (w .members) i d))) reply zeros out
+      → call (memberInPlace.viewOf (getD (w .members) i d)) .member ≡ memberInPlace.viewOf (getD (w .members) i d)
       → count ≡ countAfter (w .count) (reply .written) → length (w .packets) ≡ packetsMost → length out ≡ longestPacket
       → Plays event w (toldAfter w (Reply.Member (reply .answer)) (reply .written) out count)
   plays-told there event call d reply out count e told same n places room =
       let o : member.Outcome = call (getD (groupOf w .members) i noMember) in
-      let r : memberView.viewOf (getD (w .members) i d) ≡ getD (groupOf w .members) i noMember = member-read w i d (there .member) in
+      let r : memberInPlace.viewOf (getD (w .members) i d) ≡ getD (groupOf w .members) i noMember = member-read w i d (there .member) in
       let t : memberPromise.Told o reply zeros out = subst (λ (m : memberState.Member). memberPromise.Told (call m) reply zeros out) r told in
       subst (λ (l : List Member). Plays event w (withMembers l (toldAfter w (Reply.Member (reply .answer)) (reply .written) out count))) (set-getD (w .members) i d)
       (plays-member there event o (λ (o : member.Outcome). written (o .bytes)) (getD (w .members) i d) reply out (reply .written) count e
@@ -163,7 +164,7 @@ module _ (w : Whole) (i : ℕ) where
   no-receiver out (some packet) = no-member out _
 
 -- a call that leaves the sequencer as it was
-pub told-sequencer : (o : sequencer.Outcome) (reply : sequencerReply.Reply) (s : Sequencer) (before after : List ℕ) → sequencerPromise.Told o reply before after
+pub told-sequencer : (o : sequencer.Outcome) (reply : sequencerReply.Reply) (s : sequencerView.Stored) (before after : List ℕ) → sequencerPromise.Told o reply before after
     → sequencerView.viewOf s ≡ o .sequencer → sequencerPromise.Changed o reply s before after
 told-sequencer o reply s before after told same = record { answer = told .answer; state = same; lent = told .lent; wording = told .wording }
 
@@ -171,17 +172,17 @@ told-sequencer o reply s before after told same = record { answer = told .answer
 pub plays-sequencer : (w : Whole) → Room w → (event : Event) (call : sequencerState.Sequencer → sequencer.Outcome) (s : Sequencer)
     (reply : sequencerReply.Reply) (out : List ℕ) (count : ℕ)
     → withSequencer (groupOf w) (call (groupOf w .sequencer)) ≡ happen (groupOf w) event
-    → sequencerPromise.Changed (call (sequencerView.viewOf (w .sequencer))) reply s zeros out
-    → call (sequencerView.viewOf (w .sequencer)) .sequencer .group .n ≡ sequencerView.viewOf (w .sequencer) .group .n
+    → sequencerInPlace.Changed (call (sequencerInPlace.viewOf (w .sequencer))) reply s zeros out
+    → call (sequencerInPlace.viewOf (w .sequencer)) .sequencer .group .n ≡ sequencerInPlace.viewOf (w .sequencer) .group .n
     → count ≡ countAfter (w .count) (reply .written) → length (w .packets) ≡ packetsMost → length out ≡ longestPacket
     → Plays event w (sequencerAfter w s reply out count)
 unfolding groupOf sequencerView.viewOf
 plays-sequencer w there event call s reply out count e done k n places room =
-    let o : sequencer.Outcome = call (sequencerView.viewOf (w .sequencer)) in
-    let q : sequencer.Outcome = sequencerOutcome (sequencerView.viewOf s) reply out in
+    let o : sequencer.Outcome = call (sequencerInPlace.viewOf (w .sequencer)) in
+    let q : sequencer.Outcome = sequencerOutcome (sequencerInPlace.viewOf s) reply out in
     let z : reply .written ≡ length (o .bytes) = ap (λ (x : sequencerReply.Reply). x .written) (done .answer) in
     let same : s .head .group .n ≡ sizeOf w = ap (λ (x : sequencerState.Sequencer). x .group .n) (done .state) ∙ k in
     plays event w (sequencerAfter w s reply out count) there (withSequencer (groupOf w) q)
-    (ap (withSequencer (groupOf w)) (sequencer-outcome o (sequencerView.viewOf s) reply out (done .state) (done .answer) (done .lent)) ∙ e) same
+    (ap (withSequencer (groupOf w)) (sequencer-outcome o (sequencerInPlace.viewOf s) reply out (done .state) (done .answer) (done .lent)) ∙ e) same
     (did-sequencer w places out room count s reply there same (written-fits (o .bytes) (reply .written) out z (done .lent) room) n)
     (record { members = refl; packets = inr (reply .written, refl); bytes = behind (o .bytes) (reply .written) out z (done .lent) })

@@ -12,9 +12,9 @@ use Rattle.group.proofs.Lists.{if-elim, le-or}
 use Rattle.group.specs.Choice.{_<?_}
 use Rattle.group.specs.Limits.{longestPacket}
 use Rattle.member.specs.State.{Member as Seen}
-use Rattle.member.specs.View.{viewOf}
-use Rattle.member.specs.declared.Member.{Member}
 use Rattle.model.specs.World.{noMember}
+use Rattle.states.specs.Member.{viewOf}
+use Rattle.states.specs.declared.Member.{Member}
 use Rattle.simulator.specs.Steps.{packetSize}
 use Rattle.simulator.specs.Whole.{packetIn, sizeOf, groupOf}
 use Rattle.simulator.specs.declared.Stored.{Stored}

@@ -12,15 +12,15 @@ use lib.Seq.{length-take-le, take-set-le, take-set-lt, take-suc-set}
 use Rattle.group.proofs.Choice.{if-eq, if-ne}
 use Rattle.group.specs.Choice.{_=?_}
 use Rattle.group.specs.Limits.{longestPacket}
-use Rattle.member.specs.View as member
-use Rattle.member.specs.declared.Member.{Member}
 use Rattle.member.specs.declared.Reply as memberReply
 use Rattle.model.specs.World.{answerOf, Group, Happened, withMember, withSequencer}
 use Rattle.model.specs.declared.Reply.{Reply}
 use Rattle.packet.specs.Packet.{written}
-use Rattle.sequencer.specs.View as sequencer
 use Rattle.sequencer.specs.declared.Reply as sequencerReply
-use Rattle.sequencer.specs.declared.Sequencer.{Sequencer}
+use Rattle.states.specs.Member as member
+use Rattle.states.specs.Sequencer as sequencer
+use Rattle.states.specs.declared.Member.{Member}
+use Rattle.states.specs.declared.Sequencer.{Sequencer}
 use Rattle.simulator.specs.Steps.{countAfter}
 use Rattle.simulator.specs.Whole.{packetsMost, packetIn, sizeOf, groupOf, Room}
 use Rattle.simulator.specs.declared.Happening.{Happening}

@@ -6,10 +6,10 @@ use mathlib.Core.Option.{some}
 use Prim.Native.Nat.{ℕ, _<_}
 use lib.ListN.{take, getElem?}
 use Rattle.group.specs.declared.Verdict.{Verdict}
-use Rattle.member.specs.View as member
-use Rattle.member.specs.declared.Member.{Member}
 use Rattle.model.specs.World.{Event, Answer, answerOf, run, fresh}
-use Rattle.sequencer.specs.View.{Fits}
+use Rattle.states.specs.Member as member
+use Rattle.states.specs.Sequencer.{Fits}
+use Rattle.states.specs.declared.Member.{Member}
 use Rattle.simulator.specs.Whole.{packetsMost, groupOf, Plays, Opens}
 use Rattle.simulator.specs.declared.Happening.{Happening}
 use Rattle.simulator.specs.declared.Opened.{Opened}

@@ -8,11 +8,11 @@ use lib.ListN.{length, take, drop, set, replicate}
 use Rattle.group.specs.Lent.{front}
 use Rattle.group.specs.Limits.{membersMost, longestPacket}
 use Rattle.group.specs.declared.Verdict.{Verdict}
-use Rattle.member.specs.View as member
 use Rattle.model.specs.World.{Event, answerOf, Group, Happened, happen, freshMembers, fresh}
 use Rattle.model.specs.declared.Reply.{Reply}
 use Rattle.sequencer.specs.Calls.{freshOf}
-use Rattle.sequencer.specs.View as sequencer
+use Rattle.states.specs.Member as member
+use Rattle.states.specs.Sequencer as sequencer
 use Rattle.simulator.specs.declared.Happening.{Happening}
 use Rattle.simulator.specs.declared.Opened.{Opened}
 use Rattle.simulator.specs.declared.Stored.{Stored}

@@ -15,20 +15,19 @@ use group::Group;
 use group::MemberNumber;
 use group::SequenceNumber;
 use group::Verdict;
-use member::Member;
 use model::Reply;
-use sequencer::Sequencer;
+use states::Member;
+use states::Sequencer;
 ghost use mathlib.Core.Path.{_≡_};
 ghost use mathlib.Core.List.{map};
 ghost use Prim.Native.Nat.{_<_};
 ghost use lib.ListN.{length};
 ghost use Rattle.group.specs.Limits.{membersMost};
 ghost use Rattle.member.specs.Calls as memberCalls;
-ghost use Rattle.member.specs.Promise as memberPromise;
-ghost use Rattle.member.specs.View as memberView;
 ghost use Rattle.model.specs.World as world;
 ghost use Rattle.sequencer.specs.Calls as sequencerCalls;
-ghost use Rattle.sequencer.specs.Promise as sequencerPromise;
+ghost use Rattle.states.specs.Member as memberInPlace;
+ghost use Rattle.states.specs.Sequencer as sequencerInPlace;
 ghost use Rattle.simulator.specs.Whole.{packetsMost, packetIn, Plays, Opens};
 ghost use Rattle.simulator.specs.Steps.{packetSize, roomOf, thereOf, countAfter, Idle};
 
@@ -69,7 +68,7 @@ fn packets_most() -> usize
 
 // Members 0 to n - 1, fresh; the other places are all zero.
 fn fresh_members(n: u8, number: u32, resilience: u8) -> [Member; Group::MEMBERS]
-    ensures { λ r. ⌜ map memberView.viewOf r ≡ world.freshMembers n number resilience 0 membersMost ⌝ }
+    ensures { λ r. ⌜ map memberInPlace.viewOf r ≡ world.freshMembers n number resilience 0 membersMost ⌝ }
 {
     let first = open_member(n, MemberNumber(0), number, resilience).member;
     let mut members = [first; Group::MEMBERS];
@@ -95,7 +94,7 @@ impl Stored {
 
     // The packet is handed to a member.
     fn to_member(self, member: Member, out: &mut [u8]) -> MemberStep
-        ensures { λ r. ⌜ memberPromise.Received member (packetIn self) (now (out .entry)) (r .reply) (r .member) (now (out .exit)) ⌝ }
+        ensures { λ r. ⌜ memberInPlace.Received member (packetIn self) (now (out .entry)) (r .reply) (r .member) (now (out .exit)) ⌝ }
     {
         let bytes = self.bytes;
         let size = self.size();
@@ -104,7 +103,7 @@ impl Stored {
 
     // The packet is handed to a sequencer.
     fn to_sequencer(self, sequencer: Sequencer, out: &mut [u8]) -> SequencerStep
-        ensures { λ r. ⌜ sequencerPromise.Received sequencer (packetIn self) (now (out .entry)) (r .reply) (r .sequencer) (now (out .exit)) ⌝ }
+        ensures { λ r. ⌜ sequencerInPlace.Received sequencer (packetIn self) (now (out .entry)) (r .reply) (r .sequencer) (now (out .exit)) ⌝ }
     {
         let bytes = self.bytes;
         let size = self.size();

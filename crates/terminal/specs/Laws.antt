@@ -12,8 +12,7 @@ use Rattle.jobs.specs.Sound.{soundOf}
 use Rattle.member.specs.Calls.{takeOf}
 use Rattle.member.specs.Order.{tookBy}
 use Rattle.member.specs.Promise.{Taken}
-use Rattle.member.specs.View.{viewOf}
-use Rattle.member.specs.declared.Member.{Member as Stored}
+use Rattle.member.specs.View.{Stored, viewOf}
 use Rattle.member.specs.declared.Reply.{Reply}
 use Rattle.model.specs.Claim.{Opens}
 use Rattle.model.specs.Closing.{closing}

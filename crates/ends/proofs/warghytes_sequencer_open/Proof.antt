@@ -33,21 +33,21 @@ use denote.Triple.Clauses.{Lasts, ensured, lasts}
 use denote.Triple.Table.{entered, cited}
 use denote.Triple.Walked.{says, Stays, walkOf, Walks, ends-at, walked, walk-meets}
 use Rattle.ends.proofs.Passing.{all-left, go-left, fits-left}
-use Rattle.sequencer.specs.declared.Sequencer.{Sequencer}
+use Rattle.states.specs.declared.Sequencer.{Sequencer}
 use Rattle.group.specs.declared.Verdict.{Verdict}
 use Rattle.ends.specs.declared.Told.{Told}
-use Rattle.sequencer.specs.Promise.{Opens}
+use Rattle.states.specs.Sequencer.{Opens}
 use Rattle.ends.specs.Telling.{OpeningTells}
 use Rattle.ends.proofs.Carried.{sequencer-opens}
-use Rattle.sequencer.proofs.Sequencer as T
+use Rattle.states.proofs.Sequencer as T
 use Rattle.group.proofs.Verdict as Y
 use Rattle.group.proofs.Verdict.Laws as Y′
 use Rattle.ends.proofs.Told as Z
 use Rattle.ends.proofs.Told.Laws as Z′
-use Rattle.sequencer.proofs.Sequencer.open as on
-use Rattle.sequencer.proofs.Sequencer.open.Symbol as on-def
-use Rattle.sequencer.proofs.Sequencer.open.Symbol.{name as #on}
-use Rattle.sequencer.proofs.Sequencer.open.Met as on-thm
+use Rattle.states.proofs.Sequencer.open as on
+use Rattle.states.proofs.Sequencer.open.Symbol as on-def
+use Rattle.states.proofs.Sequencer.open.Symbol.{name as #on}
+use Rattle.states.proofs.Sequencer.open.Met as on-thm
 use Rattle.ends.proofs.opening_tells as tell
 use Rattle.ends.proofs.opening_tells.Symbol as tell-def
 use Rattle.ends.proofs.opening_tells.Symbol.{name as #tell}
@@ -163,5 +163,5 @@ warghytes-sequencer-open-spec 𝓤 H 𝓜 𝓖 𝓡 =
     entered 𝓤 H (tripleOf 𝓤 H (𝓖 .A) f.signature (f.spec 𝓤 H (𝓖 .A) (𝓜 .mem) (𝓡 .run)))
     (tables 𝓤 H 𝓜 𝓡 code.env .C) (tables 𝓤 H 𝓜 𝓡 code.env .Λ) #of code.function (code.unfolded 𝓤 H 𝓜 𝓡)
     (meets 𝓤 H (𝓖 .A) (givenOf 𝓤 H 𝓜 𝓖) (𝓜 .mem) (𝓡 .run) (tablesOf 𝓤 H 𝓜 (tables 𝓤 H 𝓜 𝓡 code.env))
-    (cited 𝓤 H (On 𝓤 H (𝓖 .A) (𝓜 .mem) (𝓡 .run)) 𝓜 𝓡 code.env #on on-def.routine code.calls-sequencer·Sequencer·open (on-thm.met 𝓤 H 𝓜 𝓖 𝓡))
+    (cited 𝓤 H (On 𝓤 H (𝓖 .A) (𝓜 .mem) (𝓡 .run)) 𝓜 𝓡 code.env #on on-def.routine code.calls-states·Sequencer·open (on-thm.met 𝓤 H 𝓜 𝓖 𝓡))
     (cited 𝓤 H (Tell 𝓤 H (𝓖 .A) (𝓜 .mem) (𝓡 .run)) 𝓜 𝓡 code.env #tell tell-def.routine code.calls-ends·opening-tells (tell-thm.met 𝓤 H 𝓜 𝓖 𝓡)))

@@ -6,7 +6,7 @@ use Prim.Native.Nat.{_-_}
 use lib.ListN.{length, take, length-set}
 use lib.Seq.{take-all}
 use Rattle.group.specs.Limits.{membersMost}
-use Rattle.member.specs.declared.Member.{Member}
+use Rattle.states.specs.declared.Member.{Member}
 use Rattle.player.proofs.Telling.{taken-on}
 use borrow.Author.Needs.{needs}
 use Rattle.player.proofs.each_taken.Statement.{statement}

@@ -10,11 +10,11 @@ use lib.Seq.{length-take-le}
 use Rattle.group.specs.Lent.{front}
 use Rattle.group.specs.Limits.{membersMost}
 use Rattle.member.specs.State as State
-use Rattle.member.specs.View.{viewOf}
-use Rattle.member.specs.declared.Member.{Member}
 use Rattle.sequencer.specs.View as sequencer
 use Rattle.report.specs.Print.{lastRoom, lastLine}
 use Rattle.simulator.specs.Whole.{groupOf}
+use Rattle.states.specs.Member.{viewOf}
+use Rattle.states.specs.declared.Member.{Member}
 use Rattle.player.specs.Player.{outputRoom}
 use Rattle.player.proofs.Telling.{fits-in, map-take, taken-seen}
 use borrow.Author.Needs.{needs}

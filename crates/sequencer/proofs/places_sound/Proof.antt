@@ -6,13 +6,13 @@ use Rattle.sequencer.proofs.places_sound.Statement.{statement}
 use Rattle.sequencer.proofs.places_sound.Tie as tie
 
 history-sound-requires : tie.Need-history-sound-requires
-history-sound-requires c κs = let p = c .before .before .before .before .before .before .before .before .before .pre in (p .1, p .2, p .4)
+history-sound-requires c κs = let p = c .before .before .before .before .before .before .before .before .before .pre in (p .0, p .1, p .3)
 
 expected-requires : tie.Need-expected-requires
-expected-requires c κs = let p = c .before .before .before .before .before .before .before .before .before .before .before .pre in p .1
+expected-requires c κs = let p = c .before .before .before .before .before .before .before .before .before .before .before .pre in p .0
 
 marks-sound-requires : tie.Need-marks-sound-requires
-marks-sound-requires c κs = c .before .before .before .before .before .before .before .before .before .before .before .before .pre .3
+marks-sound-requires c κs = c .before .before .before .before .before .before .before .before .before .before .before .before .pre .2
 
 returns : tie.Need-returns
 returns c = rw (← c .before .expected .ensures) (search (choices, needs) depth 9)

@@ -19,7 +19,7 @@ frame-sound-requires : tie.Need-frame-sound-requires
 frame-sound-requires c κs = search needs
 
 places-sound-requires : tie.Need-places-sound-requires
-places-sound-requires c κs = let p = c .before .before .before .before .before .before .before .before .before .before .before .before .before .before .before .pre in let n = frame-members _ _ _ _ _ (sym (c .before .before .frame-sound .ensures) ∙ c .before .if1 .taken) in (n .0, n .1, p .counts-long, p .marks-size, p .places)
+places-sound-requires c κs = let p = c .before .before .before .before .before .before .before .before .before .before .before .before .before .before .before .pre in let n = frame-members _ _ _ _ _ (sym (c .before .before .frame-sound .ensures) ∙ c .before .if1 .taken) in (n .1, p .counts-long, p .marks-size, p .places)
 
 returns : tie.Need-returns
 returns c =

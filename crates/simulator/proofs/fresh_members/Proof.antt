@@ -7,8 +7,8 @@ use native.Mathlib.Omega.{arith}
 use lib.ListN.{length, take, length-set}
 use lib.Seq.{take-all}
 use Rattle.group.specs.Limits.{membersMost}
-use Rattle.member.specs.View.{viewOf}
 use Rattle.model.specs.World.{freshMembers}
+use Rattle.states.specs.Member.{viewOf}
 use Rattle.simulator.proofs.Opening.{members-on}
 use borrow.Author.Needs.{needs}
 use Rattle.simulator.proofs.fresh_members.Statement.{statement}

@@ -8,7 +8,7 @@ use Rattle.group.specs.Limits.{longestPacket}
 use Rattle.model.specs.World as world
 use Rattle.sequencer.specs.Calls as sequencer
 use Rattle.sequencer.specs.State.{Sequencer}
-use Rattle.sequencer.specs.View.{viewOf}
+use Rattle.states.specs.Sequencer.{viewOf}
 use Rattle.simulator.specs.Whole.{packetsMost, packetIn, groupOf}
 use Rattle.simulator.specs.declared.Stored.{Stored}
 use Rattle.simulator.proofs.Groups.{receive-has}

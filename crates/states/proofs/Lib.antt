@@ -1,0 +1,4 @@
+pub mod SequencerLends
+pub mod SequencerLeaving
+pub mod MemberLends
+pub mod MemberLeaving

@@ -1,0 +1,2 @@
+pub mod Sequencer
+pub mod Member

@@ -1,30 +1,28 @@
 -- A list is read off one packet more, and a place and a terminal more are written; the lists of a group are those of the code's members
 -- and packets. Assumes nothing.
 use mathlib.Core.Path.{_≡_, refl, sym, ap, _∙_, subst}
-use mathlib.Core.List.{List, [], _∷_, _++_, map}
-use Prim.Native.Nat.{ℕ, zero, suc, _+_, _≤_, _<_}
+use mathlib.Core.List.{List, [], _∷_, _++_}
+use Prim.Native.Nat.{ℕ, zero, suc, _+_, _-_, _≤_, _<_}
 use native.Mathlib.Numerals.{add-one}
 use native.Mathlib.Omega.{arith}
-use lib.ListN.{length, getD, take, drop, drop-of-length-le, length-map}
-use lib.Seq.{length-take-le, getD-take, drop-cons}
+use lib.ListN.{length, getD, length-map, List·getD-map}
 use Rattle.group.proofs.Choice.{if-eq, if-ne}
 use Rattle.group.specs.declared.MemberNumber.{MemberNumber}
 use Rattle.jobs.specs.Job.{unusedState, waitingState, noJob}
 use Rattle.jobs.specs.declared.Job.{Job}
 use Rattle.member.specs.State.{Member}
-use Rattle.model.specs.World.{noMember}
+use Rattle.model.specs.World.{Group, noMember}
 use Rattle.packet.specs.Packet.{readOf, payloadAt}
-use Rattle.simulator.proofs.Reading.{member-seen}
-use Rattle.simulator.specs.Whole.{packetIn, groupOf, sizeOf}
-use Rattle.simulator.specs.declared.Stored.{Stored}
-use Rattle.simulator.specs.declared.Whole.{Whole}
-use Rattle.states.specs.Member.{viewOf}
+use Rattle.player.specs.Player.{takenAt}
+use Rattle.simulator.proofs.Lists.{length-list, lists-get}
+use Rattle.simulator.specs.Whole.{listOf, Packets, packetAt}
+use Rattle.simulator.specs.declared.Head.{Head}
 use Rattle.terminal.specs.Left.{heardOf, heardAll, freshLeft, listIn}
 use Rattle.terminal.specs.declared.Left.{Left}
 use Rattle.text.specs.LaidAt.{LaidAt}
 use Rattle.text.specs.Text.{textOf}
 use Rattle.text.specs.Written.{decimalOf, spaced}
-use Rattle.inspection.specs.Lists.{holderText, usedLine, jobLine, jobLines, listLines, listOn}
+use Rattle.inspection.specs.Lists.{holderText, usedLine, jobLine, jobLines, listLines, listOn, Listed}
 
 -- the holder of a job that waits, and of one that does not
 pub waiting-text : (state : ℕ) (m : MemberNumber) → state ≡ waitingState → textOf "waiting" ≡ holderText state m
@@ -49,20 +47,18 @@ pub field-as : {at next : ℕ} {lent after : List ℕ} (a b : List ℕ) → a �
 field-as {at} {next} {lent} {after} a b e f = subst (λ (l : List ℕ). LaidAt at (spaced (l ∷ [])) lent after next) e f
 
 -- a packet more is heard
-pub heard-on : (t : ℕ) (left : Left) (packets : List Stored) (count k : ℕ) (d : Stored) → k < count → count ≤ length packets
-    → heardAll t left (map packetIn (drop k (take count packets)))
-    ≡ heardAll t (heardOf t left (readOf (packetIn (getD packets k d))) (payloadAt (packetIn (getD packets k d)))) (map packetIn (drop (k + 1) (take count packets)))
-unfolding heardAll
-heard-on t left packets count k d b c =
-    let h : k < length (take count packets) = rw (length-take-le count packets c) b in
-    rw (drop-cons (take count packets) k d h, getD-take count packets k d b, add-one)
+pub heard-on : (t : ℕ) (left : Left) (p : Packets) (count k : ℕ) → k < count
+    → heardAll t left (listOf (packetAt p) k (count - k))
+    ≡ heardAll t (heardOf t left (readOf (packetAt p k)) (payloadAt (packetAt p k))) (listOf (packetAt p) (k + 1) (count - (k + 1)))
+unfolding heardAll listOf
+heard-on t left p count k b =
+    let e : count - k ≡ suc (count - (k + 1)) = omega arith in ap (λ (n : ℕ). heardAll t left (listOf (packetAt p) k n)) e
 
 -- all are heard
-pub heard-end : (t : ℕ) (left : Left) (packets : List Stored) (count k : ℕ) → count ≤ k → count ≤ length packets → heardAll t left (map packetIn (drop k (take count packets))) ≡ left
-unfolding heardAll
-heard-end t left packets count k b c =
-    let h : length (take count packets) ≤ k = rw (length-take-le count packets c) b in
-    rw (drop-of-length-le (take count packets) {i = k} h)
+pub heard-end : (t : ℕ) (left : Left) (p : Packets) (count k : ℕ) → count ≤ k → heardAll t left (listOf (packetAt p) k (count - k)) ≡ left
+unfolding heardAll listOf
+heard-end t left p count k b =
+    let e : count - k ≡ 0 = omega arith in ap (λ (n : ℕ). heardAll t left (listOf (packetAt p) k n)) e
 
 -- one place more, and one terminal more
 pub jobs-on : (i : ℕ) (jobs : List Job) (k : ℕ) → jobLines i jobs (k + 1) ≡ jobLines i jobs k ++ jobLine i k (getD jobs k noJob)
@@ -88,14 +84,16 @@ lists-same list other (suc k) e =
     ap (λ (l : List ℕ). l ++ jobLines k (list k) (length (list k))) (lists-same list other k (λ i b. e i (omega arith)))
     ∙ ap (λ (l : List Job). listLines other k ++ jobLines k l (length l)) (e k (omega arith))
 
-pub lists-of : (w : Whole) → sizeOf w ≤ length (w .members)
-    → listLines (listOn (w .members) (map packetIn (take (w .count) (w .packets)))) (sizeOf w)
-    ≡ listLines (listIn (groupOf w)) (length (groupOf w .members))
-unfolding groupOf
-lists-of w h =
-    let n = sizeOf w in
-    let e : length (groupOf w .members) ≡ n = length-map (take n (w .members)) viewOf ∙ length-take-le n (w .members) h in
-    let packets = map packetIn (take (w .count) (w .packets)) in
-    lists-same (listOn (w .members) packets) (listIn (groupOf w)) n
-    (λ i b. ap (λ (m : Member). heardAll (m .taken .0) freshLeft packets .jobs) (member-seen w i (omega arith)))
-    ∙ ap (listLines (listIn (groupOf w))) (sym e)
+-- the lists of a group that is shown by its head, rows and packets
+pub lists-of : (head : Head) (numbers packets : List (List ℕ)) (g : Group) → Listed head numbers packets g
+    → listLines (listOn numbers packets) (head .sequencer .group .n) ≡ listLines (listIn g) (length (g .members))
+lists-of head numbers packets g s =
+    let n = head .sequencer .group .n in
+    let taken : Member → ℕ = λ m. m .taken .0 in
+    let e : length (g .members) ≡ n = sym (length-map (g .members) taken) ∙ ap length (s .shown .members) ∙ length-list (takenAt numbers) 0 n in
+    lists-same (listOn numbers packets) (listIn g) n
+    (λ i b.
+    let m : takenAt numbers i ≡ taken (getD (g .members) i noMember) =
+    sym (sym (List·getD-map taken (g .members) i noMember) ∙ ap (λ (l : List ℕ). getD l i (taken noMember)) (s .shown .members) ∙ lists-get (takenAt numbers) (taken noMember) n i b) in
+    λ j. heardAll (m j) freshLeft (sym (s .written) j) .jobs)
+    ∙ ap (listLines (listIn g)) (sym e)

@@ -1,5 +1,6 @@
 -- What `inspect` prints of the work lists: a heading, and then a line a job, terminals and places in turn.
-use mathlib.Core.List.{List, [], _∷_, _++_, map}
+use mathlib.Core.Path.{_≡_}
+use mathlib.Core.List.{List, [], _∷_, _++_}
 use Prim.Native.Nat.{ℕ, zero, suc, _+_, _*_}
 use lib.ListN.{length, take, getD}
 use Rattle.group.specs.Choice.{if_then_else_, _=?_}
@@ -7,9 +8,9 @@ use Rattle.group.specs.Limits.{jobMost}
 use Rattle.group.specs.declared.MemberNumber.{MemberNumber}
 use Rattle.jobs.specs.Job.{unusedState, waitingState, noJob}
 use Rattle.jobs.specs.declared.Job.{Job}
-use Rattle.model.specs.World.{Group, noMember}
-use Rattle.states.specs.Member.{viewOf}
-use Rattle.states.specs.declared.Member.{Member}
+use Rattle.model.specs.World.{Group}
+use Rattle.player.specs.Player.{takenAt, Shown}
+use Rattle.simulator.specs.declared.Head.{Head}
 use Rattle.terminal.specs.Left.{heardAll, freshLeft, listIn}
 use Rattle.text.specs.Text.{textOf}
 use Rattle.text.specs.Written.{decimalOf, payloadText, line, numberDigits}
@@ -41,9 +42,9 @@ unfoldable pub listLines : (ℕ → List Job) → ℕ → List ℕ
 listLines list zero = []
 listLines list (suc k) = listLines list k ++ jobLines k (list k) (length (list k))
 
--- terminal i's list from the code's members and packets; that of a group is `listIn`
-abbrev pub listOn : List Member → List (List ℕ) → ℕ → List Job
-listOn members packets i = heardAll (getD (map viewOf members) i noMember .taken .0) freshLeft packets .jobs
+-- terminal i's list from the rows of numbers and the packets; that of a group is `listIn`
+abbrev pub listOn : List (List ℕ) → List (List ℕ) → ℕ → List Job
+listOn numbers packets i = heardAll (takenAt numbers i) freshLeft packets .jobs
 
 abbrev pub listsOf : Group → List ℕ
 listsOf g = line jobColumns ++ listLines (listIn g) (length (g .members))
@@ -51,3 +52,8 @@ listsOf g = line jobColumns ++ listLines (listIn g) (length (g .members))
 -- the room of a line: three numbers, the job in hex, and what stands between and behind them
 abbrev pub jobRoom : ℕ
 jobRoom = 3 * numberDigits + 5 + 2 * jobMost
+
+-- a group that is shown by its head and its rows of numbers, and has these packets
+pub record Listed (head : Head) (numbers packets : List (List ℕ)) (g : Group) : Type 0 where
+  pub shown : Shown head numbers g
+  pub written : g .packets ≡ packets

@@ -34,7 +34,8 @@ cut text size room h =
     (λ t. let z = ltb-true size room t in sym (take-all room (take size text) (omega arith)))
     (λ t. let z = ltb-false size room t in sym (take-take room size text z))
 
-shows-length : (printed lent now : List ℕ) (at : ℕ) → Shows printed lent now at → (length now ≡ length lent) × (at ≤ length lent)
+-- what is shown lies within the output, which keeps its length
+pub shows-length : (printed lent now : List ℕ) (at : ℕ) → Shows printed lent now at → (length now ≡ length lent) × (at ≤ length lent)
 shows-length printed lent now at s =
     let p = shownOf printed (length lent) in
     let k : length p ≤ length lent =
@@ -77,12 +78,6 @@ put-within now text part at n b h p =
     let t = length-take-le at now h in
     let q : n ≤ length part = rw p (rw length-append (omega arith)) in
     rw (length-append, length-append) (omega arith)
-
--- a size past the end of a text takes it whole
-pub whole-text : (text : List ℕ) (size most : ℕ) → length text ≡ most → take (if size <? most then size else most) text ≡ take size text
-whole-text text size most n =
-    if-elim (λ (x : ℕ). take x text ≡ take size text) (size <? most) (λ t. refl)
-    (λ t. let z = ltb-false size most t in take-all most text (omega arith) ∙ sym (take-all size text (omega arith)))
 
 -- nothing is shown of nothing
 pub shows-none : (lent : List ℕ) → Shows [] lent lent 0

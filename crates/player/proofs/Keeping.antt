@@ -50,3 +50,15 @@ kept-kept line part =
     let n = length-take-le keptMost line (omega arith) in
     take-append-le keptMost (keptOf line) part (omega arith) ∙ take-all keptMost (keptOf line) (omega arith)
     ∙ sym (take-append-le keptMost line part (omega arith)))
+
+-- a size past the end of a text takes it whole
+pub whole-text : (text : List ℕ) (size most : ℕ) → length text ≡ most → take (if size <? most then size else most) text ≡ take size text
+whole-text text size most n =
+    if-elim (λ (x : ℕ). take x text ≡ take size text) (size <? most) (λ t. refl)
+    (λ t. let z = ltb-false size most t in take-all most text (omega arith) ∙ sym (take-all size text (omega arith)))
+
+-- the smaller of two numbers is 0, and the second is not
+pub smaller-zero : (a b r : ℕ) → 0 < b → r ≡ (if a <? b then a else b) → r ≡ 0 → a ≡ 0
+smaller-zero a b r h e z =
+    let f : (if a <? b then a else b) ≡ 0 → a ≡ 0 = if-elim (λ (x : ℕ). x ≡ 0 → a ≡ 0) (a <? b) (λ _ k. k) (λ _ k. absurd (omega arith)) in
+    f (sym e ∙ z)

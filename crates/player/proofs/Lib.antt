@@ -1,3 +1,4 @@
+pub mod Asking
 pub mod Telling
 pub mod Opening
 pub mod Keeping

@@ -21,12 +21,12 @@ use Rattle.text.specs.declared.Found.{Found}
 use Rattle.text.specs.declared.Found.the-variants.{At, Nothing}
 use Rattle.schedule.specs.declared.Opening.{Opening}
 use Rattle.sequencer.specs.Calls.{freshOf, openedOf}
-use Rattle.simulator.specs.Whole.{packetsMost, groupOf, Opens}
-use Rattle.simulator.specs.declared.Opened.{Opened}
+use Rattle.simulator.specs.Whole.{groupOf, Whole, Opens}
+use Rattle.simulator.specs.declared.Head.{Head}
 use Rattle.player.specs.Play.{running, Told, refusedTold, openTold, lineTold}
 use Rattle.player.specs.Feed as feed
 use Rattle.player.specs.Feed.{State, keptOf, toldAs, fedUpTo, fedOf, endOf}
-use Rattle.player.specs.Player.{stageIn, phaseOf, stateOf, Does}
+use Rattle.player.specs.Player.{stageIn, phaseOf, Does}
 use Rattle.player.specs.Steps.{Fits, degreeOf, Tells}
 use Rattle.player.specs.declared.Fed.{Fed}
 use Rattle.player.specs.declared.Phase.{Phase}
@@ -50,24 +50,24 @@ module _ (n number resilience : ℕ) where
   pub told-many : membersMost < n → refusedTold Refusal.Opening ≡ openTold (Opening.Group n number resilience)
   told-many h = told-refused Refusal.Opening (many-refused n number resilience h)
 
-  pub opened-refused : (r : Opened) (refusal : Refusal) → Opens n number resilience r → r .verdict ≡ Verdict.Refused refusal → refusedTold refusal ≡ openTold (Opening.Group n number resilience)
-  opened-refused r refusal o e = told-refused refusal (sym (o .verdict) ∙ e)
+  pub opened-refused : (verdict : Verdict) (head : Head) (w : Whole) (refusal : Refusal) → Opens n number resilience verdict head w → verdict ≡ Verdict.Refused refusal → refusedTold refusal ≡ openTold (Opening.Group n number resilience)
+  opened-refused verdict head w refusal o e = told-refused refusal (sym (o .verdict-is) ∙ e)
 
-  pub opened-group : (r : Opened) (told : declared.Told) (lent : List ℕ) → Opens n number resilience r → r .verdict ≡ Verdict.Accepted
-      → told .whole ≡ r .whole → told .phase ≡ Running → told .number ≡ 1 → told .written ≡ 0
-      → Tells (openTold (Opening.Group n number resilience)) told lent lent
+  pub opened-group : (verdict : Verdict) (head : Head) (w : Whole) (told : declared.Told) (lent : List ℕ) → Opens n number resilience verdict head w → verdict ≡ Verdict.Accepted
+      → told .head ≡ head → told .phase ≡ Running → told .number ≡ 1 → told .written ≡ 0
+      → Tells (openTold (Opening.Group n number resilience)) told w lent lent
   unfolding openTold judged stageIn
-  opened-group r told lent o e w p k z =
-      let fits : Fits (r .whole) = record { members = o .room .members; packets = let y = o .room .packets in omega arith } in
-      let v : freshOf n number resilience .verdict ≡ Verdict.Accepted = sym (o .verdict) ∙ e in
-      let stage : stageIn (phaseOf (told .whole) (told .phase)) (groupOf (told .whole)) (told .number) ≡ running (fresh n number resilience .group) 1 =
-      ap (λ (x : Phase). stageIn (phaseOf (told .whole) x) (groupOf (told .whole)) (told .number)) p
-      ∙ ap (λ (x : _). stageIn (phaseOf x Running) (groupOf x) (told .number)) w
-      ∙ ap (λ (x : Phase). stageIn x (groupOf (r .whole)) (told .number)) (phase-is (r .whole) Running fits)
+  opened-group verdict head w told lent o e h p k z =
+      let fits : Fits head = record { members = o .room .members; packets = let y = o .room .packets in omega arith } in
+      let v : freshOf n number resilience .verdict ≡ Verdict.Accepted = sym (o .verdict-is) ∙ e in
+      let stage : stageIn (phaseOf (told .head) (told .phase)) (groupOf w) (told .number) ≡ running (fresh n number resilience .group) 1 =
+      ap (λ (x : Phase). stageIn (phaseOf (told .head) x) (groupOf w) (told .number)) p
+      ∙ ap (λ (x : Head). stageIn (phaseOf x Running) (groupOf w) (told .number)) h
+      ∙ ap (λ (x : Phase). stageIn x (groupOf w) (told .number)) (phase-is head Running fits)
       ∙ ap (λ (g : Group). running g (told .number)) (o .group e)
       ∙ ap (λ (j : ℕ). running (fresh n number resilience .group) j) k in
-      let t : Tells (record { text = []; stage = running (fresh n number resilience .group) 1 }) told lent lent = record { stage = stage; written = z; output = refl } in
-      subst (λ (x : Told). Tells x told lent lent)
+      let t : Tells (record { text = []; stage = running (fresh n number resilience .group) 1 }) told w lent lent = record { stage = stage; written = z; output = refl } in
+      subst (λ (x : Told). Tells x told w lent lent)
       (ap (λ (x : Verdict). judged x refusedTold (record { text = []; stage = running (fresh n number resilience .group) 1 })) (sym v)) t
 
 -- a resilience degree from n on is refused, unless n is
@@ -96,25 +96,25 @@ module _ (n number : ℕ) where
       (λ k. ap (λ (r : ℕ). openTold (Opening.Group n number r)) (is ∙ sym (if-lt resilience membersMost resilience resilience membersMost k refl)))
 
 -- the end of the input
-module _ (s : State) (r : Fed) (lent after : List ℕ) where
-  pub ends-none : length (s .line) ≡ 0 → Does (record { text = []; state = s; used = 0 }) r lent after → Does (endOf s) r lent after
+module _ (s : State) (r : Fed) (w : Whole) (bytes lent after : List ℕ) where
+  pub ends-none : length (s .line) ≡ 0 → Does (record { text = []; state = s; used = 0 }) r w bytes lent after → Does (endOf s) r w bytes lent after
   unfolding endOf
-  ends-none z d = subst (λ (x : feed.Fed). Does x r lent after) (if-eq (length (s .line)) 0 _ _ _ z refl) d
+  ends-none z d = subst (λ (x : feed.Fed). Does x r w bytes lent after) (if-eq (length (s .line)) 0 _ _ _ z refl) d
 
-  pub ends-told : (length (s .line) ≡ 0 → ⊥) → Does (toldAs (lineTold (s .stage) (s .line)) 0) r lent after → Does (endOf s) r lent after
+  pub ends-told : (length (s .line) ≡ 0 → ⊥) → Does (toldAs (lineTold (s .stage) (s .line)) 0) r w bytes lent after → Does (endOf s) r w bytes lent after
   unfolding endOf
-  ends-told z d = subst (λ (x : feed.Fed). Does x r lent after) (if-ne (length (s .line)) 0 _ _ _ z refl) d
+  ends-told z d = subst (λ (x : feed.Fed). Does x r w bytes lent after) (if-ne (length (s .line)) 0 _ _ _ z refl) d
 
   -- a part of the input
   pub feeds-line : (part line : List ℕ) (e : ℕ) → lineEnd part ≡ At e → line ≡ keptOf (s .line ++ take e part)
-      → Does (toldAs (lineTold (s .stage) line) (e + 1)) r lent after → Does (fedOf s part) r lent after
+      → Does (toldAs (lineTold (s .stage) line) (e + 1)) r w bytes lent after → Does (fedOf s part) r w bytes lent after
   unfolding fedUpTo
   feeds-line part line e f l d =
       let g = rw l at d in
-      subst (λ (x : Found). Does (fedUpTo x s part) r lent after) (sym f) g
+      subst (λ (x : Found). Does (fedUpTo x s part) r w bytes lent after) (sym f) g
 
   pub feeds-none : (part : List ℕ) → lineEnd part ≡ Nothing
-      → Does (record { text = []; state = record { stage = s .stage; line = keptOf (s .line ++ part) }; used = length part }) r lent after
-      → Does (fedOf s part) r lent after
+      → Does (record { text = []; state = record { stage = s .stage; line = keptOf (s .line ++ part) }; used = length part }) r w bytes lent after
+      → Does (fedOf s part) r w bytes lent after
   unfolding fedUpTo
-  feeds-none part f d = subst (λ (x : Found). Does (fedUpTo x s part) r lent after) (sym f) d
+  feeds-none part f d = subst (λ (x : Found). Does (fedUpTo x s part) r w bytes lent after) (sym f) d

@@ -1,4 +1,5 @@
-// Plays a schedule as its input comes: a group that is run, the number of the next event, and the line that has not ended.
+// Plays a schedule as its input comes: a group that is run, the number of the next event, and the line that has not ended. The numbers
+// go by value, and every array behind a reference.
 use group::Group;
 use group::Refusal;
 use group::SequenceNumber;
@@ -19,27 +20,36 @@ use schedule::PAYLOAD_ROOM;
 use schedule::read_event;
 use schedule::read_opening;
 use simulator::Happening;
-use simulator::Whole;
-use states::Member;
+use simulator::Head;
+use simulator::MemberCall;
+use simulator::NUMBERS;
+use simulator::PACKETS;
+use simulator::SequencerCall;
 use text::Found;
 use text::line_end;
 ghost use mathlib.Core.Bool.{Bool, true, false};
 ghost use mathlib.Core.Path.{_≡_};
-ghost use mathlib.Core.List.{[], _++_, map};
+ghost use mathlib.Core.List.{_++_};
 ghost use Prim.Native.Nat.{_≤_, _<_};
 ghost use lib.ListN.{length, take};
 ghost use Rattle.group.specs.Choice.{if_then_else_, _<?_};
 ghost use Rattle.group.specs.Lent.{front};
-ghost use Rattle.group.specs.Limits.{longestPacket};
+ghost use Rattle.group.specs.Limits.{membersMost, longestPacket};
 ghost use Rattle.model.specs.World.{answerOf};
 ghost use Rattle.report.specs.Print.{lineOf};
 ghost use Rattle.schedule.specs.Laws.{meantBy};
-ghost use Rattle.schedule.specs.Line.{eventOf, openingOf};
-ghost use Rattle.simulator.specs.Whole.{groupOf};
-ghost use Rattle.player.specs.Play.{nextNumber, refusedTold, openTold, eventTold, lineTold, lastTold, lastOf};
-ghost use Rattle.player.specs.Feed.{keptMost, keptOf, start, toldAs, fedOf, endOf};
-ghost use Rattle.player.specs.Player.{outputRoom, textIn, stageIn, phaseWith, phaseOf, stageOf, stateOf, Does};
-ghost use Rattle.player.specs.Steps.{Fits, degreeOf, Sized, Performed, Tells};
+ghost use Rattle.schedule.specs.Line.{eventOf, openingOf, payloadRoom};
+ghost use Rattle.simulator.specs.Whole.{listOf, wholeOf, groupOf};
+ghost use Rattle.player.specs.Play.{nextNumber, refusedTold, openTold, eventTold, lineTold, lastTold};
+ghost use Rattle.player.specs.Feed.{keptMost, keptOf, toldAs, fedOf, endOf};
+ghost use Rattle.player.specs.Player.{outputRoom, stageIn, phaseWith, phaseOf, stageOf, stateOf, takenAt, Does, Lays, LaysLast, Fresh};
+ghost use Rattle.player.specs.Steps.{Fits, degreeOf, actionOf, Sized, Performed, Tells, Refuses, PlaysLine};
+
+// What is kept of a line: one character more than a line may have.
+pub const LINE: usize = LINE_MOST + 1;
+
+// The room of the longest line that is printed.
+pub const OUTPUT: usize = LINE_ROOM + 2 * Group::PACKET;
 
 // Where playing stands: the first line is awaited, events are read, a line ended them, no group was opened.
 pub enum Phase {
@@ -49,21 +59,17 @@ pub enum Phase {
     Closed,
 }
 
-// What is kept of a line that has not ended: the first `length` bytes.
-pub struct Line {
-    pub length: usize,
-    pub bytes: [u8; Player::LINE],
-}
-
+// The numbers of a player: those of its group, the number of the next event, where playing stands, and how many bytes are kept of a
+// line that has not ended.
 pub struct Player {
-    pub whole: Whole,
+    pub head: Head,
     pub number: u64,
     pub phase: Phase,
-    pub line: Line,
+    pub length: usize,
 }
 
-// What a part of the input gives: the player after it, how much of the part was read, and how many bytes were printed to the
-// front of the lent output.
+// What a part of the input gives: the player's numbers after it, how much of the part was read, and how many bytes were printed to
+// the front of the lent output.
 pub struct Fed {
     pub player: Player,
     pub used: usize,
@@ -72,23 +78,39 @@ pub struct Fed {
 
 // What a line gives.
 struct Told {
-    whole: Whole,
+    head: Head,
     number: u64,
     phase: Phase,
     written: usize,
+}
+
+// What a command asks of the group: a call of a member, with that many bytes, or of the sequencer, or a packet handed over.
+enum Action {
+    Nothing,
+    Member {
+        call: MemberCall,
+        i: usize,
+        length: usize,
+    },
+    Sequencer(SequencerCall),
+    HandMember {
+        packet: usize,
+        i: usize,
+    },
+    HandSequencer(usize),
 }
 
 // The limits of specs/ are these constants.
 fn kept_most() -> usize
     ensures { λ r. ⌜ r ≡ keptMost ⌝ }
 {
-    Player::LINE
+    LINE
 }
 
 fn output_room() -> usize
     ensures { λ r. ⌜ r ≡ outputRoom ⌝ }
 {
-    Player::OUTPUT
+    OUTPUT
 }
 
 fn next_number(number: u64) -> u64
@@ -108,14 +130,13 @@ fn smaller(a: usize, b: usize) -> usize
 }
 
 // What each member took last.
-fn each_taken(members: [Member; Group::MEMBERS]) -> [u32; Group::MEMBERS]
-    ensures { λ r. ⌜ r ≡ map (λ m. m .head .taken .0) members ⌝ }
+fn each_taken(numbers: &[[u32; NUMBERS]; Group::MEMBERS]) -> [u32; Group::MEMBERS]
+    ensures { λ r. ⌜ r ≡ listOf (takenAt (now (numbers .entry))) 0 membersMost ⌝ }
 {
     let mut taken = [0u32; Group::MEMBERS];
     let mut i: usize = 0;
     while i < Group::MEMBERS {
-        let member = members[i];
-        taken[i] = member.head.taken.0;
+        taken[i] = numbers[i][0];
         i += 1;
     }
     taken
@@ -132,28 +153,144 @@ fn is_event(command: Command) -> bool
     }
 }
 
-// Does what a command says. A line of another form is no event, and nothing happens.
-fn perform(whole: Whole, command: Command, payload: [u8; PAYLOAD_ROOM]) -> Happening
-    requires { ⌜ Sized command ⌝ }
-    ensures { λ r. ⌜ Performed (meantBy command payload) whole r ⌝ }
+// What a command asks.
+fn action_of(command: Command) -> Action
+    ensures { λ r. ⌜ r ≡ actionOf command ⌝ }
 {
     match command {
-        Command::Other => Happening {
-            whole,
+        Command::Other => Action::Nothing,
+        Command::Submit { member, length } => Action::Member {
+            call: MemberCall::Submit,
+            i: member as usize,
+            length,
+        },
+        Command::Repeat(member) => Action::Member {
+            call: MemberCall::Repeat,
+            i: member as usize,
+            length: 0,
+        },
+        Command::Take(member) => Action::Member {
+            call: MemberCall::Take,
+            i: member as usize,
+            length: 0,
+        },
+        Command::Status(member) => Action::Member {
+            call: MemberCall::Status,
+            i: member as usize,
+            length: 0,
+        },
+        Command::Poll => Action::Sequencer(SequencerCall::Poll),
+        Command::Copy(number) => Action::Sequencer(SequencerCall::Copy(SequenceNumber(number))),
+        Command::HandMember { packet, member } => Action::HandMember {
+            packet: packet as usize,
+            i: member as usize,
+        },
+        Command::HandSequencer(packet) => Action::HandSequencer(packet as usize),
+    }
+}
+
+// Does what a command says. A line of another form is no event, and nothing happens.
+fn perform(
+    head: Head,
+    taken: &mut [u32; Group::MEMBERS],
+    counts: &mut [u32; Group::MEMBERS],
+    repeats: &mut [u32; Group::MEMBERS],
+    kept: &mut [u32; Group::PLACES],
+    marks: &mut [u16; Group::PLACES],
+    originators: &mut [u8; Group::PLACES],
+    lengths: &mut [u8; Group::PLACES],
+    payloads: &mut [u8; Group::HISTORY_BYTES],
+    numbers: &mut [[u32; NUMBERS]; Group::MEMBERS],
+    queued: &mut [[u32; Group::WAITING]; Group::MEMBERS],
+    held: &mut [[u32; Group::HELD]; Group::MEMBERS],
+    queued_originators: &mut [[u8; Group::WAITING]; Group::MEMBERS],
+    queued_lengths: &mut [[u8; Group::WAITING]; Group::MEMBERS],
+    held_originators: &mut [[u8; Group::HELD]; Group::MEMBERS],
+    held_lengths: &mut [[u8; Group::HELD]; Group::MEMBERS],
+    queued_payloads: &mut [[u8; Group::WAITING_BYTES]; Group::MEMBERS],
+    held_payloads: &mut [[u8; Group::HELD_BYTES]; Group::MEMBERS],
+    sizes: &mut [usize; PACKETS],
+    packets: &mut [[u8; Group::PACKET]; PACKETS],
+    command: Command,
+    payload: &[u8],
+    out: &mut [u8; Group::PACKET],
+) -> Happening
+    requires { ⌜ Sized command × (length (now payload) ≡ payloadRoom) ⌝ }
+    ensures { λ r. ⌜ Performed (meantBy command (now (payload .entry))) head (wholeOf head (now (taken .entry)) (now (counts .entry)) (now (repeats .entry)) (now (kept .entry)) (now (marks .entry)) (now (originators .entry)) (now (lengths .entry)) (now (payloads .entry)) (now (numbers .entry)) (now (queued .entry)) (now (held .entry)) (now («queued_originators» .entry)) (now («queued_lengths» .entry)) (now («held_originators» .entry)) (now («held_lengths» .entry)) (now («queued_payloads» .entry)) (now («held_payloads» .entry)) (now (sizes .entry)) (now (packets .entry))) r (wholeOf (r .head) (now (taken .exit)) (now (counts .exit)) (now (repeats .exit)) (now (kept .exit)) (now (marks .exit)) (now (originators .exit)) (now (lengths .exit)) (now (payloads .exit)) (now (numbers .exit)) (now (queued .exit)) (now (held .exit)) (now («queued_originators» .exit)) (now («queued_lengths» .exit)) (now («held_originators» .exit)) (now («held_lengths» .exit)) (now («queued_payloads» .exit)) (now («held_payloads» .exit)) (now (sizes .exit)) (now (packets .exit))) (now (out .entry)) (now (out .exit)) ⌝ }
+{
+    let asked = action_of(command);
+    match asked {
+        Action::Nothing => Happening {
+            head,
             reply: Reply::Absent,
             written: 0,
-            bytes: [0u8; Group::PACKET],
         },
-        Command::Submit { member, length } => whole.submit(member as usize, &payload[..length]),
-        Command::Repeat(member) => whole.repeat(member as usize),
-        Command::Take(member) => whole.take(member as usize),
-        Command::Status(member) => whole.status(member as usize),
-        Command::Poll => whole.poll(),
-        Command::Copy(number) => whole.copy(SequenceNumber(number)),
-        Command::HandMember { packet, member } => {
-            whole.hand_member(packet as usize, member as usize)
-        }
-        Command::HandSequencer(packet) => whole.hand_sequencer(packet as usize),
+        Action::Member { call, i, length } => simulator::act(
+            call,
+            head,
+            numbers,
+            queued,
+            held,
+            queued_originators,
+            queued_lengths,
+            held_originators,
+            held_lengths,
+            queued_payloads,
+            held_payloads,
+            sizes,
+            packets,
+            i,
+            &payload[..length],
+            out,
+        ),
+        Action::Sequencer(call) => simulator::sequence(
+            call,
+            head,
+            taken,
+            counts,
+            repeats,
+            kept,
+            marks,
+            originators,
+            lengths,
+            payloads,
+            sizes,
+            packets,
+            payload,
+            out,
+        ),
+        Action::HandMember { packet, i } => simulator::hand_member(
+            head,
+            numbers,
+            queued,
+            held,
+            queued_originators,
+            queued_lengths,
+            held_originators,
+            held_lengths,
+            queued_payloads,
+            held_payloads,
+            sizes,
+            packets,
+            packet,
+            i,
+            out,
+        ),
+        Action::HandSequencer(packet) => simulator::hand_sequencer(
+            head,
+            taken,
+            counts,
+            repeats,
+            kept,
+            marks,
+            originators,
+            lengths,
+            payloads,
+            sizes,
+            packets,
+            packet,
+            out,
+        ),
     }
 }
 
@@ -164,7 +301,7 @@ fn write_answer(
     index: usize,
     bytes: [u8; Group::PACKET],
     size: usize,
-    out: &mut [u8; Player::OUTPUT],
+    out: &mut [u8; OUTPUT],
 ) -> usize
     requires { ⌜ size ≤ longestPacket ⌝ }
     ensures size { λ r. ⌜ r ≡ length (lineOf number (answerOf reply (take size bytes)) index) ⌝ }
@@ -174,23 +311,71 @@ fn write_answer(
 }
 
 // One event a line.
-fn tell(whole: Whole, number: u64, line: &[u8], out: &mut [u8; Player::OUTPUT]) -> Told
-    requires { ⌜ Fits whole ⌝ }
-    ensures { λ r. ⌜ Tells (eventTold (groupOf whole) number (eventOf (now (line .entry)))) r (now (out .entry)) (now (out .exit)) ⌝ }
+fn tell(
+    head: Head,
+    number: u64,
+    taken: &mut [u32; Group::MEMBERS],
+    counts: &mut [u32; Group::MEMBERS],
+    repeats: &mut [u32; Group::MEMBERS],
+    kept: &mut [u32; Group::PLACES],
+    marks: &mut [u16; Group::PLACES],
+    originators: &mut [u8; Group::PLACES],
+    lengths: &mut [u8; Group::PLACES],
+    payloads: &mut [u8; Group::HISTORY_BYTES],
+    numbers: &mut [[u32; NUMBERS]; Group::MEMBERS],
+    queued: &mut [[u32; Group::WAITING]; Group::MEMBERS],
+    held: &mut [[u32; Group::HELD]; Group::MEMBERS],
+    queued_originators: &mut [[u8; Group::WAITING]; Group::MEMBERS],
+    queued_lengths: &mut [[u8; Group::WAITING]; Group::MEMBERS],
+    held_originators: &mut [[u8; Group::HELD]; Group::MEMBERS],
+    held_lengths: &mut [[u8; Group::HELD]; Group::MEMBERS],
+    queued_payloads: &mut [[u8; Group::WAITING_BYTES]; Group::MEMBERS],
+    held_payloads: &mut [[u8; Group::HELD_BYTES]; Group::MEMBERS],
+    sizes: &mut [usize; PACKETS],
+    packets: &mut [[u8; Group::PACKET]; PACKETS],
+    line: &[u8],
+    out: &mut [u8; OUTPUT],
+) -> Told
+    requires { ⌜ Fits head ⌝ }
+    ensures { λ r. ⌜ Tells (eventTold (groupOf (wholeOf head (now (taken .entry)) (now (counts .entry)) (now (repeats .entry)) (now (kept .entry)) (now (marks .entry)) (now (originators .entry)) (now (lengths .entry)) (now (payloads .entry)) (now (numbers .entry)) (now (queued .entry)) (now (held .entry)) (now («queued_originators» .entry)) (now («queued_lengths» .entry)) (now («held_originators» .entry)) (now («held_lengths» .entry)) (now («queued_payloads» .entry)) (now («held_payloads» .entry)) (now (sizes .entry)) (now (packets .entry)))) number (eventOf (now (line .entry)))) r (wholeOf (r .head) (now (taken .exit)) (now (counts .exit)) (now (repeats .exit)) (now (kept .exit)) (now (marks .exit)) (now (originators .exit)) (now (lengths .exit)) (now (payloads .exit)) (now (numbers .exit)) (now (queued .exit)) (now (held .exit)) (now («queued_originators» .exit)) (now («queued_lengths» .exit)) (now («held_originators» .exit)) (now («held_lengths» .exit)) (now («queued_payloads» .exit)) (now («held_payloads» .exit)) (now (sizes .exit)) (now (packets .exit))) (now (out .entry)) (now (out .exit)) ⌝ }
 {
     let mut payload = [0u8; PAYLOAD_ROOM];
     let command = read_event(line, &mut payload);
     if is_event(command) {
-        let index = whole.count;
-        if index < Whole::PACKETS {
-            let happening = perform(whole, command, payload);
+        let index = head.count;
+        if index < PACKETS {
+            let mut bytes = [0u8; Group::PACKET];
+            let happening = perform(
+                head,
+                taken,
+                counts,
+                repeats,
+                kept,
+                marks,
+                originators,
+                lengths,
+                payloads,
+                numbers,
+                queued,
+                held,
+                queued_originators,
+                queued_lengths,
+                held_originators,
+                held_lengths,
+                queued_payloads,
+                held_payloads,
+                sizes,
+                packets,
+                command,
+                &payload,
+                &mut bytes,
+            );
             let reply = happening.reply;
-            let bytes = happening.bytes;
             let written = write_answer(number, reply, index, bytes, happening.written, out);
             let next = next_number(number);
-            let after = happening.whole;
+            let after = happening.head;
             return Told {
-                whole: after,
+                head: after,
                 number: next,
                 phase: Phase::Running,
                 written,
@@ -198,7 +383,7 @@ fn tell(whole: Whole, number: u64, line: &[u8], out: &mut [u8; Player::OUTPUT]) 
         }
         let written = write_no_space(number, out);
         return Told {
-            whole,
+            head,
             number,
             phase: Phase::Ended,
             written,
@@ -206,7 +391,7 @@ fn tell(whole: Whole, number: u64, line: &[u8], out: &mut [u8; Player::OUTPUT]) 
     }
     let written = write_bad_line(number, out);
     Told {
-        whole,
+        head,
         number,
         phase: Phase::Ended,
         written,
@@ -214,26 +399,28 @@ fn tell(whole: Whole, number: u64, line: &[u8], out: &mut [u8; Player::OUTPUT]) 
 }
 
 // The last line of a group: top, floor and each t.
-fn write_taken(whole: Whole, out: &mut [u8; Player::OUTPUT]) -> usize
-    requires { ⌜ Fits whole ⌝ }
-    ensures size { λ r. ⌜ r ≡ length (lastTold (groupOf whole)) ⌝ }
-    ensures lent { λ _. ⌜ now (out .exit) ≡ front (lastTold (groupOf whole)) (now (out .entry)) ⌝ }
+fn write_taken(
+    head: Head,
+    numbers: &[[u32; NUMBERS]; Group::MEMBERS],
+    out: &mut [u8; OUTPUT],
+) -> usize
+    requires { ⌜ Fits head ⌝ }
+    ensures { λ r. ⌜ Lays lastTold head (now (numbers .entry)) r (now (out .entry)) (now (out .exit)) ⌝ }
 {
-    let members = whole.members;
-    let taken = each_taken(members);
-    let n = whole.sequencer.head.group.n as usize;
-    let top = whole.sequencer.head.top;
-    let floor = whole.sequencer.head.floor;
+    let taken = each_taken(numbers);
+    let n = head.sequencer.group.n as usize;
+    let top = head.sequencer.top;
+    let floor = head.sequencer.floor;
     write_last(top, floor, &taken[..n], out)
 }
 
 // A group that cannot be opened.
-fn refuse(whole: Whole, refusal: Refusal, out: &mut [u8; Player::OUTPUT]) -> Told
-    ensures { λ r. ⌜ Tells (refusedTold refusal) r (now (out .entry)) (now (out .exit)) ⌝ }
+fn refuse(head: Head, refusal: Refusal, out: &mut [u8; OUTPUT]) -> Told
+    ensures { λ r. ⌜ Refuses (refusedTold refusal) r (now (out .entry)) (now (out .exit)) ⌝ }
 {
     let written = write_refused_opening(refusal, out);
     Told {
-        whole,
+        head,
         number: 0,
         phase: Phase::Closed,
         written,
@@ -252,15 +439,38 @@ fn degree(resilience: u32) -> u8
 }
 
 // The first line.
-fn open(whole: Whole, line: &[u8], out: &mut [u8; Player::OUTPUT]) -> Told
-    ensures { λ r. ⌜ Tells (openTold (openingOf (now (line .entry)))) r (now (out .entry)) (now (out .exit)) ⌝ }
+fn open(
+    head: Head,
+    taken: &mut [u32; Group::MEMBERS],
+    counts: &mut [u32; Group::MEMBERS],
+    repeats: &mut [u32; Group::MEMBERS],
+    kept: &mut [u32; Group::PLACES],
+    marks: &mut [u16; Group::PLACES],
+    originators: &mut [u8; Group::PLACES],
+    lengths: &mut [u8; Group::PLACES],
+    payloads: &mut [u8; Group::HISTORY_BYTES],
+    numbers: &mut [[u32; NUMBERS]; Group::MEMBERS],
+    queued: &mut [[u32; Group::WAITING]; Group::MEMBERS],
+    held: &mut [[u32; Group::HELD]; Group::MEMBERS],
+    queued_originators: &mut [[u8; Group::WAITING]; Group::MEMBERS],
+    queued_lengths: &mut [[u8; Group::WAITING]; Group::MEMBERS],
+    held_originators: &mut [[u8; Group::HELD]; Group::MEMBERS],
+    held_lengths: &mut [[u8; Group::HELD]; Group::MEMBERS],
+    queued_payloads: &mut [[u8; Group::WAITING_BYTES]; Group::MEMBERS],
+    held_payloads: &mut [[u8; Group::HELD_BYTES]; Group::MEMBERS],
+    sizes: &mut [usize; PACKETS],
+    packets: &mut [[u8; Group::PACKET]; PACKETS],
+    line: &[u8],
+    out: &mut [u8; OUTPUT],
+) -> Told
+    ensures { λ r. ⌜ Tells (openTold (openingOf (now (line .entry)))) r (wholeOf (r .head) (now (taken .exit)) (now (counts .exit)) (now (repeats .exit)) (now (kept .exit)) (now (marks .exit)) (now (originators .exit)) (now (lengths .exit)) (now (payloads .exit)) (now (numbers .exit)) (now (queued .exit)) (now (held .exit)) (now («queued_originators» .exit)) (now («queued_lengths» .exit)) (now («held_originators» .exit)) (now («held_lengths» .exit)) (now («queued_payloads» .exit)) (now («held_payloads» .exit)) (now (sizes .exit)) (now (packets .exit))) (now (out .entry)) (now (out .exit)) ⌝ }
 {
     let opening = read_opening(line);
     match opening {
         Opening::Other => {
             let written = write_bad_opening(out);
             Told {
-                whole,
+                head,
                 number: 0,
                 phase: Phase::Closed,
                 written,
@@ -273,20 +483,44 @@ fn open(whole: Whole, line: &[u8], out: &mut [u8; Player::OUTPUT]) -> Told
         } => {
             if (Group::MEMBERS as u32) < n {
                 let refusal = Refusal::Opening;
-                return refuse(whole, refusal, out);
+                return refuse(head, refusal, out);
             }
             let degree = degree(resilience);
-            let opened = Whole::fresh(n as u8, number, degree);
+            let opened = simulator::open(
+                head,
+                taken,
+                counts,
+                repeats,
+                kept,
+                marks,
+                originators,
+                lengths,
+                payloads,
+                numbers,
+                queued,
+                held,
+                queued_originators,
+                queued_lengths,
+                held_originators,
+                held_lengths,
+                queued_payloads,
+                held_payloads,
+                sizes,
+                packets,
+                n as u8,
+                number,
+                degree,
+            );
             let verdict = opened.verdict;
-            let fresh = opened.whole;
+            let fresh = opened.head;
             match verdict {
                 Verdict::Accepted => Told {
-                    whole: fresh,
+                    head: fresh,
                     number: 1,
                     phase: Phase::Running,
                     written: 0,
                 },
-                Verdict::Refused(refusal) => refuse(whole, refusal, out),
+                Verdict::Refused(refusal) => refuse(fresh, refusal, out),
             }
         }
     }
@@ -299,7 +533,7 @@ pub fn phase_of(n: u8, count: usize, phase: Phase) -> Phase
     if Group::MEMBERS < (n as usize) {
         return Phase::Closed;
     }
-    if Whole::PACKETS < count {
+    if PACKETS < count {
         return Phase::Closed;
     }
     phase
@@ -307,26 +541,92 @@ pub fn phase_of(n: u8, count: usize, phase: Phase) -> Phase
 
 // A line that has ended.
 fn play(
-    whole: Whole,
+    head: Head,
     number: u64,
     phase: Phase,
+    taken: &mut [u32; Group::MEMBERS],
+    counts: &mut [u32; Group::MEMBERS],
+    repeats: &mut [u32; Group::MEMBERS],
+    kept: &mut [u32; Group::PLACES],
+    marks: &mut [u16; Group::PLACES],
+    originators: &mut [u8; Group::PLACES],
+    lengths: &mut [u8; Group::PLACES],
+    payloads: &mut [u8; Group::HISTORY_BYTES],
+    numbers: &mut [[u32; NUMBERS]; Group::MEMBERS],
+    queued: &mut [[u32; Group::WAITING]; Group::MEMBERS],
+    held: &mut [[u32; Group::HELD]; Group::MEMBERS],
+    queued_originators: &mut [[u8; Group::WAITING]; Group::MEMBERS],
+    queued_lengths: &mut [[u8; Group::WAITING]; Group::MEMBERS],
+    held_originators: &mut [[u8; Group::HELD]; Group::MEMBERS],
+    held_lengths: &mut [[u8; Group::HELD]; Group::MEMBERS],
+    queued_payloads: &mut [[u8; Group::WAITING_BYTES]; Group::MEMBERS],
+    held_payloads: &mut [[u8; Group::HELD_BYTES]; Group::MEMBERS],
+    sizes: &mut [usize; PACKETS],
+    packets: &mut [[u8; Group::PACKET]; PACKETS],
     line: &[u8],
-    out: &mut [u8; Player::OUTPUT],
+    out: &mut [u8; OUTPUT],
 ) -> Told
-    ensures { λ r. ⌜ Tells (lineTold (stageIn (phaseOf whole phase) (groupOf whole) number) (now (line .entry))) r (now (out .entry)) (now (out .exit)) ⌝ }
+    ensures { λ r. ⌜ Tells (lineTold (stageIn (phaseOf head phase) (groupOf (wholeOf head (now (taken .entry)) (now (counts .entry)) (now (repeats .entry)) (now (kept .entry)) (now (marks .entry)) (now (originators .entry)) (now (lengths .entry)) (now (payloads .entry)) (now (numbers .entry)) (now (queued .entry)) (now (held .entry)) (now («queued_originators» .entry)) (now («queued_lengths» .entry)) (now («held_originators» .entry)) (now («held_lengths» .entry)) (now («queued_payloads» .entry)) (now («held_payloads» .entry)) (now (sizes .entry)) (now (packets .entry)))) number) (now (line .entry))) r (wholeOf (r .head) (now (taken .exit)) (now (counts .exit)) (now (repeats .exit)) (now (kept .exit)) (now (marks .exit)) (now (originators .exit)) (now (lengths .exit)) (now (payloads .exit)) (now (numbers .exit)) (now (queued .exit)) (now (held .exit)) (now («queued_originators» .exit)) (now («queued_lengths» .exit)) (now («held_originators» .exit)) (now («held_lengths» .exit)) (now («queued_payloads» .exit)) (now («held_payloads» .exit)) (now (sizes .exit)) (now (packets .exit))) (now (out .entry)) (now (out .exit)) ⌝ }
 {
-    let stands = phase_of(whole.sequencer.head.group.n, whole.count, phase);
+    let stands = phase_of(head.sequencer.group.n, head.count, phase);
     match stands {
-        Phase::Opening => open(whole, line, out),
-        Phase::Running => tell(whole, number, line, out),
+        Phase::Opening => open(
+            head,
+            taken,
+            counts,
+            repeats,
+            kept,
+            marks,
+            originators,
+            lengths,
+            payloads,
+            numbers,
+            queued,
+            held,
+            queued_originators,
+            queued_lengths,
+            held_originators,
+            held_lengths,
+            queued_payloads,
+            held_payloads,
+            sizes,
+            packets,
+            line,
+            out,
+        ),
+        Phase::Running => tell(
+            head,
+            number,
+            taken,
+            counts,
+            repeats,
+            kept,
+            marks,
+            originators,
+            lengths,
+            payloads,
+            numbers,
+            queued,
+            held,
+            queued_originators,
+            queued_lengths,
+            held_originators,
+            held_lengths,
+            queued_payloads,
+            held_payloads,
+            sizes,
+            packets,
+            line,
+            out,
+        ),
         Phase::Ended => Told {
-            whole,
+            head,
             number,
             phase: stands,
             written: 0,
         },
         Phase::Closed => Told {
-            whole,
+            head,
             number,
             phase: stands,
             written: 0,
@@ -334,138 +634,276 @@ fn play(
     }
 }
 
-impl Line {
-    fn empty() -> Self
-        ensures { λ r. ⌜ textIn r ≡ [] ⌝ }
-    {
-        Line {
-            length: 0,
-            bytes: [0u8; Player::LINE],
+// Keeps a part more of a line of which `kept` bytes stand, and gives how many are.
+fn keep(line: &mut [u8], kept: usize, part: &[u8]) -> usize
+    requires { ⌜ length (now line) ≡ keptMost ⌝ }
+    ensures kept { λ r. ⌜ take r (now (line .exit)) ≡ keptOf (take kept (now (line .entry)) ++ now (part .entry)) ⌝ }
+    ensures most { λ r. ⌜ r ≤ keptMost ⌝ }
+{
+    let from = smaller(kept, LINE);
+    let size = smaller(part.len(), LINE - from);
+    copy(&part[..size], &mut line[from..]);
+    from + size
+}
+
+// Plays the line that is kept: its first `size` bytes.
+fn play_line(
+    player: Player,
+    taken: &mut [u32; Group::MEMBERS],
+    counts: &mut [u32; Group::MEMBERS],
+    repeats: &mut [u32; Group::MEMBERS],
+    kept: &mut [u32; Group::PLACES],
+    marks: &mut [u16; Group::PLACES],
+    originators: &mut [u8; Group::PLACES],
+    lengths: &mut [u8; Group::PLACES],
+    payloads: &mut [u8; Group::HISTORY_BYTES],
+    numbers: &mut [[u32; NUMBERS]; Group::MEMBERS],
+    queued: &mut [[u32; Group::WAITING]; Group::MEMBERS],
+    held: &mut [[u32; Group::HELD]; Group::MEMBERS],
+    queued_originators: &mut [[u8; Group::WAITING]; Group::MEMBERS],
+    queued_lengths: &mut [[u8; Group::WAITING]; Group::MEMBERS],
+    held_originators: &mut [[u8; Group::HELD]; Group::MEMBERS],
+    held_lengths: &mut [[u8; Group::HELD]; Group::MEMBERS],
+    queued_payloads: &mut [[u8; Group::WAITING_BYTES]; Group::MEMBERS],
+    held_payloads: &mut [[u8; Group::HELD_BYTES]; Group::MEMBERS],
+    sizes: &mut [usize; PACKETS],
+    packets: &mut [[u8; Group::PACKET]; PACKETS],
+    line: &[u8],
+    size: usize,
+    used: usize,
+    out: &mut [u8; OUTPUT],
+) -> Fed
+    requires { ⌜ size ≤ length (now line) ⌝ }
+    ensures { λ r. ⌜ PlaysLine (toldAs (lineTold (stageOf player (wholeOf (player .head) (now (taken .entry)) (now (counts .entry)) (now (repeats .entry)) (now (kept .entry)) (now (marks .entry)) (now (originators .entry)) (now (lengths .entry)) (now (payloads .entry)) (now (numbers .entry)) (now (queued .entry)) (now (held .entry)) (now («queued_originators» .entry)) (now («queued_lengths» .entry)) (now («held_originators» .entry)) (now («held_lengths» .entry)) (now («queued_payloads» .entry)) (now («held_payloads» .entry)) (now (sizes .entry)) (now (packets .entry)))) (take size (now (line .entry)))) used) r (wholeOf (r .player .head) (now (taken .exit)) (now (counts .exit)) (now (repeats .exit)) (now (kept .exit)) (now (marks .exit)) (now (originators .exit)) (now (lengths .exit)) (now (payloads .exit)) (now (numbers .exit)) (now (queued .exit)) (now (held .exit)) (now («queued_originators» .exit)) (now («queued_lengths» .exit)) (now («held_originators» .exit)) (now («held_lengths» .exit)) (now («queued_payloads» .exit)) (now («held_payloads» .exit)) (now (sizes .exit)) (now (packets .exit))) (now (out .entry)) (now (out .exit)) ⌝ }
+{
+    let head = player.head;
+    let phase = player.phase;
+    let told = play(
+        head,
+        player.number,
+        phase,
+        taken,
+        counts,
+        repeats,
+        kept,
+        marks,
+        originators,
+        lengths,
+        payloads,
+        numbers,
+        queued,
+        held,
+        queued_originators,
+        queued_lengths,
+        held_originators,
+        held_lengths,
+        queued_payloads,
+        held_payloads,
+        sizes,
+        packets,
+        &line[..size],
+        out,
+    );
+    let next = told.head;
+    let stands = told.phase;
+    let left = Player {
+        head: next,
+        number: told.number,
+        phase: stands,
+        length: 0,
+    };
+    Fed {
+        player: left,
+        used,
+        written: told.written,
+    }
+}
+
+// Reads a part of the input up to its first line feed, or whole.
+pub fn feed(
+    player: Player,
+    taken: &mut [u32; Group::MEMBERS],
+    counts: &mut [u32; Group::MEMBERS],
+    repeats: &mut [u32; Group::MEMBERS],
+    kept: &mut [u32; Group::PLACES],
+    marks: &mut [u16; Group::PLACES],
+    originators: &mut [u8; Group::PLACES],
+    lengths: &mut [u8; Group::PLACES],
+    payloads: &mut [u8; Group::HISTORY_BYTES],
+    numbers: &mut [[u32; NUMBERS]; Group::MEMBERS],
+    queued: &mut [[u32; Group::WAITING]; Group::MEMBERS],
+    held: &mut [[u32; Group::HELD]; Group::MEMBERS],
+    queued_originators: &mut [[u8; Group::WAITING]; Group::MEMBERS],
+    queued_lengths: &mut [[u8; Group::WAITING]; Group::MEMBERS],
+    held_originators: &mut [[u8; Group::HELD]; Group::MEMBERS],
+    held_lengths: &mut [[u8; Group::HELD]; Group::MEMBERS],
+    queued_payloads: &mut [[u8; Group::WAITING_BYTES]; Group::MEMBERS],
+    held_payloads: &mut [[u8; Group::HELD_BYTES]; Group::MEMBERS],
+    sizes: &mut [usize; PACKETS],
+    packets: &mut [[u8; Group::PACKET]; PACKETS],
+    line: &mut [u8; LINE],
+    part: &[u8],
+    out: &mut [u8; OUTPUT],
+) -> Fed
+    ensures { λ r. ⌜ Does (fedOf (stateOf player (wholeOf (player .head) (now (taken .entry)) (now (counts .entry)) (now (repeats .entry)) (now (kept .entry)) (now (marks .entry)) (now (originators .entry)) (now (lengths .entry)) (now (payloads .entry)) (now (numbers .entry)) (now (queued .entry)) (now (held .entry)) (now («queued_originators» .entry)) (now («queued_lengths» .entry)) (now («held_originators» .entry)) (now («held_lengths» .entry)) (now («queued_payloads» .entry)) (now («held_payloads» .entry)) (now (sizes .entry)) (now (packets .entry))) (now (line .entry))) (now (part .entry))) r (wholeOf (r .player .head) (now (taken .exit)) (now (counts .exit)) (now (repeats .exit)) (now (kept .exit)) (now (marks .exit)) (now (originators .exit)) (now (lengths .exit)) (now (payloads .exit)) (now (numbers .exit)) (now (queued .exit)) (now (held .exit)) (now («queued_originators» .exit)) (now («queued_lengths» .exit)) (now («held_originators» .exit)) (now («held_lengths» .exit)) (now («queued_payloads» .exit)) (now («held_payloads» .exit)) (now (sizes .exit)) (now (packets .exit))) (now (line .exit)) (now (out .entry)) (now (out .exit)) ⌝ }
+{
+    let end = line_end(part);
+    match end {
+        Found::At(e) => {
+            let size = keep(line, player.length, &part[..e]);
+            play_line(
+                player,
+                taken,
+                counts,
+                repeats,
+                kept,
+                marks,
+                originators,
+                lengths,
+                payloads,
+                numbers,
+                queued,
+                held,
+                queued_originators,
+                queued_lengths,
+                held_originators,
+                held_lengths,
+                queued_payloads,
+                held_payloads,
+                sizes,
+                packets,
+                line,
+                size,
+                e + 1,
+                out,
+            )
+        }
+        Found::Nothing => {
+            let size = keep(line, player.length, part);
+            let head = player.head;
+            let phase = player.phase;
+            let left = Player {
+                head,
+                number: player.number,
+                phase,
+                length: size,
+            };
+            Fed {
+                player: left,
+                used: part.len(),
+                written: 0,
+            }
         }
     }
+}
 
-    // How many bytes are kept: the length, where the array has as many.
-    fn size(self) -> usize
-        ensures kept { λ r. ⌜ take r (self .bytes) ≡ textIn self ⌝ }
-        ensures most { λ r. ⌜ r ≤ keptMost ⌝ }
-        ensures within { λ r. ⌜ r ≤ length (self .bytes) ⌝ }
-        ensures size { λ r. ⌜ r ≡ length (textIn self) ⌝ }
-    {
-        if self.length < Player::LINE {
-            return self.length;
-        }
-        Player::LINE
+// The end of the input: plays a line that no line feed ended.
+pub fn end(
+    player: Player,
+    taken: &mut [u32; Group::MEMBERS],
+    counts: &mut [u32; Group::MEMBERS],
+    repeats: &mut [u32; Group::MEMBERS],
+    kept: &mut [u32; Group::PLACES],
+    marks: &mut [u16; Group::PLACES],
+    originators: &mut [u8; Group::PLACES],
+    lengths: &mut [u8; Group::PLACES],
+    payloads: &mut [u8; Group::HISTORY_BYTES],
+    numbers: &mut [[u32; NUMBERS]; Group::MEMBERS],
+    queued: &mut [[u32; Group::WAITING]; Group::MEMBERS],
+    held: &mut [[u32; Group::HELD]; Group::MEMBERS],
+    queued_originators: &mut [[u8; Group::WAITING]; Group::MEMBERS],
+    queued_lengths: &mut [[u8; Group::WAITING]; Group::MEMBERS],
+    held_originators: &mut [[u8; Group::HELD]; Group::MEMBERS],
+    held_lengths: &mut [[u8; Group::HELD]; Group::MEMBERS],
+    queued_payloads: &mut [[u8; Group::WAITING_BYTES]; Group::MEMBERS],
+    held_payloads: &mut [[u8; Group::HELD_BYTES]; Group::MEMBERS],
+    sizes: &mut [usize; PACKETS],
+    packets: &mut [[u8; Group::PACKET]; PACKETS],
+    line: &[u8; LINE],
+    out: &mut [u8; OUTPUT],
+) -> Fed
+    ensures { λ r. ⌜ Does (endOf (stateOf player (wholeOf (player .head) (now (taken .entry)) (now (counts .entry)) (now (repeats .entry)) (now (kept .entry)) (now (marks .entry)) (now (originators .entry)) (now (lengths .entry)) (now (payloads .entry)) (now (numbers .entry)) (now (queued .entry)) (now (held .entry)) (now («queued_originators» .entry)) (now («queued_lengths» .entry)) (now («held_originators» .entry)) (now («held_lengths» .entry)) (now («queued_payloads» .entry)) (now («held_payloads» .entry)) (now (sizes .entry)) (now (packets .entry))) (now (line .entry)))) r (wholeOf (r .player .head) (now (taken .exit)) (now (counts .exit)) (now (repeats .exit)) (now (kept .exit)) (now (marks .exit)) (now (originators .exit)) (now (lengths .exit)) (now (payloads .exit)) (now (numbers .exit)) (now (queued .exit)) (now (held .exit)) (now («queued_originators» .exit)) (now («queued_lengths» .exit)) (now («held_originators» .exit)) (now («held_lengths» .exit)) (now («queued_payloads» .exit)) (now («held_payloads» .exit)) (now (sizes .exit)) (now (packets .exit))) (now (line .entry)) (now (out .entry)) (now (out .exit)) ⌝ }
+{
+    let size = smaller(player.length, LINE);
+    if size == 0 {
+        return Fed {
+            player,
+            used: 0,
+            written: 0,
+        };
     }
+    play_line(
+        player,
+        taken,
+        counts,
+        repeats,
+        kept,
+        marks,
+        originators,
+        lengths,
+        payloads,
+        numbers,
+        queued,
+        held,
+        queued_originators,
+        queued_lengths,
+        held_originators,
+        held_lengths,
+        queued_payloads,
+        held_payloads,
+        sizes,
+        packets,
+        line,
+        size,
+        0,
+        out,
+    )
+}
 
-    // The line with a part more.
-    fn with(self, part: &[u8]) -> Self
-        ensures { λ r. ⌜ textIn r ≡ keptOf (textIn self ++ now (part .entry)) ⌝ }
-    {
-        let from = self.size();
-        let mut bytes = self.bytes;
-        let size = smaller(part.len(), Player::LINE - from);
-        copy(&part[..size], &mut bytes[from..]);
-        let length = from + size;
-        Line { length, bytes }
+// The last line that is printed.
+pub fn last(
+    player: Player,
+    numbers: &[[u32; NUMBERS]; Group::MEMBERS],
+    out: &mut [u8; OUTPUT],
+) -> usize
+    ensures { λ r. ⌜ LaysLast player (now (numbers .entry)) r (now (out .entry)) (now (out .exit)) ⌝ }
+{
+    let head = player.head;
+    let phase = player.phase;
+    let stands = phase_of(head.sequencer.group.n, head.count, phase);
+    match stands {
+        Phase::Opening => write_bad_opening(out),
+        Phase::Running => write_taken(head, numbers, out),
+        Phase::Ended => write_taken(head, numbers, out),
+        Phase::Closed => 0,
     }
 }
 
 impl Player {
-    // What is kept of a line: one character more than a line may have.
-    pub const LINE: usize = LINE_MOST + 1;
-
-    // The room of the longest line that is printed.
-    pub const OUTPUT: usize = LINE_ROOM + 2 * Group::PACKET;
-
-    // A player that has read nothing.
+    // The numbers of a player that has read nothing.
     pub fn fresh() -> Self
-        ensures { λ r. ⌜ stateOf r ≡ start ⌝ }
+        ensures { λ r. ⌜ Fresh r ⌝ }
     {
-        let whole = Whole::fresh(0, 0, 0).whole;
-        let line = Line::empty();
+        let group = Group {
+            n: 0,
+            resilience: 0,
+            number: 0,
+        };
+        let sequencer = sequencer::Head {
+            group,
+            top: SequenceNumber(0),
+            accepted: SequenceNumber(0),
+            floor: SequenceNumber(0),
+        };
+        let head = Head {
+            sequencer,
+            count: 0,
+        };
         Player {
-            whole,
+            head,
             number: 0,
             phase: Phase::Opening,
-            line,
-        }
-    }
-
-    // Plays the line that is kept.
-    fn play_line(self, line: Line, used: usize, out: &mut [u8; Player::OUTPUT]) -> Fed
-        ensures { λ r. ⌜ Does (toldAs (lineTold (stageOf self) (textIn line)) used) r (now (out .entry)) (now (out .exit)) ⌝ }
-    {
-        let whole = self.whole;
-        let bytes = line.bytes;
-        let size = line.size();
-        let phase = self.phase;
-        let told = play(whole, self.number, phase, &bytes[..size], out);
-        let next = told.whole;
-        let stands = told.phase;
-        let none = Line::empty();
-        let player = Player {
-            whole: next,
-            number: told.number,
-            phase: stands,
-            line: none,
-        };
-        Fed {
-            player,
-            used,
-            written: told.written,
-        }
-    }
-
-    // Reads a part of the input up to its first line feed, or whole.
-    pub fn feed(mut self, part: &[u8], out: &mut [u8; Player::OUTPUT]) -> Fed
-        ensures { λ r. ⌜ Does (fedOf (stateOf self) (now (part .entry))) r (now (out .entry)) (now (out .exit)) ⌝ }
-    {
-        let end = line_end(part);
-        match end {
-            Found::At(e) => {
-                let line = self.line.with(&part[..e]);
-                self.play_line(line, e + 1, out)
-            }
-            Found::Nothing => {
-                let line = self.line.with(part);
-                self.line = line;
-                Fed {
-                    player: self,
-                    used: part.len(),
-                    written: 0,
-                }
-            }
-        }
-    }
-
-    // The end of the input: plays a line that no line feed ended.
-    pub fn end(self, out: &mut [u8; Player::OUTPUT]) -> Fed
-        ensures { λ r. ⌜ Does (endOf (stateOf self)) r (now (out .entry)) (now (out .exit)) ⌝ }
-    {
-        let line = self.line;
-        if line.size() == 0 {
-            return Fed {
-                player: self,
-                used: 0,
-                written: 0,
-            };
-        }
-        self.play_line(line, 0, out)
-    }
-
-    // The last line that is printed.
-    pub fn last(self, out: &mut [u8; Player::OUTPUT]) -> usize
-        ensures size { λ r. ⌜ r ≡ length (lastOf (stageOf self)) ⌝ }
-        ensures lent { λ _. ⌜ now (out .exit) ≡ front (lastOf (stageOf self)) (now (out .entry)) ⌝ }
-    {
-        let whole = self.whole;
-        let phase = self.phase;
-        let stands = phase_of(whole.sequencer.head.group.n, whole.count, phase);
-        match stands {
-            Phase::Opening => write_bad_opening(out),
-            Phase::Running => write_taken(whole, out),
-            Phase::Ended => write_taken(whole, out),
-            Phase::Closed => 0,
+            length: 0,
         }
     }
 }

@@ -1,9 +1,8 @@
 pub mod Lists
+pub mod Keeping
 pub mod Groups
-pub mod Effects
-pub mod Storing
 pub mod Rooms
-pub mod Reading
-pub mod Playing
+pub mod Acting
 pub mod Opening
+pub mod Playing
 pub mod Course

@@ -1,130 +1,161 @@
--- The fresh members, one after the other; the fresh group out of them; and an opening leaves nothing open. Assumes nothing.
+-- The fresh members, one after the other; and the fresh group out of them. Assumes nothing.
 use mathlib.Core.Path.{_≡_, refl, sym, ap, _∙_}
-use mathlib.Core.List.{List, [], _∷_, _++_, map}
-use mathlib.Core.Option.{some}
+use mathlib.Core.List.{List, [], _∷_}
 use Prim.Native.Nat.{ℕ, zero, suc, _+_, _≤_, _<_}
-use native.Mathlib.Numerals.{add-one}
-use native.Mathlib.Nat.{zero-add}
 use native.Mathlib.Omega.{arith}
-use borrow.Author.Tests.{leb-true}
-use lib.ListN.{length, take, drop, getD, getElem?, set, replicate}
-use lib.Seq.{take-suc-set}
-use Rattle.group.proofs.Choice.{both-then}
-use Rattle.group.proofs.Lists.{if-elim}
+use borrow.Author.Tests.{lt-ltb, ltb-true, le-leb, leb-true}
+use lib.ListN.{length, getD, set}
+use lib.Seq.{getD-set-same, getD-set-other}
+use Rattle.group.proofs.Choice.{if-true, both-hold, both-then}
+use Rattle.group.proofs.Lists.{if-elim, eq-or}
 use Rattle.group.proofs.Question.{accepted≢}
 use Rattle.group.specs.Choice.{_and_, _<?_, _≤?_}
 use Rattle.group.specs.Limits.{membersMost}
-use Rattle.group.specs.Opening.{openOf}
-use Rattle.group.specs.declared.Opened as group
+use Rattle.group.specs.Opening.{descriptionOf, openOf}
+use Rattle.group.specs.declared.Group as group
+use Rattle.group.specs.declared.Opened as answer
 use Rattle.group.specs.declared.Refusal.{Refusal}
 use Rattle.group.specs.declared.Verdict.{Verdict}
 use Rattle.member.specs.Calls as member
-use Rattle.member.specs.State.{Member}
+use Rattle.member.specs.State.{Member, freshMember}
+use Rattle.member.specs.View as memberView
+use Rattle.member.specs.declared.Head as memberHead
 use Rattle.model.specs.World.{freshMembers, fresh}
 use Rattle.sequencer.specs.Calls as sequencer
+use Rattle.sequencer.specs.Promise as sequencerPromise
 use Rattle.sequencer.specs.State.{Sequencer, freshSequencer}
 use Rattle.sequencer.specs.View as sequencerView
-use Rattle.states.specs.Member as memberInPlace
-use Rattle.states.specs.Sequencer.{Starts}
-use Rattle.states.specs.declared.Member as stored
-use Rattle.states.proofs.MemberLeaving as memberLeaving
-use Rattle.states.proofs.SequencerLeaving as sequencerLeaving
-use Rattle.simulator.specs.Course.{OpensWhole}
-use Rattle.simulator.specs.Whole.{packetsMost, sizeOf, groupOf, noPacket, packetIn, Opens}
-use Rattle.simulator.specs.declared.Opened.{Opened}
-use Rattle.simulator.proofs.Lists.{take-map}
-use Rattle.simulator.proofs.Storing.{map-snoc}
+use Rattle.simulator.specs.Steps.{Full, BegunAt, Begun}
+use Rattle.simulator.specs.Whole.{listOf, Rows, storedAt, Terminals, terminalsOf, headIn, memberAt, membersIn, packetsOf, groupOf, openedGroup, Room, Opens}
+use Rattle.simulator.specs.declared.Head.{Head}
+use Rattle.simulator.proofs.Acting.{setAt, set-own, set-others}
+
+-- a member that was opened is fresh, with the description and the number that it says
+abbrev Itself : member.Opening → Type 0
+Itself o = o .member ≡ freshMember (o .member .group) (o .member .number)
+
+fresh-itself : (n number resilience i : ℕ) → Itself (member.freshOf n (record { 0 = i }) number resilience)
+unfolding member.freshOf member.openedOf freshMember
+fresh-itself n number resilience i = if-elim Itself (i <? n) (λ _. opened (openOf n number resilience)) (λ _. refl)
+  where
+    opened : (o : answer.Opened) → Itself (member.openedOf o (record { 0 = i }))
+    opened (answer.Opened.Open g) = refl
+    opened (answer.Opened.Refused refusal) = refl
+
+-- a row of numbers that is set, and arrays that changed at the same index alone
+module _ (n number resilience i : ℕ) (g : group.Group) (numbers : List (List ℕ)) (rows rows′ : Rows) (head : memberHead.Head) where
+  abbrev row : List ℕ
+  row = head .taken .0 ∷ head .accepted .0 ∷ head .submitted ∷ head .waiting ∷ []
+
+  pub begun-at : i < length numbers → memberView.viewOf (storedAt rows′ i head) ≡ member.freshOf n (record { 0 = i }) number resilience .member
+      → ((j : ℕ) (h : memberHead.Head) → (j ≡ i → ⊥) → storedAt rows′ j h ≡ storedAt rows j h)
+      → BegunAt i (terminalsOf g numbers rows) (terminalsOf g (set numbers i row) rows′)
+  unfolding memberAt memberView.viewOf freshMember
+  begun-at l e o =
+      let f = e ∙ fresh-itself n number resilience i in
+      let own : Member → Member = λ m. record { group = g; number = record { 0 = i }; taken = m .taken; accepted = m .accepted; submitted = m .submitted; waiting = m .waiting; queue = m .queue; held = m .held } in
+      record {
+        state = ap (λ (l : List ℕ). memberView.viewOf (storedAt rows′ i (headIn g i l))) (getD-set-same numbers i row [] l) ∙ ap own f;
+        others = λ j d.
+            ap (λ (l : List ℕ). memberView.viewOf (storedAt rows′ j (headIn g j l))) (getD-set-other numbers i j row [] d)
+            ∙ ap memberView.viewOf (o j (headIn g j (getD numbers j [])) d);
+      }
+
+-- arrays that changed at i alone, and the row of numbers with them
+pub begun-set : (n number resilience i : ℕ) (g : group.Group) (numbers : List (List ℕ)) (rows : Rows) (a b c d e f k h : List ℕ) (head : memberHead.Head) → i < length numbers → i < membersMost → Full rows
+    → memberView.viewOf (memberView.whole head a b c d e f k h) ≡ member.freshOf n (record { 0 = i }) number resilience .member
+    → BegunAt i (terminalsOf g numbers rows) (terminalsOf g (set numbers i (head .taken .0 ∷ head .accepted .0 ∷ head .submitted ∷ head .waiting ∷ [])) (setAt i rows a b c d e f k h))
+begun-set n number resilience i g numbers rows a b c d e f k h head l m full o =
+    begun-at n number resilience i g numbers rows (setAt i rows a b c d e f k h) head l (ap memberView.viewOf (set-own i rows a b c d e f k h m full head) ∙ o) (set-others i rows a b c d e f k h)
+
+pub begun-none : (t : Terminals) → Begun t 0
+begun-none t j h = absurd (omega arith)
+
+-- one member more
+pub begun-on : (g : group.Group) (numbers numbers′ : List (List ℕ)) (rows rows′ : Rows) (i : ℕ) → Begun (terminalsOf g numbers rows) i
+    → BegunAt i (terminalsOf g numbers rows) (terminalsOf g numbers′ rows′) → Begun (terminalsOf g numbers′ rows′) (i + 1)
+begun-on g numbers numbers′ rows rows′ i b c j h =
+    eq-or j i (λ e. ap (memberAt (terminalsOf g numbers′ rows′)) e ∙ c .state ∙ ap (λ (k : ℕ). freshMember g (record { 0 = k })) (sym e)) (λ d. c .others j d ∙ b j (omega arith))
 
 module _ (n number resilience : ℕ) where
   abbrev freshAt : ℕ → Member
   freshAt i = member.freshOf n (record { 0 = i }) number resilience .member
 
-  members-snoc : (i k : ℕ) → freshMembers n number resilience i (suc k) ≡ freshMembers n number resilience i k ++ (freshAt (i + k) ∷ [])
-  unfolding freshMembers
-  members-snoc i zero = let e : i ≡ i + 0 = omega arith in ap (λ (j : ℕ). freshAt j ∷ []) e
-  members-snoc i (suc k) =
-      let e : i + 1 + k ≡ i + suc k = omega arith in
-      ap (λ (l : List Member). freshAt i ∷ l) (members-snoc (i + 1) k ∙ ap (λ (j : ℕ). freshMembers n number resilience (i + 1) k ++ (freshAt j ∷ [])) e)
+  -- where questions 18 and 24 are answered yes, a member below n is fresh
+  fresh-is : (i : ℕ) → i < n → n ≤ membersMost → resilience < n → freshAt i ≡ freshMember (descriptionOf n number resilience) (record { 0 = i })
+  unfolding member.freshOf member.openedOf openOf
+  fresh-is i h k d =
+      ap (λ (o : member.Opening). o .member) (sym (if-true (i <? n) _ _ _ (lt-ltb i n h) refl))
+      ∙ ap (λ (o : answer.Opened). member.openedOf o (record { 0 = i }) .member)
+      (sym (if-true (1 ≤? n and n ≤? membersMost) _ _ _ (both-hold (1 ≤? n) (n ≤? membersMost) (le-leb 1 n (omega arith)) (le-leb n membersMost k)) refl)
+      ∙ sym (if-true (resilience <? n) _ _ _ (lt-ltb resilience n d) refl))
 
-  -- one member more
-  pub members-on : (i : ℕ) (members : List stored.Member) (m : stored.Member) → i < length members
-      → map memberInPlace.viewOf (take i members) ≡ freshMembers n number resilience 0 i → memberInPlace.viewOf m ≡ freshAt i
-      → map memberInPlace.viewOf (take (i + 1) (set members i m)) ≡ freshMembers n number resilience 0 (i + 1)
-  members-on i members m h e f =
-      rw add-one
-      (ap (map memberInPlace.viewOf) (take-suc-set members i m h)
-      ∙ map-snoc memberInPlace.viewOf (take i members) m
-      ∙ ap (λ (l : List Member). l ++ (memberInPlace.viewOf m ∷ [])) e
-      ∙ ap (λ (x : Member). freshMembers n number resilience 0 i ++ (x ∷ [])) f
-      ∙ ap (λ (j : ℕ). freshMembers n number resilience 0 i ++ (freshAt j ∷ [])) (sym (zero-add i))
-      ∙ sym (members-snoc 0 i))
-
-  -- the first k of them
-  members-take : (i k j : ℕ) → k ≤ j → take k (freshMembers n number resilience i j) ≡ freshMembers n number resilience i k
-  unfolding freshMembers
-  members-take i zero j h = refl
-  members-take i (suc k) zero h = absurd (omega arith)
-  members-take i (suc k) (suc j) h = ap (λ (l : List Member). freshAt i ∷ l) (members-take (i + 1) k j (omega arith))
+  -- all of them
+  members-are : (t : Terminals) (i k : ℕ) → ((j : ℕ) → i ≤ j → j < i + k → memberAt t j ≡ freshAt j) → listOf (memberAt t) i k ≡ freshMembers n number resilience i k
+  unfolding listOf freshMembers
+  members-are t i zero h = refl
+  members-are t i (suc k) h =
+      let a : memberAt t i ≡ freshAt i = h i (omega arith) (omega arith) in
+      let b = members-are t (i + 1) k (λ j p q. h j (omega arith) (omega arith)) in λ x. a x ∷ b x
 
   -- questions 18 and 24 leave a sequencer of n members, 1 to 16, or of none
-  opened-yes : sequencer.freshOf n number resilience .verdict ≡ Verdict.Accepted → (n ≤ membersMost) × (sequencer.freshOf n number resilience .sequencer .group .n ≡ n)
-  unfolding sequencer.freshOf sequencer.openedOf openOf freshSequencer
-  opened-yes =
-      let has : group.Opened → Type 0 = λ o. sequencer.openedOf o .verdict ≡ Verdict.Accepted → (n ≤ membersMost) × (sequencer.openedOf o .sequencer .group .n ≡ n) in
-      if-elim has (1 ≤? n and n ≤? membersMost)
-      (λ t. if-elim has (resilience <? n) (λ _ _. (leb-true n membersMost (both-then (1 ≤? n) (n ≤? membersMost) t), refl)) (λ _ e. absurd (accepted≢ Refusal.Resilience e)))
-      (λ _ e. absurd (accepted≢ Refusal.Opening e))
+  pub record Small (o : sequencer.Opening) : Type 0 where
+    pub few : o .sequencer .group .n ≤ membersMost
+    pub within : o .sequencer .group .n ≤ n
+    pub description : 1 ≤ o .sequencer .group .n → o .sequencer .group ≡ descriptionOf n number resilience
+    pub degree : 1 ≤ o .sequencer .group .n → resilience < n
+    pub accepted : o .verdict ≡ Verdict.Accepted → o .sequencer .group .n ≡ n
 
-  opened-few : sequencer.freshOf n number resilience .sequencer .group .n ≤ membersMost
-  unfolding sequencer.freshOf sequencer.openedOf openOf freshSequencer
-  opened-few =
-      let few : group.Opened → Type 0 = λ o. sequencer.openedOf o .sequencer .group .n ≤ membersMost in
-      if-elim few (1 ≤? n and n ≤? membersMost)
-      (λ t. if-elim few (resilience <? n) (λ _. leb-true n membersMost (both-then (1 ≤? n) (n ≤? membersMost) t)) (λ _. omega arith)) (λ _. omega arith)
-
-  pub opens : (r : Opened) → Starts (sequencer.freshOf n number resilience) (r .verdict) (r .whole .sequencer)
-      → map memberInPlace.viewOf (r .whole .members) ≡ freshMembers n number resilience 0 membersMost → r .whole .packets ≡ replicate packetsMost noPacket → r .whole .count ≡ 0
-      → Opens n number resilience r
-  unfolding groupOf fresh sequencerView.viewOf
-  opens r o m p z =
-      let size : sizeOf (r .whole) ≡ sequencer.freshOf n number resilience .sequencer .group .n = ap (λ (s : Sequencer). s .group .n) (o .state) in
+  refused-small : (refusal : Refusal) → Small (sequencer.openedOf (answer.Opened.Refused refusal))
+  unfolding sequencer.openedOf freshSequencer
+  refused-small refusal =
       record {
-        verdict = o .answer;
-        sequencer = o .state;
-        members = m;
-        packets = p;
-        count = z;
-        group = λ yes.
-            let q = opened-yes (sym (o .answer) ∙ yes) in
-            let few : map memberInPlace.viewOf (take (sizeOf (r .whole)) (r .whole .members)) ≡ freshMembers n number resilience 0 n =
-            sym (take-map memberInPlace.viewOf (sizeOf (r .whole)) (r .whole .members))
-            ∙ ap (take (sizeOf (r .whole))) m
-            ∙ ap (λ (k : ℕ). take k (freshMembers n number resilience 0 membersMost)) (size ∙ q .1)
-            ∙ members-take 0 n membersMost (q .0)
-            in
-            let none : map packetIn (take (r .whole .count) (r .whole .packets)) ≡ [] = ap (λ (k : ℕ). map packetIn (take k (r .whole .packets))) z in
-            λ i. record { sequencer = o .state i; members = few i; packets = none i };
-        room = record { packets = rw z (omega arith); members = rw size opened-few };
+        few = omega arith;
+        within = omega arith;
+        description = λ h. absurd (omega arith);
+        degree = λ h. absurd (omega arith);
+        accepted = λ e. absurd (accepted≢ refusal e);
       }
 
--- members whose arrays have their lengths, seen alike, are the same
-abbrev AllSized : List stored.Member → Type 0
-AllSized l = (i : ℕ) (m : stored.Member) → getElem? l i ≡ some m → memberInPlace.Sized m
+  opened-small : Small (sequencer.freshOf n number resilience)
+  unfolding sequencer.freshOf sequencer.openedOf openOf freshSequencer
+  opened-small =
+      if-elim (λ (o : answer.Opened). Small (sequencer.openedOf o)) (1 ≤? n and n ≤? membersMost)
+      (λ t. if-elim (λ (o : answer.Opened). Small (sequencer.openedOf o)) (resilience <? n)
+      (λ d.
+      record {
+        few = leb-true n membersMost (both-then (1 ≤? n) (n ≤? membersMost) t);
+        within = omega arith;
+        description = λ _. refl;
+        degree = λ _. ltb-true resilience n d;
+        accepted = λ _. refl;
+      })
+      (λ _. refused-small Refusal.Resilience))
+      (λ _. refused-small Refusal.Opening)
 
-members-whole : (l k : List stored.Member) → AllSized l → AllSized k → map memberInPlace.viewOf l ≡ map memberInPlace.viewOf k → l ≡ k
-members-whole [] [] a b e = refl
-members-whole [] (m ∷ k) a b e = absurd (let z : 0 ≡ suc (length (map memberInPlace.viewOf k)) = ap length e in omega arith)
-members-whole (m ∷ l) [] a b e = absurd (let z : suc (length (map memberInPlace.viewOf l)) ≡ 0 = ap length e in omega arith)
-members-whole (m ∷ l) (p ∷ k) a b e =
-    let first = memberLeaving.view-whole m p (a 0 m refl) (b 0 p refl) (ap (λ (s : List Member). getD s 0 (memberInPlace.viewOf m)) e) in
-    let rest = members-whole l k (λ i. a (suc i)) (λ i. b (suc i)) (ap (drop 1) e) in
-    λ i. first i ∷ rest i
-
-pub opens-whole : OpensWhole
-opens-whole n number resilience r s a b o p =
-    let q = sequencerLeaving.view-whole (r .whole .sequencer) (s .whole .sequencer) (a .sequencer) (b .sequencer) (o .sequencer ∙ sym (p .sequencer)) in
-    let l = members-whole (r .whole .members) (s .whole .members) (a .members) (b .members) (o .members ∙ sym (p .members)) in
-    let packets = o .packets ∙ sym (p .packets) in
-    let count = o .count ∙ sym (p .count) in
-    let verdict = o .verdict ∙ sym (p .verdict) in
-    λ i. record { whole = record { sequencer = q i; members = l i; packets = packets i; count = count i }; verdict = verdict i }
+  pub opens : (verdict : Verdict) (s : sequencerView.Stored) (numbers : List (List ℕ)) (rows : Rows) (sizes : List ℕ) (packets : List (List ℕ))
+      → sequencerPromise.Starts (sequencer.freshOf n number resilience) verdict s → Begun (terminalsOf (s .head .group) numbers rows) membersMost
+      → Opens n number resilience verdict (record { sequencer = s .head; count = 0 })
+      (record { sequencer = s; terminals = terminalsOf (s .head .group) numbers rows; packets = packetsOf sizes packets 0 })
+  unfolding fresh listOf sequencerView.viewOf
+  opens verdict s numbers rows sizes packets o b =
+      let small = opened-small in
+      let f = sequencer.freshOf n number resilience .sequencer in
+      let is : s .head .group ≡ f .group = ap (λ (x : Sequencer). x .group) (o .state) in
+      let few = small .few in
+      let within = small .within in
+      let m : membersIn (terminalsOf (s .head .group) numbers rows) ≡ freshMembers n number resilience 0 (f .group .n) =
+      ap (listOf (memberAt (terminalsOf (s .head .group) numbers rows)) 0) (ap (λ (g : group.Group). g .n) is)
+      ∙ members-are (terminalsOf (s .head .group) numbers rows) 0 (f .group .n)
+      (λ j _ q. b j (omega arith) ∙ ap (λ (g : group.Group). freshMember g (record { 0 = j })) (is ∙ small .description (omega arith)) ∙ sym (fresh-is j (omega arith) (let e = ap (λ (g : group.Group). g .n) (small .description (omega arith)) in omega arith) (small .degree (omega arith))))
+      in
+      let shown : groupOf (record { sequencer = s; terminals = terminalsOf (s .head .group) numbers rows; packets = packetsOf sizes packets 0 }) ≡ openedGroup n number resilience =
+      λ x. record { sequencer = o .state x; members = m x; packets = [] } in
+      record {
+        verdict-is = o .answer;
+        shown = shown;
+        members = b;
+        count = refl;
+        group = λ yes. shown ∙ ap (λ (k : ℕ). record { sequencer = f; members = freshMembers n number resilience 0 k; packets = [] }) (small .accepted (sym (o .answer) ∙ yes));
+        room = record { packets = omega arith; members = rw is few };
+      }

@@ -1,59 +1,50 @@
--- What the tests of room and of a member say, and that the group has the members that it says. Assumes nothing.
-use mathlib.Core.Path.{_≡_, refl, sym, ap, _∙_}
+-- What the tests of room and of an index say. Assumes nothing.
+use mathlib.Core.Path.{_≡_, refl, sym, _∙_}
 use mathlib.Core.Bool.{Bool, true, false}
-use Prim.Native.Nat.{ℕ}
+use Prim.Native.Nat.{ℕ, _≤_, _<_}
 use native.Mathlib.Omega.{arith}
-use borrow.Author.Tests.{lt-ltb, le-leb, ltb-true, leb-true}
-use lib.ListN.{length, length-map, length-take}
+use borrow.Author.Tests.{lt-ltb, le-leb, ltb-true, ltb-false, leb-true}
 use Rattle.group.proofs.Choice.{both-hold, both-first, both-then}
 use Rattle.group.specs.Choice.{_<?_, _≤?_}
 use Rattle.group.specs.Limits.{membersMost}
 use Rattle.simulator.specs.Steps.{roomOf, thereOf}
-use Rattle.simulator.specs.Whole.{packetsMost, sizeOf, groupOf, Room}
-use Rattle.simulator.specs.declared.Whole.{Whole}
-use Rattle.simulator.proofs.Effects.{There}
+use Rattle.simulator.specs.Whole.{packetsMost, Room}
+use Rattle.simulator.specs.declared.Head.{Head}
 
 true≢false : true ≡ false → ⊥
 true≢false e = let z : _≡_ {A = ℕ} 0 1 = cc in omega arith
 
--- what the two tests say
-module _ (w : Whole) where
+module _ (head : Head) where
   abbrev n : ℕ
-  n = sizeOf w
+  n = head .sequencer .group .n
 
-  abbrev m : ℕ
-  m = length (groupOf w .members)
-
-  pub room-yes : roomOf (w .count) n ≡ true → Room w
+  pub room-yes : (b : Bool) → b ≡ roomOf (head .count) n → b ≡ true → Room head
   unfolding roomOf
-  room-yes e =
+  room-yes b is e =
       record {
-        packets = ltb-true (w .count) packetsMost (both-first (w .count <? packetsMost) (n ≤? membersMost) e);
-        members = leb-true n membersMost (both-then (w .count <? packetsMost) (n ≤? membersMost) e);
+        packets = ltb-true (head .count) packetsMost (both-first (head .count <? packetsMost) (n ≤? membersMost) (sym is ∙ e));
+        members = leb-true n membersMost (both-then (head .count <? packetsMost) (n ≤? membersMost) (sym is ∙ e));
       }
 
-  room-is : Room w → roomOf (w .count) n ≡ true
+  room-is : Room head → roomOf (head .count) n ≡ true
   unfolding roomOf
-  room-is r = both-hold (w .count <? packetsMost) (n ≤? membersMost) (lt-ltb (w .count) packetsMost (r .packets)) (le-leb n membersMost (r .members))
+  room-is r = both-hold (head .count <? packetsMost) (n ≤? membersMost) (lt-ltb (head .count) packetsMost (r .packets)) (le-leb n membersMost (r .members))
 
-  pub room-no : roomOf (w .count) n ≡ false → Room w → ⊥
-  room-no e r = true≢false (sym (room-is r) ∙ e)
+  pub room-no : (b : Bool) → b ≡ roomOf (head .count) n → b ≡ false → Room head → ⊥
+  room-no b is e r = true≢false (sym (room-is r) ∙ sym is ∙ e)
 
-  -- the group has the members that it says
-  members-length : length (w .members) ≡ membersMost → Room w → m ≡ n
-  unfolding groupOf
-  members-length places room = let z = room .members in simp (length-map, length-take) (omega arith)
+  module _ (k limit : ℕ) (b : Bool) (is : b ≡ thereOf (head .count) n k limit) where
+    pub there-yes : b ≡ true → Room head × (k < limit)
+    unfolding thereOf
+    there-yes e = (
+      room-yes (roomOf (head .count) n) refl (both-first (roomOf (head .count) n) (k <? limit) (sym is ∙ e)),
+      ltb-true k limit (both-then (roomOf (head .count) n) (k <? limit) (sym is ∙ e)),
+    )
 
-  pub there-yes : (i : ℕ) → length (w .members) ≡ membersMost → thereOf (w .count) n i ≡ true → There w i
-  unfolding thereOf
-  there-yes i places e =
-      let room = room-yes (both-first (roomOf (w .count) n) (i <? n) e) in
-      record { room = room; member = rw (members-length places room) (ltb-true i n (both-then (roomOf (w .count) n) (i <? n) e)) }
-
-  pub there-no : (i : ℕ) → length (w .members) ≡ membersMost → thereOf (w .count) n i ≡ false → Room w → (i <? m) ≡ false
-  unfolding thereOf
-  there-no i places e r = ap (λ (k : ℕ). i <? k) (members-length places r) ∙ go (i <? n) refl
-    where
-      go : (b : Bool) → (i <? n) ≡ b → b ≡ false
-      go true t = absurd (true≢false (sym (both-hold (roomOf (w .count) n) (i <? n) (room-is r) t) ∙ e))
-      go false t = refl
+    pub there-no : b ≡ false → Room head → limit ≤ k
+    unfolding thereOf
+    there-no e r = go (k <? limit) refl
+      where
+        go : (c : Bool) → (k <? limit) ≡ c → limit ≤ k
+        go true t = absurd (true≢false (sym (both-hold (roomOf (head .count) n) (k <? limit) (room-is r) t) ∙ sym is ∙ e))
+        go false t = ltb-false k limit t

@@ -1,3 +1,3 @@
 pub mod Whole
-pub mod Course
 pub mod Steps
+pub mod Course

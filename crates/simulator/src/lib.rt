@@ -1,61 +1,57 @@
-// The group that can be run: the two ends themselves, room for every member, and room for the packets of a schedule.
-use by_value::MemberStep;
-use by_value::SequencerStep;
-use by_value::copy_sequencer;
-use by_value::open_member;
-use by_value::open_sequencer;
-use by_value::poll_sequencer;
-use by_value::receive_member;
-use by_value::receive_sequencer;
-use by_value::repeat_member;
-use by_value::status_member;
-use by_value::submit_member;
-use by_value::take_member;
+// The group that can be run: a sequencer, room for every member, and room for the packets of a schedule. Its numbers go by value, and
+// every array behind a reference: those of the members one behind the other, so that a call is lent the arrays of one member.
 use group::Group;
 use group::MemberNumber;
 use group::SequenceNumber;
 use group::Verdict;
 use model::Reply;
-use states::Member;
-use states::Sequencer;
 ghost use mathlib.Core.Path.{_≡_};
-ghost use mathlib.Core.List.{map};
-ghost use Prim.Native.Nat.{_<_};
-ghost use lib.ListN.{length};
-ghost use Rattle.group.specs.Limits.{membersMost};
-ghost use Rattle.member.specs.Calls as memberCalls;
-ghost use Rattle.model.specs.World as world;
-ghost use Rattle.sequencer.specs.Calls as sequencerCalls;
-ghost use Rattle.states.specs.Member as memberInPlace;
-ghost use Rattle.states.specs.Sequencer as sequencerInPlace;
-ghost use Rattle.simulator.specs.Whole.{packetsMost, packetIn, Plays, Opens};
-ghost use Rattle.simulator.specs.Steps.{packetSize, roomOf, thereOf, countAfter, Idle};
+ghost use mathlib.Core.List.{[], _∷_};
+ghost use Prim.Native.Nat.{_<_, _≤_};
+ghost use lib.ListN.{length, take};
+ghost use Rattle.group.specs.Limits.{membersMost, longestPacket};
+ghost use Rattle.sequencer.specs.View as sequencerView;
+ghost use Rattle.simulator.specs.Whole.{packetsMost, rowsOf, terminalsOf, packetsOf, wholeOf, headIn, Opens};
+ghost use Rattle.simulator.specs.Steps.{roomOf, thereOf, fittingOf, keptSize, happenedAt, happenedHere, handedTo, handedHere, Full, CallsMember, CallsAt, CallsSequencer, Stores, Acts, Sequences, BegunAt, Begun};
 
-// A packet that was written: the first `length` bytes.
-pub struct Stored {
-    pub length: usize,
-    pub bytes: [u8; Group::PACKET],
-}
+// The packets that a schedule has room for.
+pub const PACKETS: usize = 200;
 
-// The packets that were written are the first `count`.
-pub struct Whole {
-    pub sequencer: Sequencer,
-    pub members: [Member; Group::MEMBERS],
-    pub packets: [Stored; Whole::PACKETS],
+// The numbers of a member that are its own: what it took last, what it knows to be accepted, its submissions, and how many of them wait.
+pub const NUMBERS: usize = 4;
+
+// The numbers of the group: those of its sequencer, whose description is every member's, and how many packets were written.
+pub struct Head {
+    pub sequencer: sequencer::Head,
     pub count: usize,
 }
 
-// What an event gives: the group after it, its answer, and the bytes that a call wrote.
+// The calls of a member; a submission and a packet come with bytes.
+pub enum MemberCall {
+    Submit,
+    Repeat,
+    Take,
+    Status,
+    Receive,
+}
+
+// The calls of the sequencer; a packet comes with bytes.
+pub enum SequencerCall {
+    Receive,
+    Poll,
+    Copy(SequenceNumber),
+}
+
+// What an event gives: the group's numbers after it, its answer, and how many bytes a call wrote to the front of the lent output.
 pub struct Happening {
-    pub whole: Whole,
+    pub head: Head,
     pub reply: Reply,
     pub written: usize,
-    pub bytes: [u8; Group::PACKET],
 }
 
 // What opening gives. Where it is refused, there is no member, and no call of the sequencer is accepted.
 pub struct Opened {
-    pub whole: Whole,
+    pub head: Head,
     pub verdict: Verdict,
 }
 
@@ -63,349 +59,722 @@ pub struct Opened {
 fn packets_most() -> usize
     ensures { λ r. ⌜ r ≡ packetsMost ⌝ }
 {
-    Whole::PACKETS
-}
-
-// Members 0 to n - 1, fresh; the other places are all zero.
-fn fresh_members(n: u8, number: u32, resilience: u8) -> [Member; Group::MEMBERS]
-    ensures { λ r. ⌜ map memberInPlace.viewOf r ≡ world.freshMembers n number resilience 0 membersMost ⌝ }
-{
-    let first = open_member(n, MemberNumber(0), number, resilience).member;
-    let mut members = [first; Group::MEMBERS];
-    let mut i: usize = 0;
-    while i < Group::MEMBERS {
-        let member = open_member(n, MemberNumber(i as u8), number, resilience).member;
-        members[i] = member;
-        i += 1;
-    }
-    members
-}
-
-impl Stored {
-    // How many bytes the packet has: its length, where its array has as many.
-    fn size(self) -> usize
-        ensures { λ r. ⌜ r ≡ packetSize (self .length) ⌝ }
-    {
-        if self.length < Group::PACKET {
-            return self.length;
-        }
-        Group::PACKET
-    }
-
-    // The packet is handed to a member.
-    fn to_member(self, member: Member, out: &mut [u8]) -> MemberStep
-        ensures { λ r. ⌜ memberInPlace.Received member (packetIn self) (now (out .entry)) (r .reply) (r .member) (now (out .exit)) ⌝ }
-    {
-        let bytes = self.bytes;
-        let size = self.size();
-        receive_member(member, &bytes[..size], out)
-    }
-
-    // The packet is handed to a sequencer.
-    fn to_sequencer(self, sequencer: Sequencer, out: &mut [u8]) -> SequencerStep
-        ensures { λ r. ⌜ sequencerInPlace.Received sequencer (packetIn self) (now (out .entry)) (r .reply) (r .sequencer) (now (out .exit)) ⌝ }
-    {
-        let bytes = self.bytes;
-        let size = self.size();
-        receive_sequencer(sequencer, &bytes[..size], out)
-    }
+    PACKETS
 }
 
 // Whether there is room for one packet more, and for every member.
 fn has_room(count: usize, n: u8) -> bool
     ensures { λ r. ⌜ r ≡ roomOf count n ⌝ }
 {
-    if count < Whole::PACKETS {
+    if count < PACKETS {
         return (n as usize) <= Group::MEMBERS;
     }
     false
 }
 
-// Whether there is room, and member i is there.
-fn has_member(count: usize, n: u8, i: usize) -> bool
-    ensures { λ r. ⌜ r ≡ thereOf count n i ⌝ }
+// Whether there is room, and a member or packet k: one below the limit.
+fn is_there(count: usize, n: u8, k: usize, limit: usize) -> bool
+    ensures { λ r. ⌜ r ≡ thereOf count n k limit ⌝ }
 {
     if has_room(count, n) {
-        return i < (n as usize);
+        return k < limit;
     }
     false
 }
 
-// How many packets there are after a call that wrote a packet of `size` bytes, or none.
-fn count_after(count: usize, size: usize) -> usize
-    requires { ⌜ count < packetsMost ⌝ }
-    ensures { λ r. ⌜ r ≡ countAfter count size ⌝ }
+// How many bytes of a stored packet are read: its length, where its array has as many.
+pub fn fitting(size: usize) -> usize
+    ensures { λ r. ⌜ r ≡ fittingOf size ⌝ }
 {
+    if size < Group::PACKET {
+        return size;
+    }
+    Group::PACKET
+}
+
+// The length of the packet that a member's call wrote. A take writes a payload, and no packet.
+fn kept_size(call: MemberCall, written: usize) -> usize
+    ensures { λ r. ⌜ r ≡ keptSize call written ⌝ }
+{
+    match call {
+        MemberCall::Submit => written,
+        MemberCall::Repeat => written,
+        MemberCall::Take => 0,
+        MemberCall::Status => written,
+        MemberCall::Receive => written,
+    }
+}
+
+// The numbers of member i.
+pub fn head_of(group: Group, i: usize, numbers: [u32; NUMBERS]) -> member::Head
+    requires { ⌜ i < membersMost ⌝ }
+    ensures { λ r. ⌜ r ≡ headIn group i numbers ⌝ }
+{
+    let number = MemberNumber(i as u8);
+    let taken = SequenceNumber(numbers[0]);
+    let accepted = SequenceNumber(numbers[1]);
+    member::Head {
+        group,
+        number,
+        taken,
+        accepted,
+        submitted: numbers[2],
+        waiting: numbers[3],
+    }
+}
+
+// A call of the member whose arrays stand at i.
+fn call_member(
+    call: MemberCall,
+    head: member::Head,
+    queued: &mut [[u32; Group::WAITING]],
+    held: &mut [[u32; Group::HELD]],
+    queued_originators: &mut [[u8; Group::WAITING]],
+    queued_lengths: &mut [[u8; Group::WAITING]],
+    held_originators: &mut [[u8; Group::HELD]],
+    held_lengths: &mut [[u8; Group::HELD]],
+    queued_payloads: &mut [[u8; Group::WAITING_BYTES]],
+    held_payloads: &mut [[u8; Group::HELD_BYTES]],
+    i: usize,
+    bytes: &[u8],
+    out: &mut [u8],
+) -> member::Done
+    requires { ⌜ (i < membersMost) × Full (rowsOf (now queued) (now held) (now «queued_originators») (now «queued_lengths») (now «held_originators») (now «held_lengths») (now «queued_payloads») (now «held_payloads»)) ⌝ }
+    ensures { λ r. ⌜ CallsMember call i (now (bytes .entry)) head (rowsOf (now (queued .entry)) (now (held .entry)) (now («queued_originators» .entry)) (now («queued_lengths» .entry)) (now («held_originators» .entry)) (now («held_lengths» .entry)) (now («queued_payloads» .entry)) (now («held_payloads» .entry))) r (rowsOf (now (queued .exit)) (now (held .exit)) (now («queued_originators» .exit)) (now («queued_lengths» .exit)) (now («held_originators» .exit)) (now («held_lengths» .exit)) (now («queued_payloads» .exit)) (now («held_payloads» .exit))) (now (out .entry)) (now (out .exit)) ⌝ }
+{
+    match call {
+        MemberCall::Submit => member::submit_on(
+            head,
+            &mut queued[i],
+            &mut held[i],
+            &mut queued_originators[i],
+            &mut queued_lengths[i],
+            &mut held_originators[i],
+            &mut held_lengths[i],
+            &mut queued_payloads[i],
+            &mut held_payloads[i],
+            bytes,
+            out,
+        ),
+        MemberCall::Repeat => {
+            let reply = member::repeat_on(
+                head,
+                &queued[i],
+                &held[i],
+                &queued_originators[i],
+                &queued_lengths[i],
+                &held_originators[i],
+                &held_lengths[i],
+                &queued_payloads[i],
+                &held_payloads[i],
+                out,
+            );
+            member::Done { head, reply }
+        }
+        MemberCall::Take => member::take_on(
+            head,
+            &mut queued[i],
+            &mut held[i],
+            &mut queued_originators[i],
+            &mut queued_lengths[i],
+            &mut held_originators[i],
+            &mut held_lengths[i],
+            &mut queued_payloads[i],
+            &mut held_payloads[i],
+            out,
+        ),
+        MemberCall::Status => {
+            let reply = member::status_on(
+                head,
+                &queued[i],
+                &held[i],
+                &queued_originators[i],
+                &queued_lengths[i],
+                &held_originators[i],
+                &held_lengths[i],
+                &queued_payloads[i],
+                &held_payloads[i],
+                out,
+            );
+            member::Done { head, reply }
+        }
+        MemberCall::Receive => member::receive_on(
+            head,
+            &mut queued[i],
+            &mut held[i],
+            &mut queued_originators[i],
+            &mut queued_lengths[i],
+            &mut held_originators[i],
+            &mut held_lengths[i],
+            &mut queued_payloads[i],
+            &mut held_payloads[i],
+            bytes,
+            out,
+        ),
+    }
+}
+
+// The same of member i of the group.
+fn call_at(
+    call: MemberCall,
+    group: Group,
+    numbers: &mut [[u32; NUMBERS]],
+    queued: &mut [[u32; Group::WAITING]],
+    held: &mut [[u32; Group::HELD]],
+    queued_originators: &mut [[u8; Group::WAITING]],
+    queued_lengths: &mut [[u8; Group::WAITING]],
+    held_originators: &mut [[u8; Group::HELD]],
+    held_lengths: &mut [[u8; Group::HELD]],
+    queued_payloads: &mut [[u8; Group::WAITING_BYTES]],
+    held_payloads: &mut [[u8; Group::HELD_BYTES]],
+    i: usize,
+    bytes: &[u8],
+    out: &mut [u8],
+) -> member::Reply
+    requires { ⌜ (i < membersMost) × (length (now numbers) ≡ membersMost) × Full (rowsOf (now queued) (now held) (now «queued_originators») (now «queued_lengths») (now «held_originators») (now «held_lengths») (now «queued_payloads») (now «held_payloads»)) ⌝ }
+    ensures { λ r. ⌜ CallsAt call i (now (bytes .entry)) (terminalsOf group (now (numbers .entry)) (rowsOf (now (queued .entry)) (now (held .entry)) (now («queued_originators» .entry)) (now («queued_lengths» .entry)) (now («held_originators» .entry)) (now («held_lengths» .entry)) (now («queued_payloads» .entry)) (now («held_payloads» .entry)))) r (terminalsOf group (now (numbers .exit)) (rowsOf (now (queued .exit)) (now (held .exit)) (now («queued_originators» .exit)) (now («queued_lengths» .exit)) (now («held_originators» .exit)) (now («held_lengths» .exit)) (now («queued_payloads» .exit)) (now («held_payloads» .exit)))) (now (out .entry)) (now (out .exit)) ⌝ }
+{
+    let row = numbers[i];
+    let head = head_of(group, i, row);
+    let done = call_member(
+        call,
+        head,
+        queued,
+        held,
+        queued_originators,
+        queued_lengths,
+        held_originators,
+        held_lengths,
+        queued_payloads,
+        held_payloads,
+        i,
+        bytes,
+        out,
+    );
+    let next = done.head;
+    let left = [next.taken.0, next.accepted.0, next.submitted, next.waiting];
+    numbers[i] = left;
+    done.reply
+}
+
+// Stores the packet that was written behind the others, if there is one, and gives how many there are.
+fn store(
+    sizes: &mut [usize],
+    packets: &mut [[u8; Group::PACKET]],
+    count: usize,
+    size: usize,
+    bytes: [u8; Group::PACKET],
+) -> usize
+    requires { ⌜ (count < packetsMost) × (length (now sizes) ≡ packetsMost) × (length (now packets) ≡ packetsMost) ⌝ }
+    ensures { λ r. ⌜ Stores (packetsOf (now (sizes .entry)) (now (packets .entry)) count) size bytes (packetsOf (now (sizes .exit)) (now (packets .exit)) r) ⌝ }
+{
+    sizes[count] = size;
+    packets[count] = bytes;
     if size == 0 {
         return count;
     }
     count + 1
 }
 
-impl Whole {
-    // The packets that a schedule has room for.
-    pub const PACKETS: usize = 200;
-
-    // Opens a group: questions 18 and 24.
-    pub fn fresh(n: u8, number: u32, resilience: u8) -> Opened
-        ensures { λ r. ⌜ Opens n number resilience r ⌝ }
-    {
-        let opening = open_sequencer(n, number, resilience);
-        let sequencer = opening.sequencer;
-        let verdict = opening.verdict;
-        let members = fresh_members(n, number, resilience);
-        let none = Stored {
-            length: 0,
-            bytes: [0u8; Group::PACKET],
+// An event of member i: a call, if there is room and such a member.
+pub fn act(
+    call: MemberCall,
+    head: Head,
+    numbers: &mut [[u32; NUMBERS]; Group::MEMBERS],
+    queued: &mut [[u32; Group::WAITING]; Group::MEMBERS],
+    held: &mut [[u32; Group::HELD]; Group::MEMBERS],
+    queued_originators: &mut [[u8; Group::WAITING]; Group::MEMBERS],
+    queued_lengths: &mut [[u8; Group::WAITING]; Group::MEMBERS],
+    held_originators: &mut [[u8; Group::HELD]; Group::MEMBERS],
+    held_lengths: &mut [[u8; Group::HELD]; Group::MEMBERS],
+    queued_payloads: &mut [[u8; Group::WAITING_BYTES]; Group::MEMBERS],
+    held_payloads: &mut [[u8; Group::HELD_BYTES]; Group::MEMBERS],
+    sizes: &mut [usize; PACKETS],
+    packets: &mut [[u8; Group::PACKET]; PACKETS],
+    i: usize,
+    bytes: &[u8],
+    out: &mut [u8; Group::PACKET],
+) -> Happening
+    ensures { λ r. ⌜ Acts (happenedAt call i (now (bytes .entry))) head (terminalsOf (head .sequencer .group) (now (numbers .entry)) (rowsOf (now (queued .entry)) (now (held .entry)) (now («queued_originators» .entry)) (now («queued_lengths» .entry)) (now («held_originators» .entry)) (now («held_lengths» .entry)) (now («queued_payloads» .entry)) (now («held_payloads» .entry)))) (packetsOf (now (sizes .entry)) (now (packets .entry)) (head .count)) r (terminalsOf (head .sequencer .group) (now (numbers .exit)) (rowsOf (now (queued .exit)) (now (held .exit)) (now («queued_originators» .exit)) (now («queued_lengths» .exit)) (now («held_originators» .exit)) (now («held_lengths» .exit)) (now («queued_payloads» .exit)) (now («held_payloads» .exit)))) (packetsOf (now (sizes .exit)) (now (packets .exit)) (r .head .count)) (now (out .entry)) (now (out .exit)) ⌝ }
+{
+    let group = head.sequencer.group;
+    if is_there(head.count, group.n, i, group.n as usize) {
+        let told = call_at(
+            call,
+            group,
+            numbers,
+            queued,
+            held,
+            queued_originators,
+            queued_lengths,
+            held_originators,
+            held_lengths,
+            queued_payloads,
+            held_payloads,
+            i,
+            bytes,
+            out,
+        );
+        let answer = told.answer;
+        let size = kept_size(call, told.written);
+        let copy = *out;
+        let count = store(sizes, packets, head.count, size, copy);
+        let sequencer = head.sequencer;
+        let next = Head { sequencer, count };
+        return Happening {
+            head: next,
+            reply: Reply::Member(answer),
+            written: told.written,
         };
-        let packets = [none; Whole::PACKETS];
-        let whole = Whole {
-            sequencer,
-            members,
+    }
+    Happening {
+        head,
+        reply: Reply::Absent,
+        written: 0,
+    }
+}
+
+// A packet, the first `size` bytes, is handed to member i.
+fn deliver(
+    head: Head,
+    numbers: &mut [[u32; NUMBERS]; Group::MEMBERS],
+    queued: &mut [[u32; Group::WAITING]; Group::MEMBERS],
+    held: &mut [[u32; Group::HELD]; Group::MEMBERS],
+    queued_originators: &mut [[u8; Group::WAITING]; Group::MEMBERS],
+    queued_lengths: &mut [[u8; Group::WAITING]; Group::MEMBERS],
+    held_originators: &mut [[u8; Group::HELD]; Group::MEMBERS],
+    held_lengths: &mut [[u8; Group::HELD]; Group::MEMBERS],
+    queued_payloads: &mut [[u8; Group::WAITING_BYTES]; Group::MEMBERS],
+    held_payloads: &mut [[u8; Group::HELD_BYTES]; Group::MEMBERS],
+    sizes: &mut [usize; PACKETS],
+    packets: &mut [[u8; Group::PACKET]; PACKETS],
+    packet: [u8; Group::PACKET],
+    size: usize,
+    i: usize,
+    out: &mut [u8; Group::PACKET],
+) -> Happening
+    ensures { λ r. ⌜ Acts (happenedAt MemberCall.Receive i (take size packet)) head (terminalsOf (head .sequencer .group) (now (numbers .entry)) (rowsOf (now (queued .entry)) (now (held .entry)) (now («queued_originators» .entry)) (now («queued_lengths» .entry)) (now («held_originators» .entry)) (now («held_lengths» .entry)) (now («queued_payloads» .entry)) (now («held_payloads» .entry)))) (packetsOf (now (sizes .entry)) (now (packets .entry)) (head .count)) r (terminalsOf (head .sequencer .group) (now (numbers .exit)) (rowsOf (now (queued .exit)) (now (held .exit)) (now («queued_originators» .exit)) (now («queued_lengths» .exit)) (now («held_originators» .exit)) (now («held_lengths» .exit)) (now («queued_payloads» .exit)) (now («held_payloads» .exit)))) (packetsOf (now (sizes .exit)) (now (packets .exit)) (r .head .count)) (now (out .entry)) (now (out .exit)) ⌝ }
+{
+    let most = fitting(size);
+    act(
+        MemberCall::Receive,
+        head,
+        numbers,
+        queued,
+        held,
+        queued_originators,
+        queued_lengths,
+        held_originators,
+        held_lengths,
+        queued_payloads,
+        held_payloads,
+        sizes,
+        packets,
+        i,
+        &packet[..most],
+        out,
+    )
+}
+
+// Packet k is handed to member i.
+pub fn hand_member(
+    head: Head,
+    numbers: &mut [[u32; NUMBERS]; Group::MEMBERS],
+    queued: &mut [[u32; Group::WAITING]; Group::MEMBERS],
+    held: &mut [[u32; Group::HELD]; Group::MEMBERS],
+    queued_originators: &mut [[u8; Group::WAITING]; Group::MEMBERS],
+    queued_lengths: &mut [[u8; Group::WAITING]; Group::MEMBERS],
+    held_originators: &mut [[u8; Group::HELD]; Group::MEMBERS],
+    held_lengths: &mut [[u8; Group::HELD]; Group::MEMBERS],
+    queued_payloads: &mut [[u8; Group::WAITING_BYTES]; Group::MEMBERS],
+    held_payloads: &mut [[u8; Group::HELD_BYTES]; Group::MEMBERS],
+    sizes: &mut [usize; PACKETS],
+    packets: &mut [[u8; Group::PACKET]; PACKETS],
+    k: usize,
+    i: usize,
+    out: &mut [u8; Group::PACKET],
+) -> Happening
+    ensures { λ r. ⌜ Acts (handedTo k i) head (terminalsOf (head .sequencer .group) (now (numbers .entry)) (rowsOf (now (queued .entry)) (now (held .entry)) (now («queued_originators» .entry)) (now («queued_lengths» .entry)) (now («held_originators» .entry)) (now («held_lengths» .entry)) (now («queued_payloads» .entry)) (now («held_payloads» .entry)))) (packetsOf (now (sizes .entry)) (now (packets .entry)) (head .count)) r (terminalsOf (head .sequencer .group) (now (numbers .exit)) (rowsOf (now (queued .exit)) (now (held .exit)) (now («queued_originators» .exit)) (now («queued_lengths» .exit)) (now («held_originators» .exit)) (now («held_lengths» .exit)) (now («queued_payloads» .exit)) (now («held_payloads» .exit)))) (packetsOf (now (sizes .exit)) (now (packets .exit)) (r .head .count)) (now (out .entry)) (now (out .exit)) ⌝ }
+{
+    if is_there(head.count, head.sequencer.group.n, k, head.count) {
+        let packet = packets[k];
+        let size = sizes[k];
+        return deliver(
+            head,
+            numbers,
+            queued,
+            held,
+            queued_originators,
+            queued_lengths,
+            held_originators,
+            held_lengths,
+            queued_payloads,
+            held_payloads,
+            sizes,
             packets,
-            count: 0,
+            packet,
+            size,
+            i,
+            out,
+        );
+    }
+    Happening {
+        head,
+        reply: Reply::Absent,
+        written: 0,
+    }
+}
+
+// A call of the sequencer.
+fn call_sequencer(
+    call: SequencerCall,
+    head: sequencer::Head,
+    taken: &mut [u32; Group::MEMBERS],
+    counts: &mut [u32; Group::MEMBERS],
+    repeats: &mut [u32; Group::MEMBERS],
+    kept: &mut [u32; Group::PLACES],
+    marks: &mut [u16; Group::PLACES],
+    originators: &mut [u8; Group::PLACES],
+    lengths: &mut [u8; Group::PLACES],
+    payloads: &mut [u8; Group::HISTORY_BYTES],
+    bytes: &[u8],
+    out: &mut [u8],
+) -> sequencer::Step
+    ensures { λ r. ⌜ CallsSequencer call (now (bytes .entry)) (sequencerView.whole head (now (taken .entry)) (now (counts .entry)) (now (repeats .entry)) (now (kept .entry)) (now (marks .entry)) (now (originators .entry)) (now (lengths .entry)) (now (payloads .entry))) (r .reply) (sequencerView.whole (r .head) (now (taken .exit)) (now (counts .exit)) (now (repeats .exit)) (now (kept .exit)) (now (marks .exit)) (now (originators .exit)) (now (lengths .exit)) (now (payloads .exit))) (now (out .entry)) (now (out .exit)) ⌝ }
+{
+    match call {
+        SequencerCall::Receive => sequencer::receive_on(
+            head,
+            taken,
+            counts,
+            repeats,
+            kept,
+            marks,
+            originators,
+            lengths,
+            payloads,
+            bytes,
+            out,
+        ),
+        SequencerCall::Poll => {
+            let reply = sequencer::poll_on(
+                head,
+                taken,
+                counts,
+                repeats,
+                kept,
+                marks,
+                originators,
+                lengths,
+                payloads,
+                out,
+            );
+            sequencer::Step { head, reply }
+        }
+        SequencerCall::Copy(number) => {
+            let reply = sequencer::copy_on(
+                head,
+                taken,
+                counts,
+                repeats,
+                kept,
+                marks,
+                originators,
+                lengths,
+                payloads,
+                number,
+                out,
+            );
+            sequencer::Step { head, reply }
+        }
+    }
+}
+
+// An event of the sequencer: a call, if there is room.
+pub fn sequence(
+    call: SequencerCall,
+    head: Head,
+    taken: &mut [u32; Group::MEMBERS],
+    counts: &mut [u32; Group::MEMBERS],
+    repeats: &mut [u32; Group::MEMBERS],
+    kept: &mut [u32; Group::PLACES],
+    marks: &mut [u16; Group::PLACES],
+    originators: &mut [u8; Group::PLACES],
+    lengths: &mut [u8; Group::PLACES],
+    payloads: &mut [u8; Group::HISTORY_BYTES],
+    sizes: &mut [usize; PACKETS],
+    packets: &mut [[u8; Group::PACKET]; PACKETS],
+    bytes: &[u8],
+    out: &mut [u8; Group::PACKET],
+) -> Happening
+    ensures { λ r. ⌜ Sequences (happenedHere call (now (bytes .entry))) head (sequencerView.whole (head .sequencer) (now (taken .entry)) (now (counts .entry)) (now (repeats .entry)) (now (kept .entry)) (now (marks .entry)) (now (originators .entry)) (now (lengths .entry)) (now (payloads .entry))) (packetsOf (now (sizes .entry)) (now (packets .entry)) (head .count)) r (sequencerView.whole (r .head .sequencer) (now (taken .exit)) (now (counts .exit)) (now (repeats .exit)) (now (kept .exit)) (now (marks .exit)) (now (originators .exit)) (now (lengths .exit)) (now (payloads .exit))) (packetsOf (now (sizes .exit)) (now (packets .exit)) (r .head .count)) (now (out .entry)) (now (out .exit)) ⌝ }
+{
+    let mine = head.sequencer;
+    if has_room(head.count, mine.group.n) {
+        let step = call_sequencer(
+            call,
+            mine,
+            taken,
+            counts,
+            repeats,
+            kept,
+            marks,
+            originators,
+            lengths,
+            payloads,
+            bytes,
+            out,
+        );
+        let sequencer = step.head;
+        let told = step.reply;
+        let answer = told.answer;
+        let copy = *out;
+        let count = store(sizes, packets, head.count, told.written, copy);
+        let next = Head { sequencer, count };
+        return Happening {
+            head: next,
+            reply: Reply::Sequencer(answer),
+            written: told.written,
         };
-        Opened { whole, verdict }
     }
-
-    // Nothing happens.
-    fn absent(self) -> Happening
-        ensures { λ r. ⌜ Idle self r ⌝ }
-    {
-        Happening {
-            whole: self,
-            reply: Reply::Absent,
-            written: 0,
-            bytes: [0u8; Group::PACKET],
-        }
+    Happening {
+        head,
+        reply: Reply::Absent,
+        written: 0,
     }
+}
 
-    // Member i submits a message.
-    pub fn submit(mut self, i: usize, payload: &[u8]) -> Happening
-        ensures { λ r. ⌜ Plays (world.submit i (now (payload .entry))) self r ⌝ }
-    {
-        let at = self.count;
-        if has_member(at, self.sequencer.head.group.n, i) {
-            let mut out = [0u8; Group::PACKET];
-            let step = submit_member(self.members[i], payload, &mut out);
-            let member = step.member;
-            let reply = step.reply;
-            let answer = reply.answer;
-            let packet = Stored {
-                length: reply.written,
-                bytes: out,
-            };
-            let next = count_after(at, reply.written);
-            self.members[i] = member;
-            self.packets[at] = packet;
-            self.count = next;
-            return Happening {
-                whole: self,
-                reply: Reply::Member(answer),
-                written: reply.written,
-                bytes: out,
-            };
-        }
-        self.absent()
+// A packet, the first `size` bytes, is handed to the sequencer.
+fn submit(
+    head: Head,
+    taken: &mut [u32; Group::MEMBERS],
+    counts: &mut [u32; Group::MEMBERS],
+    repeats: &mut [u32; Group::MEMBERS],
+    kept: &mut [u32; Group::PLACES],
+    marks: &mut [u16; Group::PLACES],
+    originators: &mut [u8; Group::PLACES],
+    lengths: &mut [u8; Group::PLACES],
+    payloads: &mut [u8; Group::HISTORY_BYTES],
+    sizes: &mut [usize; PACKETS],
+    packets: &mut [[u8; Group::PACKET]; PACKETS],
+    packet: [u8; Group::PACKET],
+    size: usize,
+    out: &mut [u8; Group::PACKET],
+) -> Happening
+    ensures { λ r. ⌜ Sequences (happenedHere SequencerCall.Receive (take size packet)) head (sequencerView.whole (head .sequencer) (now (taken .entry)) (now (counts .entry)) (now (repeats .entry)) (now (kept .entry)) (now (marks .entry)) (now (originators .entry)) (now (lengths .entry)) (now (payloads .entry))) (packetsOf (now (sizes .entry)) (now (packets .entry)) (head .count)) r (sequencerView.whole (r .head .sequencer) (now (taken .exit)) (now (counts .exit)) (now (repeats .exit)) (now (kept .exit)) (now (marks .exit)) (now (originators .exit)) (now (lengths .exit)) (now (payloads .exit))) (packetsOf (now (sizes .exit)) (now (packets .exit)) (r .head .count)) (now (out .entry)) (now (out .exit)) ⌝ }
+{
+    let most = fitting(size);
+    sequence(
+        SequencerCall::Receive,
+        head,
+        taken,
+        counts,
+        repeats,
+        kept,
+        marks,
+        originators,
+        lengths,
+        payloads,
+        sizes,
+        packets,
+        &packet[..most],
+        out,
+    )
+}
+
+// Packet k is handed to the sequencer.
+pub fn hand_sequencer(
+    head: Head,
+    taken: &mut [u32; Group::MEMBERS],
+    counts: &mut [u32; Group::MEMBERS],
+    repeats: &mut [u32; Group::MEMBERS],
+    kept: &mut [u32; Group::PLACES],
+    marks: &mut [u16; Group::PLACES],
+    originators: &mut [u8; Group::PLACES],
+    lengths: &mut [u8; Group::PLACES],
+    payloads: &mut [u8; Group::HISTORY_BYTES],
+    sizes: &mut [usize; PACKETS],
+    packets: &mut [[u8; Group::PACKET]; PACKETS],
+    k: usize,
+    out: &mut [u8; Group::PACKET],
+) -> Happening
+    ensures { λ r. ⌜ Sequences (handedHere k) head (sequencerView.whole (head .sequencer) (now (taken .entry)) (now (counts .entry)) (now (repeats .entry)) (now (kept .entry)) (now (marks .entry)) (now (originators .entry)) (now (lengths .entry)) (now (payloads .entry))) (packetsOf (now (sizes .entry)) (now (packets .entry)) (head .count)) r (sequencerView.whole (r .head .sequencer) (now (taken .exit)) (now (counts .exit)) (now (repeats .exit)) (now (kept .exit)) (now (marks .exit)) (now (originators .exit)) (now (lengths .exit)) (now (payloads .exit))) (packetsOf (now (sizes .exit)) (now (packets .exit)) (r .head .count)) (now (out .entry)) (now (out .exit)) ⌝ }
+{
+    if is_there(head.count, head.sequencer.group.n, k, head.count) {
+        let packet = packets[k];
+        let size = sizes[k];
+        return submit(
+            head,
+            taken,
+            counts,
+            repeats,
+            kept,
+            marks,
+            originators,
+            lengths,
+            payloads,
+            sizes,
+            packets,
+            packet,
+            size,
+            out,
+        );
     }
-
-    // Member i writes its waiting request again.
-    pub fn repeat(mut self, i: usize) -> Happening
-        ensures { λ r. ⌜ Plays (world.repeat i) self r ⌝ }
-    {
-        let at = self.count;
-        if has_member(at, self.sequencer.head.group.n, i) {
-            let mut out = [0u8; Group::PACKET];
-            let reply = repeat_member(self.members[i], &mut out);
-            let answer = reply.answer;
-            let packet = Stored {
-                length: reply.written,
-                bytes: out,
-            };
-            let next = count_after(at, reply.written);
-            self.packets[at] = packet;
-            self.count = next;
-            return Happening {
-                whole: self,
-                reply: Reply::Member(answer),
-                written: reply.written,
-                bytes: out,
-            };
-        }
-        self.absent()
+    Happening {
+        head,
+        reply: Reply::Absent,
+        written: 0,
     }
+}
 
-    // Member i takes. What it writes is a payload, and no packet.
-    pub fn take(mut self, i: usize) -> Happening
-        ensures { λ r. ⌜ Plays (world.take i) self r ⌝ }
-    {
-        let at = self.count;
-        if has_member(at, self.sequencer.head.group.n, i) {
-            let mut out = [0u8; Group::PACKET];
-            let step = take_member(self.members[i], &mut out);
-            let member = step.member;
-            let reply = step.reply;
-            let answer = reply.answer;
-            let packet = Stored {
-                length: 0,
-                bytes: out,
-            };
-            let next = count_after(at, 0);
-            self.members[i] = member;
-            self.packets[at] = packet;
-            self.count = next;
-            return Happening {
-                whole: self,
-                reply: Reply::Member(answer),
-                written: reply.written,
-                bytes: out,
-            };
-        }
-        self.absent()
+// Opens member i; one that the group does not have is as fresh.
+fn open_member(
+    group: Group,
+    n: u8,
+    number: u32,
+    resilience: u8,
+    numbers: &mut [[u32; NUMBERS]],
+    queued: &mut [[u32; Group::WAITING]],
+    held: &mut [[u32; Group::HELD]],
+    queued_originators: &mut [[u8; Group::WAITING]],
+    queued_lengths: &mut [[u8; Group::WAITING]],
+    held_originators: &mut [[u8; Group::HELD]],
+    held_lengths: &mut [[u8; Group::HELD]],
+    queued_payloads: &mut [[u8; Group::WAITING_BYTES]],
+    held_payloads: &mut [[u8; Group::HELD_BYTES]],
+    i: usize,
+)
+    requires { ⌜ (i < membersMost) × (length (now numbers) ≡ membersMost) × Full (rowsOf (now queued) (now held) (now «queued_originators») (now «queued_lengths») (now «held_originators») (now «held_lengths») (now «queued_payloads») (now «held_payloads»)) ⌝ }
+    ensures { λ _. ⌜ BegunAt i (terminalsOf group (now (numbers .entry)) (rowsOf (now (queued .entry)) (now (held .entry)) (now («queued_originators» .entry)) (now («queued_lengths» .entry)) (now («held_originators» .entry)) (now («held_lengths» .entry)) (now («queued_payloads» .entry)) (now («held_payloads» .entry)))) (terminalsOf group (now (numbers .exit)) (rowsOf (now (queued .exit)) (now (held .exit)) (now («queued_originators» .exit)) (now («queued_lengths» .exit)) (now («held_originators» .exit)) (now («held_lengths» .exit)) (now («queued_payloads» .exit)) (now («held_payloads» .exit)))) ⌝ }
+{
+    let head = head_of(group, i, [0u32; NUMBERS]);
+    let begun = member::open_on(
+        head,
+        &mut queued[i],
+        &mut held[i],
+        &mut queued_originators[i],
+        &mut queued_lengths[i],
+        &mut held_originators[i],
+        &mut held_lengths[i],
+        &mut queued_payloads[i],
+        &mut held_payloads[i],
+        n,
+        MemberNumber(i as u8),
+        number,
+        resilience,
+    );
+    let next = begun.head;
+    let left = [next.taken.0, next.accepted.0, next.submitted, next.waiting];
+    numbers[i] = left;
+}
+
+// Opens every member.
+fn open_members(
+    group: Group,
+    n: u8,
+    number: u32,
+    resilience: u8,
+    numbers: &mut [[u32; NUMBERS]; Group::MEMBERS],
+    queued: &mut [[u32; Group::WAITING]; Group::MEMBERS],
+    held: &mut [[u32; Group::HELD]; Group::MEMBERS],
+    queued_originators: &mut [[u8; Group::WAITING]; Group::MEMBERS],
+    queued_lengths: &mut [[u8; Group::WAITING]; Group::MEMBERS],
+    held_originators: &mut [[u8; Group::HELD]; Group::MEMBERS],
+    held_lengths: &mut [[u8; Group::HELD]; Group::MEMBERS],
+    queued_payloads: &mut [[u8; Group::WAITING_BYTES]; Group::MEMBERS],
+    held_payloads: &mut [[u8; Group::HELD_BYTES]; Group::MEMBERS],
+)
+    ensures { λ _. ⌜ Begun (terminalsOf group (now (numbers .exit)) (rowsOf (now (queued .exit)) (now (held .exit)) (now («queued_originators» .exit)) (now («queued_lengths» .exit)) (now («held_originators» .exit)) (now («held_lengths» .exit)) (now («queued_payloads» .exit)) (now («held_payloads» .exit)))) membersMost ⌝ }
+{
+    let mut i: usize = 0;
+    while i < Group::MEMBERS {
+        open_member(
+            group,
+            n,
+            number,
+            resilience,
+            numbers,
+            queued,
+            held,
+            queued_originators,
+            queued_lengths,
+            held_originators,
+            held_lengths,
+            queued_payloads,
+            held_payloads,
+            i,
+        );
+        i += 1;
     }
+}
 
-    // Member i writes its status.
-    pub fn status(mut self, i: usize) -> Happening
-        ensures { λ r. ⌜ Plays (world.status i) self r ⌝ }
-    {
-        let at = self.count;
-        if has_member(at, self.sequencer.head.group.n, i) {
-            let mut out = [0u8; Group::PACKET];
-            let reply = status_member(self.members[i], &mut out);
-            let answer = reply.answer;
-            let packet = Stored {
-                length: reply.written,
-                bytes: out,
-            };
-            let next = count_after(at, reply.written);
-            self.packets[at] = packet;
-            self.count = next;
-            return Happening {
-                whole: self,
-                reply: Reply::Member(answer),
-                written: reply.written,
-                bytes: out,
-            };
-        }
-        self.absent()
-    }
-
-    // The sequencer writes a poll.
-    pub fn poll(mut self) -> Happening
-        ensures { λ r. ⌜ Plays world.poll self r ⌝ }
-    {
-        let at = self.count;
-        if has_room(at, self.sequencer.head.group.n) {
-            let sequencer = self.sequencer;
-            let mut out = [0u8; Group::PACKET];
-            let reply = poll_sequencer(sequencer, &mut out);
-            let answer = reply.answer;
-            let packet = Stored {
-                length: reply.written,
-                bytes: out,
-            };
-            let next = count_after(at, reply.written);
-            self.packets[at] = packet;
-            self.count = next;
-            return Happening {
-                whole: self,
-                reply: Reply::Sequencer(answer),
-                written: reply.written,
-                bytes: out,
-            };
-        }
-        self.absent()
-    }
-
-    // The sequencer writes the broadcast of a number again.
-    pub fn copy(mut self, number: SequenceNumber) -> Happening
-        ensures { λ r. ⌜ Plays (world.copy (number .0)) self r ⌝ }
-    {
-        let at = self.count;
-        if has_room(at, self.sequencer.head.group.n) {
-            let sequencer = self.sequencer;
-            let mut out = [0u8; Group::PACKET];
-            let reply = copy_sequencer(sequencer, number, &mut out);
-            let answer = reply.answer;
-            let packet = Stored {
-                length: reply.written,
-                bytes: out,
-            };
-            let next = count_after(at, reply.written);
-            self.packets[at] = packet;
-            self.count = next;
-            return Happening {
-                whole: self,
-                reply: Reply::Sequencer(answer),
-                written: reply.written,
-                bytes: out,
-            };
-        }
-        self.absent()
-    }
-
-    // Packet k is handed to member i.
-    pub fn hand_member(mut self, k: usize, i: usize) -> Happening
-        ensures { λ r. ⌜ Plays (world.handMember k i) self r ⌝ }
-    {
-        let at = self.count;
-        if has_member(at, self.sequencer.head.group.n, i) {
-            if k < at {
-                let mut out = [0u8; Group::PACKET];
-                let step = self.packets[k].to_member(self.members[i], &mut out);
-                let member = step.member;
-                let reply = step.reply;
-                let answer = reply.answer;
-                let packet = Stored {
-                    length: reply.written,
-                    bytes: out,
-                };
-                let next = count_after(at, reply.written);
-                self.members[i] = member;
-                self.packets[at] = packet;
-                self.count = next;
-                return Happening {
-                    whole: self,
-                    reply: Reply::Member(answer),
-                    written: reply.written,
-                    bytes: out,
-                };
-            }
-            return self.absent();
-        }
-        self.absent()
-    }
-
-    // Packet k is handed to the sequencer.
-    pub fn hand_sequencer(mut self, k: usize) -> Happening
-        ensures { λ r. ⌜ Plays (world.handSequencer k) self r ⌝ }
-    {
-        let at = self.count;
-        if has_room(at, self.sequencer.head.group.n) {
-            if k < at {
-                let sequencer = self.sequencer;
-                let mut out = [0u8; Group::PACKET];
-                let step = self.packets[k].to_sequencer(sequencer, &mut out);
-                let after = step.sequencer;
-                let reply = step.reply;
-                let answer = reply.answer;
-                let packet = Stored {
-                    length: reply.written,
-                    bytes: out,
-                };
-                let next = count_after(at, reply.written);
-                self.sequencer = after;
-                self.packets[at] = packet;
-                self.count = next;
-                return Happening {
-                    whole: self,
-                    reply: Reply::Sequencer(answer),
-                    written: reply.written,
-                    bytes: out,
-                };
-            }
-            return self.absent();
-        }
-        self.absent()
+// Opens a group: questions 18 and 24.
+pub fn open(
+    head: Head,
+    taken: &mut [u32; Group::MEMBERS],
+    counts: &mut [u32; Group::MEMBERS],
+    repeats: &mut [u32; Group::MEMBERS],
+    kept: &mut [u32; Group::PLACES],
+    marks: &mut [u16; Group::PLACES],
+    originators: &mut [u8; Group::PLACES],
+    lengths: &mut [u8; Group::PLACES],
+    payloads: &mut [u8; Group::HISTORY_BYTES],
+    numbers: &mut [[u32; NUMBERS]; Group::MEMBERS],
+    queued: &mut [[u32; Group::WAITING]; Group::MEMBERS],
+    held: &mut [[u32; Group::HELD]; Group::MEMBERS],
+    queued_originators: &mut [[u8; Group::WAITING]; Group::MEMBERS],
+    queued_lengths: &mut [[u8; Group::WAITING]; Group::MEMBERS],
+    held_originators: &mut [[u8; Group::HELD]; Group::MEMBERS],
+    held_lengths: &mut [[u8; Group::HELD]; Group::MEMBERS],
+    queued_payloads: &mut [[u8; Group::WAITING_BYTES]; Group::MEMBERS],
+    held_payloads: &mut [[u8; Group::HELD_BYTES]; Group::MEMBERS],
+    sizes: &mut [usize; PACKETS],
+    packets: &mut [[u8; Group::PACKET]; PACKETS],
+    n: u8,
+    number: u32,
+    resilience: u8,
+) -> Opened
+    ensures { λ r. ⌜ Opens n number resilience (r .verdict) (r .head) (wholeOf (r .head) (now (taken .exit)) (now (counts .exit)) (now (repeats .exit)) (now (kept .exit)) (now (marks .exit)) (now (originators .exit)) (now (lengths .exit)) (now (payloads .exit)) (now (numbers .exit)) (now (queued .exit)) (now (held .exit)) (now («queued_originators» .exit)) (now («queued_lengths» .exit)) (now («held_originators» .exit)) (now («held_lengths» .exit)) (now («queued_payloads» .exit)) (now («held_payloads» .exit)) (now (sizes .exit)) (now (packets .exit))) ⌝ }
+{
+    let mine = head.sequencer;
+    let start = sequencer::open_on(
+        mine,
+        taken,
+        counts,
+        repeats,
+        kept,
+        marks,
+        originators,
+        lengths,
+        payloads,
+        n,
+        number,
+        resilience,
+    );
+    let sequencer = start.head;
+    let group = sequencer.group;
+    open_members(
+        group,
+        n,
+        number,
+        resilience,
+        numbers,
+        queued,
+        held,
+        queued_originators,
+        queued_lengths,
+        held_originators,
+        held_lengths,
+        queued_payloads,
+        held_payloads,
+    );
+    let verdict = start.verdict;
+    let next = Head {
+        sequencer,
+        count: 0,
+    };
+    Opened {
+        head: next,
+        verdict,
     }
 }

@@ -5,14 +5,18 @@ use Prim.Native.Nat.{ℕ}
 use Rattle.descriptor.specs.Descriptor.{Gives, Takes}
 use Rattle.descriptor.specs.declared.Source.{Source}
 use Rattle.descriptor.specs.declared.Sink.{Sink}
-use Rattle.inspection.specs.Table.{inspectProgram}
+use Rattle.inspection.specs.Lists.{Listed}
+use Rattle.inspection.specs.Table.{listsLeft, inspectProgram, Tabled}
+use Rattle.model.specs.World.{Group}
 use Rattle.player.specs.Feed.{State}
 use Rattle.player.specs.Laws.{Continues}
 use Rattle.player.specs.Play.{Program, playProgram}
-use Rattle.player.specs.Player.{stateOf}
+use Rattle.player.specs.Player.{stageIn, phaseOf}
 use Rattle.player.specs.declared.Phase.{Phase}
 use Rattle.player.specs.declared.Phase.the-variants.{Opening, Running, Ended, Closed}
 use Rattle.player.specs.declared.Player.{Player}
+use Rattle.simulator.specs.Whole.{Terminals, Packets, packetsIn}
+use Rattle.simulator.specs.declared.Head.{Head}
 use Rattle.stream.specs.declared.Turn.{Turn}
 
 -- the program that is quiet about events, and the one that is not
@@ -35,7 +39,22 @@ pub record Puts (program : Program) (from : State) (input : List ℕ) (to : Stat
   pub continues : Continues program from input printed to left
 
 -- the source gave an input, which was played
-pub record Turns (program : Program) (player : Player) (source : Source) (sink : Sink) (r : Turn) : Type 0 where
+pub record Turns (program : Program) (from to : State) (source : Source) (sink : Sink) (r : Turn) : Type 0 where
   pub input : List ℕ
   pub gives : Gives source input (r .source)
-  pub puts : Puts program (stateOf player) input (stateOf (r .player)) [] sink (r .sink)
+  pub puts : Puts program from input to [] sink (r .sink)
+
+-- the sink took what `text` says of every group that is shown by these numbers and packets
+abbrev pub HandsLists : (Group → List ℕ) → Head → List (List ℕ) → Packets → Sink → Sink → Type 0
+HandsLists text head numbers p before after = (g : Group) → Listed head numbers (packetsIn p) g → Takes before (text g) after
+
+-- the lists of such a group, where there is one at the end
+abbrev pub HandsLeft : Player → List (List ℕ) → Packets → Sink → Sink → Type 0
+HandsLeft player numbers p before after =
+    HandsLists (λ g. listsLeft (stageIn (phaseOf (player .head) (player .phase)) g (player .number))) (player .head) numbers p before after
+
+-- all that the program prints at the end, of every group that has these members, repeat counts and packets too
+abbrev pub HandsLast : Bool → Player → List ℕ → List ℕ → Terminals → Packets → Sink → Sink → Type 0
+HandsLast quiet player taken repeats t p before after =
+    (g : Group) → Tabled t taken repeats g → Listed (player .head) (t .numbers) (packetsIn p) g
+    → Takes before (programOf quiet .last (stageIn (phaseOf (player .head) (player .phase)) g (player .number))) after

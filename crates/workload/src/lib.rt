@@ -3,7 +3,7 @@ use generator::Generator;
 use group::Group;
 use group::Opened;
 use group::Refusal;
-use simulator::Whole;
+use simulator::PACKETS;
 use text::NUMBER_DIGITS;
 use text::put;
 use text::put_number;
@@ -144,7 +144,7 @@ fn choose_hand(generator: Generator, n: u32) -> Chosen
     requires { ⌜ 1 ≤ n ⌝ }
     ensures { λ r. ⌜ chosenIn r ≡ chosen 6 n (generator .state) ⌝ }
 {
-    let packets = Whole::PACKETS as u32;
+    let packets = PACKETS as u32;
     let packet = draw(generator, packets);
     let member = draw(packet.generator, n);
     let next = member.generator;
@@ -176,7 +176,7 @@ fn choose(letter: u32, generator: Generator, n: u32) -> Chosen
         }
         6 => choose_hand(generator, n),
         _ => {
-            let packet = draw(generator, Whole::PACKETS as u32);
+            let packet = draw(generator, PACKETS as u32);
             let next = packet.generator;
             Chosen {
                 generator: next,

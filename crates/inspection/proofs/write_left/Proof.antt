@@ -8,7 +8,6 @@ use denote.Ref.{now}
 use lib.ListN.{length}
 use Rattle.group.specs.Lent.{front}
 use Rattle.report.specs.Print.{badOpening, lineRoom}
-use Rattle.simulator.specs.Whole.{groupOf}
 use Rattle.player.specs.Player.{stageIn, phaseOf}
 use Rattle.player.specs.declared.Phase.{Phase}
 use Rattle.player.specs.declared.Phase.the-variants.{Running, Ended}
@@ -30,18 +29,16 @@ write-bad-opening-requires c κs = search needs
 enum-told-2 : tie.Need-enum-told-2
 enum-told-2 c = search needs
 
-write-group-requires : tie.Need-write-group-requires
+put-table-requires : tie.Need-put-table-requires
 unfolding phaseOf
-write-group-requires c κs =
-    phase-was (c .before .before .before .before .before .args .player .whole) (c .before .before .before .before .before .args .player .phase) Running (sym (c .before .before .before .phase-of .ensures) ∙ c .before .enum-told2 .given .1) running≢ .0
+put-table-requires c κs = (phase-was (c .before .before .before .before .before .before .args .player .head) (c .before .before .before .before .before .before .args .player .phase) Running (sym (c .before .before .before .phase-of .ensures) ∙ c .before .enum-told2 .given .1) running≢ .0 .members, search needs)
 
 enum-told-3 : tie.Need-enum-told-3
 enum-told-3 c = search needs
 
-write-group-requires-2 : tie.Need-write-group-requires-2
+put-table-requires-2 : tie.Need-put-table-requires-2
 unfolding phaseOf
-write-group-requires-2 c κs =
-    phase-was (c .before .before .before .before .before .args .player .whole) (c .before .before .before .before .before .args .player .phase) Ended (sym (c .before .before .before .phase-of .ensures) ∙ c .before .enum-told3 .given .1) ended≢ .0
+put-table-requires-2 c κs = (phase-was (c .before .before .before .before .before .before .args .player .head) (c .before .before .before .before .before .before .args .player .phase) Ended (sym (c .before .before .before .phase-of .ensures) ∙ c .before .enum-told3 .given .1) ended≢ .0 .members, search needs)
 
 enum-told-4 : tie.Need-enum-told-4
 enum-told-4 c = search needs
@@ -49,40 +46,46 @@ enum-told-4 c = search needs
 returns : tie.Need-returns
 unfolding tableLeft stageIn phaseOf
 returns c =
-    let p = c .before .before .before .before .before .before .args .player in
-    let lent = now (c .before .before .before .before .before .before .args .out) in
-    let text : Phase → List ℕ = λ x. tableLeft (stageIn x (groupOf (p .whole)) (p .number)) in
-    let e = sym (c .before .before .enum-told .given .1) ∙ c .before .before .before .before .phase-of .ensures in
+    let p = c .before .before .before .before .before .before .before .args .player in
+    let lent = now (c .before .before .before .before .before .before .before .args .out) in
     let room : length lent ≡ tableRoom = search needs in
-    let f = fits-in lineRoom (length lent) badOpening (omega arith) ∙ ap text e in
-    (c .write-bad-opening .ensures .0 ∙ ap length f, c .write-bad-opening .ensures .1 ∙ ap (λ (bytes : List ℕ). front bytes lent) f)
+    let fit = fits-in lineRoom (length lent) badOpening (omega arith) in
+    λ g s.
+    let text : Phase → List ℕ = λ x. tableLeft (stageIn x g (p .number)) in
+    let f = fit ∙ ap text (sym (c .before .before .enum-told .given .1) ∙ c .before .before .before .before .phase-of .ensures) in
+    record { size = c .write-bad-opening .ensures .0 ∙ ap length f; lent = c .write-bad-opening .ensures .1 ∙ ap (λ (bytes : List ℕ). front bytes lent) f }
 
 returns-2 : tie.Need-returns-2
 unfolding tableLeft stageIn phaseOf
 returns-2 c =
-    let p = c .before .before .before .before .before .before .args .player in
-    let lent = now (c .before .before .before .before .before .before .args .out) in
-    let text : Phase → List ℕ = λ x. tableLeft (stageIn x (groupOf (p .whole)) (p .number)) in
+    let p = c .before .before .before .before .before .before .before .args .player in
+    let lent = now (c .before .before .before .before .before .before .before .args .out) in
+    λ g s.
+    let text : Phase → List ℕ = λ x. tableLeft (stageIn x g (p .number)) in
     let e = sym (c .before .before .enum-told2 .given .1) ∙ c .before .before .before .before .phase-of .ensures in
-    (c .write-group .ensures .0 ∙ ap (λ (x : Phase). length (text x)) e, c .write-group .ensures .1 ∙ ap (λ (x : Phase). front (text x) lent) e)
+    let l = c .put-table .ensures g s in
+    record { size = l .size ∙ ap (λ (x : Phase). length (text x)) e; lent = l .lent ∙ ap (λ (x : Phase). front (text x) lent) e }
 
 returns-3 : tie.Need-returns-3
 unfolding tableLeft stageIn phaseOf
 returns-3 c =
-    let p = c .before .before .before .before .before .before .args .player in
-    let lent = now (c .before .before .before .before .before .before .args .out) in
-    let text : Phase → List ℕ = λ x. tableLeft (stageIn x (groupOf (p .whole)) (p .number)) in
+    let p = c .before .before .before .before .before .before .before .args .player in
+    let lent = now (c .before .before .before .before .before .before .before .args .out) in
+    λ g s.
+    let text : Phase → List ℕ = λ x. tableLeft (stageIn x g (p .number)) in
     let e = sym (c .before .before .enum-told3 .given .1) ∙ c .before .before .before .before .phase-of .ensures in
-    (c .write-group2 .ensures .0 ∙ ap (λ (x : Phase). length (text x)) e, c .write-group2 .ensures .1 ∙ ap (λ (x : Phase). front (text x) lent) e)
+    let l = c .put-table2 .ensures g s in
+    record { size = l .size ∙ ap (λ (x : Phase). length (text x)) e; lent = l .lent ∙ ap (λ (x : Phase). front (text x) lent) e }
 
 returns-4 : tie.Need-returns-4
 unfolding tableLeft stageIn phaseOf
 returns-4 c =
-    let p = c .before .before .before .before .args .player in
-    let lent = now (c .before .before .before .before .args .out) in
-    let text : Phase → List ℕ = λ x. tableLeft (stageIn x (groupOf (p .whole)) (p .number)) in
+    let p = c .before .before .before .before .before .args .player in
+    let lent = now (c .before .before .before .before .before .args .out) in
+    λ g s.
+    let text : Phase → List ℕ = λ x. tableLeft (stageIn x g (p .number)) in
     let e = sym (c .enum-told4 .given .1) ∙ c .before .before .phase-of .ensures in
-    (ap (λ (x : Phase). length (text x)) e, ap (λ (x : Phase). front (text x) lent) e)
+    record { size = ap (λ (x : Phase). length (text x)) e; lent = ap (λ (x : Phase). front (text x) lent) e }
 
 pub write-left-spec : {M : Type 1} → statement M
 write-left-spec =
@@ -92,9 +95,9 @@ write-left-spec =
     enum-told
     write-bad-opening-requires
     enum-told-2
-    write-group-requires
+    put-table-requires
     enum-told-3
-    write-group-requires-2
+    put-table-requires-2
     enum-told-4
     returns
     returns-2

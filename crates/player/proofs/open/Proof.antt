@@ -31,16 +31,16 @@ refuse-requires c κs = search needs
 returns : tie.Need-returns
 returns c =
     let o = sym (c .before .before .before .before .opening .given .1) ∙ c .before .before .before .before .before .before .read-opening .ensures in
-    as-told (ap openTold o) (as-told (told-many _ _ _ (c .before .before .if1 .taken)) (c .refuse .ensures))
+    as-told (ap openTold o) (as-told (told-many _ _ _ (c .before .before .if1 .taken)) (c .refuse .ensures _))
 
 degree-requires : tie.Need-degree-requires
 degree-requires c κs = search needs
 
-cast-fresh : tie.Need-cast-fresh
-cast-fresh c = search needs
+cast-open : tie.Need-cast-open
+cast-open c = search needs
 
-fresh-requires : tie.Need-fresh-requires
-fresh-requires c κs = search needs
+open-requires : tie.Need-open-requires
+open-requires c κs = search needs
 
 enum-told-2 : tie.Need-enum-told-2
 enum-told-2 c = search needs
@@ -55,21 +55,21 @@ returns-2 : tie.Need-returns-2
 unfolding openTold
 returns-2 c =
     let o = sym (c .before .before .enum-told .given .1) ∙ c .before .before .before .before .read-opening .ensures in
-    as-told (ap openTold o) (tells-closed badOpening (now (c .before .before .before .before .before .before .args .out)) _ _ lineRoom (search needs) (c .write-bad-opening .ensures .0) (c .write-bad-opening .ensures .1) refl)
+    as-told (ap openTold o) (tells-closed badOpening (now (c .before .before .before .before .before .before .args .out)) _ _ _ lineRoom (search needs) (c .write-bad-opening .ensures .0) (c .write-bad-opening .ensures .1) refl)
 
 returns-3 : tie.Need-returns-3
 returns-3 c =
-    let g = c .before .before .before .before .before .before .before .opening .given .0 in
-    let o = sym (c .before .before .before .before .before .before .before .opening .given .1) ∙ c .before .before .before .before .before .before .before .before .before .read-opening .ensures in
-    let d = told-degree (g .0) (g .1 .0) (g .1 .1 .0) (c .before .before .before .before .degree .result) (search needs) (c .before .before .before .before .degree .ensures) in
-    as-told (d ∙ ap openTold o) (opened-group _ _ _ (c .before .before .before .fresh .result) _ _ (c .before .before .before .fresh .ensures) (c .enum-told2 .given .1) refl refl refl refl)
+    let o = sym (c .before .before .before .before .before .before .before .before .before .before .before .before .before .before .before .before .before .before .before .before .before .before .before .before .before .before .opening .given .1) ∙ c .before .before .before .before .before .before .before .before .before .before .before .before .before .before .before .before .before .before .before .before .before .before .before .before .before .before .before .before .read-opening .ensures in
+    let g = c .before .before .before .before .before .before .before .before .before .before .before .before .before .before .before .before .before .before .before .before .before .before .before .before .before .before .opening .given .0 in
+    let d = told-degree (g .0) (g .1 .0) (g .1 .1 .0) (c .before .before .before .before .before .before .before .before .before .before .before .before .before .before .before .before .before .before .before .before .before .before .before .degree .result) (let l = c .before .before .before .before .before .before .before .before .before .before .before .before .before .before .before .before .before .before .before .before .before .before .before .before .if1 .left in search needs) (c .before .before .before .before .before .before .before .before .before .before .before .before .before .before .before .before .before .before .before .before .before .before .before .degree .ensures) in
+    as-told (d ∙ ap openTold o) (opened-group _ _ _ _ _ _ _ _ (c .before .before .before .«open» .ensures) (c .enum-told2 .given .1) refl refl refl refl)
 
 returns-4 : tie.Need-returns-4
 returns-4 c =
-    let g = c .before .before .before .before .before .before .before .before .before .before .opening .given .0 in
-    let o = sym (c .before .before .before .before .before .before .before .before .before .before .opening .given .1) ∙ c .before .before .before .before .before .before .before .before .before .before .before .before .read-opening .ensures in
-    let d = told-degree (g .0) (g .1 .0) (g .1 .1 .0) (c .before .before .before .before .before .before .before .degree .result) (search needs) (c .before .before .before .before .before .before .before .degree .ensures) in
-    as-told (d ∙ ap openTold o) (as-told (opened-refused _ _ _ (c .before .before .before .before .before .before .fresh .result) _ (c .before .before .before .before .before .before .fresh .ensures) (c .before .before .before .verdict .given .1)) (c .refuse2 .ensures))
+    let o = sym (c .before .before .before .before .before .before .before .before .before .before .before .before .before .before .before .before .before .before .before .before .before .before .before .before .before .before .before .before .before .opening .given .1) ∙ c .before .before .before .before .before .before .before .before .before .before .before .before .before .before .before .before .before .before .before .before .before .before .before .before .before .before .before .before .before .before .before .read-opening .ensures in
+    let g = c .before .before .before .before .before .before .before .before .before .before .before .before .before .before .before .before .before .before .before .before .before .before .before .before .before .before .before .before .before .opening .given .0 in
+    let d = told-degree (g .0) (g .1 .0) (g .1 .1 .0) (c .before .before .before .before .before .before .before .before .before .before .before .before .before .before .before .before .before .before .before .before .before .before .before .before .before .before .degree .result) (let l = c .before .before .before .before .before .before .before .before .before .before .before .before .before .before .before .before .before .before .before .before .before .before .before .before .before .before .before .if1 .left in search needs) (c .before .before .before .before .before .before .before .before .before .before .before .before .before .before .before .before .before .before .before .before .before .before .before .before .before .before .degree .ensures) in
+    as-told (d ∙ ap openTold o) (as-told (opened-refused _ _ _ _ _ _ _ (c .before .before .before .before .before .before .«open» .ensures) (c .before .before .before .verdict .given .1)) (c .refuse2 .ensures _))
 
 pub open-spec : {M : Type 1} → statement M
 open-spec =
@@ -83,8 +83,8 @@ open-spec =
     refuse-requires
     returns
     degree-requires
-    cast-fresh
-    fresh-requires
+    cast-open
+    open-requires
     enum-told-2
     enum-known-verdict
     refuse-requires-2

@@ -1,7 +1,7 @@
 -- The line fits the output.
 -- Assumes nothing.
-use Rattle.player.proofs.Telling.{tells-closed}
 use mathlib.Core.Path.{refl}
+use Rattle.player.proofs.Telling.{tells-closed}
 use borrow.Author.Needs.{needs}
 use Rattle.player.proofs.refuse.Statement.{statement}
 use Rattle.player.proofs.refuse.Tie as tie
@@ -10,8 +10,11 @@ write-refused-opening-requires : tie.Need-write-refused-opening-requires
 write-refused-opening-requires c κs = search needs
 
 returns : tie.Need-returns
-returns c =
-    tells-closed _ _ _ _ _ (search needs) (c .write-refused-opening .ensures .0) (c .write-refused-opening .ensures .1) refl
+returns c = λ w. tells-closed _ _ _ _ w _ (search needs) (c .write-refused-opening .ensures .0) (c .write-refused-opening .ensures .1) refl
 
 pub refuse-spec : {M : Type 1} → statement M
-refuse-spec = tie.close (tie.spec write-refused-opening-requires returns)
+refuse-spec =
+    tie.close
+    (tie.spec
+    write-refused-opening-requires
+    returns)

@@ -1,17 +1,16 @@
 -- A line of another form, an event without space, an event.
 -- Assumes nothing.
-use mathlib.Core.Path.{_≡_, refl, sym, _∙_, subst}
+use mathlib.Core.Path.{_≡_, refl, sym, ap, _∙_, subst}
+use denote.Ref.{now}
 use Prim.Native.Nat.{_≤_}
 use native.Mathlib.Omega.{arith}
-use denote.Ref.{now}
-use lib.ListN.{length, length-map}
+use lib.ListN.{length}
 use Rattle.report.specs.Print.{lineRoom, noSpace, badLine}
 use Rattle.schedule.proofs.Laws.{submit-fits}
 use Rattle.schedule.specs.Line.{eventOf}
-use Rattle.simulator.proofs.Storing.{count-is}
-use Rattle.simulator.specs.Whole.{packetsMost, groupOf}
-use Rattle.player.specs.Steps.{Performed}
-use Rattle.player.proofs.Telling.{as-told, tells-ended, performed-size, meant-is, told-other, told-full, told-event}
+use Rattle.simulator.proofs.Lists.{length-list}
+use Rattle.simulator.specs.Whole.{packetsMost, packetAt, wholeOf, groupOf}
+use Rattle.player.proofs.Telling.{as-told, as-performed, payload-length, tells-ended, performed-size, meant-is, told-other, told-full, told-event}
 use borrow.Author.Needs.{needs}
 use Rattle.player.proofs.tell.Statement.{statement}
 use Rattle.player.proofs.tell.Tie as tie
@@ -22,27 +21,28 @@ read-event-requires c κs = search needs
 is-event-requires : tie.Need-is-event-requires
 is-event-requires c κs = search needs
 
+slice-aggregate-perform : tie.Need-slice-aggregate-perform
+slice-aggregate-perform c = let n = payload-length _ _ (submit-fits _) refl (c .before .before .before .before .before .before .before .before .before .before .before .before .before .before .before .before .before .before .before .before .before .before .before .read-event .ensures .1) in search needs
+
 perform-requires : tie.Need-perform-requires
-perform-requires c κs = λ i size e. submit-fits _ i size (sym (c .before .before .before .read-event .ensures .0) ∙ e)
+perform-requires c κs = (λ i size e. submit-fits _ i size (sym (c .before .before .before .before .before .before .before .before .before .before .before .before .before .before .before .before .before .before .before .before .before .before .before .before .read-event .ensures .0) ∙ e), payload-length _ _ (submit-fits _) refl (c .before .before .before .before .before .before .before .before .before .before .before .before .before .before .before .before .before .before .before .before .before .before .before .before .read-event .ensures .1))
 
 write-answer-requires : tie.Need-write-answer-requires
-write-answer-requires c κs = performed-size _ _ _ (c .before .before .perform .ensures)
+write-answer-requires c κs = performed-size _ _ _ _ _ _ _ (c .before .perform .ensures)
 
 next-number-requires : tie.Need-next-number-requires
 next-number-requires c κs = search needs
 
 returns : tie.Need-returns
 returns c =
-    let a = c .before .before .before .before .before .before .before .before .before .before .before .before .args in
-    let e = meant-is (eventOf (now (a .line))) (c .before .before .before .before .before .before .before .before .before .read-event .result) _ _ (c .before .before .before .before .before .before .before .before .before .read-event .ensures .0) (c .before .before .before .before .before .before .before .before .before .read-event .ensures .1) in
-    let n : length (a .whole .packets) ≡ packetsMost = sym (length-map (a .whole .packets) _) ∙ c .before .before .before .before .before .before .before .before .before .before .before .before .good .0 .1 .1 .1 .1 .0 .1 .0 .1 in
-    let f = c .before .before .before .before .before .before .before .before .before .before .before .before .pre in
-    let k : a .whole .count ≤ length (a .whole .packets) = rw n (f .packets) in
-    told-event (a .whole) (a .number) (eventOf (now (a .line)))
-    (λ o. c .before .before .before .before .before .before .before .before .is-event .ensures .1 (c .before .before .before .before .before .before .before .if1 .taken) (c .before .before .before .before .before .before .before .before .before .read-event .ensures .0 ∙ o)) f (count-is (a .whole) k) (c .before .before .before .before .before .before .if2 .taken)
-    (c .before .before .before .before .before .perform .result) (subst (λ x. Performed x (a .whole) (c .before .before .before .before .before .perform .result)) e (c .before .before .before .before .before .perform .ensures))
+    let a = c .before .before .before .before .before .before .before .before .before .before .before .before .before .before .before .before .before .before .before .before .before .before .before .before .before .before .before .before .before .before .before .before .args in
+    let e = meant-is (eventOf (now (a .line))) (c .before .before .before .before .before .before .before .before .before .before .before .before .before .before .before .before .before .before .before .before .before .before .before .before .before .before .before .before .before .read-event .result) _ _ (c .before .before .before .before .before .before .before .before .before .before .before .before .before .before .before .before .before .before .before .before .before .before .before .before .before .before .before .before .before .read-event .ensures .0) (c .before .before .before .before .before .before .before .before .before .before .before .before .before .before .before .before .before .before .before .before .before .before .before .before .before .before .before .before .before .read-event .ensures .1) in
+    let w = (wholeOf (a .head) (now (a .taken)) (now (a .counts)) (now (a .repeats)) (now (a .kept)) (now (a .marks)) (now (a .originators)) (now (a .lengths)) (now (a .payloads)) (now (a .numbers)) (now (a .queued)) (now (a .held)) (now (a .queued-originators)) (now (a .queued-lengths)) (now (a .held-originators)) (now (a .held-lengths)) (now (a .queued-payloads)) (now (a .held-payloads)) (now (a .sizes)) (now (a .packets))) in
+    told-event w (a .number) (eventOf (now (a .line)))
+    (λ o. c .before .before .before .before .before .before .before .before .before .before .before .before .before .before .before .before .before .before .before .before .before .before .before .before .before .before .before .before .is-event .ensures .1 (c .before .before .before .before .before .before .before .before .before .before .before .before .before .before .before .before .before .before .before .before .before .before .before .before .before .before .before .if1 .taken) (c .before .before .before .before .before .before .before .before .before .before .before .before .before .before .before .before .before .before .before .before .before .before .before .before .before .before .before .before .before .read-event .ensures .0 ∙ o)) (a .head) (c .before .before .before .before .before .before .before .before .before .before .before .before .before .before .before .before .before .before .before .before .before .before .before .before .before .before .before .before .before .before .before .before .pre) (sym (length-list (packetAt (w .packets)) 0 (a .head .count))) (c .before .before .before .before .before .before .before .before .before .before .before .before .before .before .before .before .before .before .before .before .before .before .before .before .before .before .if2 .taken)
+    (c .before .before .before .before .perform .result) _ _ _ (as-performed (a .head) w _ (c .before .before .before .before .perform .result) _ _ e (c .before .before .before .before .perform .ensures))
     _ _ _
-    (record { whole = refl; next = c .before .next-number .ensures; phase = refl; written = c .before .before .write-answer .ensures .0; output = c .before .before .write-answer .ensures .1 })
+    (record { head = refl; next = c .before .next-number .ensures; phase = refl; written = c .before .before .write-answer .ensures .0; output = c .before .before .write-answer .ensures .1 })
 
 write-no-space-requires : tie.Need-write-no-space-requires
 write-no-space-requires c κs = search needs
@@ -50,14 +50,12 @@ write-no-space-requires c κs = search needs
 returns-2 : tie.Need-returns-2
 returns-2 c =
     let a = c .before .before .before .before .before .before .before .before .args in
-    let n : length (a .whole .packets) ≡ packetsMost = sym (length-map (a .whole .packets) _) ∙ c .before .before .before .before .before .before .before .before .good .0 .1 .1 .1 .1 .0 .1 .0 .1 in
-    let f = c .before .before .before .before .before .before .before .before .pre in
-    let k : a .whole .count ≤ length (a .whole .packets) = rw n (f .packets) in
-    let e = count-is (a .whole) k in
-    let full : packetsMost ≤ length (groupOf (a .whole) .packets) = let l = c .before .before .if2 .left in omega arith in
+    let w = (wholeOf (a .head) (now (a .taken)) (now (a .counts)) (now (a .repeats)) (now (a .kept)) (now (a .marks)) (now (a .originators)) (now (a .lengths)) (now (a .payloads)) (now (a .numbers)) (now (a .queued)) (now (a .held)) (now (a .queued-originators)) (now (a .queued-lengths)) (now (a .held-originators)) (now (a .held-lengths)) (now (a .queued-payloads)) (now (a .held-payloads)) (now (a .sizes)) (now (a .packets))) in
+    let n = length-list (packetAt (w .packets)) 0 (a .head .count) in
+    let full : packetsMost ≤ length (groupOf w .packets) = let l = c .before .before .if2 .left in omega arith in
     as-told
-    (told-full (a .whole) (a .number) (eventOf (now (a .line))) (λ o. c .before .before .before .before .is-event .ensures .1 (c .before .before .before .if1 .taken) (c .before .before .before .before .before .read-event .ensures .0 ∙ o)) full)
-    (tells-ended (noSpace (a .number)) (now (a .out)) _ _ lineRoom (search needs) (c .write-no-space .ensures .0) (c .write-no-space .ensures .1) f refl)
+    (told-full w (a .number) (eventOf (now (a .line))) (λ o. c .before .before .before .before .is-event .ensures .1 (c .before .before .before .if1 .taken) (c .before .before .before .before .before .read-event .ensures .0 ∙ o)) full)
+    (tells-ended (noSpace (a .number)) (now (a .out)) _ _ w lineRoom (search needs) (c .write-no-space .ensures .0) (c .write-no-space .ensures .1) (c .before .before .before .before .before .before .before .before .pre) refl)
 
 write-bad-line-requires : tie.Need-write-bad-line-requires
 write-bad-line-requires c κs = search needs
@@ -65,9 +63,10 @@ write-bad-line-requires c κs = search needs
 returns-3 : tie.Need-returns-3
 returns-3 c =
     let a = c .before .before .before .before .before .before .before .args in
+    let w = (wholeOf (a .head) (now (a .taken)) (now (a .counts)) (now (a .repeats)) (now (a .kept)) (now (a .marks)) (now (a .originators)) (now (a .lengths)) (now (a .payloads)) (now (a .numbers)) (now (a .queued)) (now (a .held)) (now (a .queued-originators)) (now (a .queued-lengths)) (now (a .held-originators)) (now (a .held-lengths)) (now (a .queued-payloads)) (now (a .held-payloads)) (now (a .sizes)) (now (a .packets))) in
     as-told
-    (told-other (a .whole) (a .number) (eventOf (now (a .line))) (sym (c .before .before .before .before .read-event .ensures .0) ∙ c .before .before .before .is-event .ensures .0 (c .before .before .if1 .left)))
-    (tells-ended (badLine (a .number)) (now (a .out)) _ _ lineRoom (search needs) (c .write-bad-line .ensures .0) (c .write-bad-line .ensures .1) (c .before .before .before .before .before .before .before .pre) refl)
+    (told-other w (a .number) (eventOf (now (a .line))) (sym (c .before .before .before .before .read-event .ensures .0) ∙ c .before .before .before .is-event .ensures .0 (c .before .before .if1 .left)))
+    (tells-ended (badLine (a .number)) (now (a .out)) _ _ w lineRoom (search needs) (c .write-bad-line .ensures .0) (c .write-bad-line .ensures .1) (c .before .before .before .before .before .before .before .pre) refl)
 
 pub tell-spec : {M : Type 1} → statement M
 tell-spec =
@@ -75,6 +74,7 @@ tell-spec =
     (tie.spec
     read-event-requires
     is-event-requires
+    slice-aggregate-perform
     perform-requires
     write-answer-requires
     next-number-requires

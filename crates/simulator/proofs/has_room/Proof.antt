@@ -15,4 +15,8 @@ unfolding roomOf
 returns-2 c = search (choices, tests, needs) depth 9
 
 pub has-room-spec : {M : Type 1} → statement M
-has-room-spec = tie.close (tie.spec returns returns-2)
+has-room-spec =
+    tie.close
+    (tie.spec
+    returns
+    returns-2)

@@ -1,12 +1,10 @@
 -- The line that is left, and then what is printed at the end.
 -- Assumes nothing.
-use mathlib.Core.Path.{ap, _∙_}
+use mathlib.Core.Path.{_≡_, refl, sym, ap, _∙_}
+use denote.Ref.{now}
 use Rattle.descriptor.proofs.Laws.{takes-both, takes-as}
-use Rattle.player.specs.Feed.{State, endOf}
-use Rattle.player.specs.Player.{phaseOf, stateOf}
-use Rattle.simulator.specs.Whole.{groupOf}
-use Rattle.stream.specs.Steps.{programOf}
-use Rattle.stream.proofs.Laws.{said-is}
+use Rattle.player.specs.Player.{phaseOf}
+use Rattle.stream.proofs.Laws.{said-told, hands-told}
 use borrow.Author.Needs.{needs}
 use Rattle.stream.proofs.finish.Statement.{statement}
 use Rattle.stream.proofs.finish.Tie as tie
@@ -26,15 +24,17 @@ put-last-requires c κs = search needs
 returns : tie.Need-returns
 unfolding phaseOf
 returns c =
-    let a = c .before .before .before .before .before .before .args in
-    let e = endOf (stateOf (a .player)) in
-    let d = c .before .before .before .before .end .ensures in
-    let p = c .before .before .before .before .end .result .player in
-    let program = programOf (a .quiet) in
-    let said = said-is (a .quiet) (phaseOf (p .whole) (p .phase)) (groupOf (p .whole)) (p .number) (e .text) _ _ _ _ (d .output) (d .written) (c .before .before .said .ensures) in
-    let t = said ∙ ap (λ (x : State). program .says (x .stage) (e .text)) (d .state) in
-    let u = ap (λ (x : State). program .last (x .stage)) (d .state) in
-    takes-both (takes-as t (c .before .put-text .ensures)) (takes-as u (c .put-last .ensures))
+    let a = c .before .before .before .before .before .before .before .before .before .before .before .before .before .before .before .before .before .before .before .before .before .before .before .before .before .before .before .before .before .before .before .before .before .before .before .before .before .before .args in
+    let d = c .before .before .before .before .before .before .before .before .before .before .before .before .before .before .before .before .before .end .ensures in
+    let t = said-told (a .quiet) d (c .before .before .before .before .before .before .before .before .before .before .before .before .before .before .before .said .ensures) in
+    takes-both (takes-as t (c .before .before .before .before .before .before .before .before .before .before .before .before .before .before .put-text .ensures)) (hands-told (a .quiet) d (c .put-last .ensures) refl)
 
 pub finish-spec : {M : Type 1} → statement M
-finish-spec = tie.close (tie.spec end-requires said-requires put-text-requires put-last-requires returns)
+finish-spec =
+    tie.close
+    (tie.spec
+    end-requires
+    said-requires
+    put-text-requires
+    put-last-requires
+    returns)

@@ -1,29 +1,29 @@
 -- What the program says of the rest of the part goes behind what the sink took.
 -- Assumes nothing.
-use mathlib.Core.Path.{refl, ap, _∙_}
+use mathlib.Core.Path.{_≡_, refl, sym, ap, _∙_}
 use Prim.Native.Nat.{_+_, _-_, _≤_, _<_}
 use native.Mathlib.Omega.{arith}
 use denote.Ref.{now}
 use lib.ListN.{length, take, drop, drop-of-length-le}
 use Rattle.descriptor.proofs.Laws.{takes-both, takes-as}
 use Rattle.player.proofs.Laws.{reads-within, continues-fed}
-use Rattle.player.specs.Feed.{State, fedOf}
 use Rattle.player.specs.Player.{phaseOf, stateOf}
-use Rattle.simulator.specs.Whole.{groupOf}
+use Rattle.simulator.specs.Whole.{wholeOf}
 use Rattle.stream.specs.Steps.{programOf, Puts}
-use Rattle.stream.proofs.Laws.{said-is, puts-none}
+use Rattle.stream.proofs.Laws.{said-told, puts-none}
 use borrow.Author.Needs.{needs}
 use Rattle.stream.proofs.play_part.Statement.{statement}
 use Rattle.stream.proofs.play_part.Tie as tie
 
 abbrev Inv-loop : tie.InvT-loop
-Inv-loop quiet player₀ part sink₀ from₀ player sink from = (from ≤ length part) × Puts (programOf quiet) (stateOf player₀) part (stateOf player) (drop from part) sink₀ sink
+Inv-loop quiet player₀ taken₀ counts₀ repeats₀ kept₀ marks₀ originators₀ lengths₀ payloads₀ numbers₀ queued₀ held₀ qo₀ ql₀ ho₀ hl₀ qp₀ hp₀ sizes₀ packets₀ line₀ part sink₀ from₀ player taken counts repeats kept marks originators lengths payloads numbers queued held qo ql ho hl qp hp sizes packets line sink from =
+    (from ≤ length part) × Puts (programOf quiet) (stateOf player₀ (wholeOf (player₀ .head) taken₀ counts₀ repeats₀ kept₀ marks₀ originators₀ lengths₀ payloads₀ numbers₀ queued₀ held₀ qo₀ ql₀ ho₀ hl₀ qp₀ hp₀ sizes₀ packets₀) line₀) part (stateOf player (wholeOf (player .head) taken counts repeats kept marks originators lengths payloads numbers queued held qo ql ho hl qp hp sizes packets) line) (drop from part) sink₀ sink
 
 abbrev μ-loop : tie.MeasureT-loop
-μ-loop quiet player₀ part sink₀ from₀ player sink from = length part - from
+μ-loop quiet player₀ taken₀ counts₀ repeats₀ kept₀ marks₀ originators₀ lengths₀ payloads₀ numbers₀ queued₀ held₀ qo₀ ql₀ ho₀ hl₀ qp₀ hp₀ sizes₀ packets₀ line₀ part sink₀ from₀ player taken counts repeats kept marks originators lengths payloads numbers queued held qo ql ho hl qp hp sizes packets line sink from = length part - from
 
 loop-holds : tie.Need-loop-holds Inv-loop μ-loop
-loop-holds c = let a = c .before .args in (search needs, puts-none (stateOf (a .player)) (now (a .part)) (a .sink))
+loop-holds c = let a = c .before .args in (search needs, puts-none (stateOf (a .player) (wholeOf (a .player .head) (now (a .taken)) (now (a .counts)) (now (a .repeats)) (now (a .kept)) (now (a .marks)) (now (a .originators)) (now (a .lengths)) (now (a .payloads)) (now (a .numbers)) (now (a .queued)) (now (a .held)) (now (a .queued-originators)) (now (a .queued-lengths)) (now (a .held-originators)) (now (a .held-lengths)) (now (a .queued-payloads)) (now (a .held-payloads)) (now (a .sizes)) (now (a .packets))) (now (a .line))) (now (a .part)) (a .sink))
 
 sub-feed : tie.Need-sub-feed Inv-loop μ-loop
 sub-feed c = search needs
@@ -45,52 +45,69 @@ put-text-requires c κs = search needs
 
 add-from : tie.Need-add-from Inv-loop μ-loop
 add-from c =
-    let a = c .before .before .before .before .before .before .before .before .before .before .args in
-    let l = c .before .before .before .before .before .before .before .before .loop in
+    let a = c .before .before .before .before .before .before .before .before .before .before .before .before .before .before .before .before .before .before .before .before .before .before .before .before .before .before .before .before .before .before .args in
+    let part = now (a .part) in
+    let l = c .before .before .before .before .before .before .before .before .before .before .before .before .before .before .before .before .before .before .before .before .before .before .before .before .before .before .before .before .loop in
     let r = c .before .before .before .before .feed .result in
-    let w = reads-within _ (now (a .part)) _ (l .from) _ refl (c .before .before .before .before .before .before .before .loop-test .taken) (c .before .before .before .before .feed .ensures .used) in
-    let y : l .from + r .used ≤ length (now (a .part)) = w .1 in
-    let g = c .before .before .before .before .before .before .before .before .before .before .good .1 .1 .0 in
+    let d = c .before .before .before .before .feed .ensures in
+    let w = reads-within _ part _ (l .from) _ refl (c .before .before .before .before .before .before .before .before .before .before .before .before .before .before .before .before .before .before .before .before .before .before .before .before .before .before .before .loop-test .taken) (d .used) in
+    let y : l .from + r .used ≤ length part = w .1 in
+    let g = c .before .before .before .before .before .before .before .before .before .before .before .before .before .before .before .before .before .before .before .before .before .before .before .before .before .before .before .before .before .before .good .1 .1 .1 .1 .1 .1 .1 .1 .1 .1 .1 .1 .1 .1 .1 .1 .1 .1 .1 .1 .1 .1 .0 in
     let z : l .from + r .used < 18446744073709551616 = omega arith in
     record { fits = z }
 
 loop-less : tie.Need-loop-less Inv-loop μ-loop
 loop-less c =
-    let a = c .before .before .before .before .before .before .before .before .before .before .args in
-    let l = c .before .before .before .before .before .before .before .before .loop in
+    let a = c .before .before .before .before .before .before .before .before .before .before .before .before .before .before .before .before .before .before .before .before .before .before .before .before .before .before .before .before .before .before .args in
+    let part = now (a .part) in
+    let l = c .before .before .before .before .before .before .before .before .before .before .before .before .before .before .before .before .before .before .before .before .before .before .before .before .before .before .before .before .loop in
     let r = c .before .before .before .before .feed .result in
-    let w = reads-within _ (now (a .part)) _ (l .from) _ refl (c .before .before .before .before .before .before .before .loop-test .taken) (c .before .before .before .before .feed .ensures .used) in
-    let y : l .from + r .used ≤ length (now (a .part)) = w .1 in
+    let d = c .before .before .before .before .feed .ensures in
+    let w = reads-within _ part _ (l .from) _ refl (c .before .before .before .before .before .before .before .before .before .before .before .before .before .before .before .before .before .before .before .before .before .before .before .before .before .before .before .loop-test .taken) (d .used) in
+    let y : l .from + r .used ≤ length part = w .1 in
     let z : 1 ≤ r .used = w .0 in
     search needs
 
 loop-again : tie.Need-loop-again Inv-loop μ-loop
 unfolding phaseOf
 loop-again c =
-    let a = c .before .before .before .before .before .before .before .before .before .before .args in
+    let a = c .before .before .before .before .before .before .before .before .before .before .before .before .before .before .before .before .before .before .before .before .before .before .before .before .before .before .before .before .before .before .args in
     let part = now (a .part) in
-    let l = c .before .before .before .before .before .before .before .before .loop in
-    let p = c .before .before .before .before .feed .result .player in
+    let l = c .before .before .before .before .before .before .before .before .before .before .before .before .before .before .before .before .before .before .before .before .before .before .before .before .before .before .before .before .loop in
+    let r = c .before .before .before .before .feed .result in
     let d = c .before .before .before .before .feed .ensures in
-    let w = reads-within _ (now (a .part)) _ (l .from) _ refl (c .before .before .before .before .before .before .before .loop-test .taken) (c .before .before .before .before .feed .ensures .used) in
+    let w = reads-within _ part _ (l .from) _ refl (c .before .before .before .before .before .before .before .before .before .before .before .before .before .before .before .before .before .before .before .before .before .before .before .before .before .before .before .loop-test .taken) (d .used) in
+    let y : l .from + r .used ≤ length part = w .1 in
     let program = programOf (a .quiet) in
-    let text = fedOf (stateOf (l .player)) (take (length part - l .from) (drop (l .from) part)) .text in
-    let said = said-is (a .quiet) (phaseOf (p .whole) (p .phase)) (groupOf (p .whole)) (p .number) text _ _ _ _ (d .output) (d .written) (c .before .before .said .ensures) in
-    let t = said ∙ ap (λ (x : State). program .says (x .stage) text) (d .state) in
+    let t = said-told (a .quiet) d (c .before .before .said .ensures) in
     let k = l .inv .1 in (
-      w .1,
+      y,
       record {
         printed = _;
         takes = takes-both (k .takes) (takes-as t (c .before .put-text .ensures));
-        continues = continues-fed program _ (stateOf (l .player)) _ part (k .printed) _ (l .from) _ refl (d .used) (d .state) (k .continues);
+        continues = continues-fed program _ _ _ part (k .printed) _ (l .from) _ refl (d .used) (d .state) (k .continues);
       },
     )
 
 returns : tie.Need-returns Inv-loop μ-loop
 returns c =
-    let part = now (c .before .before .before .args .part) in
     let l = c .before .loop in
-    rw (drop-of-length-le part {i = l .from} (c .loop-test .left)) at (l .inv .1)
+    rw (drop-of-length-le (now (c .before .before .before .args .part)) {i = l .from} (c .loop-test .left)) at (l .inv .1)
 
 pub play-part-spec : {M : Type 1} → statement M
-play-part-spec = tie.close (tie.spec Inv-loop μ-loop loop-holds sub-feed part-feed-start part-feed-end feed-requires said-requires put-text-requires add-from loop-less loop-again returns)
+play-part-spec =
+    tie.close
+    (tie.spec
+    Inv-loop
+    μ-loop
+    loop-holds
+    sub-feed
+    part-feed-start
+    part-feed-end
+    feed-requires
+    said-requires
+    put-text-requires
+    add-from
+    loop-less
+    loop-again
+    returns)

@@ -1,6 +1,6 @@
 -- The loop's invariant: the sink took the lines of the places passed.
 -- Assumes nothing.
-use mathlib.Core.Path.{_≡_, sym, ap, _∙_}
+use mathlib.Core.Path.{_≡_, refl, sym, ap, _∙_}
 use Prim.Native.Nat.{_+_, _-_, _≤_, _<_}
 use native.Mathlib.Omega.{arith}
 use lib.ListN.{length}
@@ -67,4 +67,18 @@ returns c =
     takes-as (ap (jobLines (a .i) (a .t2)) e) (l .inv .1)
 
 pub put-jobs-spec : {M : Type 1} → statement M
-put-jobs-spec = tie.close (tie.spec Inv-loop μ-loop loop-holds mul-job array-copy-out-job cast-write-job write-job-requires put-job-requires add-place loop-less loop-again returns)
+put-jobs-spec =
+    tie.close
+    (tie.spec
+    Inv-loop
+    μ-loop
+    loop-holds
+    mul-job
+    array-copy-out-job
+    cast-write-job
+    write-job-requires
+    put-job-requires
+    add-place
+    loop-less
+    loop-again
+    returns)

@@ -5,7 +5,7 @@ use mathlib.Core.List.{[]}
 use Rattle.descriptor.proofs.Laws.{takes-both, takes-as}
 use Rattle.player.proofs.Laws.{continues-end}
 use Rattle.stream.specs.Steps.{programOf}
-use Rattle.stream.proofs.Laws.{quiet-of}
+use Rattle.stream.proofs.Laws.{quiet-of, puts-from}
 use borrow.Author.Needs.{needs}
 use Rattle.stream.proofs.run.Statement.{statement}
 use Rattle.stream.proofs.run.Tie as tie
@@ -21,11 +21,17 @@ finish-requires c κs = search needs
 
 returns : tie.Need-returns
 returns c =
-    let quiet = c .before .before .before .before .before .before .args .quiet in
-    let t = c .before .before .before .before .play-all .ensures in
-    let p = rw (c .before .before .before .before .before .fresh .ensures) at (t .puts) in
+    let quiet = c .before .before .before .before .before .before .before .before .before .before .before .before .before .before .before .before .before .before .before .before .before .before .before .before .before .before .before .before .before .before .before .before .before .before .before .before .before .before .before .before .before .before .before .before .before .before .args .quiet in
+    let t = c .before .before .before .before .before .before .before .before .before .before .before .before .before .before .before .before .before .before .before .before .before .before .before .before .play-all .ensures in
+    let p = puts-from (c .before .before .before .before .before .before .before .before .before .before .before .before .before .before .before .before .before .before .before .before .before .before .before .before .before .before .before .before .before .before .before .before .before .before .before .before .before .before .before .before .before .before .before .before .before .fresh .ensures _ _) (t .puts) in
     let e = continues-end (programOf quiet) (quiet-of quiet) _ (t .input) (p .printed) [] refl (p .continues) in
     record { input = t .input; gives = t .gives; takes = takes-as e (takes-both (p .takes) (c .finish .ensures)) }
 
 pub run-spec : {M : Type 1} → statement M
-run-spec = tie.close (tie.spec fresh-requires play-all-requires finish-requires returns)
+run-spec =
+    tie.close
+    (tie.spec
+    fresh-requires
+    play-all-requires
+    finish-requires
+    returns)

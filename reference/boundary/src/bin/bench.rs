@@ -700,6 +700,24 @@ fn offers(n: u8, length: usize) -> Vec<Case> {
     cases
 }
 
+/// A schedule in which members submit in turn: each message is numbered, handed to every member, taken and acknowledged, as long
+/// as there is room for the packets.
+fn turns(n: usize, size: usize) -> Vec<u8> {
+    let payload = if size == 0 { "-".into() } else { "61".repeat(size) };
+    let mut text = format!("N {n} {GROUP}\n");
+    let mut packets = 0;
+    for turn in 0..200 / (n + 2) {
+        text += &format!("S {} {payload}\nQ {packets}\n", turn % n);
+        let broadcast = packets + 1;
+        packets += 2;
+        for member in 0..n {
+            text += &format!("M {broadcast} {member}\nT {member}\nA {member}\nQ {packets}\n");
+            packets += 1;
+        }
+    }
+    text.into_bytes()
+}
+
 /// Whole schedules; what is timed is an event.
 fn schedules() -> Vec<Case> {
     let mut cases = Vec::new();
@@ -723,6 +741,9 @@ fn schedules() -> Vec<Case> {
     }
     let load = model::load::text(42, 4, GROUP, 400).expect("an allowed opening");
     case("load 42 4 7 400", load);
+    for (n, size) in [(2, 0), (2, PAYLOAD), (16, 0), (16, PAYLOAD)] {
+        case(&format!("n {n}, payloads of {size}"), turns(n, size));
+    }
     case(
         "takes alone",
         [b"N 4 7\n".to_vec(), b"T 1\n".repeat(400)].concat(),

@@ -16,7 +16,7 @@ use std::thread;
 use std::time::{Duration, Instant};
 
 /// How long a program may take over a block.
-const PATIENCE: Duration = Duration::from_secs(10);
+const PATIENCE: Duration = Duration::from_secs(60);
 
 type Checked<T> = Result<T, String>;
 
@@ -195,7 +195,7 @@ impl Rig {
                 }
                 told("a line", stdin.write_all(back))?;
             }
-            self.await_length(goal * BLOCK)?;
+            self.await_blocks(goal)?;
             thread::sleep(Duration::from_millis(2));
             told("half a line", stdin.write_all(b"4294967295 1"))?;
             end(&mut child)?;
@@ -226,9 +226,10 @@ impl Rig {
             if stored[..whole * BLOCK] != plan.journal[..whole * BLOCK] {
                 return Err(format!("{what}: its blocks are not what was written"));
             }
-            // The block in writing is absent, complete or 512 bytes of junk.
+            // The block in writing is absent, complete or 512 bytes of junk. The
+            // file grows before it, so the last one seen may have been in writing.
             let torn = stored.len() - whole * BLOCK;
-            if whole < seen / BLOCK || (torn != 0 && torn != BLOCK) {
+            if whole + 1 < seen / BLOCK || (torn != 0 && torn != BLOCK) {
                 return Err(format!("{what}: {whole} right blocks"));
             }
             self.must_list(&what)?;
@@ -391,17 +392,15 @@ impl Rig {
 
     /// Waits until the file has so many bytes; how many it then has.
     fn await_length(&self, length: usize) -> Checked<usize> {
-        let start = Instant::now();
-        loop {
-            let found = told("the journal", fs::metadata(&self.file))?.len() as usize;
-            if found >= length {
-                return Ok(found);
-            }
-            if start.elapsed() > PATIENCE {
-                return Err(format!("{found} bytes written and not {length}"));
-            }
-            thread::yield_now();
-        }
+        let length_now = || Ok(told("the journal", fs::metadata(&self.file))?.len() as usize);
+        awaited("bytes", length, length_now)
+    }
+
+    /// Waits until the file has so many right blocks.
+    fn await_blocks(&self, blocks: usize) -> Checked<usize> {
+        awaited("blocks", blocks, || {
+            Ok(journal::found(&self.stored()?).blocks)
+        })
     }
 
     /// Starts the program to append what it is fed.
@@ -420,6 +419,21 @@ impl Rig {
 
     fn store(&self, journal: &[u8]) -> Checked<()> {
         told("the journal", fs::write(&self.file, journal))
+    }
+}
+
+/// Waits until what is read is so much; how much it then is.
+fn awaited(what: &str, goal: usize, read: impl Fn() -> Checked<usize>) -> Checked<usize> {
+    let start = Instant::now();
+    loop {
+        let found = read()?;
+        if found >= goal {
+            return Ok(found);
+        }
+        if start.elapsed() > PATIENCE {
+            return Err(format!("{found} {what} written and not {goal}"));
+        }
+        thread::yield_now();
     }
 }
 

@@ -5,13 +5,13 @@ use mathlib.Core.Bool.{Bool, true, false}
 use mathlib.Core.List.{List, [], _∷_}
 use Prim.Native.Nat.{ℕ, zero, suc, _+_, _-_, _≤_, _<_}
 use native.Mathlib.Numerals.{add-one}
-use native.Mathlib.Nat.{le-trans, zero-add}
+use native.Mathlib.Nat.{le-refl, le-trans, zero-add}
 use native.Mathlib.Omega.{arith}
 use borrow.Author.Tests.{ltb-true, ltb-false}
 use lib.ListN.{length, getD, drop, drop-of-length-le}
 use lib.Seq.{drop-cons}
 use Rattle.group.specs.Choice.{if_then_else_, _and_, _<?_}
-use Rattle.group.specs.Fold.{all, allAbove, least}
+use Rattle.group.specs.Fold.{all, allAbove, leastOf}
 use Rattle.group.proofs.Choice.{if-true, if-false, both-hold, both-first, both-then}
 use Rattle.group.proofs.Lists.{if-elim, eq-or}
 
@@ -55,15 +55,19 @@ module _ (test : ℕ → Bool) (f k i : ℕ) (inv : allAbove test f k ≡ allAbo
   unfolding allAbove
   above-done h = let e : k - i ≡ 0 = omega arith in sym (inv ∙ ap (allAbove test (f + i)) e)
 
-module _ {A : Type 0} (value : A → ℕ) (m : ℕ) (l : List A) (i : ℕ) where
-  -- a turn of the loop that looks for the smallest, and its end
-  pub least-step : (d : A) → i < length l → least value m (drop i l) ≡ least value (if value (getD l i d) <? m then value (getD l i d) else m) (drop (i + 1) l)
-  unfolding least
-  least-step d h = rw (drop-cons l i d h, add-one)
+module _ {A : Type 0} (test : ℕ → Bool) (value : A → ℕ) (m : ℕ) (l : List A) (i : ℕ) where
+  -- a turn of the loop that looks for the smallest of the chosen, and its end
+  pub leastOf-step : (d : A) → i < length l
+      → leastOf test value i m (drop i l)
+      ≡ leastOf test value (i + 1) (if test i and value (getD l i d) <? m then value (getD l i d) else m) (drop (i + 1) l)
+  unfolding leastOf
+  leastOf-step d h =
+      ap (λ (r : List A). leastOf test value i m r) (drop-cons l i d h)
+      ∙ ap (λ (k : ℕ). leastOf test value (i + 1) (if test i and value (getD l i d) <? m then value (getD l i d) else m) (drop k l)) (sym (add-one i))
 
-  pub least-end : length l ≤ i → least value m (drop i l) ≡ m
-  unfolding least
-  least-end h = rw (drop-of-length-le l h)
+  pub leastOf-end : length l ≤ i → leastOf test value i m (drop i l) ≡ m
+  unfolding leastOf
+  leastOf-end h = rw (drop-of-length-le l h)
 
 -- what holds of each entry holds at each index, and the other way round
 module _ {A : Type 0} (test : ℕ → A → Bool) (d : A) where
@@ -105,27 +109,46 @@ module _ (test : ℕ → Bool) where
       both-hold (test (f + 1)) (allAbove test (f + 1) k) (e (f + 1) (omega arith) (omega arith))
       (above-all (f + 1) k (λ s a b. e s (omega arith) (omega arith)))
 
--- the smallest is at most what it was compared with, at most each entry's value, and at least what all of those are
-smaller : (a m : ℕ) → ((if a <? m then a else m) ≤ a) × ((if a <? m then a else m) ≤ m)
-smaller a m =
-    if-elim (λ (x : ℕ). (x ≤ a) × (x ≤ m)) (a <? m) (λ t. let z = ltb-true a m t in omega arith)
-    (λ t. let z = ltb-false a m t in omega arith)
+-- the smallest of the entries that are chosen is at most what it was compared with, at most each of them, and at least what all of them are
+module _ {A : Type 0} (test : ℕ → Bool) (value : A → ℕ) (d : A) where
+  abbrev picked : ℕ → A → ℕ → ℕ
+  picked i x m = if test i and value x <? m then value x else m
 
-module _ {A : Type 0} (value : A → ℕ) (d : A) where
-  pub least-first : (m : ℕ) (l : List A) → least value m l ≤ m
-  unfolding least
-  least-first m [] = omega arith
-  least-first m (x ∷ l) = le-trans (least-first (if value x <? m then value x else m) l) (smaller (value x) m .1)
+  picked-first : (i : ℕ) (x : A) (m : ℕ) → picked i x m ≤ m
+  picked-first i x m =
+      if-elim (λ (y : ℕ). y ≤ m) (test i and value x <? m) (λ t. let z = ltb-true (value x) m (both-then (test i) _ t) in omega arith) (λ t. le-refl m)
 
-  pub least-most : (m : ℕ) (l : List A) (j : ℕ) → j < length l → least value m l ≤ value (getD l j d)
-  unfolding least
-  least-most m [] j h = absurd (omega arith)
-  least-most m (x ∷ l) zero h = le-trans (least-first (if value x <? m then value x else m) l) (smaller (value x) m .0)
-  least-most m (x ∷ l) (suc j) h = least-most (if value x <? m then value x else m) l j (omega arith)
+  picked-most : (i : ℕ) (x : A) (m : ℕ) → test i ≡ true → picked i x m ≤ value x
+  picked-most i x m e =
+      if-elim (λ (y : ℕ). y ≤ value x) (test i and value x <? m) (λ t. le-refl (value x))
+      (λ t. ltb-false (value x) m (if-true (test i) (value x <? m) _ false e refl ∙ t))
 
-  pub least-least : (b m : ℕ) (l : List A) → b ≤ m → ((j : ℕ) → j < length l → b ≤ value (getD l j d)) → b ≤ least value m l
-  unfolding least
-  least-least b m [] h e = h
-  least-least b m (x ∷ l) h e =
-      least-least b (if value x <? m then value x else m) l (if-elim (λ (y : ℕ). b ≤ y) (value x <? m) (λ t. e 0 (omega arith)) (λ t. h))
-      (λ j k. e (suc j) (omega arith))
+  pub leastOf-first : (i m : ℕ) (l : List A) → leastOf test value i m l ≤ m
+  unfolding leastOf
+  leastOf-first i m [] = le-refl m
+  leastOf-first i m (x ∷ l) = le-trans (leastOf-first (i + 1) (picked i x m) l) (picked-first i x m)
+
+  most-from : (m i : ℕ) (l : List A) (j : ℕ) → j < length l → test (i + j) ≡ true → leastOf test value i m l ≤ value (getD l j d)
+  unfolding leastOf
+  most-from m i [] j h e = absurd (omega arith)
+  most-from m i (x ∷ l) zero h e =
+      let z : i + 0 ≡ i = omega arith in
+      le-trans (leastOf-first (i + 1) (picked i x m) l) (picked-most i x m (rw z at e))
+  most-from m i (x ∷ l) (suc j) h e =
+      let z : i + suc j ≡ i + 1 + j = omega arith in
+      most-from (picked i x m) (i + 1) l j (omega arith) (rw z at e)
+
+  least-from : (b m i : ℕ) (l : List A) → b ≤ m → ((j : ℕ) → j < length l → test (i + j) ≡ true → b ≤ value (getD l j d)) → b ≤ leastOf test value i m l
+  unfolding leastOf
+  least-from b m i [] h e = h
+  least-from b m i (x ∷ l) h e =
+      let z : i + 0 ≡ i = omega arith in
+      least-from b (picked i x m) (i + 1) l
+      (if-elim (λ (y : ℕ). b ≤ y) (test i and value x <? m) (λ t. e 0 (omega arith) (rw z (both-first (test i) _ t))) (λ t. h))
+      (λ j k t. let y : i + 1 + j ≡ i + suc j = omega arith in e (suc j) (omega arith) (rw y at t))
+
+  pub leastOf-most : (m : ℕ) (l : List A) (j : ℕ) → j < length l → test j ≡ true → leastOf test value 0 m l ≤ value (getD l j d)
+  leastOf-most m l j h e = most-from m 0 l j h (rw zero-add e)
+
+  pub leastOf-least : (b m : ℕ) (l : List A) → b ≤ m → ((j : ℕ) → j < length l → test j ≡ true → b ≤ value (getD l j d)) → b ≤ leastOf test value 0 m l
+  leastOf-least b m l h e = least-from b m 0 l h (λ j k t. e j k (rw zero-add at t))

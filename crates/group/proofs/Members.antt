@@ -5,18 +5,19 @@ use mathlib.Core.Bool.{Bool, true, false, false≢true}
 use Prim.Native.Nat.{ℕ, zero, suc, _+_, _-_, _*_, _/_, _%_, _^_, _≤_, _<_, min, max}
 use native.Mathlib.Nat.{le-refl, mod-lt, zero-lt-suc, pow-suc, div-one, zero-div, zero-min, lt-of-lt-of-le, lt-of-le-of-lt, lt-of-not-le, div-eq-of-lt, one-mul}
 use native.Mathlib.Omega.{arith}
-use borrow.Author.Tests.{eqb-true, eq-eqb, eqb-false}
+use borrow.Author.Tests.{eqb-true, eq-eqb, eqb-false, le-leb, lt-ltb}
 use lib.Arith.{bin-ind, lt-one}
-use lib.Bits.{bitAnd, bitOr, and-step, or-step, and-shr, or-shr, or-zero-l, or-zero-r, and-le-l, or-lt}
-use lib.Count.{trailingZeros, under}
-use lib.Pow.{pow-pos, pow-mono, shl-exact}
+use lib.Bits.{bitAnd, bitOr, and-step, or-step, and-shr, or-shr, or-zero-l, or-zero-r, and-le-l, and-le-r, and-self, or-lt}
+use lib.Count.{trailingZeros, under, ones, ones-step}
+use lib.Pow.{pow-pos, pow-mono, pow-lt, shl-exact}
 use Rattle.group.specs.Choice.{if_then_else_, _and_, _=?_}
 use Rattle.group.specs.Limits.{membersMost}
-use Rattle.group.specs.Members.{isIn, lowest, withoutLowest, lowestOf, electedOf, othersOf, expectedOf}
+use Rattle.group.specs.Members.{isIn, lowest, withoutLowest, lowestOf, allOf, electedOf, othersOf, expectedOf, neededOf, groupSound}
+use Rattle.group.specs.Opening.{descriptionOf}
 use Rattle.group.specs.declared.Group.{Group}
-use Rattle.group.proofs.Counting.{count, count-all, half-lt, halves}
-use Rattle.group.proofs.Choice.{both-hold, if-ne}
-use Rattle.group.proofs.Lists.{if-elim}
+use Rattle.group.proofs.Counting.{count, count-within, ones-count, half-lt, halves}
+use Rattle.group.proofs.Choice.{both-hold, if-ne, says}
+use Rattle.group.proofs.Lists.{if-elim, eq-or}
 
 -- a digit is 0 or 1
 digit : (a : ℕ) → (a % 2 ≡ 0) ⊎ (a % 2 ≡ 1)
@@ -185,8 +186,11 @@ in-beyond mask i h m =
     let e : mask / 2 ^ i ≡ 0 = div-eq-of-lt (lt-of-lt-of-le h (pow-mono {i = membersMost} {j = i} m)) in
     rw e
 
+pub in-lt : (mask i : ℕ) → mask < 2 ^ membersMost → isIn mask i ≡ true → i < membersMost
+in-lt mask i h e = lt-of-not-le (λ m. false≢true (sym (in-beyond mask i h m) ∙ e))
+
 pub lowest-lt : (mask : ℕ) → 0 < mask → mask < 2 ^ membersMost → lowest mask < membersMost
-lowest-lt mask lo h = lt-of-not-le (λ m. false≢true (sym (in-beyond mask (lowest mask) h m) ∙ lowest-in mask lo h))
+lowest-lt mask lo h = in-lt mask (lowest mask) h (lowest-in mask lo h)
 
 -- a turn of finding the lowest members one by one, and the last
 pub lowest-turn : (found mask k : ℕ) → mask ≢ 0 → bitOr (bitOr found (2 ^ lowest mask)) (lowestOf k (withoutLowest mask)) ≡ bitOr found (lowestOf (suc k) mask)
@@ -210,7 +214,16 @@ one-shifted m w h = shl-exact {a = 1} 1 m w (omega arith) (omega arith) ∙ one-
 pub without-lt : (mask : ℕ) → mask < 2 ^ membersMost → withoutLowest mask < 2 ^ membersMost
 without-lt mask h = lt-of-le-of-lt (and-le-l mask (mask - 1)) h
 
--- the lowest members of a mask are in it
+-- the lowest members of a mask are below the same power, and in it
+pub lowest-lt-all : (k mask : ℕ) → mask < 2 ^ membersMost → lowestOf k mask < 2 ^ membersMost
+unfolding lowestOf
+lowest-lt-all zero mask h = pow-pos membersMost
+lowest-lt-all (suc k) mask h =
+    if-elim (λ (x : ℕ). x < 2 ^ membersMost) (mask =? 0) (λ z. pow-pos membersMost)
+    (λ z. or-lt membersMost (2 ^ lowest mask) (lowestOf k (withoutLowest mask))
+    (pow-lt {i = lowest mask} {j = membersMost} (lowest-lt mask (let q = eqb-false mask 0 z in omega arith) h))
+    (lowest-lt-all k (withoutLowest mask) (without-lt mask h)))
+
 pub lowest-within : (k mask i : ℕ) → mask < 2 ^ membersMost → isIn (lowestOf k mask) i ≡ true → isIn mask i ≡ true
 unfolding lowestOf
 lowest-within zero mask i h = λ e. absurd (in-zero i e)
@@ -245,73 +258,136 @@ all-in (suc n) (suc i) h =
     let z = all-in n i (rw e at (in-half (2 ^ suc n - 1) i h)) in
     omega arith
 
-module _ (group : Group) (some-members : 1 ≤ group .n) where
-  power : (k : ℕ) × (group .n ≡ suc k)
-  power = go (group .n) some-members
-    where
-      go : (n : ℕ) → 1 ≤ n → (k : ℕ) × (n ≡ suc k)
-      go zero h = absurd (omega arith)
-      go (suc k) h = (k, refl)
+-- a member's power is at most a mask that has it
+in-least : (m mask : ℕ) → isIn mask m ≡ true → 2 ^ m ≤ mask
+in-least zero mask h = let z = in-first mask h in omega arith
+in-least (suc m) mask h =
+    let y : 2 ^ suc m ≡ 2 ^ m * 2 = pow-suc 2 m in
+    let z = in-least m (mask / 2) (in-half mask m h) in
+    omega arith
 
-  -- the others: all but the elected
-  pub in-others : (i : ℕ) → i < group .n → i ≢ electedOf group .0 → isIn (othersOf group) i ≡ true
+half-in : (mask i : ℕ) → isIn (mask / 2) i ≡ true → isIn mask (suc i) ≡ true
+half-in mask i h = rw (← (halves mask i)) h
+
+first-in : (mask : ℕ) → mask % 2 ≡ 1 → isIn mask 0 ≡ true
+first-in mask h = rw (div-one mask) (eq-eqb (mask % 2) 1 h)
+
+-- a mask without one of its members
+pub in-less : (m mask i : ℕ) → isIn mask m ≡ true → isIn (mask - 2 ^ m) i ≡ true → (isIn mask i ≡ true) × (i ≢ m)
+in-less zero mask zero e h = absurd (let a = in-first mask e in let b = in-first (mask - 1) h in omega arith)
+in-less zero mask (suc i) e h =
+    let a = in-first mask e in
+    let z : (mask - 1) / 2 ≡ mask / 2 = omega arith in
+    (half-in mask i (rw z at (in-half (mask - 1) i h)), λ q. omega arith)
+in-less (suc m) mask zero e h =
+    let y : 2 ^ suc m ≡ 2 ^ m * 2 = pow-suc 2 m in
+    let l = in-least (suc m) mask e in
+    let b = in-first (mask - 2 ^ suc m) h in
+    (first-in mask (omega arith), λ q. omega arith)
+in-less (suc m) mask (suc i) e h =
+    let y : 2 ^ suc m ≡ 2 ^ m * 2 = pow-suc 2 m in
+    let l = in-least (suc m) mask e in
+    let z : (mask - 2 ^ suc m) / 2 ≡ mask / 2 - 2 ^ m = omega arith in
+    let x = in-less m (mask / 2) i (in-half mask m e) (rw z at (in-half (mask - 2 ^ suc m) i h)) in
+    (half-in mask i (x .0), λ q. x .1 (omega arith))
+
+pub less-in : (m mask i : ℕ) → isIn mask m ≡ true → isIn mask i ≡ true → i ≢ m → isIn (mask - 2 ^ m) i ≡ true
+less-in zero mask zero e h q = absurd (q refl)
+less-in zero mask (suc i) e h q =
+    let a = in-first mask e in
+    let z : (mask - 1) / 2 ≡ mask / 2 = omega arith in
+    half-in (mask - 1) i (rw z (in-half mask i h))
+less-in (suc m) mask zero e h q =
+    let y : 2 ^ suc m ≡ 2 ^ m * 2 = pow-suc 2 m in
+    let l = in-least (suc m) mask e in
+    let b = in-first mask h in
+    first-in (mask - 2 ^ suc m) (omega arith)
+less-in (suc m) mask (suc i) e h q =
+    let y : 2 ^ suc m ≡ 2 ^ m * 2 = pow-suc 2 m in
+    let l = in-least (suc m) mask e in
+    let z : (mask - 2 ^ suc m) / 2 ≡ mask / 2 - 2 ^ m = omega arith in
+    half-in (mask - 2 ^ suc m) i (rw z (less-in m (mask / 2) i (in-half mask m e) (in-half mask i h) (λ r. q (omega arith))))
+
+-- the facts of a sound description
+pub record Standing (group : Group) : Type 0 where
+  pub n-least : 1 ≤ group .n
+  pub n-most : group .n ≤ membersMost
+  pub resilient : group .resilience < group .n
+  pub within : bitAnd (group .survivors) (allOf (group .n)) ≡ group .survivors
+  pub elected-in : isIn (group .survivors) (electedOf group .0) ≡ true
+
+module _ (group : Group) where
+  pub standing-of : groupSound group ≡ true → Standing group
+  unfolding groupSound
+  standing-of e =
+      record {
+        n-least = search says depth 9;
+        n-most = search says depth 9;
+        resilient = search says depth 9;
+        within = search says depth 9;
+        elected-in = search says depth 9;
+      }
+
+  pub of-standing : Standing group → groupSound group ≡ true
+  unfolding groupSound
+  of-standing f =
+      both-hold _ _ (le-leb 1 (group .n) (f .n-least))
+      (both-hold _ _ (le-leb (group .n) membersMost (f .n-most))
+      (both-hold _ _ (lt-ltb (group .resilience) (group .n) (f .resilient))
+      (both-hold _ _ (eq-eqb _ (group .survivors) (f .within)) (f .elected-in))))
+
+-- a fresh group's description is sound
+pub fresh-standing : (n number resilience : ℕ) → 1 ≤ n → n ≤ membersMost → resilience < n → Standing (descriptionOf n number resilience)
+fresh-standing n number resilience low high less =
+    record { n-least = low; n-most = high; resilient = less; within = and-self (allOf n); elected-in = in-all n 0 low }
+
+module _ (group : Group) (standing : Standing group) where
+  -- a survivor is a member
+  pub survivor-lt : (i : ℕ) → isIn (group .survivors) i ≡ true → i < group .n
+  survivor-lt i h = all-in (group .n) i (within-in (group .survivors) (allOf (group .n)) i (standing .within) h)
+
+  pub survivors-lt : group .survivors < 2 ^ membersMost
+  survivors-lt =
+      let a = and-le-r (group .survivors) (allOf (group .n)) in
+      let b = standing .within in
+      let z = pow-mono {i = group .n} {j = membersMost} (standing .n-most) in
+      let p = pow-pos (group .n) in
+      omega arith
+
+  -- the others: the survivors but the elected
+  pub in-others : (i : ℕ) → isIn (group .survivors) i ≡ true → i ≢ electedOf group .0 → isIn (othersOf group) i ≡ true
   unfolding othersOf
-  in-others zero h q = absurd (q refl)
-  in-others (suc i) h q =
-      let k = power .0 in
-      let e = power .1 in
-      let y : 2 ^ suc k ≡ 2 ^ k * 2 = pow-suc 2 k in
-      let p = pow-pos k in
-      let z : (2 ^ suc k - 1 - 1) / 2 ≡ 2 ^ k - 1 = omega arith in
-      rw (e, ← (halves (2 ^ suc k - 1 - 1) i), z) (in-all k i (omega arith))
+  in-others i h q = less-in (electedOf group .0) (group .survivors) i (standing .elected-in) h q
 
-  pub others-in : (i : ℕ) → isIn (othersOf group) i ≡ true → (i < group .n) × (i ≢ electedOf group .0)
+  pub others-in : (i : ℕ) → isIn (othersOf group) i ≡ true → (isIn (group .survivors) i ≡ true) × (i ≢ electedOf group .0)
   unfolding othersOf
-  others-in zero h =
-      let k = power .0 in
-      let e = power .1 in
-      let y : 2 ^ suc k ≡ 2 ^ k * 2 = pow-suc 2 k in
-      let p = pow-pos k in
-      let z : (2 ^ suc k - 1 - 1) % 2 ≡ 1 = in-first (2 ^ suc k - 1 - 1) (rw e at h) in
-      absurd (omega arith)
-  others-in (suc i) h =
-      let k = power .0 in
-      let e = power .1 in
-      let y : 2 ^ suc k ≡ 2 ^ k * 2 = pow-suc 2 k in
-      let p = pow-pos k in
-      let z : (2 ^ suc k - 1 - 1) / 2 ≡ 2 ^ k - 1 = omega arith in
-      let x = all-in k i (rw z at (in-half (2 ^ suc k - 1 - 1) i (rw e at h))) in
-      (omega arith, λ q. omega arith)
+  others-in i h = in-less (electedOf group .0) (group .survivors) i (standing .elected-in) h
 
-  -- all others, of whom something holds, are n - 1
-  pub others-count : (p : ℕ → Bool) → ((i : ℕ) → p i ≡ true) → group .n - 1 ≤ count (group .n) (λ i. isIn (othersOf group) i and p i)
-  unfolding count
+  pub others-lt : othersOf group < 2 ^ membersMost
+  unfolding othersOf
+  others-lt = let z = survivors-lt in omega arith
+
+  -- the expected are others
+  pub expected-others : (i : ℕ) → isIn (expectedOf group) i ≡ true → isIn (othersOf group) i ≡ true
+  unfolding expectedOf
+  expected-others i = lowest-within (group .resilience) (othersOf group) i others-lt
+
+  -- all others, of whom something holds, are as many as have to confirm
+  pub others-count : (p : ℕ → Bool) → ((i : ℕ) → p i ≡ true) → neededOf group ≤ count (group .n) (λ i. isIn (othersOf group) i and p i)
+  unfolding neededOf expectedOf
   others-count p h =
-      let k = power .0 in
-      let e = power .1 in
-      let all : count k (λ i. isIn (othersOf group) (suc i) and p (suc i)) ≡ k =
-      count-all k (λ i. isIn (othersOf group) (suc i) and p (suc i)) (λ i b. both-hold _ _ (in-others (suc i) (omega arith) (λ q. omega arith)) (h (suc i))) in
-      subst (λ (n : ℕ). n - 1 ≤ count n (λ i. isIn (othersOf group) i and p i)) (sym e) (omega arith)
-
-  module _ (most : group .n ≤ membersMost) where
-    pub others-lt : othersOf group < 2 ^ membersMost
-    unfolding othersOf
-    others-lt = let z = pow-mono {i = group .n} {j = membersMost} most in let p = pow-pos (group .n) in omega arith
-
-    -- the expected are others
-    pub expected-others : (i : ℕ) → isIn (expectedOf group) i ≡ true → isIn (othersOf group) i ≡ true
-    unfolding expectedOf
-    expected-others i = lowest-within (group .resilience) (othersOf group) i others-lt
+      rw (ones-count membersMost (expectedOf group) (lowest-lt-all (group .resilience) (othersOf group) others-lt))
+      (count-within membersMost (group .n) (isIn (expectedOf group)) (λ i. isIn (othersOf group) i and p i)
+      (λ i e. let o = expected-others i e in (survivor-lt i (others-in i o .0), both-hold _ _ o (h i))))
 
 -- none is expected where none has to confirm
-pub expected-none : (group : Group) → group .resilience ≡ 0 → expectedOf group ≡ 0
-unfolding expectedOf lowestOf
-expected-none group e = rw e
+ones-none : (mask : ℕ) → ones mask ≡ 0 → mask ≡ 0
+ones-none = bin-ind (λ (n : ℕ). ones n ≡ 0 → n ≡ 0) (λ e. refl) (λ n ih e. let s = ones-step n in let z = ih (omega arith) in omega arith)
 
-pub none-expected : (group : Group) (i : ℕ) → isIn (expectedOf group) i ≡ true → 1 ≤ group .resilience
-unfolding expectedOf lowestOf
-none-expected group i = go (group .resilience)
-  where
-    go : (r : ℕ) → isIn (lowestOf r (othersOf group)) i ≡ true → 1 ≤ r
-    go zero h = absurd (in-zero i h)
-    go (suc r) h = omega arith
+pub expected-none : (group : Group) → neededOf group ≡ 0 → expectedOf group ≡ 0
+unfolding neededOf
+expected-none group e = ones-none (expectedOf group) e
+
+pub none-expected : (group : Group) (i : ℕ) → isIn (expectedOf group) i ≡ true → 1 ≤ neededOf group
+none-expected group i h =
+    eq-or (neededOf group) 0 (λ e. absurd (in-zero i (rw (expected-none group e) at h))) (λ q. omega arith)

@@ -14,7 +14,7 @@ unfoldable pub allAbove : (ℕ → Bool) → ℕ → ℕ → Bool
 allAbove test f zero = true
 allAbove test f (suc k) = test (f + 1) and allAbove test (f + 1) k
 
--- the smaller of m and the smallest of what `value` says of each entry
-unfoldable pub least : {A : Type 0} → (A → ℕ) → ℕ → List A → ℕ
-least value m [] = m
-least value m (x ∷ rest) = least value (if value x <? m then value x else m) rest
+-- the smaller of m and the smallest of what `value` says of each entry that `test` chooses by its index, where the first stands at index i
+unfoldable pub leastOf : {A : Type 0} → (ℕ → Bool) → (A → ℕ) → ℕ → ℕ → List A → ℕ
+leastOf test value i m [] = m
+leastOf test value i m (x ∷ rest) = leastOf test value (i + 1) (if test i and value x <? m then value x else m) rest

@@ -1,8 +1,8 @@
 pub mod Limits
 pub mod Choice
 pub mod Refusal
-pub mod Opening
 pub mod Members
+pub mod Opening
 pub mod Question
 pub mod Lent
 pub mod Fold

@@ -1,7 +1,7 @@
 -- The paper's number of each refusal: that of the question that said no, or the one that document 02 gives.
 use Prim.Native.Nat.{ℕ}
 use Rattle.group.specs.declared.Refusal.{Refusal}
-use Rattle.group.specs.declared.Refusal.the-variants.{UnsoundState, ShortOutput, PacketSize, UnknownKind, PayloadLength, ForbiddenFields, OtherGroup, OtherEnd, UnknownMember, AcknowledgedAhead, CountAhead, WantedAhead, LongPayload, AlreadyWaiting, NothingWaiting, NumbersUsedUp, NotInHistory, Opening, NotForList, ListFull, WrongJournal, ManyUnits, NoRoom, Resilience, NotExpected}
+use Rattle.group.specs.declared.Refusal.the-variants.{UnsoundState, ShortOutput, PacketSize, UnknownKind, PayloadLength, ForbiddenFields, OtherGroup, OtherEnd, UnknownMember, AcknowledgedAhead, CountAhead, WantedAhead, LongPayload, AlreadyWaiting, NothingWaiting, NumbersUsedUp, NotInHistory, Opening, NotForList, ListFull, WrongJournal, ManyUnits, NoRoom, Resilience, NotExpected, FewSurvivors, NotOfAttempt}
 
 abbrev pub numberOf : Refusal → ℕ
 -- Is the state sound?
@@ -10,17 +10,17 @@ numberOf UnsoundState = 1
 numberOf ShortOutput = 2
 -- Is the packet at least a header and at most the longest packet?
 numberOf PacketSize = 3
--- Is its kind 1 to 8?
+-- Is its kind 1 to 11?
 numberOf UnknownKind = 4
--- Is its length that of its header and L, and L zero but for kinds 1, 2 and 6?
+-- Is its length that of its header and L, and L zero but for kinds 1, 2 and 6, and 2 for kind 11?
 numberOf PayloadLength = 5
--- Do A, B, C (and byte 1 of kinds 5 and 8) obey the kind?
+-- Do A, B, C obey the kind, are sender and B of kind 11 among its survivors, and, at an end, is byte 1 of kinds 5 and 8 the elected member?
 numberOf ForbiddenFields = 6
--- Is the group number ours?
+-- Is the group number ours, and no reply to an invitation open (kinds 1 to 8)?
 numberOf OtherGroup = 7
 -- Is the kind for this end?
 numberOf OtherEnd = 8
--- Is byte 1 below n?
+-- At a member, is byte 1 below n, and are the survivors of kind 11? At the sequencer, is byte 1 a survivor?
 numberOf UnknownMember = 9
 -- At the sequencer, is A at most the last accepted number, or of kind 7 at most top?
 numberOf AcknowledgedAhead = 10
@@ -54,3 +54,8 @@ numberOf NoRoom = 23
 numberOf Resilience = 24
 -- Is a confirmation of a number that is not accepted from a member that is expected to answer?
 numberOf NotExpected = 25
+-- On making, are the survivors as many as the call demands?
+numberOf FewSurvivors = 26
+-- On making, is an invitation open? Is a reply to it? Is a result that of the last invitation replied to, with the receiver among its survivors, not
+-- below its reply and, if it is elected, not above it?
+numberOf NotOfAttempt = 27

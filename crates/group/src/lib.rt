@@ -4,7 +4,7 @@ ghost use Prim.Native.Nat.{_≤_, _<_};
 ghost use Rattle.group.specs.Limits.{membersMost, placesMost, payloadMost, heldMost, waitingMost, headerSize, longestPacket, largestNumber, jobsMost, jobMost};
 ghost use Rattle.group.specs.Refusal.{numberOf};
 ghost use Rattle.group.specs.Opening.{openOf};
-ghost use Rattle.group.specs.Members.{onlyOf, isIn, isWithin, lowestOf, expectedOf};
+ghost use Rattle.group.specs.Members.{onlyOf, isIn, isWithin, lowestOf, allOf, othersOf, expectedOf, neededOf, groupSound};
 ghost use Rattle.group.specs.Wording.{openedWording};
 
 // A sequence number: the place of a message in the order, from 1. 0 means none yet.
@@ -42,6 +42,8 @@ pub enum Refusal {
     NoRoom,
     Resilience,
     NotExpected,
+    FewSurvivors,
+    NotOfAttempt,
 }
 
 impl Refusal {
@@ -75,6 +77,8 @@ impl Refusal {
             Refusal::NoRoom => 23,
             Refusal::Resilience => 24,
             Refusal::NotExpected => 25,
+            Refusal::FewSurvivors => 26,
+            Refusal::NotOfAttempt => 27,
         }
     }
 }
@@ -85,11 +89,14 @@ pub enum Verdict {
     Refused(Refusal),
 }
 
-// A group of n members under its number, and how many members other than the sequencer's must have a message before it is taken.
+// A group of n members under its number, how many members other than the sequencer's must have a message before it is taken, its survivors,
+// one bit a member, and the elected one: the member whose terminal has the sequencer.
 #[repr(C)]
 pub struct Group {
     pub n: u8,
     pub resilience: u8,
+    pub survivors: u16,
+    pub elected: MemberNumber,
     pub number: u32,
 }
 
@@ -151,9 +158,12 @@ impl Group {
             return Opened::Refused(Refusal::Opening);
         }
         if resilience < n {
+            let survivors = all_of(n);
             Opened::Open(Group {
                 n,
                 resilience,
+                survivors,
+                elected: MemberNumber(0),
                 number,
             })
         } else {
@@ -161,27 +171,73 @@ impl Group {
         }
     }
 
-    // The members that are expected to confirm an offer, one bit a member.
-    pub fn expected(self) -> u16
-        requires { ⌜ self .n ≤ membersMost ⌝ }
-        ensures { λ r. ⌜ r ≡ expectedOf self ⌝ }
+    // Is the description sound: n 1 to 16, r below n, the survivors members, and the elected one of them?
+    pub fn sound(self) -> bool
+        ensures { λ r. ⌜ r ≡ groupSound self ⌝ }
     {
         if self.n < 1 {
-            return 0;
+            return false;
         }
-        let all = (1u32 << (self.n as u32)) - 1;
-        let others = all - 1;
-        lowest_of(self.resilience, others as u16)
+        if Group::MEMBERS < (self.n as usize) {
+            return false;
+        }
+        if self.resilience < self.n {
+            let all = all_of(self.n);
+            if is_within(self.survivors, all) {
+                is_in(self.survivors, self.elected)
+            } else {
+                false
+            }
+        } else {
+            false
+        }
+    }
+
+    // The survivors other than the elected one, one bit a member.
+    pub fn others(self) -> u16
+        ensures { λ r. ⌜ r ≡ othersOf self ⌝ }
+    {
+        if (self.elected.0 as usize) < Group::MEMBERS {
+            let elected = 1u16 << (self.elected.0 as u32);
+            if elected <= self.survivors {
+                return self.survivors - elected;
+            }
+        }
+        0
+    }
+
+    // The members that are expected to confirm an offer, one bit a member.
+    pub fn expected(self) -> u16
+        ensures { λ r. ⌜ r ≡ expectedOf self ⌝ }
+    {
+        let others = self.others();
+        lowest_of(self.resilience, others)
+    }
+
+    // How many confirmations a message needs.
+    pub fn needed(self) -> u32
+        ensures { λ r. ⌜ r ≡ neededOf self ⌝ }
+    {
+        let expected = self.expected();
+        u16::count_ones(expected)
     }
 
     // Is the member expected to confirm an offer?
     pub fn expects(self, member: MemberNumber) -> bool
-        requires { ⌜ self .n ≤ membersMost ⌝ }
         ensures { λ r. ⌜ r ≡ isIn (expectedOf self) (member .0) ⌝ }
     {
         let expected = self.expected();
         is_in(expected, member)
     }
+}
+
+// All of n members.
+fn all_of(n: u8) -> u16
+    requires { ⌜ n ≤ membersMost ⌝ }
+    ensures { λ r. ⌜ r ≡ allOf n ⌝ }
+{
+    let all = (1u32 << (n as u32)) - 1;
+    all as u16
 }
 
 // The k lowest members of a mask; all of them where it has fewer.

@@ -18,13 +18,13 @@ use Rattle.group.specs.declared.SequenceNumber.{SequenceNumber}
 use Rattle.group.specs.declared.Verdict.{Verdict}
 use Rattle.history.specs.Ask.{senderVerdict, countVerdict, expectedVerdict}
 
-pub sender-was : (n top : ℕ) (sender : MemberNumber) (taken : SequenceNumber) → senderVerdict n top sender taken ≡ Verdict.Accepted
-    → (sender .0 < n) × (taken .0 ≤ top)
+pub sender-was : (survivors top : ℕ) (sender : MemberNumber) (taken : SequenceNumber) → senderVerdict survivors top sender taken ≡ Verdict.Accepted
+    → (isIn survivors (sender .0) ≡ true) × (taken .0 ≤ top)
 unfolding senderVerdict
-sender-was n top sender taken e =
-    let a = if-was (sender .0 <? n) _ _ Verdict.Accepted e (accepted≢ UnknownMember) in
+sender-was survivors top sender taken e =
+    let a = if-was (isIn survivors (sender .0)) _ _ Verdict.Accepted e (accepted≢ UnknownMember) in
     let b = if-was (taken .0 ≤? top) _ _ Verdict.Accepted (a .1) (accepted≢ AcknowledgedAhead) in
-    (ltb-true (sender .0) n (a .0), leb-true (taken .0) top (b .0))
+    (a .0, leb-true (taken .0) top (b .0))
 
 pub count-was : (last top count : ℕ) → countVerdict last top count ≡ Verdict.Accepted → (count ≤ last + 1) × (last < count → top < largestNumber)
 unfolding countVerdict if_then_else_

@@ -6,14 +6,18 @@ use Prim.Native.Nat.{ℕ, zero, suc, _≤_}
 use lib.ListN.{getD, set}
 use Rattle.group.specs.Limits.{membersMost}
 use Rattle.group.specs.declared.Group.{Group}
-use Rattle.group.proofs.Choice.{says}
+use Rattle.group.specs.Members.{groupSound}
+use Rattle.group.proofs.Choice.{both-first}
+use Rattle.group.proofs.Members.{standing-of}
 use Rattle.history.specs.Sound.{frameSound}
 use Rattle.history.specs.State.{Acknowledgement, noAcknowledgement}
 
 pub frame-members : (group : Group) (table : List Acknowledgement) (floor accepted top : ℕ) → frameSound group table floor accepted top ≡ true
     → (1 ≤ group .n) × (group .n ≤ membersMost)
 unfolding frameSound
-frame-members group table floor accepted top e = (search says depth 9, search says depth 9)
+frame-members group table floor accepted top e =
+    let s = standing-of group (both-first (groupSound group) _ e) in
+    (s .n-least, s .n-most)
 
 pub set-count : (l : List Acknowledgement) (j : ℕ) (x : Acknowledgement) → x .count ≡ getD l j noAcknowledgement .count → getD (set l j x) j noAcknowledgement .count ≡ getD l j noAcknowledgement .count
 set-count [] j x e = refl

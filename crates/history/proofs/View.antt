@@ -6,17 +6,18 @@ use mathlib.Core.List.{List, [], _∷_, map}
 use Prim.Native.Nat.{ℕ, zero, suc, _+_, _<_, _≤_}
 use native.Mathlib.Nat.{not-suc-le-zero, le-of-suc-le-suc}
 use native.Mathlib.Omega.{arith}
-use lib.ListN.{length, take, drop, getD, set, replicate, length-take}
-use lib.Seq.{getD-drop, getD-take}
-use Rattle.group.proofs.Fold.{least-step, least-end}
+use lib.ListN.{length, drop, getD, set, replicate}
+use lib.Seq.{getD-drop}
+use Rattle.group.proofs.Fold.{leastOf-step, leastOf-end}
 use Rattle.group.specs.Choice.{if_then_else_, _<?_, _≤?_, _=?_, _and_}
-use Rattle.group.specs.Fold.{least}
+use Rattle.group.specs.Fold.{leastOf}
+use Rattle.group.specs.Members.{isIn}
 use Rattle.group.specs.Limits.{payloadMost, largestNumber}
 use Rattle.group.specs.declared.Group.{Group}
 use Rattle.group.specs.declared.MemberNumber.{MemberNumber}
 use Rattle.message.specs.Message.{Message, blank, isEmpty}
 use Rattle.packet.specs.declared.Packet.{Packet}
-use Rattle.packet.specs.declared.Packet.the-variants.{Request, Broadcast, Gap, Status, Poll, Offer, Confirm, Accept}
+use Rattle.packet.specs.declared.Packet.the-variants.{Request, Broadcast, Gap, Status, Poll, Offer, Confirm, Accept, Invitation, Reply, Result}
 use Rattle.store.specs.Places.{messageIn, messagesIn, partOf}
 use Rattle.store.proofs.Places.{message-in}
 use Rattle.history.specs.Ask.{requestVerdict, contentVerdict, packetVerdict}
@@ -115,24 +116,23 @@ table-whole taken counts repeats taken′ counts′ repeats′ c r c′ r′ e =
   sym (repeats-of taken counts repeats r) ∙ ap (map (λ (a : Acknowledgement). a .repeats)) e ∙ repeats-of taken′ counts′ repeats′ r′,
 )
 
--- the smallest number taken
-least-taken : (low : ℕ) (taken counts repeats counts′ repeats′ : List ℕ) (n : ℕ)
-    → least (λ (a : Acknowledgement). a .taken .0) low (take n (tableIn taken counts repeats))
-    ≡ least (λ (a : Acknowledgement). a .taken .0) low (take n (tableIn taken counts′ repeats′))
-unfolding tableIn least
-least-taken low [] counts repeats counts′ repeats′ n = refl
-least-taken low (t ∷ taken) counts repeats counts′ repeats′ zero = refl
-least-taken low (t ∷ taken) counts repeats counts′ repeats′ (suc n) =
-    least-taken (if t <? low then t else low) taken (drop 1 counts) (drop 1 repeats) (drop 1 counts′) (drop 1 repeats′) n
+-- the smallest number that a survivor took
+least-taken : (survivors i low : ℕ) (taken counts repeats counts′ repeats′ : List ℕ)
+    → leastOf (isIn survivors) (λ (a : Acknowledgement). a .taken .0) i low (tableIn taken counts repeats)
+    ≡ leastOf (isIn survivors) (λ (a : Acknowledgement). a .taken .0) i low (tableIn taken counts′ repeats′)
+unfolding tableIn leastOf
+least-taken survivors i low [] counts repeats counts′ repeats′ = refl
+least-taken survivors i low (t ∷ taken) counts repeats counts′ repeats′ =
+    least-taken survivors (i + 1) (if isIn survivors i and t <? low then t else low) taken (drop 1 counts) (drop 1 repeats) (drop 1 counts′) (drop 1 repeats′)
 
-pub floor-taken : (n : ℕ) (taken counts repeats : List ℕ) → floorOf n (takenOnly taken) ≡ floorOf n (tableIn taken counts repeats)
+pub floor-taken : (survivors : ℕ) (taken counts repeats : List ℕ) → floorOf survivors (takenOnly taken) ≡ floorOf survivors (tableIn taken counts repeats)
 unfolding floorOf
-floor-taken n taken counts repeats = least-taken largestNumber taken [] [] counts repeats n
+floor-taken survivors taken counts repeats = least-taken survivors 0 largestNumber taken [] [] counts repeats
 
 pub frame-taken : (group : Group) (taken counts repeats : List ℕ) (floor accepted top : ℕ)
     → frameSound group (takenOnly taken) floor accepted top ≡ frameSound group (tableIn taken counts repeats) floor accepted top
 unfolding frameSound
-frame-taken group taken counts repeats floor accepted top = rw (floor-taken (group .n) taken counts repeats)
+frame-taken group taken counts repeats floor accepted top = rw (floor-taken (group .survivors) taken counts repeats)
 
 -- the counts
 count-in : (taken counts repeats : List ℕ) (i : ℕ) → length counts ≡ length taken → getD (tableIn taken counts repeats) i noAcknowledgement .count ≡ getD counts i 0
@@ -164,10 +164,13 @@ module _ (taken counts repeats : List ℕ) (sizes : length counts ≡ length tak
   content-only group accepted top (Broadcast originator number count floor) = refl
   content-only group accepted top (Gap sender taken′ first last) = refl
   content-only group accepted top (Status sender taken′) = refl
-  content-only group accepted top (Poll p floor) = refl
+  content-only group accepted top (Poll elected p floor) = refl
   content-only group accepted top (Offer originator number count floor) = refl
   content-only group accepted top (Confirm sender number) = refl
-  content-only group accepted top (Accept number) = refl
+  content-only group accepted top (Accept elected number) = refl
+  content-only group accepted top (Invitation sender attempt) = refl
+  content-only group accepted top (Reply sender attempt number) = refl
+  content-only group accepted top (Result sender attempt elected number) = refl
 
   pub packet-only : (group : Group) (accepted top number : ℕ) (packet : Packet)
       → packetVerdict group (countsOnly counts) accepted top number packet ≡ packetVerdict group (tableIn taken counts repeats) accepted top number packet
@@ -235,19 +238,18 @@ of-asked kept originators m count number at r p h e =
     ∙ ap (λ (x : Message). x .originator .0 =? m .0 and x .count =? count)
     (sym (message-in kept originators [] [] at h) ∙ ap (λ (k : ℕ). getD (listed kept originators) k blank) p)
 
-pub smallest-on : (n low i r : ℕ) (taken : List ℕ) → i < n → n ≤ length taken → r ≡ (if getD taken i 0 <? low then getD taken i 0 else low)
-    → least (λ (a : Acknowledgement). a .taken .0) low (drop i (take n (takenOnly taken)))
-    ≡ least (λ (a : Acknowledgement). a .taken .0) r (drop (i + 1) (take n (takenOnly taken)))
-smallest-on n low i r taken h k e =
-    let table = takenOnly taken in
+pub smallest-on : (survivors low i r : ℕ) (taken : List ℕ) → i < length taken → r ≡ (if isIn survivors i and getD taken i 0 <? low then getD taken i 0 else low)
+    → leastOf (isIn survivors) (λ (a : Acknowledgement). a .taken .0) i low (drop i (takenOnly taken))
+    ≡ leastOf (isIn survivors) (λ (a : Acknowledgement). a .taken .0) (i + 1) r (drop (i + 1) (takenOnly taken))
+smallest-on survivors low i r taken h e =
     let l = length-table taken [] [] in
-    let inside : i < length (take n table) = simp length-take (omega arith) in
-    let g : getD (take n table) i noAcknowledgement .taken .0 ≡ getD taken i 0 = ap (λ (a : Acknowledgement). a .taken .0) (getD-take n table i noAcknowledgement h ∙ entry-in taken [] [] i (omega arith)) in
-    least-step (λ (a : Acknowledgement). a .taken .0) low (take n table) i noAcknowledgement inside ∙ rw (g, e)
+    let g : getD (takenOnly taken) i noAcknowledgement .taken .0 ≡ getD taken i 0 = ap (λ (a : Acknowledgement). a .taken .0) (entry-in taken [] [] i h) in
+    leastOf-step (isIn survivors) (λ (a : Acknowledgement). a .taken .0) low (takenOnly taken) i noAcknowledgement (omega arith) ∙ rw (g, e)
 
-pub smallest-end : (n low i : ℕ) (taken : List ℕ) → n ≤ i → least (λ (a : Acknowledgement). a .taken .0) low (drop i (take n (takenOnly taken))) ≡ low
-smallest-end n low i taken h =
-    least-end (λ (a : Acknowledgement). a .taken .0) low (take n (takenOnly taken)) i (simp length-take (omega arith))
+pub smallest-end : (survivors low i : ℕ) (taken : List ℕ) → length taken ≤ i → leastOf (isIn survivors) (λ (a : Acknowledgement). a .taken .0) i low (drop i (takenOnly taken)) ≡ low
+smallest-end survivors low i taken h =
+    let l = length-table taken [] [] in
+    leastOf-end (isIn survivors) (λ (a : Acknowledgement). a .taken .0) low (takenOnly taken) i (omega arith)
 
 pub repeat-in : (repeats : List ℕ) (i : ℕ) → i < length repeats → getD (repeatsOnly repeats) i noAcknowledgement .repeats ≡ getD repeats i 0
 repeat-in repeats i h = ap (λ (a : Acknowledgement). a .repeats) (entry-in repeats [] repeats i h)

@@ -1,9 +1,10 @@
 -- What is known of each member, and the history's 32 places.
 use mathlib.Core.List.{List}
 use Prim.Native.Nat.{ℕ, _%_}
-use lib.ListN.{getD, take}
-use Rattle.group.specs.Fold.{least}
+use lib.ListN.{getD}
+use Rattle.group.specs.Fold.{leastOf}
 use Rattle.group.specs.Limits.{placesMost, largestNumber}
+use Rattle.group.specs.Members.{isIn}
 use Rattle.group.specs.declared.MemberNumber.{MemberNumber}
 use Rattle.group.specs.declared.SequenceNumber.{SequenceNumber}
 use Rattle.message.specs.Message.{Message, blank}
@@ -30,6 +31,6 @@ placeOf number = number % placesMost
 abbrev pub messageAt : List Message → ℕ → Message
 messageAt history number = getD history (placeOf number) blank
 
--- floor is the smallest of the n acknowledgements
+-- floor is the smallest of the survivors' acknowledgements
 unfoldable pub floorOf : ℕ → List Acknowledgement → ℕ
-floorOf n table = least (λ a. a .taken .0) largestNumber (take n table)
+floorOf survivors table = leastOf (isIn survivors) (λ a. a .taken .0) 0 largestNumber table

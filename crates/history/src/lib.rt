@@ -22,7 +22,7 @@ ghost use Rattle.history.specs.Sound.{entrySound, keptSound, placeSound,
 ghost use Rattle.history.specs.Marks.{markedOf, enoughOf, unmarkedOf, markSound};
 ghost use Rattle.history.specs.Note.{largerOf, clearedOf};
 ghost use Rattle.history.specs.Repeat.{oneMore, repeatsOf, isOf, findOf};
-ghost use Rattle.history.specs.Ask.{senderVerdict, countVerdict, wantedVerdict, expectedVerdict, requestVerdict, gapVerdict, confirmVerdict, packetVerdict, senderOf};
+ghost use Rattle.history.specs.Ask.{senderVerdict, countVerdict, wantedVerdict, expectedVerdict, requestVerdict, gapVerdict, confirmVerdict, contentVerdict, packetVerdict, senderOf};
 ghost use Rattle.history.specs.View.{Entries, Places, entryIn, tableIn, takenOnly, countsOnly, repeatsOnly, listed};
 
 // Who sent a packet, and the number that it acknowledges.
@@ -38,55 +38,81 @@ pub fn place(number: u64) -> usize
     (number as usize) % Group::PLACES
 }
 
-fn smaller(a: u32, b: u32) -> u32
-    ensures { λ r. ⌜ r ≡ (if a <? b then a else b) ⌝ }
+// Whether the member of an entry is a survivor.
+fn survives(survivors: u16, i: usize) -> bool
+    requires { ⌜ i < membersMost ⌝ }
+    ensures { λ r. ⌜ r ≡ isIn survivors i ⌝ }
 {
-    if a < b { a } else { b }
+    (survivors >> (i as u32)) % 2 == 1
 }
 
-// Floor is the smallest of the n acknowledgements.
-pub fn smallest(n: u8, taken: [u32; Group::MEMBERS]) -> SequenceNumber
-    requires { ⌜ n ≤ membersMost ⌝ }
-    ensures { λ r. ⌜ r .0 ≡ floorOf n (takenOnly taken) ⌝ }
+// The smaller of a survivor's number and the smallest so far; another's counts for nothing.
+fn smaller(survivors: u16, i: usize, a: u32, b: u32) -> u32
+    requires { ⌜ i < membersMost ⌝ }
+    ensures { λ r. ⌜ r ≡ (if isIn survivors i and a <? b then a else b) ⌝ }
+{
+    if survives(survivors, i) {
+        if a < b {
+            return a;
+        }
+        return b;
+    }
+    b
+}
+
+// Floor is the smallest of the survivors' acknowledgements.
+pub fn smallest(survivors: u16, taken: [u32; Group::MEMBERS]) -> SequenceNumber
+    ensures { λ r. ⌜ r .0 ≡ floorOf survivors (takenOnly taken) ⌝ }
 {
     let mut low = Group::LARGEST;
     let mut i: usize = 0;
-    while i < (n as usize) {
-        low = smaller(taken[i], low);
+    while i < Group::MEMBERS {
+        low = smaller(survivors, i, taken[i], low);
         i += 1;
     }
     SequenceNumber(low)
 }
 
-// Whether an entry is at most top, or zero where no member has it.
-fn entry_sound(n: u8, top: SequenceNumber, i: usize, taken: u32, count: u32, repeats: u32) -> bool
-    ensures { λ r. ⌜ r ≡ entrySound n (top .0) i (entryIn taken count repeats) ⌝ }
+// Whether a survivor's entry is at most top, and another's zero but for a lost member's last count.
+fn entry_sound(
+    group: Group,
+    top: SequenceNumber,
+    i: usize,
+    taken: u32,
+    count: u32,
+    repeats: u32,
+) -> bool
+    requires { ⌜ i < membersMost ⌝ }
+    ensures { λ r. ⌜ r ≡ entrySound group (top .0) i (entryIn taken count repeats) ⌝ }
 {
-    if i < (n as usize) {
+    if survives(group.survivors, i) {
         return taken <= top.0;
     }
     if taken != 0 {
         return false;
     }
-    if count != 0 {
+    if repeats != 0 {
         return false;
     }
-    repeats == 0
+    if i < (group.n as usize) {
+        return true;
+    }
+    count == 0
 }
 
 pub fn entries_sound(
-    n: u8,
+    group: Group,
     top: SequenceNumber,
     taken: &[u32],
     counts: &[u32],
     repeats: &[u32],
 ) -> bool
     requires { ⌜ Entries (now taken) (now counts) (now repeats) ⌝ }
-    ensures { λ r. ⌜ r ≡ all (entrySound n (top .0)) 0 (tableIn (now (taken .entry)) (now (counts .entry)) (now (repeats .entry))) ⌝ }
+    ensures { λ r. ⌜ r ≡ all (entrySound group (top .0)) 0 (tableIn (now (taken .entry)) (now (counts .entry)) (now (repeats .entry))) ⌝ }
 {
     let mut i: usize = 0;
     while i < Group::MEMBERS {
-        if entry_sound(n, top, i, taken[i], counts[i], repeats[i]) {
+        if entry_sound(group, top, i, taken[i], counts[i], repeats[i]) {
             i += 1;
         } else {
             return false;
@@ -232,19 +258,13 @@ pub fn frame_sound(
 ) -> bool
     ensures { λ r. ⌜ r ≡ frameSound group (takenOnly (now (taken .entry))) (floor .0) (accepted .0) (top .0) ⌝ }
 {
-    if group.n < 1 {
-        return false;
+    if group.sound() {
+        if smallest(group.survivors, *taken).0 != floor.0 {
+            return false;
+        }
+        return span_sound(floor, accepted, top);
     }
-    if Group::MEMBERS < (group.n as usize) {
-        return false;
-    }
-    if group.n <= group.resilience {
-        return false;
-    }
-    if smallest(group.n, *taken).0 != floor.0 {
-        return false;
-    }
-    span_sound(floor, accepted, top)
+    false
 }
 
 // Whether the mark of a number has expected members' bits only, where the number is above the last accepted, up to top, and else is zero.
@@ -305,14 +325,19 @@ pub fn mark(marks: &mut [u16], member: MemberNumber, from: SequenceNumber, to: S
 }
 
 // Whether a mark has at least so many members.
-fn has_enough(mark: u16, needed: u8) -> bool
+fn has_enough(mark: u16, needed: u32) -> bool
     ensures { λ r. ⌜ r ≡ (needed ≤? ones mark) ⌝ }
 {
-    (needed as u32) <= u16::count_ones(mark)
+    needed <= u16::count_ones(mark)
 }
 
 // The highest number above one, up to another, with at least so many marks; 0: there is none.
-pub fn enough(marks: &[u16], needed: u8, from: SequenceNumber, to: SequenceNumber) -> SequenceNumber
+pub fn enough(
+    marks: &[u16],
+    needed: u32,
+    from: SequenceNumber,
+    to: SequenceNumber,
+) -> SequenceNumber
     requires { ⌜ length (now marks) ≡ placesMost ⌝ }
     ensures { λ r. ⌜ r .0 ≡ enoughOf (now (marks .entry)) needed (from .0) (to .0 - from .0) ⌝ }
 {
@@ -348,18 +373,18 @@ pub fn larger(a: u32, b: u32) -> u32
 
 // Notes an acknowledgement: the sender's number becomes the larger of old and new. The result is the new floor.
 pub fn note(
-    n: u8,
+    survivors: u16,
     taken: &mut [u32; Group::MEMBERS],
     sender: MemberNumber,
     number: SequenceNumber,
 ) -> SequenceNumber
-    requires { ⌜ (n ≤ membersMost) × (sender .0 < membersMost) ⌝ }
+    requires { ⌜ sender .0 < membersMost ⌝ }
     ensures noted { λ _. ⌜ now (taken .exit) ≡ set (now (taken .entry)) (sender .0) (largerOf (getD (now (taken .entry)) (sender .0) 0) (number .0)) ⌝ }
-    ensures floor { λ r. ⌜ r .0 ≡ floorOf n (takenOnly (now (taken .exit))) ⌝ }
+    ensures floor { λ r. ⌜ r .0 ≡ floorOf survivors (takenOnly (now (taken .exit))) ⌝ }
 {
     let at = sender.0 as usize;
     taken[at] = larger(taken[at], number.0);
-    smallest(n, *taken)
+    smallest(survivors, *taken)
 }
 
 // Clears the places of the numbers that the floor passes.
@@ -481,17 +506,22 @@ pub fn repeats(repeats: &[u32]) -> u32
     }
 }
 
-// Questions 9 and 10 of a sender and its number A, which is at most `most`.
-fn ask_sender(n: u8, most: SequenceNumber, sender: MemberNumber, a: SequenceNumber) -> Verdict
-    ensures { λ r. ⌜ r ≡ senderVerdict n (most .0) sender a ⌝ }
+// Questions 9 and 10 of a sender, which is a survivor, and its number A, which is at most `most`.
+fn ask_sender(
+    survivors: u16,
+    most: SequenceNumber,
+    sender: MemberNumber,
+    a: SequenceNumber,
+) -> Verdict
+    ensures { λ r. ⌜ r ≡ senderVerdict survivors (most .0) sender a ⌝ }
 {
-    if n <= sender.0 {
-        return Verdict::Refused(Refusal::UnknownMember);
+    if group::is_in(survivors, sender) {
+        if most.0 < a.0 {
+            return Verdict::Refused(Refusal::AcknowledgedAhead);
+        }
+        return Verdict::Accepted;
     }
-    if most.0 < a.0 {
-        return Verdict::Refused(Refusal::AcknowledgedAhead);
-    }
-    Verdict::Accepted
+    Verdict::Refused(Refusal::UnknownMember)
 }
 
 // Whether a next number is left, where a count wants one.
@@ -529,7 +559,7 @@ fn ask_wanted(top: SequenceNumber, last: SequenceNumber) -> Verdict
 
 // Questions 9 to 11, and 16, of a request.
 fn ask_request(
-    n: u8,
+    survivors: u16,
     counts: &[u32],
     accepted: SequenceNumber,
     top: SequenceNumber,
@@ -537,10 +567,10 @@ fn ask_request(
     taken: SequenceNumber,
     count: u32,
 ) -> Verdict
-    requires { ⌜ (n ≤ membersMost) × (length (now counts) ≡ membersMost) ⌝ }
-    ensures { λ r. ⌜ r ≡ requestVerdict n (countsOnly (now (counts .entry))) (accepted .0) (top .0) sender taken count ⌝ }
+    requires { ⌜ length (now counts) ≡ membersMost ⌝ }
+    ensures { λ r. ⌜ r ≡ requestVerdict survivors (countsOnly (now (counts .entry))) (accepted .0) (top .0) sender taken count ⌝ }
 {
-    let v = ask_sender(n, accepted, sender, taken);
+    let v = ask_sender(survivors, accepted, sender, taken);
     match v {
         Verdict::Accepted => {
             let at = sender.0 as usize;
@@ -552,16 +582,16 @@ fn ask_request(
 
 // Questions 9, 10 and 12 of a gap.
 fn ask_gap(
-    n: u8,
+    survivors: u16,
     accepted: SequenceNumber,
     top: SequenceNumber,
     sender: MemberNumber,
     taken: SequenceNumber,
     last: SequenceNumber,
 ) -> Verdict
-    ensures { λ r. ⌜ r ≡ gapVerdict n (accepted .0) (top .0) sender taken last ⌝ }
+    ensures { λ r. ⌜ r ≡ gapVerdict survivors (accepted .0) (top .0) sender taken last ⌝ }
 {
-    let v = ask_sender(n, accepted, sender, taken);
+    let v = ask_sender(survivors, accepted, sender, taken);
     match v {
         Verdict::Accepted => ask_wanted(top, last),
         Verdict::Refused(q) => Verdict::Refused(q),
@@ -575,7 +605,6 @@ fn may_confirm(
     sender: MemberNumber,
     number: SequenceNumber,
 ) -> bool
-    requires { ⌜ (1 ≤ group .n) × (group .n ≤ membersMost) ⌝ }
     ensures { λ r. ⌜ r ≡ (if number .0 ≤? accepted .0 then true else isIn (expectedOf group) (sender .0)) ⌝ }
 {
     if number.0 <= accepted.0 {
@@ -592,7 +621,6 @@ fn ask_expected(
     sender: MemberNumber,
     number: SequenceNumber,
 ) -> Verdict
-    requires { ⌜ (1 ≤ group .n) × (group .n ≤ membersMost) ⌝ }
     ensures { λ r. ⌜ r ≡ expectedVerdict group (accepted .0) sender number ⌝ }
 {
     if may_confirm(group, accepted, sender, number) {
@@ -609,38 +637,33 @@ fn ask_confirm(
     sender: MemberNumber,
     number: SequenceNumber,
 ) -> Verdict
-    requires { ⌜ (1 ≤ group .n) × (group .n ≤ membersMost) ⌝ }
     ensures { λ r. ⌜ r ≡ confirmVerdict group (accepted .0) (top .0) sender number ⌝ }
 {
-    let v = ask_sender(group.n, top, sender, number);
+    let v = ask_sender(group.survivors, top, sender, number);
     match v {
         Verdict::Accepted => ask_expected(group, accepted, sender, number),
         Verdict::Refused(q) => Verdict::Refused(q),
     }
 }
 
-// Questions 7 to 12, 25, and 16, of a packet from the group of a number: kinds 1, 3, 4 and 7 are for this end.
-pub fn ask_packet(
+// Questions 8 to 12, 25, and 16, of what a packet says: kinds 1, 3, 4 and 7 are for this end.
+fn ask_content(
     group: Group,
     counts: &[u32],
     accepted: SequenceNumber,
     top: SequenceNumber,
-    number: u32,
     packet: Packet,
 ) -> Verdict
-    requires { ⌜ (1 ≤ group .n) × (group .n ≤ membersMost) × (length (now counts) ≡ membersMost) ⌝ }
-    ensures { λ r. ⌜ r ≡ packetVerdict group (countsOnly (now (counts .entry))) (accepted .0) (top .0) number packet ⌝ }
+    requires { ⌜ length (now counts) ≡ membersMost ⌝ }
+    ensures { λ r. ⌜ r ≡ contentVerdict group (countsOnly (now (counts .entry))) (accepted .0) (top .0) packet ⌝ }
 {
-    if number != group.number {
-        return Verdict::Refused(Refusal::OtherGroup);
-    }
-    let n = group.n;
+    let survivors = group.survivors;
     match packet {
         Packet::Request {
             sender,
             taken,
             count,
-        } => ask_request(n, counts, accepted, top, sender, taken, count),
+        } => ask_request(survivors, counts, accepted, top, sender, taken, count),
         Packet::Broadcast {
             originator: _,
             number: _,
@@ -652,9 +675,13 @@ pub fn ask_packet(
             taken,
             first: _,
             last,
-        } => ask_gap(n, accepted, top, sender, taken, last),
-        Packet::Status { sender, taken } => ask_sender(n, accepted, sender, taken),
-        Packet::Poll { top: _, floor: _ } => Verdict::Refused(Refusal::OtherEnd),
+        } => ask_gap(survivors, accepted, top, sender, taken, last),
+        Packet::Status { sender, taken } => ask_sender(survivors, accepted, sender, taken),
+        Packet::Poll {
+            elected: _,
+            top: _,
+            floor: _,
+        } => Verdict::Refused(Refusal::OtherEnd),
         Packet::Offer {
             originator: _,
             number: _,
@@ -662,8 +689,48 @@ pub fn ask_packet(
             floor: _,
         } => Verdict::Refused(Refusal::OtherEnd),
         Packet::Confirm { sender, number } => ask_confirm(group, accepted, top, sender, number),
-        Packet::Accept { number: _ } => Verdict::Refused(Refusal::OtherEnd),
+        Packet::Accept {
+            elected: _,
+            number: _,
+        } => Verdict::Refused(Refusal::OtherEnd),
+        Packet::Invitation {
+            sender: _,
+            attempt: _,
+        } => Verdict::Refused(Refusal::OtherEnd),
+        Packet::Reply {
+            sender: _,
+            attempt: _,
+            number: _,
+        } => Verdict::Refused(Refusal::OtherEnd),
+        Packet::Result {
+            sender: _,
+            attempt: _,
+            elected: _,
+            number: _,
+        } => Verdict::Refused(Refusal::OtherEnd),
     }
+}
+
+// Question 6 at this end, that the elected member sent what only that one may; then 7 to 12, 25, and 16, of a packet from the group of a
+// number.
+pub fn ask_packet(
+    group: Group,
+    counts: &[u32],
+    accepted: SequenceNumber,
+    top: SequenceNumber,
+    number: u32,
+    packet: Packet,
+) -> Verdict
+    requires { ⌜ length (now counts) ≡ membersMost ⌝ }
+    ensures { λ r. ⌜ r ≡ packetVerdict group (countsOnly (now (counts .entry))) (accepted .0) (top .0) number packet ⌝ }
+{
+    if packet.from_elected(group) {
+        if number != group.number {
+            return Verdict::Refused(Refusal::OtherGroup);
+        }
+        return ask_content(group, counts, accepted, top, packet);
+    }
+    Verdict::Refused(Refusal::ForbiddenFields)
 }
 
 // The sender of a packet for the sequencer, and the number that it acknowledges.
@@ -701,7 +768,11 @@ pub fn sender_of(packet: Packet) -> Sender
             member: sender,
             taken,
         },
-        Packet::Poll { top: _, floor: _ } => Sender {
+        Packet::Poll {
+            elected: _,
+            top: _,
+            floor: _,
+        } => Sender {
             member: MemberNumber(0),
             taken: SequenceNumber(0),
         },
@@ -718,7 +789,34 @@ pub fn sender_of(packet: Packet) -> Sender
             member: sender,
             taken: SequenceNumber(0),
         },
-        Packet::Accept { number: _ } => Sender {
+        Packet::Accept {
+            elected: _,
+            number: _,
+        } => Sender {
+            member: MemberNumber(0),
+            taken: SequenceNumber(0),
+        },
+        Packet::Invitation {
+            sender: _,
+            attempt: _,
+        } => Sender {
+            member: MemberNumber(0),
+            taken: SequenceNumber(0),
+        },
+        Packet::Reply {
+            sender: _,
+            attempt: _,
+            number: _,
+        } => Sender {
+            member: MemberNumber(0),
+            taken: SequenceNumber(0),
+        },
+        Packet::Result {
+            sender: _,
+            attempt: _,
+            elected: _,
+            number: _,
+        } => Sender {
             member: MemberNumber(0),
             taken: SequenceNumber(0),
         },

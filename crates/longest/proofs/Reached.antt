@@ -9,7 +9,9 @@ use Rattle.big_endian.specs.Number.{numberAt, bytesOf}
 use Rattle.group.proofs.Fold.{above-each}
 use Rattle.group.proofs.Lists.{le-or}
 use Rattle.group.specs.Choice.{if_then_else_, _=?_}
-use Rattle.group.specs.Fold.{allAbove, least}
+use Rattle.group.specs.Fold.{allAbove, leastOf}
+use Rattle.group.specs.Members.{lowestOf, expectedOf, neededOf}
+use lib.Count.{ones, onesIn}
 use Rattle.group.specs.Opening.{descriptionOf, openOf}
 use Rattle.group.specs.Question.{judged}
 use Rattle.history.specs.Ask.{senderVerdict, countVerdict}
@@ -24,7 +26,7 @@ use Rattle.model.proofs.Step.{fresh-inv}
 use Rattle.model.specs.Closing.{takeRow, closeMember, closeFrom}
 use Rattle.model.specs.Longest.{longestClosing}
 use Rattle.model.specs.World.{Group, freshMembers, fresh}
-use Rattle.packet.specs.Packet.{headerOf, knownKind, payloadFits, obeys, fieldsVerdict, readOf, headerBytes, packetOf, contentOf, fieldsOf, written}
+use Rattle.packet.specs.Packet.{headerOf, knownKind, payloadFits, obeys, fieldsVerdict, readOf, headerBytes, packetOf, contentOf, fieldsOf, written, fromElected}
 use Rattle.sequencer.specs.Calls as sequencer
 use Rattle.sequencer.specs.Note.{withTable, noteOf}
 use Rattle.sequencer.specs.State.{freshSequencer}
@@ -36,7 +38,7 @@ lengthOf g = length (closeFrom (g .members) 0 (g .sequencer .accepted .0) (lengt
 
 -- whether the list of n leads to the figure, computed with all that the line names
 unfoldable leads : ℕ → Bool
-unfolding if_then_else_ least openOf judged member.answered reachOf acknowledgedOf member.requestPacket member.statusPacket member.submitVerdict member.withWaiting member.withAccepted member.withHeld member.gapUpTo member.keptOf member.messageStep member.broadcastOf window.largerOf window.smallerOf member.contentStep member.readStep member.isOwn member.withTaken member.isReady member.tookOf member.openedOf member.freshOf window.lowestMissing window.rowEnd freshMember messageOf emptyMessage payloadOf takeRow closeMember closeFrom freshMembers fresh numberAt bytesOf headerOf knownKind payloadFits obeys fieldsVerdict readOf headerBytes packetOf contentOf fieldsOf written sequencer.answered sequencer.announced sequencer.broadcastOf sequencer.withMessage sequencer.numberedOf sequencer.requestOf senderVerdict countVerdict sequencer.contentStep sequencer.readStep sequencer.openedOf sequencer.freshOf largerOf tableNoted clearedOf withTable noteOf floorOf freshSequencer rounds hands holders lasts slowest past leaves
+unfolding if_then_else_ leastOf fromElected neededOf expectedOf lowestOf ones onesIn openOf judged member.answered reachOf acknowledgedOf member.requestPacket member.statusPacket member.submitVerdict member.withWaiting member.withAccepted member.withHeld member.gapUpTo member.keptOf member.messageStep member.broadcastOf window.largerOf window.smallerOf member.contentStep member.readStep member.isOwn member.withTaken member.isReady member.tookOf member.openedOf member.freshOf window.lowestMissing window.rowEnd freshMember messageOf emptyMessage payloadOf takeRow closeMember closeFrom freshMembers fresh numberAt bytesOf headerOf knownKind payloadFits obeys fieldsVerdict readOf headerBytes packetOf contentOf fieldsOf written sequencer.answered sequencer.announced sequencer.broadcastOf sequencer.withMessage sequencer.numberedOf sequencer.requestOf senderVerdict countVerdict sequencer.contentStep sequencer.readStep sequencer.openedOf sequencer.freshOf largerOf tableNoted clearedOf withTable noteOf floorOf freshSequencer rounds hands holders lasts slowest past leaves
 leads n = lengthOf (leaves (fresh n 7 0 .group) (slowest n)) =? longestClosing n
 
 -- eight at a time: the steps that one declaration may take have a limit

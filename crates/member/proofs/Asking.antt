@@ -3,9 +3,9 @@
 use mathlib.Core.Path.{_≡_, refl, sym, ap, _∙_}
 use mathlib.Core.Bool.{Bool, true, false}
 use mathlib.Core.List.{List, [], _∷_, _++_}
-use Prim.Native.Nat.{ℕ, zero, suc, _+_, _-_, _≤_}
+use Prim.Native.Nat.{ℕ, zero, suc, _+_, _-_, _≤_, _<_}
 use native.Mathlib.Omega.{arith}
-use borrow.Author.Tests.{lt-ltb}
+use borrow.Author.Tests.{lt-ltb, eqb-true}
 use lib.ListN.{length}
 use Rattle.group.specs.Choice.{if_then_else_, ask_or_then_, _and_, _<?_, _≤?_, _=?_}
 use Rattle.group.specs.Limits.{heldMost, waitingMost, payloadMost, largestNumber}
@@ -18,7 +18,7 @@ use Rattle.group.proofs.Choice.{says}
 use Rattle.group.proofs.Lists.{if-elim}
 use Rattle.group.proofs.Question.{judged-ask, judged-append, judged-same}
 use Rattle.packet.specs.Laws.{readQuestions}
-use Rattle.packet.specs.Packet.{broadcastKind, pollKind, offerKind, acceptKind, headerOf, knownKind, obeys, contentOf, payloadAt, readOf}
+use Rattle.packet.specs.Packet.{broadcastKind, pollKind, offerKind, acceptKind, headerOf, knownKind, fromElected, contentOf, payloadAt, readOf}
 use Rattle.packet.specs.declared.Header.{Header}
 use Rattle.packet.specs.declared.Reading.{Reading}
 use Rattle.packet.proofs.Laws.{read-first-no}
@@ -30,10 +30,11 @@ use Rattle.member.specs.declared.Answer.{Answer}
 use Rattle.member.specs.declared.Answer.the-variants.{Refused, Sent, Queued, Old, Kept, KeptGap, Beyond, BeyondGap, Gap, Status, None, Noted, Took}
 use Rattle.member.specs.State.{Member}
 use Rattle.member.proofs.Laws.{call-sound}
-use Rattle.member.proofs.Soundness.{Sound, sound-of}
+use Rattle.member.proofs.Soundness.{Sound, sound-of, stands}
+use Rattle.group.proofs.Members.{survivor-lt}
 
 -- whether an answer is a refusal
-abbrev refuses : Answer → Bool
+abbrev pub refuses : Answer → Bool
 refuses (Refused refusal) = true
 refuses Sent = false
 refuses (Queued count) = false
@@ -48,8 +49,8 @@ refuses None = false
 refuses Noted = false
 refuses (Took number originator count more) = false
 
-record Accepts (o : Outcome) : Type 0 where
-  no : refuses (o .answer) ≡ false
+pub record Accepts (o : Outcome) : Type 0 where
+  pub no : refuses (o .answer) ≡ false
 
 -- a call that is its questions before a step that is no refusal
 asked : (m : Member) (questions : List Question) (o step : Outcome) → o ≡ judged (firstNo questions) (refused m) step → Accepts step → FirstNo m questions o
@@ -110,7 +111,7 @@ submit-first-no m payload room =
     (λ _. record { no = refl }))
 
 -- what a packet that passes all questions does: a broadcast, a poll, an offer or an acceptance
-abbrev acceptedStep : Member → Header → List ℕ → Outcome
+abbrev pub acceptedStep : Member → Header → List ℕ → Outcome
 acceptedStep m h payload =
     if h .kind =? broadcastKind then broadcastOf m (h .member) (h .a) (h .b) payload else
     if h .kind =? pollKind then pollOf m (record { 0 = h .a }) else
@@ -137,7 +138,7 @@ confirmed-accepts o number a =
     if-elim Accepts (confirms (o .answer) and noneMissing (o .member) number and isIn (expectedOf (o .member .group)) (o .member .number .0))
     (λ _. record { no = a .no }) (λ _. a)
 
-step-accepts : (m : Member) (h : Header) (payload : List ℕ) → Accepts (acceptedStep m h payload)
+pub step-accepts : (m : Member) (h : Header) (payload : List ℕ) → Accepts (acceptedStep m h payload)
 unfolding broadcastOf offerOf pollOf answered
 step-accepts m h payload =
     if-elim Accepts (h .kind =? broadcastKind) (λ _. message-accepts _ (h .member) (h .a) (h .b) payload)
@@ -154,29 +155,38 @@ endQuestions m h =
 
 content-asked : (m : Member) (kind member group a b c : ℕ) (payload : List ℕ)
     → let h : Header = record { kind = kind; member = record { 0 = member }; group = group; a = a; b = b; c = c } in
-    1 ≤ m .group .n → knownKind kind ≡ true → obeys h ≡ true
+    m .group .elected .0 < m .group .n → fromElected (m .group) (contentOf h) ≡ true → knownKind kind ≡ true
     → contentStep m (contentOf h) payload ≡ judged (firstNo (endQuestions m h)) (refused m) (acceptedStep m h payload)
-unfolding knownKind obeys contentOf contentStep firstNo judged if_then_else_
-content-asked m zero member group a b c payload some known obey = let z : false ≡ true = known in cc
-content-asked m (suc zero) member group a b c payload some known obey = refl
-content-asked m (suc (suc zero)) member group a b c payload some known obey =
+unfolding knownKind fromElected contentOf contentStep firstNo judged if_then_else_
+content-asked m zero member group a b c payload some named known = let z : false ≡ true = known in cc
+content-asked m (suc zero) member group a b c payload some named known = refl
+content-asked m (suc (suc zero)) member group a b c payload some named known =
     judged-ask (refused m) (broadcastOf m (record { 0 = member }) a b payload) (member <? m .group .n) Refusal.UnknownMember []
-content-asked m (suc (suc (suc zero))) member group a b c payload some known obey = refl
-content-asked m (suc (suc (suc (suc zero)))) member group a b c payload some known obey = refl
-content-asked m (suc (suc (suc (suc (suc zero))))) member group a b c payload some known obey =
-    let x : member ≡ 0 = search says in
+content-asked m (suc (suc (suc zero))) member group a b c payload some named known = refl
+content-asked m (suc (suc (suc (suc zero)))) member group a b c payload some named known = refl
+content-asked m (suc (suc (suc (suc (suc zero))))) member group a b c payload some named known =
+    let x : member ≡ m .group .elected .0 = eqb-true member (m .group .elected .0) named in
     let y : (member <? m .group .n) ≡ true = lt-ltb member (m .group .n) (omega arith) in
     rw y
-content-asked m (suc (suc (suc (suc (suc (suc zero)))))) member group a b c payload some known obey =
+content-asked m (suc (suc (suc (suc (suc (suc zero)))))) member group a b c payload some named known =
     judged-ask (refused m) (offerOf m (record { 0 = member }) a b payload) (member <? m .group .n) Refusal.UnknownMember []
-content-asked m (suc (suc (suc (suc (suc (suc (suc zero))))))) member group a b c payload some known obey = refl
-content-asked m (suc (suc (suc (suc (suc (suc (suc (suc zero)))))))) member group a b c payload some known obey =
-    let x : member ≡ 0 = search says in
+content-asked m (suc (suc (suc (suc (suc (suc (suc zero))))))) member group a b c payload some named known = refl
+content-asked m (suc (suc (suc (suc (suc (suc (suc (suc zero)))))))) member group a b c payload some named known =
+    let x : member ≡ m .group .elected .0 = eqb-true member (m .group .elected .0) named in
     let y : (member <? m .group .n) ≡ true = lt-ltb member (m .group .n) (omega arith) in
     rw y
-content-asked m (suc (suc (suc (suc (suc (suc (suc (suc (suc kind))))))))) member group a b c payload some known obey =
-    let z : suc (suc (suc (suc (suc (suc (suc (suc (suc kind)))))))) ≤ 8 = search says in
+content-asked m (suc (suc (suc (suc (suc (suc (suc (suc (suc zero))))))))) member group a b c payload some named known = refl
+content-asked m (suc (suc (suc (suc (suc (suc (suc (suc (suc (suc zero)))))))))) member group a b c payload some named known = refl
+content-asked m (suc (suc (suc (suc (suc (suc (suc (suc (suc (suc (suc zero))))))))))) member group a b c payload some named known = refl
+content-asked m (suc (suc (suc (suc (suc (suc (suc (suc (suc (suc (suc (suc kind)))))))))))) member group a b c payload some named known =
+    let z : suc (suc (suc (suc (suc (suc (suc (suc (suc (suc (suc (suc kind))))))))))) ≤ 11 = search says in
     absurd (omega arith)
+
+-- what follows a question need only be the same where its answer is yes
+ask-same : (b : Bool) {x y : Outcome} (z : Outcome) → (b ≡ true → x ≡ y) → (if b then x else z) ≡ (if b then y else z)
+unfolding if_then_else_
+ask-same true z f = f refl
+ask-same false z f = refl
 
 -- a reading that is a verdict is received as that verdict
 read-judged : (m : Member) (v : Verdict) (h : Header) (payload : List ℕ) → readStep m (judged v Reading.Refused (Reading.Fields h)) payload ≡ judged v (refused m) (readStep m (Reading.Fields h) payload)
@@ -184,7 +194,7 @@ unfolding judged readStep
 read-judged m Verdict.Accepted h payload = refl
 read-judged m (Verdict.Refused r) h payload = refl
 
--- fields that were read go down questions 7 to 9
+-- fields that were read go down questions 6 to 9
 fields-asked : (m : Member) (packet : List ℕ) → Sound m → firstNo (readQuestions packet) ≡ Verdict.Accepted
     → readStep m (Reading.Fields (headerOf packet)) (payloadAt packet)
     ≡ judged (firstNo (fieldsQuestions m (headerOf packet))) (refused m) (acceptedStep m (headerOf packet) (payloadAt packet))
@@ -193,9 +203,14 @@ fields-asked m packet s e =
     let h = headerOf packet in
     let r : readOf packet ≡ Reading.Fields h = read-first-no packet ∙ ap (λ (v : Verdict). judged v Reading.Refused (Reading.Fields h)) e in
     let a = askable h _ _ (readable packet h r .fields) in
-    ap (λ (o : Outcome). ask h .group =? m .group .number or refused m Refusal.OtherGroup then o)
-    (content-asked m (h .kind) (h .member .0) (h .group) (h .a) (h .b) (h .c) (payloadAt packet) (s .n-pos) (a .known) (a .obey))
-    ∙ judged-ask (refused m) (acceptedStep m h (payloadAt packet)) (h .group =? m .group .number) Refusal.OtherGroup (endQuestions m h)
+    let step = acceptedStep m h (payloadAt packet) in
+    let elected = survivor-lt (m .group) (stands m s) (m .group .elected .0) (s .elected-in) in
+    ask-same (fromElected (m .group) (contentOf h)) (refused m Refusal.ForbiddenFields)
+    (λ named. ap (λ (o : Outcome). ask h .group =? m .group .number or refused m Refusal.OtherGroup then o)
+    (content-asked m (h .kind) (h .member .0) (h .group) (h .a) (h .b) (h .c) (payloadAt packet) elected named (a .known))
+    ∙ judged-ask (refused m) step (h .group =? m .group .number) Refusal.OtherGroup (endQuestions m h))
+    ∙ judged-ask (refused m) step (fromElected (m .group) (contentOf h)) Refusal.ForbiddenFields
+    (record { yes = h .group =? m .group .number; refusal = Refusal.OtherGroup } ∷ endQuestions m h)
 
 pub receive-first-no : ReceiveFirstNo
 unfolding receiveOf

@@ -14,17 +14,20 @@ use Rattle.group.specs.declared.Group.{Group}
 use Rattle.group.specs.declared.MemberNumber.{MemberNumber}
 use Rattle.group.specs.declared.SequenceNumber.{SequenceNumber}
 use Rattle.group.specs.declared.Verdict.{Verdict}
-use Rattle.group.proofs.Choice.{says}
+use Rattle.group.proofs.Choice.{says, if-true}
+use Rattle.group.proofs.Members.{Standing}
+use Rattle.group.specs.Members.{isIn}
+use Rattle.group.specs.declared.Refusal.{Refusal}
 use Rattle.group.proofs.Lists.{if-elim, at-nil}
 use Rattle.message.specs.Message.{Message, messageOf}
 use Rattle.message.specs.Order.{Ordered, ownOf, countedFrom}
 use Rattle.packet.specs.Laws.{Allowed}
-use Rattle.packet.specs.Packet.{obeys, fieldsOf, packetOf}
+use Rattle.packet.specs.Packet.{obeys, fieldsOf, packetOf, fromElected}
 use Rattle.packet.specs.declared.Packet.{Packet}
 use Rattle.packet.specs.declared.Packet.the-variants.{Broadcast, Status}
 use Rattle.packet.proofs.Laws.{read-written, content-fields, fields-group}
 use Rattle.packet.proofs.Verdicts.{askable, writable}
-use Rattle.member.specs.Calls.{Outcome, answered, statusPacket, callVerdict, statusOf, withAccepted, withHeld, gapUpTo, keptOf, messageStep, broadcastOf, contentStep, readStep, receiveOf, withTaken, isReady, tookOf, takeOf}
+use Rattle.member.specs.Calls.{Outcome, answered, refused, statusPacket, callVerdict, statusOf, withAccepted, withHeld, gapUpTo, keptOf, messageStep, broadcastOf, contentStep, readStep, receiveOf, withTaken, isReady, tookOf, takeOf}
 use Rattle.member.specs.Sound.{soundOf}
 use Rattle.window.specs.Places.{messageAt, isHeld, lowestMissing}
 use Rattle.member.specs.State.{Member, acknowledgedOf, freshMember}
@@ -53,11 +56,17 @@ take-is m h c ready = rw (call-accepted m h, lt-ltb 0 (messageAt (m .held) (m .t
 
 -- a packet of the group is received as what it says
 pub receive-is : (m : Member) (group : Group) (content : Packet) (payload : List ℕ) → soundOf m ≡ true → m .group ≡ group → Allowed (fieldsOf (group .number) content) payload
-    → receiveOf m (packetOf (fieldsOf (group .number) content) payload) longestPacket ≡ contentStep m content payload
+    → receiveOf m (packetOf (fieldsOf (group .number) content) payload) longestPacket
+    ≡ if fromElected (m .group) content then contentStep m content payload else refused m Refusal.ForbiddenFields
 unfolding receiveOf judged readStep if_then_else_
 receive-is m group content payload h e allowed =
     let r = read-written (fieldsOf (group .number) content) payload allowed in
     rw (call-accepted m h, r .0, r .1, content-fields (group .number) content, eq-eqb (fieldsOf (group .number) content .group) (m .group .number) (fields-group (group .number) content ∙ sym (ap (λ (x : Group). x .number) e)))
+
+-- where the elected member sent it, or anybody may have
+pub receive-named : (m : Member) (group : Group) (content : Packet) (payload : List ℕ) → soundOf m ≡ true → m .group ≡ group → fromElected (m .group) content ≡ true
+    → Allowed (fieldsOf (group .number) content) payload → receiveOf m (packetOf (fieldsOf (group .number) content) payload) longestPacket ≡ contentStep m content payload
+receive-named m group content payload h e named allowed = receive-is m group content payload h e allowed ∙ sym (if-true (fromElected (m .group) content) _ _ _ named refl)
 
 -- what handing over the broadcast of number t + 1 leaves
 pub record HandOk (m : Member) (o : Outcome) : Type 0 where
@@ -82,8 +91,8 @@ module _ (group : Group) (i acknowledged accepted : ℕ) (order took : List Orde
     count-pos : 1 ≤ c
     unfolding fieldsOf obeys if_then_else_
     count-pos =
-        let w = writable _ (length payload) longestPacket (allowed .1) in
-        let o = askable _ (length payload) (length payload) (w .fields) .obey in
+        let w = writable _ payload longestPacket (allowed .1) in
+        let o = askable _ (length payload) payload (w .fields) .obey in
         search says
 
     -- the state in which it is accepted
@@ -107,9 +116,9 @@ module _ (group : Group) (i acknowledged accepted : ℕ) (order took : List Orde
     none = let z : number .0 - 1 - m .taken .0 ≡ 0 = omega arith in rw z
 
     pub hand-ok : HandOk m (receiveOf m (packetOf (fieldsOf (group .number) (Broadcast originator number c floor)) payload) longestPacket)
-    unfolding contentStep broadcastOf messageStep keptOf gapUpTo withAccepted withHeld answered
+    unfolding fromElected contentStep broadcastOf messageStep keptOf gapUpTo withAccepted withHeld answered
     hand-ok =
-        rw (receive-is m group (Broadcast originator number c floor) payload (h .content .sound) (h .seat .group-is) allowed)
+        rw (receive-named m group (Broadcast originator number c floor) payload (h .content .sound) (h .seat .group-is) refl allowed)
         (if-elim (HandOk m) (originator .0 <? m .group .n)
         (λ _. if-elim (HandOk m) (number .0 ≤? m .taken .0)
         (λ a. let z = leb-true (number .0) (m .taken .0) a in absurd (omega arith))
@@ -136,16 +145,16 @@ module _ (group : Group) (i acknowledged accepted : ℕ) (order took : List Orde
     subst (λ (x : Group). Allowed (fieldsOf (x .number) (Status (m .number) (acknowledgedOf m))) []) (h .seat .group-is) (status-allowed m (h .content .typed) (sound-of m (h .content .sound))),
   )
 
-pub fresh-terminal : (group : Group) (i : ℕ) → 1 ≤ group .n → group .n ≤ membersMost → group .resilience < group .n → i < group .n → group .number ≤ largestNumber
+pub fresh-terminal : (group : Group) (i : ℕ) → Standing group → isIn (group .survivors) i ≡ true → group .number ≤ largestNumber
     → Terminal group i 0 0 (freshMember group (record { 0 = i })) [] [] []
 unfolding freshMember ownOf countedFrom
-fresh-terminal group i lo hi resilient inside most =
+fresh-terminal group i stand inside most =
     let number : MemberNumber = record { 0 = i } in
     record {
       content =
           record {
             typed = fresh-typed group number most;
-            sound = of-sound (freshMember group number) (fresh-sound group number lo hi resilient inside);
+            sound = of-sound (freshMember group number) (fresh-sound group number stand inside);
             taken-le = omega arith;
             took-is = refl;
             held-is = λ k a b c. absurd (empty-none (rw (fresh-none group number k) at c));

@@ -71,6 +71,6 @@ module _ (head : Head) (counts : List ℕ) (queue held : List Message) (c : Coun
       (record { same = d .same; spoken = record { answer-is = d .spoken .answer-is; written-is = laid .size; lent = laid .lent } })
 
 -- the number of an offer that obeys its kind
-pub offer-number : (g : ℕ) (originator : MemberNumber) (number : SequenceNumber) (count : ℕ) (floor : SequenceNumber) → obeys (fieldsOf g (Packet.Offer originator number count floor)) ≡ true → 1 ≤ number .0
+pub offer-number : (g : ℕ) (originator : MemberNumber) (number : SequenceNumber) (count : ℕ) (floor : SequenceNumber) (payload : List ℕ) → obeys (fieldsOf g (Packet.Offer originator number count floor)) payload ≡ true → 1 ≤ number .0
 unfolding fieldsOf obeys if_then_else_
-offer-number g originator number count floor e = search says
+offer-number g originator number count floor payload e = search says

@@ -22,6 +22,8 @@ use Rattle.window.proofs.Keeping.{empty-none, held-places, taken-places, queue-
 use Rattle.window.proofs.Missing.{set-length}
 use Rattle.window.proofs.Row.{larger-le, le-larger}
 use Rattle.window.proofs.Soundness.{HeldSound, WaitingSound}
+use Rattle.group.proofs.Members.{Standing, survivor-lt}
+use Rattle.group.specs.Members.{isIn}
 use Rattle.member.proofs.Soundness.{Sound}
 
 -- a taken message that is the member's own that waits first
@@ -42,6 +44,9 @@ module _ (m : Member) (typed : Typed m) where
         n-pos = s .n-pos;
         n-most = s .n-most;
         resilient = s .resilient;
+        within = s .within;
+        elected-in = s .elected-in;
+        number-in = s .number-in;
         number-lt = s .number-lt;
         taken-le = s .taken-le;
         waiting =
@@ -64,6 +69,9 @@ module _ (m : Member) (typed : Typed m) where
           n-pos = s .n-pos;
           n-most = s .n-most;
           resilient = s .resilient;
+          within = s .within;
+          elected-in = s .elected-in;
+          number-in = s .number-in;
           number-lt = s .number-lt;
           taken-le = (let z = larger-le (m .accepted .0) k .0 in let y = s .taken-le in omega arith);
           waiting = s .waiting;
@@ -83,6 +91,9 @@ module _ (m : Member) (typed : Typed m) where
           n-pos = s .n-pos;
           n-most = s .n-most;
           resilient = s .resilient;
+          within = s .within;
+          elected-in = s .elected-in;
+          number-in = s .number-in;
           number-lt = s .number-lt;
           taken-le = s .taken-le;
           waiting = s .waiting;
@@ -119,6 +130,9 @@ module _ (m : Member) (typed : Typed m) where
           n-pos = s .n-pos;
           n-most = s .n-most;
           resilient = s .resilient;
+          within = s .within;
+          elected-in = s .elected-in;
+          number-in = s .number-in;
           number-lt = s .number-lt;
           taken-le = ready;
           waiting = own-waiting (isOwn m message) (λ e. own-first m message e .0) (s .waiting);
@@ -136,14 +150,17 @@ module _ (group : Group) (number : MemberNumber) where
   unfolding freshMember
   fresh-typed h = record { group = h; taken = omega arith; accepted = omega arith; submitted = omega arith; queue = length-replicate waitingMost emptyMessage; held = length-replicate heldMost emptyMessage }
 
-  pub fresh-sound : 1 ≤ group .n → group .n ≤ membersMost → group .resilience < group .n → number .0 < group .n → Sound (freshMember group number)
+  pub fresh-sound : Standing group → isIn (group .survivors) (number .0) ≡ true → Sound (freshMember group number)
   unfolding freshMember
-  fresh-sound lo hi resilient inside =
+  fresh-sound stand inside =
       record {
-        n-pos = lo;
-        n-most = hi;
-        resilient = resilient;
-        number-lt = inside;
+        n-pos = stand .n-least;
+        n-most = stand .n-most;
+        resilient = stand .resilient;
+        within = stand .within;
+        elected-in = stand .elected-in;
+        number-in = inside;
+        number-lt = survivor-lt group stand (number .0) inside;
         taken-le = omega arith;
         waiting =
             record {

@@ -23,7 +23,7 @@ use Rattle.packet.specs.Laws.{Allowed}
 use Rattle.packet.specs.Packet.{headerOf, obeys, contentOf, fieldsOf, packetOf, payloadAt, readOf, written}
 use Rattle.packet.specs.declared.Header.{Header}
 use Rattle.packet.specs.declared.Packet.{Packet}
-use Rattle.packet.specs.declared.Packet.the-variants.{Request, Broadcast, Gap, Status, Poll, Offer, Confirm, Accept}
+use Rattle.packet.specs.declared.Packet.the-variants.{Request, Broadcast, Gap, Status, Poll, Offer, Confirm, Accept, Invitation, Result}
 use Rattle.packet.specs.declared.Reading.{Reading}
 use Rattle.packet.proofs.Facts.{KnownBy}
 use Rattle.packet.proofs.Laws.{read-written, fields-content}
@@ -151,7 +151,7 @@ holdable m originator number count payload least most short (typed, s) =
 acceptable : (m : Member) (number : ℕ) → number ≤ largestNumber → Right m → Right (withAccepted m number)
 acceptable m number most (typed, s) = (accepted-typed m typed number most, accepted-sound m typed number s)
 
-keepable : (m : Member) (g : ℕ) (content : Packet) (payload : List ℕ) → obeys (fieldsOf g content) ≡ true → fieldsOf g content .a ≤ largestNumber
+keepable : (m : Member) (g : ℕ) (content : Packet) (payload : List ℕ) → obeys (fieldsOf g content) payload ≡ true → fieldsOf g content .a ≤ largestNumber
     → length payload ≤ payloadMost → Right m → Keepable Right m content payload
 unfolding fieldsOf obeys if_then_else_
 keepable m g (Request sender taken count) payload obey most short right = tt
@@ -160,11 +160,14 @@ keepable m g (Broadcast originator number count floor) payload obey most short r
     (right′, holdable (withAccepted m (number .0)) originator (number .0) count payload (search says) most short right′)
 keepable m g (Gap sender taken first last) payload obey most short right = tt
 keepable m g (Status sender taken) payload obey most short right = tt
-keepable m g (Poll top floor) payload obey most short right = tt
+keepable m g (Poll elected top floor) payload obey most short right = tt
 keepable m g (Offer originator number count floor) payload obey most short right =
     (search says, holdable m originator (number .0) count payload (search says) most short right)
 keepable m g (Confirm sender number) payload obey most short right = tt
-keepable m g (Accept number) payload obey most short right = acceptable m (number .0) most right
+keepable m g (Accept elected number) payload obey most short right = acceptable m (number .0) most right
+keepable m g (Invitation sender attempt) payload obey most short right = tt
+keepable m g (Packet.Reply sender attempt number) payload obey most short right = tt
+keepable m g (Result sender attempt elected number) payload obey most short right = tt
 
 -- packets that a member wrote are packets that reading accepts
 own-writes : (o : Outcome) → Own [] o → WritesPacket o
@@ -180,9 +183,9 @@ pub read-keepable : (m : Member) (packet : List ℕ) → headerOf packet .a ≤ 
     → (fieldsOf (h .group) (contentOf h) .a ≤ largestNumber) × Keepable Right m (contentOf h) (payloadAt packet)
 read-keepable m packet most right h e =
     let r = readable packet h e in
-    let f = fields-content h (length packet - headerSize) (length packet - headerSize) (r .fields) in
+    let f = fields-content h (length packet - headerSize) (payloadAt packet) (r .fields) in
     let a : fieldsOf (h .group) (contentOf h) .a ≤ largestNumber = rw (f, r .header) most in
-    let o : obeys (fieldsOf (h .group) (contentOf h)) ≡ true = rw f (askable h _ _ (r .fields) .obey) in
+    let o : obeys (fieldsOf (h .group) (contentOf h)) (payloadAt packet) ≡ true = rw f (askable h _ _ (r .fields) .obey) in
     (a, keepable m (h .group) (contentOf h) (payloadAt packet) o a (r .payload) right)
 
 pub receive-keeps : ReceiveKeeps

@@ -25,7 +25,7 @@ use Rattle.message.proofs.Owning.{own-most}
 use Rattle.packet.specs.Packet.{headerOf, contentOf, fieldsOf, payloadAt, readOf, written}
 use Rattle.packet.specs.declared.Header.{Header}
 use Rattle.packet.specs.declared.Packet.{Packet}
-use Rattle.packet.specs.declared.Packet.the-variants.{Request, Broadcast, Gap, Status, Poll, Offer, Confirm, Accept}
+use Rattle.packet.specs.declared.Packet.the-variants.{Request, Broadcast, Gap, Status, Poll, Offer, Confirm, Accept, Invitation, Result}
 use Rattle.packet.specs.declared.Reading.{Reading}
 use Rattle.packet.proofs.Facts.{ordered, Voice, Facts, Says, Known, KnownBy, Louder}
 use Rattle.packet.proofs.Laws.{read-written, content-fields}
@@ -271,11 +271,14 @@ module _ (group : Group) (i acknowledged accepted : ℕ) (order took : List Orde
           (h′, λ a lo hi e. held-terminal (withAccepted m (number .0)) h′ originator (number .0) c payload (so .0) (λ _. larger-le (m .accepted .0) (number .0) .1) lo hi e (keep .1 a lo hi e))
       says-keepable (Gap sender taken first last) payload so keep = tt
       says-keepable (Status sender taken) payload so keep = tt
-      says-keepable (Poll top floor) payload so keep = tt
+      says-keepable (Poll elected top floor) payload so keep = tt
       says-keepable (Offer originator number c floor) payload so keep =
           (keep .0, λ a lo hi e. held-terminal m h originator (number .0) c payload (so .0) (λ q. let z = so .1 in absurd (omega arith)) lo hi e (keep .1 a lo hi e))
       says-keepable (Confirm sender number) payload so keep = tt
-      says-keepable (Accept number) payload so keep = accepted-terminal m h (number .0) (so .0) keep
+      says-keepable (Accept elected number) payload so keep = accepted-terminal m h (number .0) (so .0) keep
+      says-keepable (Invitation sender attempt) payload so keep = tt
+      says-keepable (Packet.Reply sender attempt number) payload so keep = tt
+      says-keepable (Result sender attempt elected number) payload so keep = tt
 
       module _ (bytes : List ℕ) (k : Known (group .number) facts bytes) where
         -- what is read of a packet that the group knows

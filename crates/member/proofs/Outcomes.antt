@@ -11,13 +11,14 @@ use Rattle.group.specs.Fold.{allAbove}
 use Rattle.group.specs.Lent.{Laid}
 use Rattle.group.specs.Limits.{heldMost, headerSize, waitingMost, payloadMost, longestPacket, largestNumber}
 use Rattle.group.specs.Question.{judged}
+use Rattle.group.specs.declared.Group.{Group}
 use Rattle.group.specs.declared.Refusal.{Refusal}
 use Rattle.group.specs.declared.SequenceNumber.{SequenceNumber}
 use Rattle.group.specs.declared.Verdict.{Verdict}
 use Rattle.group.specs.declared.Verdict.the-variants.{Accepted, Refused}
 use Rattle.group.proofs.Choice.{if-true, if-eq, if-ne, if-was, both-first, both-then, says}
 use Rattle.message.specs.Message.{Message, emptyMessage, payloadOf, blank}
-use Rattle.packet.specs.Packet.{obeys, contentOf, fieldsOf, packetOf, readOf}
+use Rattle.packet.specs.Packet.{obeys, contentOf, fieldsOf, packetOf, payloadAt, readOf, fromElected}
 use Rattle.packet.specs.declared.Header.{Header}
 use Rattle.packet.specs.declared.Packet.{Packet}
 use Rattle.packet.specs.declared.Reading.{Reading}
@@ -32,7 +33,7 @@ use Rattle.member.specs.Calls.{Outcome, answered, gapPacket, callVerdict
 use Rattle.member.specs.Promise.{replyOf, Changed, Told}
 use Rattle.member.specs.Sound.{soundOf}
 use Rattle.member.specs.State.{Member, reachOf, acknowledgedOf, firstCount}
-use Rattle.member.specs.Steps.{Spoken, Replied, memberOf}
+use Rattle.member.specs.Steps.{Spoken, Replied, memberOf, readOurs}
 use Rattle.member.specs.View.{Stored, viewOf}
 use Rattle.member.specs.Wording.{wordingOf}
 use Rattle.member.specs.declared.Answer.{Answer}
@@ -202,19 +203,42 @@ took m m′ message more written x y e n l =
     }
 
 -- of a packet that was read the fields of its content obey their kind
-pub read-obeys : (packet : List ℕ) (h : Header) (g : ℕ) (content : Packet) → readOf packet ≡ Fields h → h .group ≡ g → content ≡ contentOf h → obeys (fieldsOf g content) ≡ true
+pub read-obeys : (packet : List ℕ) (h : Header) (g : ℕ) (content : Packet) → readOf packet ≡ Fields h → h .group ≡ g → content ≡ contentOf h → obeys (fieldsOf g content) (payloadAt packet) ≡ true
 read-obeys packet h g content e n z =
     let r = readable packet h e in
-    let f = fields-content h (length packet - headerSize) (length packet - headerSize) (r .fields) in
+    let f = fields-content h (length packet - headerSize) (payloadAt packet) (r .fields) in
     let y : fieldsOf g content ≡ h = (λ i. fieldsOf (sym n i) (z i)) ∙ f in
-    ap obeys y ∙ askable h (length packet - headerSize) (length packet - headerSize) (r .fields) .obey
+    ap (λ (x : Header). obeys x (payloadAt packet)) y ∙ askable h (length packet - headerSize) (payloadAt packet) (r .fields) .obey
 
-module _ (m : Member) (reading : Reading) (h : Header) (payload : List ℕ) (e : reading ≡ Fields h) where
-  -- fields that were read are of our group, or they are not
-  pub ours : h .group ≡ m .group .number → contentStep m (contentOf h) payload ≡ readStep m reading payload
-  unfolding readStep
-  ours g = rw e (if-eq (h .group) (m .group .number) _ _ _ g refl)
+fields≢ : (h : Header) (q : Refusal) → Reading.Refused q ≡ Fields h → ⊥
+fields≢ h q e = let z : _≡_ {A = ℕ} 0 1 = cc in omega arith
 
-  pub others : (h .group ≡ m .group .number → ⊥) → refused m Refusal.OtherGroup ≡ readStep m reading payload
+-- fields that reading gives at this end were read, byte 1 is the elected member's where it has to be, and they are of our group
+pub read-ours : (group : Group) (reading : Reading) (h : Header) → readOurs group reading ≡ Fields h
+    → (reading ≡ Fields h) × (fromElected group (contentOf h) ≡ true) × (h .group ≡ group .number)
+unfolding readOurs
+read-ours group (Fields k) h e =
+    let f = if-was (fromElected group (contentOf k)) _ _ (Fields h) e (fields≢ h Refusal.ForbiddenFields) in
+    let g = if-was (k .group =? group .number) _ _ (Fields h) (f .1) (fields≢ h Refusal.OtherGroup) in
+    let same : k ≡ h = cc in
+    (ap Fields same, subst (λ (x : Header). fromElected group (contentOf x) ≡ true) same (f .0), subst (λ (x : Header). x .group ≡ group .number) same (eqb-true (k .group) (group .number) (g .0)))
+read-ours group (Reading.Refused q) h e = absurd (fields≢ h q e)
+
+module _ (m : Member) (payload : List ℕ) where
+  -- the step goes by what reading gives at this end
+  pub ours : (reading : Reading) (h : Header) → readOurs (m .group) reading ≡ Fields h → contentStep m (contentOf h) payload ≡ readStep m reading payload
   unfolding readStep
-  others g = rw e (if-ne (h .group) (m .group .number) _ _ _ g refl)
+  ours reading h e =
+      let r = read-ours (m .group) reading h e in
+      rw (r .0) (if-true (fromElected (m .group) (contentOf h)) _ _ _ (r .1) (if-eq (h .group) (m .group .number) _ _ _ (r .2) refl))
+
+  pub others : (reading : Reading) (q : Refusal) → readOurs (m .group) reading ≡ Reading.Refused q → refused m q ≡ readStep m reading payload
+  unfolding readOurs readStep if_then_else_
+  others (Fields h) q e = go (fromElected (m .group) (contentOf h)) (h .group =? m .group .number) e
+    where
+      go : (a b : Bool) → (if a then (if b then Fields h else Reading.Refused Refusal.OtherGroup) else Reading.Refused Refusal.ForbiddenFields) ≡ Reading.Refused q
+          → refused m q ≡ (if a then (if b then contentStep m (contentOf h) payload else refused m Refusal.OtherGroup) else refused m Refusal.ForbiddenFields)
+      go true true f = absurd (fields≢ h q (sym f))
+      go true false f = let z : Refusal.OtherGroup ≡ q = cc in ap (refused m) (sym z)
+      go false b f = let z : Refusal.ForbiddenFields ≡ q = cc in ap (refused m) (sym z)
+  others (Reading.Refused r) q e = let z : r ≡ q = cc in ap (refused m) (sym z)

@@ -18,10 +18,10 @@ use Rattle.group.proofs.Choice.{both-first, both-then}
 use Rattle.group.proofs.Lists.{if-elim}
 use Rattle.group.proofs.Members.{none-expected}
 use Rattle.message.specs.Message.{messageOf}
-use Rattle.packet.specs.Packet.{contentOf, fieldsOf, written}
+use Rattle.packet.specs.Packet.{contentOf, fieldsOf, written, fromElected}
 use Rattle.packet.specs.declared.Header.{Header}
 use Rattle.packet.specs.declared.Packet.{Packet}
-use Rattle.packet.specs.declared.Packet.the-variants.{Request, Broadcast, Gap, Status, Poll, Offer, Confirm, Accept}
+use Rattle.packet.specs.declared.Packet.the-variants.{Request, Broadcast, Gap, Status, Poll, Offer, Confirm, Accept, Invitation, Result}
 use Rattle.packet.specs.declared.Reading.{Reading}
 use Rattle.window.specs.Places.{smallerOf, isHeld, lowestMissing}
 use Rattle.member.specs.Calls.{Outcome, answered, withAccepted, withHeld, gapUpTo, keptOf, messageStep, broadcastOf, confirms, noneMissing, confirmedOf, offerOf, pollOf, contentStep, readStep}
@@ -53,10 +53,13 @@ Keepable S m (Broadcast originator number count floor) payload =
     S (withAccepted m (number .0)) × Holdable S (withAccepted m (number .0)) originator (number .0) count payload
 Keepable S m (Gap sender taken first last) payload = Unit {0}
 Keepable S m (Status sender taken) payload = Unit {0}
-Keepable S m (Poll top floor) payload = Unit {0}
+Keepable S m (Poll elected top floor) payload = Unit {0}
 Keepable S m (Offer originator number count floor) payload = (1 ≤ number .0) × Holdable S m originator (number .0) count payload
 Keepable S m (Confirm sender number) payload = Unit {0}
-Keepable S m (Accept number) payload = S (withAccepted m (number .0))
+Keepable S m (Accept elected number) payload = S (withAccepted m (number .0))
+Keepable S m (Invitation sender attempt) payload = Unit {0}
+Keepable S m (Packet.Reply sender attempt number) payload = Unit {0}
+Keepable S m (Result sender attempt elected number) payload = Unit {0}
 
 module _ (S : Member → Type 0) (typed-of : (m : Member) → S m → Typed m) (sound-of : (m : Member) → S m → Sound m) (before : Member) where
   module _ (m : Member) (s : S m) (up : Up before m) where
@@ -154,7 +157,7 @@ module _ (S : Member → Type 0) (typed-of : (m : Member) → S m → Typed m) (
       (λ _. same (Answer.Refused Refusal.UnknownMember))
   content-heard g (Gap sender taken first last) payload most keep = same (Answer.Refused Refusal.OtherEnd)
   content-heard g (Status sender taken) payload most keep = same (Answer.Refused Refusal.OtherEnd)
-  content-heard g (Poll top floor) payload most keep = poll-heard S typed-of sound-of m m s (up-refl m) top most
+  content-heard g (Poll elected top floor) payload most keep = poll-heard S typed-of sound-of m m s (up-refl m) top most
   content-heard g (Offer originator number count floor) payload most keep =
       if-elim (Heard S m) (originator .0 <? m .group .n)
       (λ a. confirmed-heard S typed-of sound-of m m s (up-refl m) (number .0) (messageStep m originator (number .0) count payload) (keep .0) most
@@ -162,7 +165,10 @@ module _ (S : Member → Type 0) (typed-of : (m : Member) → S m → Typed m) (
       (message-heard S typed-of sound-of m m s (up-refl m) originator (number .0) count payload most (ltb-true (originator .0) (m .group .n) a) (keep .1)))
       (λ _. same (Answer.Refused Refusal.UnknownMember))
   content-heard g (Confirm sender number) payload most keep = same (Answer.Refused Refusal.OtherEnd)
-  content-heard g (Accept number) payload most keep = quiet S typed-of sound-of m (withAccepted m (number .0)) keep (up-accepted m (number .0)) Answer.Noted
+  content-heard g (Accept elected number) payload most keep = quiet S typed-of sound-of m (withAccepted m (number .0)) keep (up-accepted m (number .0)) Answer.Noted
+  content-heard g (Invitation sender attempt) payload most keep = same (Answer.Refused Refusal.OtherEnd)
+  content-heard g (Packet.Reply sender attempt number) payload most keep = same (Answer.Refused Refusal.OtherEnd)
+  content-heard g (Result sender attempt elected number) payload most keep = same (Answer.Refused Refusal.OtherEnd)
 
   pub read-heard : (reading : Reading) (payload : List ℕ)
       → ((h : Header) → reading ≡ Reading.Fields h → (fieldsOf (h .group) (contentOf h) .a ≤ largestNumber) × Keepable S m (contentOf h) payload)
@@ -170,7 +176,9 @@ module _ (S : Member → Type 0) (typed-of : (m : Member) → S m → Typed m) (
   unfolding readStep
   read-heard (Reading.Fields h) payload keep =
       let k = keep h refl in
-      if-elim (Heard S m) (h .group =? m .group .number)
+      if-elim (Heard S m) (fromElected (m .group) (contentOf h))
+      (λ _. if-elim (Heard S m) (h .group =? m .group .number)
       (λ _. content-heard (h .group) (contentOf h) payload (k .0) (k .1))
-      (λ _. same (Answer.Refused Refusal.OtherGroup))
+      (λ _. same (Answer.Refused Refusal.OtherGroup)))
+      (λ _. same (Answer.Refused Refusal.ForbiddenFields))
   read-heard (Reading.Refused refusal) payload keep = same (Answer.Refused refusal)

@@ -34,10 +34,10 @@ module _ (m : Member) (typed : Typed m) (s : Sound m) where
       let enough = s .waiting .enough in
       let most = typed .submitted in
       let w = s .waiting .waits (firstCount m) (omega arith) (omega arith) in
-      let size = length (payloadOf (firstWaiting m)) in (
+      let payload = payloadOf (firstWaiting m) in (
         record { kind = omega arith; member = omega arith; group = typed .group; a = acknowledged-fits m typed; b = omega arith; c = omega arith },
-        accepted _ size longestPacket
-            (record { enough = omega arith; fields = request-fields (m .group .number) (m .number) (acknowledgedOf m) (firstCount m) size (omega arith); short = payload-short (firstWaiting m) (w .short) }),
+        accepted _ payload longestPacket
+            (record { enough = omega arith; fields = request-fields (m .group .number) (m .number) (acknowledgedOf m) (firstCount m) payload (omega arith); short = payload-short (firstWaiting m) (w .short) }),
       )
 
   pub gap-allowed : (first last : ℕ) → acknowledgedOf m .0 < first → first ≤ last → last ≤ largestNumber
@@ -45,7 +45,7 @@ module _ (m : Member) (typed : Typed m) (s : Sound m) where
   unfolding fieldsOf
   gap-allowed first last lo hi most = (
     record { kind = omega arith; member = omega arith; group = typed .group; a = acknowledged-fits m typed; b = omega arith; c = most },
-    accepted _ 0 longestPacket
+    accepted _ [] longestPacket
         (record { enough = omega arith; fields = gap-fields (m .group .number) (m .number) (acknowledgedOf m) (record { 0 = first }) (record { 0 = last }) lo hi; short = omega arith }),
   )
 
@@ -53,14 +53,14 @@ module _ (m : Member) (typed : Typed m) (s : Sound m) where
   unfolding fieldsOf
   status-allowed = (
     record { kind = omega arith; member = omega arith; group = typed .group; a = acknowledged-fits m typed; b = omega arith; c = omega arith },
-    accepted _ 0 longestPacket (record { enough = omega arith; fields = status-fields (m .group .number) (m .number) (acknowledgedOf m); short = omega arith }),
+    accepted _ [] longestPacket (record { enough = omega arith; fields = status-fields (m .group .number) (m .number) (acknowledgedOf m); short = omega arith }),
   )
 
   pub confirm-allowed : (number : ℕ) → 1 ≤ number → number ≤ largestNumber → Allowed (fieldsOf (m .group .number) (Confirm (m .number) (record { 0 = number }))) []
   unfolding fieldsOf
   confirm-allowed number least most = (
     record { kind = omega arith; member = omega arith; group = typed .group; a = most; b = omega arith; c = omega arith },
-    accepted _ 0 longestPacket (record { enough = omega arith; fields = confirm-fields (m .group .number) (m .number) (record { 0 = number }) least; short = omega arith }),
+    accepted _ [] longestPacket (record { enough = omega arith; fields = confirm-fields (m .group .number) (m .number) (record { 0 = number }) least; short = omega arith }),
   )
 
 -- the packets that a call wrote are its member's, and acknowledge and confirm no more than it does

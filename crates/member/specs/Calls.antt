@@ -15,7 +15,7 @@ use Rattle.group.specs.declared.Opened.the-variants.{Open}
 use Rattle.group.specs.declared.Refusal.{Refusal}
 use Rattle.group.specs.declared.Verdict.{Verdict}
 use Rattle.message.specs.Message.{Message, messageOf, emptyMessage, payloadOf}
-use Rattle.packet.specs.Packet.{contentOf, fieldsOf, packetOf, payloadAt, readOf}
+use Rattle.packet.specs.Packet.{contentOf, fieldsOf, packetOf, payloadAt, readOf, fromElected}
 use Rattle.packet.specs.declared.Packet.{Packet}
 use Rattle.packet.specs.declared.Reading.{Reading}
 use Rattle.packet.specs.declared.Reading.the-variants.{Fields}
@@ -199,7 +199,8 @@ pollOf m top =
     gapUpTo m (smallerOf (top .0) (m .taken .0 + heldMost)) Answer.Gap
     (record { member = m; answer = Answer.Status; bytes = statusPacket m })
 
--- what a packet of our group says: kinds 2, 5, 6 and 8 are for this end (question 8); byte 1 is below n (question 9)
+-- what a packet of our group says: kinds 2, 5, 6 and 8 are for this end (question 8); byte 1 is below n (question 9), as the
+-- elected member is; kinds 9 to 11 are for the terminal, both its ends
 unfoldable pub contentStep : Member → Packet → List ℕ → Outcome
 contentStep m (Packet.Request sender taken count) payload = refused m Refusal.OtherEnd
 contentStep m (Packet.Broadcast originator number count floor) payload =
@@ -207,16 +208,20 @@ contentStep m (Packet.Broadcast originator number count floor) payload =
     broadcastOf m originator (number .0) count payload
 contentStep m (Packet.Gap sender taken first last) payload = refused m Refusal.OtherEnd
 contentStep m (Packet.Status sender taken) payload = refused m Refusal.OtherEnd
-contentStep m (Packet.Poll top floor) payload = pollOf m top
+contentStep m (Packet.Poll elected top floor) payload = pollOf m top
 contentStep m (Packet.Offer originator number count floor) payload =
     ask originator .0 <? m .group .n or refused m Refusal.UnknownMember then
     offerOf m originator (number .0) count payload
 contentStep m (Packet.Confirm sender number) payload = refused m Refusal.OtherEnd
-contentStep m (Packet.Accept number) payload = answered (withAccepted m (number .0)) Answer.Noted
+contentStep m (Packet.Accept elected number) payload = answered (withAccepted m (number .0)) Answer.Noted
+contentStep m (Packet.Invitation sender attempt) payload = refused m Refusal.OtherEnd
+contentStep m (Packet.Reply sender attempt number) payload = refused m Refusal.OtherEnd
+contentStep m (Packet.Result sender attempt elected number) payload = refused m Refusal.OtherEnd
 
--- a packet that was read: question 7
+-- a packet that was read: question 6 of byte 1, then 7
 unfoldable pub readStep : Member → Reading → List ℕ → Outcome
 readStep m (Fields h) payload =
+    ask fromElected (m .group) (contentOf h) or refused m Refusal.ForbiddenFields then
     ask h .group =? m .group .number or refused m Refusal.OtherGroup then
     contentStep m (contentOf h) payload
 readStep m (Reading.Refused refusal) payload = refused m refusal

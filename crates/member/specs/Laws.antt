@@ -11,7 +11,7 @@ use Rattle.group.specs.Question.{Question, firstNo}
 use Rattle.group.specs.declared.Refusal.{Refusal}
 use Rattle.group.specs.declared.Verdict.{Verdict}
 use Rattle.packet.specs.Laws.{readQuestions}
-use Rattle.packet.specs.Packet.{broadcastKind, pollKind, offerKind, acceptKind, headerOf, readOf}
+use Rattle.packet.specs.Packet.{broadcastKind, pollKind, offerKind, acceptKind, headerOf, readOf, contentOf, fromElected}
 use Rattle.packet.specs.declared.Header.{Header}
 use Rattle.packet.specs.declared.Reading.{Reading}
 use Rattle.member.specs.Calls.{Outcome, refused, submitOf, repeatOf, statusOf, takeOf, receiveOf}
@@ -28,10 +28,11 @@ callQuestions m room =
     ∷ record { yes = longestPacket ≤? room; refusal = Refusal.ShortOutput }
     ∷ []
 
--- questions 7 to 9 of a packet's fields
+-- questions 6 of byte 1, and 7 to 9, of a packet's fields
 abbrev pub fieldsQuestions : Member → Header → List Question
 fieldsQuestions m h =
-    record { yes = h .group =? m .group .number; refusal = Refusal.OtherGroup }
+    record { yes = fromElected (m .group) (contentOf h); refusal = Refusal.ForbiddenFields }
+    ∷ record { yes = h .group =? m .group .number; refusal = Refusal.OtherGroup }
     ∷ record { yes = if h .kind =? broadcastKind then true else if h .kind =? pollKind then true else if h .kind =? offerKind then true else h .kind =? acceptKind; refusal = Refusal.OtherEnd }
     ∷ record { yes = h .member .0 <? m .group .n; refusal = Refusal.UnknownMember }
     ∷ []

@@ -4,14 +4,18 @@ use mathlib.Core.Bool.{Bool}
 use mathlib.Core.List.{List, []}
 use Prim.Native.Nat.{ℕ, _+_, _-_}
 use lib.ListN.{length}
-use Rattle.group.specs.Choice.{_and_, _=?_}
+use Rattle.group.specs.Choice.{ask_or_then_, _and_, _=?_}
 use Rattle.group.specs.Lent.{front}
 use Rattle.group.specs.Limits.{heldMost, largestNumber}
 use Rattle.group.specs.Members.{isIn, expectedOf}
+use Rattle.group.specs.declared.Group.{Group}
+use Rattle.group.specs.declared.Refusal.{Refusal}
 use Rattle.group.specs.declared.Verdict.{Verdict}
 use Rattle.message.specs.Message.{Message}
-use Rattle.packet.specs.Packet.{fieldsOf, packetOf}
+use Rattle.packet.specs.Packet.{contentOf, fieldsOf, packetOf, fromElected}
 use Rattle.packet.specs.declared.Packet.{Packet}
+use Rattle.packet.specs.declared.Reading.{Reading}
+use Rattle.packet.specs.declared.Reading.the-variants.{Fields}
 use Rattle.window.specs.Places.{messageAt, smallerOf, largerOf}
 use Rattle.window.specs.Steps.{Counted, lowestUncounted, rowCounted}
 use Rattle.member.specs.Calls.{Outcome, callVerdict, submitVerdict, submitOf, tookOf, confirms}
@@ -65,6 +69,14 @@ accepting head number =
 unfoldable pub confirmsBy : Head → List ℕ → ℕ → Answer → Bool
 confirmsBy head counts number answer =
     confirms answer and lowestUncounted counts (head .taken .0) (number - head .taken .0) =? 0 and isIn (expectedOf (head .group)) (head .number .0)
+
+-- a reading at this end: question 6 of byte 1, then 7
+unfoldable pub readOurs : Group → Reading → Reading
+readOurs group (Fields h) =
+    ask fromElected group (contentOf h) or Reading.Refused Refusal.ForbiddenFields then
+    ask h .group =? group .number or Reading.Refused Refusal.OtherGroup then
+    Fields h
+readOurs group (Reading.Refused refusal) = Reading.Refused refusal
 
 -- the request of a count and a payload, by a head and the counts of the places
 unfoldable pub requestIn : Head → List ℕ → ℕ → List ℕ → List ℕ

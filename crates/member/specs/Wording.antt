@@ -17,6 +17,6 @@ wordingOf BeyondGap = word "beyondgap" (packet ∷ [])
 wordingOf Gap = word "gap" (packet ∷ [])
 wordingOf Status = word "status" (packet ∷ [])
 wordingOf None = word "none" []
-wordingOf Noted = word "noted" []
+wordingOf Noted = word "noted" (anyPacket ∷ [])
 wordingOf (Took s originator count m) =
     word "took" (number (s .0) ∷ number (originator .0) ∷ number count ∷ payload ∷ more m ∷ [])

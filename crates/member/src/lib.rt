@@ -14,16 +14,16 @@ ghost use mathlib.Core.List.{[]};
 ghost use Prim.Native.Nat.{_+_, _-_, _*_, _≤_, _<_};
 ghost use lib.ListN.{length, take, getD};
 ghost use Rattle.group.specs.Lent.{Laid};
-ghost use Rattle.group.specs.Limits.{membersMost, heldMost, waitingMost, payloadMost, longestPacket, largestNumber};
+ghost use Rattle.group.specs.Limits.{heldMost, waitingMost, payloadMost, longestPacket, largestNumber};
 ghost use Rattle.group.specs.Opening.{descriptionOf};
-ghost use Rattle.packet.specs.Packet.{obeys, fieldsVerdict, fieldsOf, packetOf};
+ghost use Rattle.packet.specs.Packet.{obeys, fieldsVerdict, fieldsOf, packetOf, readOf};
 ghost use Rattle.store.specs.Places.{partOf, messagesIn};
 ghost use Rattle.window.specs.Places.{placeOf, queuePlace, smallerOf};
 ghost use Rattle.member.specs.Sound.{soundOf};
 ghost use Rattle.member.specs.Calls.{answered, callVerdict, submitVerdict, gapUpTo, keptOf, messageStep, broadcastOf, confirms, offerOf, pollOf, contentStep};
 ghost use Rattle.member.specs.View.{Sized, whole, viewOf};
 ghost use Rattle.member.specs.Promise.{Begins, Submitted, Received, Taken, Repeated, Reported, Ended};
-ghost use Rattle.member.specs.Steps.{emptyHanded, accepting, confirmsBy, requestIn, Tells, Hears, Submits, Hands};
+ghost use Rattle.member.specs.Steps.{emptyHanded, accepting, confirmsBy, readOurs, requestIn, Tells, Hears, Submits, Hands};
 
 // The numbers of a member: they go by value.
 #[repr(C)]
@@ -78,7 +78,7 @@ pub struct Begun {
 
 // Lays a packet without payload at the front of the output, and gives its length.
 fn put_bare(packet: Packet, group: u32, out: &mut [u8]) -> usize
-    requires { ⌜ (fieldsVerdict (fieldsOf group packet) 0 0 ≡ Verdict.Accepted) × (longestPacket ≤ length (now out)) ⌝ }
+    requires { ⌜ (fieldsVerdict (fieldsOf group packet) 0 [] ≡ Verdict.Accepted) × (longestPacket ≤ length (now out)) ⌝ }
     ensures { λ r. ⌜ Laid (packetOf (fieldsOf group packet) []) r (now (out .entry)) (now (out .exit)) ⌝ }
 {
     let none = [0u8; 0];
@@ -104,7 +104,7 @@ fn declined(head: Head, refusal: Refusal) -> Done
 }
 
 // Question 1.
-fn sound(
+pub fn sound(
     head: Head,
     queued: &[u32],
     held: &[u32],
@@ -147,7 +147,7 @@ fn sound(
 }
 
 // Questions 1 and 2, of every call.
-fn ask(
+pub fn ask(
     head: Head,
     queued: &[u32],
     held: &[u32],
@@ -471,7 +471,6 @@ fn has(answer: Answer) -> bool
 
 // Whether an offer with that answer is confirmed: nothing up to its number is missing, and the member is expected to confirm.
 fn confirmed(head: Head, held: &[u32; Group::HELD], number: SequenceNumber, answer: Answer) -> bool
-    requires { ⌜ head .group .n ≤ membersMost ⌝ }
     ensures { λ r. ⌜ r ≡ confirmsBy head (now (held .entry)) (number .0) answer ⌝ }
 {
     if has(answer) {
@@ -498,7 +497,7 @@ fn offer(
     payload: &[u8],
     out: &mut [u8],
 ) -> Reply
-    requires { ⌜ (head .group .n ≤ membersMost) × (1 ≤ number .0) × (length (now payload) ≤ payloadMost) × (longestPacket ≤ length (now out)) ⌝ }
+    requires { ⌜ (1 ≤ number .0) × (length (now payload) ≤ payloadMost) × (longestPacket ≤ length (now out)) ⌝ }
     ensures { λ r. ⌜ Hears head (messagesIn (now (held .entry)) (now («held_originators» .entry)) (now («held_lengths» .entry)) (now («held_payloads» .entry))) head (messagesIn (now (held .exit)) (now («held_originators» .exit)) (now («held_lengths» .exit)) (now («held_payloads» .exit))) (λ m. offerOf m originator (number .0) count (now (payload .entry))) r (now (out .entry)) (now (out .exit)) ⌝ }
 {
     let reply = message_step(
@@ -531,6 +530,26 @@ fn noted(head: Head, number: SequenceNumber) -> Done
     Done { head: next, reply }
 }
 
+// Reads a packet at this end: questions 3 to 6, then 6 of byte 1, and 7.
+fn read_ours(group: Group, packet: &[u8]) -> Reading
+    ensures { λ r. ⌜ r ≡ readOurs group (readOf (now (packet .entry))) ⌝ }
+{
+    let r = packet::read(packet);
+    match r {
+        Reading::Fields(h) => {
+            let said = Packet::of(h);
+            if said.from_elected(group) {
+                if h.group == group.number {
+                    return Reading::Fields(h);
+                }
+                return Reading::Refused(Refusal::OtherGroup);
+            }
+            Reading::Refused(Refusal::ForbiddenFields)
+        }
+        Reading::Refused(q) => Reading::Refused(q),
+    }
+}
+
 // What a packet of our group says: questions 8 and 9.
 fn content(
     head: Head,
@@ -542,7 +561,7 @@ fn content(
     payload: &[u8],
     out: &mut [u8],
 ) -> Done
-    requires { ⌜ (head .group .n ≤ membersMost) × (obeys (fieldsOf (head .group .number) packet) ≡ true) × (length (now payload) ≤ payloadMost) × (longestPacket ≤ length (now out)) ⌝ }
+    requires { ⌜ (obeys (fieldsOf (head .group .number) packet) (now payload) ≡ true) × (length (now payload) ≤ payloadMost) × (longestPacket ≤ length (now out)) ⌝ }
     ensures { λ r. ⌜ Hears head (messagesIn (now (held .entry)) (now («held_originators» .entry)) (now («held_lengths» .entry)) (now («held_payloads» .entry))) (r .head) (messagesIn (now (held .exit)) (now («held_originators» .exit)) (now («held_lengths» .exit)) (now («held_payloads» .exit))) (λ m. contentStep m packet (now (payload .entry))) (r .reply) (now (out .entry)) (now (out .exit)) ⌝ }
 {
     match packet {
@@ -568,7 +587,11 @@ fn content(
             }
             declined(head, Refusal::UnknownMember)
         }
-        Packet::Poll { top, floor: _ } => {
+        Packet::Poll {
+            elected: _,
+            top,
+            floor: _,
+        } => {
             let reply = poll(head, held, top, out);
             Done { head, reply }
         }
@@ -595,7 +618,7 @@ fn content(
             }
             declined(head, Refusal::UnknownMember)
         }
-        Packet::Accept { number } => noted(head, number),
+        Packet::Accept { elected: _, number } => noted(head, number),
         Packet::Request {
             sender: _,
             taken: _,
@@ -613,6 +636,21 @@ fn content(
         } => declined(head, Refusal::OtherEnd),
         Packet::Confirm {
             sender: _,
+            number: _,
+        } => declined(head, Refusal::OtherEnd),
+        Packet::Invitation {
+            sender: _,
+            attempt: _,
+        } => declined(head, Refusal::OtherEnd),
+        Packet::Reply {
+            sender: _,
+            attempt: _,
+            number: _,
+        } => declined(head, Refusal::OtherEnd),
+        Packet::Result {
+            sender: _,
+            attempt: _,
+            elected: _,
             number: _,
         } => declined(head, Refusal::OtherEnd),
     }
@@ -728,6 +766,8 @@ fn unopened(refusal: Refusal) -> Begun
     let none = Group {
         n: 0,
         resilience: 0,
+        survivors: 0,
+        elected: MemberNumber(0),
         number: 0,
     };
     let head = idle(none, MemberNumber(0));
@@ -864,24 +904,20 @@ pub fn receive_on(
     );
     match v {
         Verdict::Accepted => {
-            let r = packet::read(packet);
+            let r = read_ours(head.group, packet);
             match r {
                 Reading::Fields(h) => {
-                    if h.group == head.group.number {
-                        let end = Group::HEADER + packet::payload_length(packet);
-                        return content(
-                            head,
-                            held,
-                            held_originators,
-                            held_lengths,
-                            held_payloads,
-                            Packet::of(h),
-                            &packet[Group::HEADER..end],
-                            out,
-                        );
-                    }
-                    let reply = refused(Refusal::OtherGroup);
-                    Done { head, reply }
+                    let end = Group::HEADER + packet::payload_length(packet);
+                    content(
+                        head,
+                        held,
+                        held_originators,
+                        held_lengths,
+                        held_payloads,
+                        Packet::of(h),
+                        &packet[Group::HEADER..end],
+                        out,
+                    )
                 }
                 Reading::Refused(q) => {
                     let reply = refused(q);

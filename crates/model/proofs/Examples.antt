@@ -1,9 +1,9 @@
 -- The table of examples holds, and so do the examples of offers, by computation. Assumes nothing.
 use mathlib.Core.Path.{refl}
-use lib.Count.{trailingZeros, ones}
+use lib.Count.{trailingZeros, ones, onesIn}
 use Rattle.group.specs.Choice.{if_then_else_}
-use Rattle.group.specs.Fold.{all, allAbove, least}
-use Rattle.group.specs.Members.{lowestOf, othersOf, expectedOf}
+use Rattle.group.specs.Fold.{all, allAbove, leastOf}
+use Rattle.group.specs.Members.{lowestOf, othersOf, expectedOf, neededOf, groupSound}
 use Rattle.group.specs.Opening.{openOf}
 use Rattle.group.specs.Question.{judged}
 use Rattle.member.specs.Calls as member
@@ -18,7 +18,7 @@ use Rattle.model.specs.Resilient.{has, having}
 use Rattle.model.specs.Log.{gather, numberedIn, tookIn, tookAt, messagesAbove, lastNumber, above}
 use Rattle.model.specs.World.{happen, run, freshMembers, fresh}
 use Rattle.big_endian.specs.Number.{numberAt, bytesOf}
-use Rattle.packet.specs.Packet.{headerOf, knownKind, payloadFits, obeys, fieldsVerdict, readOf, headerBytes, packetOf, writeVerdict, writeOf, contentOf, fieldsOf, written}
+use Rattle.packet.specs.Packet.{headerOf, knownKind, payloadFits, obeys, fieldsVerdict, readOf, headerBytes, packetOf, writeVerdict, writeOf, contentOf, fieldsOf, written, fromElected}
 use Rattle.history.specs.Ask.{senderVerdict, countVerdict, wantedVerdict, expectedVerdict}
 use Rattle.history.specs.Marks.{markedOf, enoughOf, unmarkedOf, markSound}
 use Rattle.history.specs.Note.{largerOf, tableNoted, clearedOf}
@@ -34,7 +34,7 @@ use Rattle.window.specs.Places as window
 use Rattle.window.specs.Sound as windowSound
 
 computed : Examples × Offers
-unfolding if_then_else_ has having all allAbove least openOf judged member.answered reachOf acknowledgedOf member.requestPacket member.gapPacket member.statusPacket member.callVerdict member.submitVerdict member.withWaiting member.submitOf member.repeatOf member.statusOf member.confirmPacket member.withAccepted member.withHeld member.gapUpTo member.keptOf member.messageStep member.broadcastOf member.confirms member.confirmedOf member.offerOf window.largerOf window.smallerOf member.pollOf member.contentStep member.readStep member.receiveOf member.isOwn member.withTaken member.isReady member.tookOf member.takeOf member.openedOf member.freshOf windowSound.placeSound windowSound.queueSound windowSound.waitingSound windowSound.frameSound memberSound.soundOf window.lowestMissing window.rowEnd freshMember allZero messageOf emptyMessage payloadOf zeroBehind isEmpty takeRow closeMember closeFrom request broadcast statusOf requested holding gather numberedIn tookIn tookAt tookBy messagesAbove lastNumber above happen run freshMembers fresh numberAt bytesOf headerOf knownKind payloadFits obeys fieldsVerdict readOf headerBytes packetOf writeVerdict writeOf contentOf fieldsOf written sequencer.answered sequencer.announced sequencer.broadcastOf sequencer.pollPacket sequencer.acceptPacket sequencer.withMark sequencer.withAccepted sequencer.settledOf sequencer.confirmOf oneMore repeatsSum repeatsOf sequencer.repeatedOf isOf findOf sequencer.oldOf sequencer.againOf sequencer.fullOf sequencer.withMessage sequencer.numberedOf sequencer.requestOf sequencer.gapOf senderVerdict countVerdict wantedVerdict expectedVerdict sequencer.contentStep sequencer.readStep sequencer.callVerdict sequencer.receiveOf sequencer.pollOf sequencer.copyOf sequencer.openedOf sequencer.freshOf largerOf tableNoted clearedOf withTable noteOf numberedBy entrySound keptSound placeSound frameSound markedOf enoughOf unmarkedOf markSound lowestOf othersOf expectedOf trailingZeros ones soundOf floorOf freshSequencer
+unfolding if_then_else_ has having all allAbove leastOf groupSound fromElected neededOf onesIn openOf judged member.answered reachOf acknowledgedOf member.requestPacket member.gapPacket member.statusPacket member.callVerdict member.submitVerdict member.withWaiting member.submitOf member.repeatOf member.statusOf member.confirmPacket member.withAccepted member.withHeld member.gapUpTo member.keptOf member.messageStep member.broadcastOf member.confirms member.confirmedOf member.offerOf window.largerOf window.smallerOf member.pollOf member.contentStep member.readStep member.receiveOf member.isOwn member.withTaken member.isReady member.tookOf member.takeOf member.openedOf member.freshOf windowSound.placeSound windowSound.queueSound windowSound.waitingSound windowSound.frameSound memberSound.soundOf window.lowestMissing window.rowEnd freshMember allZero messageOf emptyMessage payloadOf zeroBehind isEmpty takeRow closeMember closeFrom request broadcast statusOf requested holding gather numberedIn tookIn tookAt tookBy messagesAbove lastNumber above happen run freshMembers fresh numberAt bytesOf headerOf knownKind payloadFits obeys fieldsVerdict readOf headerBytes packetOf writeVerdict writeOf contentOf fieldsOf written sequencer.answered sequencer.announced sequencer.broadcastOf sequencer.pollPacket sequencer.acceptPacket sequencer.withMark sequencer.withAccepted sequencer.settledOf sequencer.confirmOf oneMore repeatsSum repeatsOf sequencer.repeatedOf isOf findOf sequencer.oldOf sequencer.againOf sequencer.fullOf sequencer.withMessage sequencer.numberedOf sequencer.requestOf sequencer.gapOf senderVerdict countVerdict wantedVerdict expectedVerdict sequencer.contentStep sequencer.readStep sequencer.callVerdict sequencer.receiveOf sequencer.pollOf sequencer.copyOf sequencer.openedOf sequencer.freshOf largerOf tableNoted clearedOf withTable noteOf numberedBy entrySound keptSound placeSound frameSound markedOf enoughOf unmarkedOf markSound lowestOf othersOf expectedOf trailingZeros ones soundOf floorOf freshSequencer
 computed = (
   record {
     floor = refl;

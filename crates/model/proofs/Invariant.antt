@@ -1,9 +1,11 @@
 -- The invariant of the whole group: the parts that the ends' crates state, joined. Assumes nothing.
 use mathlib.Core.Path.{_≡_}
+use mathlib.Core.Bool.{true}
 use mathlib.Core.List.{List}
 use Prim.Native.Nat.{ℕ, _<_}
 use lib.ListN.{length, getD}
 use Rattle.group.proofs.Lists.{All}
+use Rattle.group.specs.Members.{isIn}
 use Rattle.group.specs.declared.Group as description
 use Rattle.member.proofs.Invariant.{voiceOf, Terminal}
 use Rattle.member.specs.State.{Member, reachOf, acknowledgedOf}
@@ -36,6 +38,8 @@ factsIn group w ord sb = factsOf group ord (w .sequencer .accepted .0) (voiceIn 
 
 -- the group under an order, what each terminal took, and what it submitted
 pub record Inv (group : description.Group) (w : Group) (ord : List Ordered) (tk : ℕ → List Ordered) (sb : ℕ → List (List ℕ)) : Type 0 where
+  -- all members survive
+  pub everybody : (i : ℕ) → i < group .n → isIn (group .survivors) i ≡ true
   pub sequencer : SequencerInv group (w .sequencer) ord
   pub confirmed : Confirmed group (w .sequencer) (reachIn (w .members))
   pub members : length (w .members) ≡ group .n

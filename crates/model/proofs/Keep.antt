@@ -27,7 +27,7 @@ use Rattle.sequencer.specs.Calls as sequencer
 use Rattle.sequencer.specs.Order.{numberedBy}
 
 -- what a terminal has after a call of the sequencer: the order grew
-content-grows : (i : ℕ) (m : Member) (ord more tk : List Ordered) (sb : List (List ℕ)) → Content i m ord tk sb → Owns i (ord ++ more) (requestedBy m sb)
+pub content-grows : (i : ℕ) (m : Member) (ord more tk : List Ordered) (sb : List (List ℕ)) → Content i m ord tk sb → Owns i (ord ++ more) (requestedBy m sb)
     → Content i m (ord ++ more) tk sb
 content-grows i m ord more tk sb h ho =
     let own = owns-taken i (firstCount m) (ord ++ more) sb ho in
@@ -46,7 +46,7 @@ content-grows i m ord more tk sb h ho =
     }
 
 -- and its seat: its entry and the last accepted number may have grown
-seat-grows : (group : description.Group) (i a a′ accepted accepted′ : ℕ) (m : Member) → Seat group i a accepted m → a′ ≤ acknowledgedOf m .0 → accepted ≤ accepted′
+pub seat-grows : (group : description.Group) (i a a′ accepted accepted′ : ℕ) (m : Member) → Seat group i a accepted m → a′ ≤ acknowledgedOf m .0 → accepted ≤ accepted′
     → Seat group i a′ accepted′ m
 seat-grows group i a a′ accepted accepted′ m h ha up =
     record {
@@ -74,6 +74,7 @@ keep-sequencer group w ord tk sb o v h =
       voice = λ i. record { row = le-refl _; reach = le-refl _; submitted = λ c p e. e };
     } in
     record {
+      everybody = v .everybody;
       sequencer = h .inv;
       confirmed = h .confirmed;
       members = v .members;
@@ -94,6 +95,7 @@ pub keep-member : (group : description.Group) (w : Group) (ord : List Ordered) (
     → Inv group (withMember w i o packets .group) ord tk′ sb′
 keep-member group w ord tk tk′ sb sb′ i o packets hi ht hs v h =
     record {
+      everybody = v .everybody;
       sequencer = v .sequencer;
       confirmed = confirmed-up group (w .sequencer) (reachIn (w .members)) (reachIn members′) (λ j. louder j .reach) (v .confirmed);
       members = length-set (w .members) i (o .member) ∙ v .members;

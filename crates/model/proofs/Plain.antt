@@ -29,7 +29,9 @@ use Rattle.model.specs.World.{Event, submit, repeat, status, poll, copy,
 use Rattle.model.specs.World as world
 use Rattle.packet.proofs.Facts.{Facts, Says, Known}
 use Rattle.packet.specs.declared.Packet.{Packet}
-use Rattle.packet.specs.declared.Packet.the-variants.{Request, Broadcast, Gap, Status, Poll, Offer, Confirm, Accept}
+use Rattle.packet.specs.Packet.{fromElected}
+use Rattle.group.specs.declared.Refusal.{Refusal}
+use Rattle.packet.specs.declared.Packet.the-variants.{Request, Broadcast, Gap, Status, Poll, Offer, Confirm, Accept, Invitation, Result}
 use Rattle.sequencer.proofs.Ordering.{received}
 use Rattle.sequencer.specs.Calls as sequencer
 use Rattle.sequencer.specs.Note.{noteOf}
@@ -56,19 +58,22 @@ module _ (f : Facts) (nobody : f .needed ≡ 0) where
   content-quiet : (s : Sequencer) (content : Packet) (payload : List ℕ) → Says f content payload → Quiet (sequencer.contentStep s content payload)
   unfolding sequencer.contentStep sequencer.gapOf sequencer.answered bySequencerOnly
   content-quiet s (Request sender taken count) payload so =
-      judged-elim Quiet (senderVerdict (s .group .n) (s .accepted .0) sender taken) (λ r e. refl)
+      judged-elim Quiet (senderVerdict (s .group .survivors) (s .accepted .0) sender taken) (λ r e. refl)
       (λ e. judged-elim Quiet (countVerdict (lastCount s sender) (s .top .0) count) (λ r g. refl) (λ g. request-quiet (noteOf s sender taken) sender count payload))
   content-quiet s (Broadcast originator number count floor) payload so = refl
   content-quiet s (Gap sender taken first last) payload so =
-      judged-elim Quiet (senderVerdict (s .group .n) (s .accepted .0) sender taken) (λ r e. refl)
+      judged-elim Quiet (senderVerdict (s .group .survivors) (s .accepted .0) sender taken) (λ r e. refl)
       (λ e. judged-elim Quiet (wantedVerdict (s .top .0) last) (λ r g. refl)
       (λ g. if-elim Quiet (last .0 ≤? noteOf s sender taken .floor .0) (λ t. refl) (λ t. refl)))
   content-quiet s (Status sender taken) payload so =
-      judged-elim Quiet (senderVerdict (s .group .n) (s .accepted .0) sender taken) (λ r e. refl) (λ e. refl)
-  content-quiet s (Poll top floor) payload so = refl
+      judged-elim Quiet (senderVerdict (s .group .survivors) (s .accepted .0) sender taken) (λ r e. refl) (λ e. refl)
+  content-quiet s (Poll elected top floor) payload so = refl
   content-quiet s (Offer originator number count floor) payload so = refl
   content-quiet s (Confirm sender number) payload so = let z = so .1 in absurd (omega arith)
-  content-quiet s (Accept number) payload so = refl
+  content-quiet s (Accept elected number) payload so = refl
+  content-quiet s (Invitation sender attempt) payload so = refl
+  content-quiet s (Packet.Reply sender attempt number) payload so = refl
+  content-quiet s (Result sender attempt elected number) payload so = refl
 
 poll-quiet : (s : Sequencer) → Quiet (sequencer.pollOf s longestPacket)
 unfolding sequencer.pollOf sequencer.answered bySequencerOnly
@@ -101,10 +106,13 @@ module _ (f : Facts) (nobody : f .needed ≡ 0) where
       if-elim Silent (originator .0 <? m .group .n) (λ _. message-silent _ originator (number .0) count payload) (λ _. refl)
   content-silent m (Gap sender taken first last) payload so = refl
   content-silent m (Status sender taken) payload so = refl
-  content-silent m (Poll top floor) payload so = gap-silent m _ memberAnswer.Answer.Gap (record { member = m; answer = memberAnswer.Answer.Status; bytes = member.statusPacket m }) refl refl
+  content-silent m (Poll elected top floor) payload so = gap-silent m _ memberAnswer.Answer.Gap (record { member = m; answer = memberAnswer.Answer.Status; bytes = member.statusPacket m }) refl refl
   content-silent m (Offer originator number count floor) payload so = let z = so .1 in absurd (omega arith)
   content-silent m (Confirm sender number) payload so = refl
-  content-silent m (Accept number) payload so = let z = so .1 in absurd (omega arith)
+  content-silent m (Accept elected number) payload so = let z = so .1 in absurd (omega arith)
+  content-silent m (Invitation sender attempt) payload so = refl
+  content-silent m (Packet.Reply sender attempt number) payload so = refl
+  content-silent m (Result sender attempt elected number) payload so = refl
 
 submit-silent : (m : Member) (payload : List ℕ) → Silent (member.submitOf m payload longestPacket)
 unfolding member.submitOf member.answered byMemberOnly
@@ -125,6 +133,14 @@ unfolding member.takeOf member.tookOf member.answered byMemberOnly
 take-silent m = judged-elim Silent (member.callVerdict m longestPacket) (λ r e. refl) (λ e. if-elim Silent (member.isReady m (m .taken .0 + 1)) (λ _. refl) (λ _. refl))
 
 -- an event, and a list of events
+refused-silent : (m : Member) → Silent (member.refused m Refusal.ForbiddenFields)
+unfolding member.answered byMemberOnly
+refused-silent m = refl
+
+refused-quiet : (s : Sequencer) → Quiet (sequencer.refused s Refusal.ForbiddenFields)
+unfolding sequencer.answered bySequencerOnly
+refused-quiet s = refl
+
 abbrev Plainly : Happened → Type 0
 Plainly d = isOffering (d .answer) ≡ false
 
@@ -144,13 +160,14 @@ module _ (group : description.Group) (nobody : neededOf group ≡ 0) where
         let h = v .terminal i b in
         subst (λ (bytes : List ℕ). Silent (member.receiveOf m bytes longestPacket)) (sym (k .bytes-are))
         (subst Silent (sym (receive-is m group (k .content) (k .payload) (h .content .sound) (h .seat .group-is) (k .allowed)))
-        (content-silent facts nobody m (k .content) (k .payload) (k .says)))
+        (if-elim Silent (fromElected (m .group) (k .content)) (λ _. content-silent facts nobody m (k .content) (k .payload) (k .says)) (λ _. refused-silent m)))
 
     sequencer-plain : (p : List ℕ) → Known (group .number) facts p → Quiet (sequencer.receiveOf (w .group .sequencer) p longestPacket)
     sequencer-plain p k =
         let s : Sequencer = w .group .sequencer in
         subst (λ (bytes : List ℕ). Quiet (sequencer.receiveOf s bytes longestPacket)) (sym (k .bytes-are))
-        (subst Quiet (sym (received group (order (w .log)) s (v .sequencer) (k .content) (k .payload) (k .allowed))) (content-quiet facts nobody s (k .content) (k .payload) (k .says)))
+        (subst Quiet (sym (received group (order (w .log)) s (v .sequencer) (k .content) (k .payload) (k .allowed)))
+        (if-elim Quiet (fromElected (s .group) (k .content)) (λ _. content-quiet facts nobody s (k .content) (k .payload) (k .says)) (λ _. refused-quiet s)))
 
     happen-plain : (e : Event) → Plainly (happen (w .group) e)
     unfolding happen isOffering

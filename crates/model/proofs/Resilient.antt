@@ -14,7 +14,8 @@ use lib.Seq.{length-take-le}
 use Rattle.group.proofs.Choice.{if-false, both-hold, both-first, both-then}
 use Rattle.group.proofs.Counting.{one, count, count-mono, one-false}
 use Rattle.group.proofs.Lists.{if-elim, le-or, at, at-some, at-take, All, all-get}
-use Rattle.group.proofs.Members.{others-in}
+use Rattle.group.proofs.Expected.{needed-are}
+use Rattle.group.proofs.Members.{Standing, fresh-standing, others-in}
 use Rattle.group.specs.Choice.{if_then_else_, _and_, _<?_, _≤?_}
 use Rattle.group.specs.Limits.{heldMost}
 use Rattle.group.specs.Members.{isIn, othersOf, neededOf}
@@ -38,7 +39,7 @@ use Rattle.packet.proofs.Facts.{Facts, Says, Known}
 use Rattle.packet.proofs.RoundTrip.{header-back}
 use Rattle.packet.specs.Packet.{pollKind, headerOf, fieldsOf}
 use Rattle.packet.specs.declared.Packet.{Packet}
-use Rattle.packet.specs.declared.Packet.the-variants.{Request, Broadcast, Gap, Status, Poll, Offer, Confirm, Accept}
+use Rattle.packet.specs.declared.Packet.the-variants.{Request, Broadcast, Gap, Status, Poll, Offer, Confirm, Accept, Invitation, Result}
 use Rattle.sequencer.proofs.Invariant.{reaches}
 use Rattle.window.specs.Places.{messageAt, isHeld}
 
@@ -63,14 +64,14 @@ unfolding having count
 having-count [] s = refl
 having-count (m ∷ l) s = let y = one-of (has m s) in let z = having-count l s in omega arith
 
-module _ (group : description.Group) (low : 1 ≤ group .n) where
+module _ (group : description.Group) (standing : Standing group) (first-elected : group .elected .0 ≡ 0) where
   -- of the members other than the elected
   others-having : (l : List Member) (s : ℕ) → length l ≡ group .n → count (group .n) (λ i. isIn (othersOf group) i and has (getD l i noMember) s) ≤ having (drop 1 l) s
   unfolding count
-  others-having [] s e = absurd (omega arith)
+  others-having [] s e = absurd (let z = standing .n-least in omega arith)
   others-having (m ∷ l) s e =
       subst (λ (n : ℕ). count n (λ i. isIn (othersOf group) i and has (getD (m ∷ l) i noMember) s) ≤ having l s) e
-      (let first = one-false (isIn (othersOf group) 0 and has m s) (λ t. others-in group low 0 (both-first (isIn (othersOf group) 0) _ t) .1 refl) in
+      (let first = one-false (isIn (othersOf group) 0 and has m s) (λ t. others-in group standing 0 (both-first (isIn (othersOf group) 0) _ t) .1 (sym first-elected)) in
       let rest = count-mono (length l) (λ i. isIn (othersOf group) (suc i) and has (getD l i noMember) s) (λ i. has (getD l i noMember) s)
       (λ i b t. both-then (isIn (othersOf group) (suc i)) _ t) in
       let z = having-count l s in
@@ -98,7 +99,10 @@ reached n number resilience o events =
 
 pub resilient : Resilient
 resilient n number resilience o events i s b least most =
-    resilient-in (descriptionOf n number resilience) (o .least) (run (fresh n number resilience) events) (reached n number resilience o events) i s b most
+    let group : description.Group = descriptionOf n number resilience in
+    let stand : Standing group = fresh-standing n number resilience (o .least) (o .most) (o .resilient) in
+    rw (needed-are n number resilience (o .most) (o .resilient)) at
+    (resilient-in group stand refl (run (fresh n number resilience) events) (reached n number resilience o events) i s b most)
 
 -- what a member has is the order's
 number-of : {A : Type 0} (l : List A) (s : ℕ) {x : A} → 1 ≤ s → at l s ≡ some x → getElem? l (s - 1) ≡ some x
@@ -144,10 +148,13 @@ module _ (group : description.Group) (none : neededOf group ≡ 0) (w : World) (
   plain-kind (Broadcast originator number count floor) payload so = omega arith
   plain-kind (Gap sender taken first last) payload so = omega arith
   plain-kind (Status sender taken) payload so = omega arith
-  plain-kind (Poll top floor) payload so = omega arith
+  plain-kind (Poll elected top floor) payload so = omega arith
   plain-kind (Offer originator number count floor) payload so = let z = so .1 in absurd (omega arith)
   plain-kind (Confirm sender number) payload so = let z = so .1 in absurd (omega arith)
-  plain-kind (Accept number) payload so = let z = so .1 in absurd (omega arith)
+  plain-kind (Accept elected number) payload so = let z = so .1 in absurd (omega arith)
+  plain-kind (Invitation sender attempt) payload so = absurd so
+  plain-kind (Packet.Reply sender attempt number) payload so = absurd so
+  plain-kind (Result sender attempt elected number) payload so = absurd so
 
   plain-packet : (p : List ℕ) → Known (group .number) (factsIn group (w .group) (order (w .log)) (λ i. submitted i (w .log))) p → headerOf p .kind ≤ pollKind
   plain-packet p k =
@@ -187,9 +194,9 @@ module _ (group : description.Group) (none : neededOf group ≡ 0) (w : World) (
 
 fresh-said : (n number : ℕ) → Opens n number 0 → (events : List Event) → All (λ (entry : Entry). isOffering (entry .answer) ≡ false) (run (fresh n number 0) events .log)
 unfolding fresh
-fresh-said n number o events = answers-plain (descriptionOf n number 0) refl (o .most) (o .fits) (fresh n number 0) events (fresh-inv n number 0 o) tt
+fresh-said n number o events = answers-plain (descriptionOf n number 0) (needed-are n number 0 (o .most) (o .resilient)) (o .most) (o .fits) (fresh n number 0) events (fresh-inv n number 0 o) tt
 
 pub without-offers : WithoutOffers
 without-offers n number o events =
-    plain (descriptionOf n number 0) refl (run (fresh n number 0) events) (reached n number 0 o events)
+    plain (descriptionOf n number 0) (needed-are n number 0 (o .most) (o .resilient)) (run (fresh n number 0) events) (reached n number 0 o events)
     (fresh-said n number o events)

@@ -80,12 +80,12 @@ record CopyEffect (g : Group) (bytes : List ℕ) (d : Happened) : Type 0 where
   quiet : numberedIn (d .answer) ≡ []
 
 -- what a call writes that lays at least one byte
-written-one : (bytes : List ℕ) → 1 ≤ length bytes → written bytes ≡ bytes ∷ []
+pub written-one : (bytes : List ℕ) → 1 ≤ length bytes → written bytes ≡ bytes ∷ []
 unfolding written
 written-one [] h = absurd (omega arith)
 written-one (b ∷ l) h = refl
 
-packet-long : (h : Packet) (g : ℕ) (payload : List ℕ) → 1 ≤ length (packetOf (fieldsOf g h) payload)
+pub packet-long : (h : Packet) (g : ℕ) (payload : List ℕ) → 1 ≤ length (packetOf (fieldsOf g h) payload)
 packet-long h g payload = let z = packet-length (fieldsOf g h) payload in omega arith
 
 copy-effect : (g : Group) (k : ℕ) (content : Packet) (number : ℕ) (payload : List ℕ)
@@ -192,7 +192,7 @@ noted-effect group ord g i t b bytes e o v hi =
 order-next : (w : World) (e : Event) → numberedIn (happen (w .group) e .answer) ≡ [] → order (step w e .log) ≡ order (w .log)
 order-next w e q = gather-snoc _ (w .log) _ ∙ ap (λ (l : List Ordered). order (w .log) ++ l) q ∙ append-nil (order (w .log))
 
-length-snoc : {A : Type 0} (l : List A) (x : A) → length (l ++ (x ∷ [])) ≡ length l + 1
+pub length-snoc : {A : Type 0} (l : List A) (x : A) → length (l ++ (x ∷ [])) ≡ length l + 1
 length-snoc l x = simp length-append
 
 -- terminal i took numbers, up to t′, and p packets were written
@@ -291,7 +291,7 @@ module _ (group : description.Group) (hn : group .n ≤ membersMost) (hg : group
       let most = acknowledged-most h in
       let sent = status-ok group i _ _ _ _ _ m h in
       let noted : sequencer.receiveOf q1 (member.statusPacket m) longestPacket ≡ sequencer.answered (noteOf q1 (m .number) (acknowledgedOf m)) Noted =
-      rw (sent .0) (sequencerOrdering.status-ok group (order (w1 .log)) q1 s1 (m .number) (acknowledgedOf m) (sent .1) (omega arith) (omega arith)) in
+      rw (sent .0) (sequencerOrdering.status-ok group (order (w1 .log)) q1 s1 (m .number) (acknowledgedOf m) (sent .1) (rw number (v .everybody i hi)) (omega arith)) in
       let d = noted-effect group (order (w1 .log)) (w1 .group) (m .number) (acknowledgedOf m) b (member.statusPacket m) at-b noted s1 (omega arith) in
       record {
         accepted-is = d .accepted-is ∙ accepted1;

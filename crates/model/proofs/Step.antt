@@ -14,6 +14,7 @@ use Rattle.group.proofs.Choice.{choices, tests, if-true, if-false}
 use Rattle.group.proofs.Lists.{if-elim, at, all-get}
 use Rattle.group.specs.Choice.{if_then_else_, _<?_, _=?_}
 use Rattle.group.specs.Limits.{membersMost, largestNumber, longestPacket}
+use Rattle.group.proofs.Members.{in-all, Standing, fresh-standing}
 use Rattle.group.specs.Opening.{descriptionOf, openOf}
 use Rattle.group.specs.declared.Opened.{Opened}
 use Rattle.group.specs.declared.Group as description
@@ -263,14 +264,16 @@ pub fresh-inv : (n g r : ℕ) → Opens n g r → WorldInv (descriptionOf n g r)
 unfolding fresh freshSequencer gather
 fresh-inv n g r o =
     let group : description.Group = descriptionOf n g r in
+    let stand : Standing group = fresh-standing n g r (o .least) (o .most) (o .resilient) in
     record {
-      sequencer = rw (open-sequencer n g r o) (histories.fresh-inv group (o .least) (o .most) (o .resilient) (o .fits));
-      confirmed = rw (open-sequencer n g r o) (histories.fresh-confirmed group (o .least) (o .most) (o .resilient) (o .fits) (reachIn (freshMembers n g r 0 n)));
+      everybody = in-all n;
+      sequencer = rw (open-sequencer n g r o) (histories.fresh-inv group stand (o .fits));
+      confirmed = rw (open-sequencer n g r o) (histories.fresh-confirmed group stand (o .fits) (reachIn (freshMembers n g r 0 n)));
       members = members-length n g r 0 n;
       terminal = λ i b.
           let z : getD (replicate membersMost noAcknowledgement) i noAcknowledgement ≡ noAcknowledgement = getD-replicate membersMost i noAcknowledgement noAcknowledgement (let y = o .most in omega arith) in
           let y : getD (freshMembers n g r 0 n) i noMember ≡ freshMember group (record { 0 = i }) =
           members-at n g r 0 n i b ∙ ap (λ (x : ℕ). member.freshOf n (record { 0 = x }) g r .member) (zero-add i) ∙ open-member n g r o i b in
-          rw (open-sequencer n g r o, z, y) (fresh-terminal group i (o .least) (o .most) (o .resilient) b (o .fits));
+          rw (open-sequencer n g r o, z, y) (fresh-terminal group i stand (in-all n i b) (o .fits));
       packets = tt;
     }

@@ -23,7 +23,7 @@ use Rattle.message.specs.Message.{Message, messageOf, payloadOf}
 use Rattle.message.specs.Order.{Ordered, Submission, ownOf, countedFrom}
 use Rattle.model.proofs.Invariant.{WorldInv, acknowledgedIn}
 use Rattle.model.specs.Claim.{sum, withoutLast}
-use Rattle.model.specs.Log.{order, taken, submitted, accepted, orderedAt, messagesAbove, historyOf, acceptedHistory, acceptedOrder, lastNumber, above, rowOf, owed}
+use Rattle.model.specs.Log.{order, taken, submitted, accepted, orderedAt, messagesAbove, historyOf, acceptedHistory, acceptedOrder, lastNumber, above, rowOf, owedAfter, owed}
 use Rattle.model.specs.World.{World, noMember}
 use Rattle.history.specs.State.{messageAt}
 use Rattle.sequencer.proofs.Ordering.{floor-below}
@@ -137,19 +137,15 @@ row-is i m ord took sb h numbered =
 
 -- floor is at most what each terminal acknowledges
 pub floor-le : (group : description.Group) (w : World) (i : ℕ) → WorldInv group w → i < group .n → w .group .sequencer .floor .0 ≤ acknowledgedIn (w .group .members) i
-floor-le group w i v b = le-trans (floor-below group _ (w .group .sequencer) (v .sequencer) i b) (v .terminal i b .seat .acknowledged-le)
+floor-le group w i v b = le-trans (floor-below group _ (w .group .sequencer) (v .sequencer) i (v .everybody i b)) (v .terminal i b .seat .acknowledged-le)
 
--- what a terminal took, and is owed
-pub whole : (group : description.Group) (w : World) (i : ℕ) → WorldInv group w → i < group .n → taken i (w .log) ++ owed w i ≡ acceptedOrder w
-whole group w i v b =
-    let q : Sequencer = w .group .sequencer in
+-- what a terminal took, and is owed by a sequencer whose floor is at most what it acknowledges
+pub whole-of : (group : description.Group) (q : Sequencer) (ord : List Ordered) → SequencerInv group q ord → (i acknowledged : ℕ) (m : Member) (took : List Ordered) (sb : List (List ℕ))
+    → Terminal group i acknowledged (q .accepted .0) m ord took sb → q .floor .0 ≤ acknowledgedOf m .0 → took ++ owedAfter took (rowOf m) (acceptedHistory q) ≡ take (q .accepted .0) ord
+whole-of group q ord s i acknowledged m took sb h fle =
     let f : ℕ = q .floor .0 in
-    let ord : List Ordered = order (w .log) in
-    let m : Member = getD (w .group .members) i noMember in
     let t : ℕ = m .taken .0 in
     let a : ℕ = acknowledgedOf m .0 in
-    let h = v .terminal i b in
-    let s = v .sequencer in
     let first : List Ordered = firstOf q ord in
     let sound = sound-of q (s .sound) in
     let high = sound .accepted-le in
@@ -157,26 +153,29 @@ whole group w i v b =
     let most = acknowledged-most h in
     let size = length-take-le (q .accepted .0) ord (omega arith) in
     let least = acknowledged-least m (member.sound-of m (h .content .sound)) in
-    let fle : f ≤ a = floor-le group w i v b in
     let row : List Ordered = rowOf m in
     let up : t + (a - t) ≡ a = omega arith in
     let cut : f + (a - f) ≡ a = omega arith in
-    let has : taken i (w .log) ++ row ≡ take a first =
+    let has : took ++ row ≡ take a first =
     ap₂ (λ (x y : List Ordered). x ++ y) (h .content .took-is) (row-is i m ord _ _ (h .content) (s .number-is))
     ∙ sym (take-add t (a - t) ord) ∙ ap (λ (k : ℕ). take k ord) up ∙ sym (take-take a (q .accepted .0) ord most) in
-    let runs-first : Runs 0 first = runs-take 0 (q .accepted .0) ord (runs ord s) in
-    let last : lastNumber (taken i (w .log) ++ row) ≡ a =
+    let runs-first : Runs 0 first = runs-take 0 (q .accepted .0) ord runs in
+    let last : lastNumber (took ++ row) ≡ a =
     ap lastNumber has ∙ last-is (take a first) (runs-take 0 a first runs-first) ∙ length-take-le a first (omega arith) in
-    let rest : above (lastNumber (taken i (w .log) ++ row)) (acceptedHistory q) ≡ drop a first =
+    let rest : above (lastNumber (took ++ row)) (acceptedHistory q) ≡ drop a first =
     ap₂ above last (accepted-is group q ord s)
     ∙ ap (λ (k : ℕ). above k (drop f first)) (sym cut)
     ∙ above-drop f (a - f) (drop f first) (λ r x e. let z = runs-drop 0 f first runs-first r x e in omega arith)
     ∙ drop-drop (a - f) f first
     ∙ ap (λ (k : ℕ). drop k first) cut in
-    sym (append-assoc (taken i (w .log)) row _) ∙ ap₂ (λ (x y : List Ordered). x ++ y) has rest ∙ take-append-drop a first
+    sym (append-assoc took row _) ∙ ap₂ (λ (x y : List Ordered). x ++ y) has rest ∙ take-append-drop a first
   where
-    runs : (ord : List Ordered) → SequencerInv group (w .group .sequencer) ord → Runs 0 ord
-    runs ord s r x e = let z = s .number-is r x e in omega arith
+    runs : Runs 0 ord
+    runs r x e = let z = s .number-is r x e in omega arith
+
+pub whole : (group : description.Group) (w : World) (i : ℕ) → WorldInv group w → i < group .n → taken i (w .log) ++ owed w i ≡ acceptedOrder w
+whole group w i v b =
+    whole-of group (w .group .sequencer) (order (w .log)) (v .sequencer) i _ (getD (w .group .members) i noMember) (taken i (w .log)) _ (v .terminal i b) (floor-le group w i v b)
 
 -- the sum over all terminals
 sum-is : (n x : ℕ) (f : ℕ → ℕ) → ((i : ℕ) → i < n → f i ≡ x) → sum n f ≡ n * x
@@ -203,20 +202,20 @@ counted-take a zero l = refl
 counted-take a (suc k) [] = refl
 counted-take a (suc k) (x ∷ l) = ap (λ (r : List Submission). record { count = a; payload = x } ∷ r) (counted-take (a + 1) k l)
 
-pub owns : (group : description.Group) (w : World) (i : ℕ) → WorldInv group w → i < group .n
-    → (k : ℕ) × (k ≤ waitingMost) × (ownOf i (order (w .log)) ≡ withoutLast k (accepted i (w .log)))
-owns group w i v b =
-    let h = v .terminal i b .content in
-    let m : Member = getD (w .group .members) i noMember in
-    let sb : List (List ℕ) = submitted i (w .log) in
-    let p : ℕ = length (ownOf i (order (w .log))) in
+pub owns-of : (i : ℕ) (m : Member) (ord took : List Ordered) (sb : List (List ℕ)) → Content i m ord took sb → (k : ℕ) × (k ≤ waitingMost) × (ownOf i ord ≡ withoutLast k (countedFrom 1 sb))
+owns-of i m ord took sb h =
+    let p : ℕ = length (ownOf i ord) in
     let len = counted-length 1 sb in
-    let this : ownOf i (order (w .log)) ≡ take p (accepted i (w .log)) = h .own-is ∙ counted-take 1 p sb in
+    let this : ownOf i ord ≡ take p (countedFrom 1 sb) = h .own-is ∙ counted-take 1 p sb in
     let near = numbered-near h .0 in
-    let le = own-most i (order (w .log)) sb (h .own-is) in
+    let le = own-most i ord sb (h .own-is) in
     let size = h .submitted-is in
     let waits = member.sound-of m (h .sound) .waiting in
     let most = waits .most in
     let enough = waits .enough in
-    let y : p ≡ length (accepted i (w .log)) - (m .submitted - p) = omega arith in
-    (m .submitted - p, omega arith, this ∙ ap (λ (k : ℕ). take k (accepted i (w .log))) y)
+    let y : p ≡ length (countedFrom 1 sb) - (m .submitted - p) = omega arith in
+    (m .submitted - p, omega arith, this ∙ ap (λ (k : ℕ). take k (countedFrom 1 sb)) y)
+
+pub owns : (group : description.Group) (w : World) (i : ℕ) → WorldInv group w → i < group .n
+    → (k : ℕ) × (k ≤ waitingMost) × (ownOf i (order (w .log)) ≡ withoutLast k (accepted i (w .log)))
+owns group w i v b = owns-of i (getD (w .group .members) i noMember) (order (w .log)) (taken i (w .log)) (submitted i (w .log)) (v .terminal i b .content)

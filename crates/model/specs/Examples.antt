@@ -4,6 +4,7 @@ use mathlib.Core.Path.{_≡_}
 use mathlib.Core.List.{List, [], _∷_, _++_, map}
 use Prim.Native.Nat.{ℕ, zero, suc, _+_}
 use lib.ListN.{length, replicate}
+use Rattle.group.specs.Members.{allOf}
 use Rattle.group.specs.Limits.{headerSize, payloadMost, longestPacket, placesMost, heldMost}
 use Rattle.group.specs.Opening.{descriptionOf}
 use Rattle.group.specs.declared.Refusal.{Refusal}
@@ -81,7 +82,7 @@ ab = 0x01 ∷ 0x01 ∷ 0x00 ∷ 0x02 ∷ 0x00 ∷ 0x00 ∷ 0x00 ∷ 0x07 ∷ 0x0
 
 pub record Examples : Type 0 where
   -- acknowledgements 8, 7, 9, 8, 6, 8 give floor 6
-  pub floor : floorOf 6 (acknowledgedUpTo 8 ∷ acknowledgedUpTo 7 ∷ acknowledgedUpTo 9 ∷ acknowledgedUpTo 8 ∷ acknowledgedUpTo 6 ∷ acknowledgedUpTo 8 ∷ []) ≡ 6
+  pub floor : floorOf (allOf 6) (acknowledgedUpTo 8 ∷ acknowledgedUpTo 7 ∷ acknowledgedUpTo 9 ∷ acknowledgedUpTo 8 ∷ acknowledgedUpTo 6 ∷ acknowledgedUpTo 8 ∷ []) ≡ 6
   -- payload 240 goes, 241 is 13: submitted, and written
   pub submit-240 : member.submitOf (holding 0) (replicate 240 1) longestPacket .answer ≡ memberAnswer.Answer.Sent
   pub submit-241 : member.submitOf (holding 0) (replicate 241 1) longestPacket .answer ≡ memberAnswer.Answer.Refused Refusal.LongPayload

@@ -37,7 +37,7 @@ abbrev pub confirmOf : ℕ → ℕ → List ℕ
 confirmOf i number = packetOf (fieldsOf 7 (Packet.Confirm (record { 0 = i }) (record { 0 = number }))) []
 
 abbrev pub acceptOf : ℕ → List ℕ
-acceptOf number = packetOf (fieldsOf 7 (Packet.Accept (record { 0 = number }))) []
+acceptOf number = packetOf (fieldsOf 7 (Packet.Accept (record { 0 = 0 }) (record { 0 = number }))) []
 
 abbrev pub gapOf : ℕ → ℕ → ℕ → List ℕ
 gapOf i first last = packetOf (fieldsOf 7 (Packet.Gap (record { 0 = i }) (record { 0 = 0 }) (record { 0 = first }) (record { 0 = last }))) []

@@ -10,7 +10,7 @@ use Rattle.message.specs.Order.{Ordered}
 use Rattle.packet.specs.Laws.{Allowed}
 use Rattle.packet.specs.Packet.{fieldsOf, packetOf}
 use Rattle.packet.specs.declared.Packet.{Packet}
-use Rattle.packet.specs.declared.Packet.the-variants.{Request, Broadcast, Gap, Status, Poll, Offer, Confirm, Accept}
+use Rattle.packet.specs.declared.Packet.the-variants.{Request, Broadcast, Gap, Status, Poll, Offer, Confirm, Accept, Invitation, Reply, Result}
 
 abbrev pub ordered : ℕ → ℕ → ℕ → List ℕ → Ordered
 ordered number originator count payload = record { number = number; originator = originator; count = count; payload = payload }
@@ -30,16 +30,20 @@ pub record Facts : Type 0 where
 
 -- every packet from i acknowledges no more than i does, every request from i has the payload of the submission with its count, every
 -- confirmation from i is in its reach; every message written with a number is the order's of that number; a broadcast's number, and that
--- of an acceptance, is accepted. Nothing is offered, confirmed or so accepted where none has to confirm
+-- of an acceptance, is accepted. Nothing is offered, confirmed or so accepted where none has to confirm,
+-- and nobody invites, replies or makes a group
 abbrev pub Says : Facts → Packet → List ℕ → Type 0
 Says f (Request sender taken count) payload = (taken .0 ≤ f .voice (sender .0) .row) × (at (f .voice (sender .0) .submitted) count ≡ some payload)
 Says f (Broadcast originator number count floor) payload = (at (f .order) (number .0) ≡ some (ordered (number .0) (originator .0) count payload)) × (number .0 ≤ f .accepted)
 Says f (Gap sender taken first last) payload = taken .0 ≤ f .voice (sender .0) .row
 Says f (Status sender taken) payload = taken .0 ≤ f .voice (sender .0) .row
-Says f (Poll top floor) payload = Unit {0}
+Says f (Poll elected top floor) payload = Unit {0}
 Says f (Offer originator number count floor) payload = (at (f .order) (number .0) ≡ some (ordered (number .0) (originator .0) count payload)) × (1 ≤ f .needed)
 Says f (Confirm sender number) payload = (number .0 ≤ f .voice (sender .0) .reach) × (1 ≤ f .needed)
-Says f (Accept number) payload = (number .0 ≤ f .accepted) × (1 ≤ f .needed)
+Says f (Accept elected number) payload = (number .0 ≤ f .accepted) × (1 ≤ f .needed)
+Says f (Invitation sender attempt) payload = ⊥
+Says f (Reply sender attempt number) payload = ⊥
+Says f (Result sender attempt elected number) payload = ⊥
 
 -- a packet of the group `g` that may be written, and says what is so
 pub record Known (g : ℕ) (f : Facts) (bytes : List ℕ) : Type 0 where
@@ -55,10 +59,13 @@ SaysBy needed i v (Request sender taken count) payload = (sender .0 ≡ i) × (t
 SaysBy needed i v (Broadcast originator number count floor) payload = ⊥
 SaysBy needed i v (Gap sender taken first last) payload = (sender .0 ≡ i) × (taken .0 ≤ v .row)
 SaysBy needed i v (Status sender taken) payload = (sender .0 ≡ i) × (taken .0 ≤ v .row)
-SaysBy needed i v (Poll top floor) payload = ⊥
+SaysBy needed i v (Poll elected top floor) payload = ⊥
 SaysBy needed i v (Offer originator number count floor) payload = ⊥
 SaysBy needed i v (Confirm sender number) payload = (sender .0 ≡ i) × (number .0 ≤ v .reach) × (1 ≤ needed)
-SaysBy needed i v (Accept number) payload = ⊥
+SaysBy needed i v (Accept elected number) payload = ⊥
+SaysBy needed i v (Invitation sender attempt) payload = ⊥
+SaysBy needed i v (Reply sender attempt number) payload = ⊥
+SaysBy needed i v (Result sender attempt elected number) payload = ⊥
 
 pub record KnownBy (g needed i : ℕ) (v : Voice) (bytes : List ℕ) : Type 0 where
   pub content : Packet
@@ -88,11 +95,14 @@ module _ (f f′ : Facts) (up : Grows f f′) where
       (up .order (number .0) (ordered (number .0) (originator .0) count payload) (h .0), le-trans (h .1) (up .accepted))
   says-grows (Gap sender taken first last) payload h = le-trans h (up .voice (sender .0) .row)
   says-grows (Status sender taken) payload h = le-trans h (up .voice (sender .0) .row)
-  says-grows (Poll top floor) payload h = tt
+  says-grows (Poll elected top floor) payload h = tt
   says-grows (Offer originator number count floor) payload h =
       (up .order (number .0) (ordered (number .0) (originator .0) count payload) (h .0), le-trans (h .1) (up .needed))
   says-grows (Confirm sender number) payload h = (le-trans (h .0) (up .voice (sender .0) .reach), le-trans (h .1) (up .needed))
-  says-grows (Accept number) payload h = (le-trans (h .0) (up .accepted), le-trans (h .1) (up .needed))
+  says-grows (Accept elected number) payload h = (le-trans (h .0) (up .accepted), le-trans (h .1) (up .needed))
+  says-grows (Invitation sender attempt) payload h = absurd h
+  says-grows (Reply sender attempt number) payload h = absurd h
+  says-grows (Result sender attempt elected number) payload h = absurd h
 
   pub known-grows : (g : ℕ) (bytes : List ℕ) → Known g f bytes → Known g f′ bytes
   known-grows g bytes k =
@@ -110,10 +120,13 @@ module _ (g i : ℕ) (f : Facts) where
   says-by (Broadcast originator number count floor) payload h = absurd h
   says-by (Gap sender taken first last) payload h = rw (h .0) (h .1)
   says-by (Status sender taken) payload h = rw (h .0) (h .1)
-  says-by (Poll top floor) payload h = absurd h
+  says-by (Poll elected top floor) payload h = absurd h
   says-by (Offer originator number count floor) payload h = absurd h
   says-by (Confirm sender number) payload h = rw (h .0) (h .1, h .2)
-  says-by (Accept number) payload h = absurd h
+  says-by (Accept elected number) payload h = absurd h
+  says-by (Invitation sender attempt) payload h = absurd h
+  says-by (Reply sender attempt number) payload h = absurd h
+  says-by (Result sender attempt elected number) payload h = absurd h
 
   pub known-by : (bytes : List ℕ) → KnownBy g (f .needed) i (f .voice i) bytes → Known g f bytes
   known-by bytes k =

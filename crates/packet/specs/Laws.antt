@@ -1,7 +1,7 @@
 -- What is proved of packets, besides the promises of reading and writing. `proofs/Laws.antt` has a proof of each statement.
 use mathlib.Core.Path.{_≡_}
 use mathlib.Core.List.{List, [], _∷_}
-use Prim.Native.Nat.{ℕ, _-_, _≤_, _<_}
+use Prim.Native.Nat.{ℕ, _≤_, _<_}
 use lib.ListN.{length}
 use Rattle.group.specs.Choice.{_and_, _≤?_}
 use Rattle.group.specs.Limits.{headerSize, payloadMost, longestPacket, largestNumber}
@@ -25,7 +25,7 @@ pub record Fits (h : Header) : Type 0 where
 
 -- fields and a payload that a packet may have: writing accepts them where the lent output is long enough
 abbrev pub Allowed : Header → List ℕ → Type 0
-Allowed h payload = Fits h × (writeVerdict h (length payload) longestPacket ≡ Verdict.Accepted)
+Allowed h payload = Fits h × (writeVerdict h payload longestPacket ≡ Verdict.Accepted)
 
 -- a packet that reads to these fields and this payload
 abbrev pub Reads : List ℕ → Header → List ℕ → Type 0
@@ -55,8 +55,8 @@ abbrev pub readQuestions : List ℕ → List Question
 readQuestions p =
     record { yes = headerSize ≤? length p and length p ≤? longestPacket; refusal = PacketSize }
     ∷ record { yes = knownKind (headerOf p .kind); refusal = UnknownKind }
-    ∷ record { yes = payloadFits (headerOf p .kind) (lengthAt p) (length p - headerSize); refusal = PayloadLength }
-    ∷ record { yes = obeys (headerOf p); refusal = ForbiddenFields }
+    ∷ record { yes = payloadFits (headerOf p .kind) (lengthAt p) (length (payloadAt p)); refusal = PayloadLength }
+    ∷ record { yes = obeys (headerOf p) (payloadAt p); refusal = ForbiddenFields }
     ∷ []
 
 -- reading refuses with the first no of its questions, and accepts everything else
@@ -64,22 +64,22 @@ abbrev pub ReadFirstNo : Type 0
 ReadFirstNo = (p : List ℕ) → readOf p ≡ judged (firstNo (readQuestions p)) Reading.Refused (Reading.Fields (headerOf p))
 
 -- the questions of writing, 2, 4, 5, 6 and 13
-abbrev pub writeQuestions : Header → ℕ → ℕ → List Question
-writeQuestions h size room =
+abbrev pub writeQuestions : Header → List ℕ → ℕ → List Question
+writeQuestions h payload room =
     record { yes = longestPacket ≤? room; refusal = ShortOutput }
     ∷ record { yes = knownKind (h .kind); refusal = UnknownKind }
-    ∷ record { yes = payloadFits (h .kind) size size; refusal = PayloadLength }
-    ∷ record { yes = obeys h; refusal = ForbiddenFields }
-    ∷ record { yes = size ≤? payloadMost; refusal = LongPayload }
+    ∷ record { yes = payloadFits (h .kind) (length payload) (length payload); refusal = PayloadLength }
+    ∷ record { yes = obeys h payload; refusal = ForbiddenFields }
+    ∷ record { yes = length payload ≤? payloadMost; refusal = LongPayload }
     ∷ []
 
 -- writing refuses with the first no of its questions, and accepts everything else
 abbrev pub WriteFirstNo : Type 0
-WriteFirstNo = (h : Header) (size room : ℕ) → writeVerdict h size room ≡ firstNo (writeQuestions h size room)
+WriteFirstNo = (h : Header) (payload : List ℕ) (room : ℕ) → writeVerdict h payload room ≡ firstNo (writeQuestions h payload room)
 
 -- what the fields mean, and the fields that mean it, are inverse
 abbrev pub ContentFields : Type 0
 ContentFields = (group : ℕ) (packet : Packet) → contentOf (fieldsOf group packet) ≡ packet
 
 abbrev pub FieldsContent : Type 0
-FieldsContent = (h : Header) (l size : ℕ) → fieldsVerdict h l size ≡ Verdict.Accepted → fieldsOf (h .group) (contentOf h) ≡ h
+FieldsContent = (h : Header) (l : ℕ) (payload : List ℕ) → fieldsVerdict h l payload ≡ Verdict.Accepted → fieldsOf (h .group) (contentOf h) ≡ h

@@ -4,13 +4,16 @@ use group::MemberNumber;
 use group::Refusal;
 use group::SequenceNumber;
 use group::Verdict;
+ghost use mathlib.Core.Bool.{true};
 ghost use mathlib.Core.Path.{_≡_};
-ghost use Prim.Native.Nat.{_+_, _≤_};
+ghost use Prim.Native.Nat.{_+_, _<_, _≤_};
 ghost use lib.ListN.{length};
-ghost use Rattle.group.specs.Choice.{_and_, _≤?_, _=?_};
+ghost use Rattle.group.specs.Choice.{if_then_else_, _and_, _≤?_, _=?_};
 ghost use Rattle.group.specs.Limits.{headerSize, payloadMost};
+ghost use Rattle.group.specs.Members.{isIn};
 ghost use Rattle.group.specs.Lent.{front, Laid};
-ghost use Rattle.packet.specs.Packet.{headerOf, lengthAt, knownKind, payloadFits, messageObeys, obeys, fieldsVerdict, readOf, headerBytes, packetOf, writeVerdict, writeOf, contentOf, fieldsOf};
+ghost use Rattle.packet.specs.Packet.{acceptKind, invitationKind, replyKind, headerOf, lengthAt, survivorsSize, survivorsIn, knownKind, payloadFits, messageObeys, obeys, fieldsVerdict, readOf, headerBytes, packetOf, writeVerdict, writeOf, contentOf, fieldsOf, fromElected, Named};
+ghost use Rattle.packet.specs.declared.Packet.the-variants.{Invitation, Reply, Result};
 ghost use Rattle.packet.specs.Wording.{readingWording, writingWording};
 
 // The fields of a header as they stand in its bytes. L is not among them: it is the payload's length.
@@ -59,6 +62,7 @@ pub enum Packet {
         taken: SequenceNumber,
     },
     Poll {
+        elected: MemberNumber,
         top: SequenceNumber,
         floor: SequenceNumber,
     },
@@ -73,6 +77,22 @@ pub enum Packet {
         number: SequenceNumber,
     },
     Accept {
+        elected: MemberNumber,
+        number: SequenceNumber,
+    },
+    Invitation {
+        sender: MemberNumber,
+        attempt: u32,
+    },
+    Reply {
+        sender: MemberNumber,
+        attempt: u32,
+        number: SequenceNumber,
+    },
+    Result {
+        sender: MemberNumber,
+        attempt: u32,
+        elected: MemberNumber,
         number: SequenceNumber,
     },
 }
@@ -122,6 +142,15 @@ impl Header {
 
     pub const ACCEPT: u8 = 8;
 
+    pub const INVITATION: u8 = 9;
+
+    pub const REPLY: u8 = 10;
+
+    pub const RESULT: u8 = 11;
+
+    // The bytes of a result's payload.
+    pub const SURVIVORS: usize = 2;
+
     // Of a message's packet A and B are at least 1 and C is below A.
     fn message_obeys(self) -> bool
         ensures { λ r. ⌜ r ≡ messageObeys self ⌝ }
@@ -148,9 +177,42 @@ impl Header {
         self.c == 0
     }
 
-    // Question 6: do A, B, C (and byte 1 of kinds 5 and 8) obey the kind?
-    fn obeys(self) -> bool
-        ensures { λ r. ⌜ r ≡ obeys self ⌝ }
+    // Of a result the sender and B are among the survivors that its payload names.
+    fn among(self, payload: &[u8]) -> bool
+        requires { ⌜ survivorsSize ≤ length (now payload) ⌝ }
+        ensures { λ r. ⌜ r ≡ (isIn (survivorsIn (now (payload .entry))) (self .member .0) and isIn (survivorsIn (now (payload .entry))) (self .b)) ⌝ }
+    {
+        let survivors = big_endian::u16_at(payload, 0);
+        if group::is_in(survivors, self.member) {
+            if self.b < 16 {
+                return group::is_in(survivors, MemberNumber(self.b as u8));
+            }
+            return false;
+        }
+        false
+    }
+
+    // Question 6 of kinds 9 to 11: of an invitation B and C are zero, of a reply C is.
+    fn reset_obeys(self, payload: &[u8]) -> bool
+        requires { ⌜ (acceptKind < self .kind) × (knownKind (self .kind) ≡ true) × (payloadFits (self .kind) (length (now payload)) (length (now payload)) ≡ true) ⌝ }
+        ensures { λ r. ⌜ r ≡ (if self .kind =? invitationKind then self .b =? 0 and self .c =? 0 else if self .kind =? replyKind then self .c =? 0 else (isIn (survivorsIn (now (payload .entry))) (self .member .0) and isIn (survivorsIn (now (payload .entry))) (self .b))) ⌝ }
+    {
+        if self.kind == Header::INVITATION {
+            if self.b != 0 {
+                return false;
+            }
+            return self.c == 0;
+        }
+        if self.kind == Header::REPLY {
+            return self.c == 0;
+        }
+        self.among(payload)
+    }
+
+    // Question 6: do A, B, C obey the kind, and are sender and B of kind 11 among its survivors?
+    fn obeys(self, payload: &[u8]) -> bool
+        requires { ⌜ (knownKind (self .kind) ≡ true) × (payloadFits (self .kind) (length (now payload)) (length (now payload)) ≡ true) ⌝ }
+        ensures { λ r. ⌜ r ≡ obeys self (now (payload .entry)) ⌝ }
     {
         if self.kind == Header::REQUEST {
             if self.b < 1 {
@@ -174,9 +236,6 @@ impl Header {
             return self.c == 0;
         }
         if self.kind == Header::POLL {
-            if self.member.0 != 0 {
-                return false;
-            }
             if self.b != 0 {
                 return false;
             }
@@ -188,24 +247,24 @@ impl Header {
         if self.kind == Header::CONFIRM {
             return self.number_alone();
         }
-        if self.member.0 != 0 {
-            return false;
+        if self.kind == Header::ACCEPT {
+            return self.number_alone();
         }
-        self.number_alone()
+        self.reset_obeys(payload)
     }
 }
 
-// Question 4: is the kind 1 to 8?
+// Question 4: is the kind 1 to 11?
 fn known(kind: u8) -> bool
     ensures { λ r. ⌜ r ≡ knownKind kind ⌝ }
 {
     if kind < Header::REQUEST {
         return false;
     }
-    kind <= Header::ACCEPT
+    kind <= Header::RESULT
 }
 
-// Question 5: is the payload L bytes long, and L zero in kinds 3, 4, 5, 7 and 8?
+// Question 5: is the payload L bytes long, L 2 in kind 11, and zero in kinds 3, 4, 5 and 7 to 10?
 fn fits(kind: u8, l: usize, size: usize) -> bool
     ensures { λ r. ⌜ r ≡ payloadFits kind l size ⌝ }
 {
@@ -218,16 +277,19 @@ fn fits(kind: u8, l: usize, size: usize) -> bool
     if kind == Header::OFFER {
         return true;
     }
+    if kind == Header::RESULT {
+        return l == Header::SURVIVORS;
+    }
     l == 0
 }
 
-// Questions 4 to 6 of fields and L before `size` payload bytes.
-fn ask_fields(h: Header, l: usize, size: usize) -> Verdict
-    ensures { λ r. ⌜ r ≡ fieldsVerdict h l size ⌝ }
+// Questions 4 to 6 of fields and L before a payload.
+fn ask_fields(h: Header, l: usize, payload: &[u8]) -> Verdict
+    ensures { λ r. ⌜ r ≡ fieldsVerdict h l (now (payload .entry)) ⌝ }
 {
     if known(h.kind) {
-        if fits(h.kind, l, size) {
-            if h.obeys() {
+        if fits(h.kind, l, payload.len()) {
+            if h.obeys(payload) {
                 return Verdict::Accepted;
             }
             return Verdict::Refused(Refusal::ForbiddenFields);
@@ -250,7 +312,7 @@ pub fn read(packet: &[u8]) -> Reading
     }
     let h = header_at(packet);
     let l = payload_length(packet);
-    let v = ask_fields(h, l, packet.len() - Group::HEADER);
+    let v = ask_fields(h, l, &packet[Group::HEADER..]);
     match v {
         Verdict::Accepted => Reading::Fields(h),
         Verdict::Refused(q) => Reading::Refused(q),
@@ -302,16 +364,16 @@ fn lay(h: Header, payload: &[u8], out: &mut [u8])
 }
 
 // Questions 2, 4, 5, 6 and 13 of writing.
-fn ask_writing(h: Header, size: usize, room: usize) -> Verdict
-    ensures { λ r. ⌜ r ≡ writeVerdict h size room ⌝ }
+fn ask_writing(h: Header, payload: &[u8], room: usize) -> Verdict
+    ensures { λ r. ⌜ r ≡ writeVerdict h (now (payload .entry)) room ⌝ }
 {
     if room < Group::PACKET {
         return Verdict::Refused(Refusal::ShortOutput);
     }
-    let v = ask_fields(h, size, size);
+    let v = ask_fields(h, payload.len(), payload);
     match v {
         Verdict::Accepted => {
-            if Group::PAYLOAD < size {
+            if Group::PAYLOAD < payload.len() {
                 return Verdict::Refused(Refusal::LongPayload);
             }
             Verdict::Accepted
@@ -326,7 +388,7 @@ pub fn write(h: Header, payload: &[u8], out: &mut [u8]) -> Writing
     ensures lent { λ _. ⌜ now (out .exit) ≡ front (writeOf h (now (payload .entry)) (length (now (out .entry))) .bytes) (now (out .entry)) ⌝ }
     ensures wording { λ r. ⌜ writingWording r ≡ writingWording (writeOf h (now (payload .entry)) (length (now (out .entry))) .answer) ⌝ }
 {
-    let v = ask_writing(h, payload.len(), out.len());
+    let v = ask_writing(h, payload, out.len());
     match v {
         Verdict::Accepted => {
             lay(h, payload, out);
@@ -337,8 +399,36 @@ pub fn write(h: Header, payload: &[u8], out: &mut [u8]) -> Writing
 }
 
 impl Packet {
+    // What the fields of kinds 9 to 11 mean.
+    fn of_reset(h: Header) -> Self
+        requires { ⌜ (acceptKind < h .kind) × Named h ⌝ }
+        ensures { λ r. ⌜ r ≡ (if h .kind =? invitationKind then Invitation (h .member) (h .a) else if h .kind =? replyKind then Reply (h .member) (h .a) (record { 0 = h .b }) else Result (h .member) (h .a) (record { 0 = h .b }) (record { 0 = h .c })) ⌝ }
+    {
+        let member = h.member;
+        if h.kind == Header::INVITATION {
+            return Packet::Invitation {
+                sender: member,
+                attempt: h.a,
+            };
+        }
+        if h.kind == Header::REPLY {
+            return Packet::Reply {
+                sender: member,
+                attempt: h.a,
+                number: SequenceNumber(h.b),
+            };
+        }
+        Packet::Result {
+            sender: member,
+            attempt: h.a,
+            elected: MemberNumber(h.b as u8),
+            number: SequenceNumber(h.c),
+        }
+    }
+
     // What the fields of each kind mean.
     pub fn of(h: Header) -> Self
+        requires { ⌜ Named h ⌝ }
         ensures { λ r. ⌜ r ≡ contentOf h ⌝ }
     {
         let member = h.member;
@@ -373,6 +463,7 @@ impl Packet {
         }
         if h.kind == Header::POLL {
             return Packet::Poll {
+                elected: member,
                 top: SequenceNumber(h.a),
                 floor: SequenceNumber(h.c),
             };
@@ -391,9 +482,13 @@ impl Packet {
                 number: SequenceNumber(h.a),
             };
         }
-        Packet::Accept {
-            number: SequenceNumber(h.a),
+        if h.kind == Header::ACCEPT {
+            return Packet::Accept {
+                elected: member,
+                number: SequenceNumber(h.a),
+            };
         }
+        Packet::of_reset(h)
     }
 
     // The fields that mean it, in the group of that number.
@@ -447,9 +542,13 @@ impl Packet {
                 b: 0,
                 c: 0,
             },
-            Packet::Poll { top, floor } => Header {
+            Packet::Poll {
+                elected,
+                top,
+                floor,
+            } => Header {
                 kind: Header::POLL,
-                member: MemberNumber(0),
+                member: elected,
                 group,
                 a: top.0,
                 b: 0,
@@ -476,14 +575,107 @@ impl Packet {
                 b: 0,
                 c: 0,
             },
-            Packet::Accept { number } => Header {
+            Packet::Accept { elected, number } => Header {
                 kind: Header::ACCEPT,
-                member: MemberNumber(0),
+                member: elected,
                 group,
                 a: number.0,
                 b: 0,
                 c: 0,
             },
+            Packet::Invitation { sender, attempt } => Header {
+                kind: Header::INVITATION,
+                member: sender,
+                group,
+                a: attempt,
+                b: 0,
+                c: 0,
+            },
+            Packet::Reply {
+                sender,
+                attempt,
+                number,
+            } => Header {
+                kind: Header::REPLY,
+                member: sender,
+                group,
+                a: attempt,
+                b: number.0,
+                c: 0,
+            },
+            Packet::Result {
+                sender,
+                attempt,
+                elected,
+                number,
+            } => Header {
+                kind: Header::RESULT,
+                member: sender,
+                group,
+                a: attempt,
+                b: elected.0 as u32,
+                c: number.0,
+            },
+        }
+    }
+
+    // Question 6 at an end: is byte 1 of a poll and of an acceptance the elected member?
+    pub fn from_elected(self, group: Group) -> bool
+        ensures { λ r. ⌜ r ≡ fromElected group self ⌝ }
+    {
+        match self {
+            Packet::Request {
+                sender: _,
+                taken: _,
+                count: _,
+            } => true,
+            Packet::Broadcast {
+                originator: _,
+                number: _,
+                count: _,
+                floor: _,
+            } => true,
+            Packet::Gap {
+                sender: _,
+                taken: _,
+                first: _,
+                last: _,
+            } => true,
+            Packet::Status {
+                sender: _,
+                taken: _,
+            } => true,
+            Packet::Poll {
+                elected,
+                top: _,
+                floor: _,
+            } => elected.0 == group.elected.0,
+            Packet::Offer {
+                originator: _,
+                number: _,
+                count: _,
+                floor: _,
+            } => true,
+            Packet::Confirm {
+                sender: _,
+                number: _,
+            } => true,
+            Packet::Accept { elected, number: _ } => elected.0 == group.elected.0,
+            Packet::Invitation {
+                sender: _,
+                attempt: _,
+            } => true,
+            Packet::Reply {
+                sender: _,
+                attempt: _,
+                number: _,
+            } => true,
+            Packet::Result {
+                sender: _,
+                attempt: _,
+                elected: _,
+                number: _,
+            } => true,
         }
     }
 

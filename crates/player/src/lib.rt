@@ -1,6 +1,7 @@
 // Plays a schedule as its input comes: a group that is run, the number of the next event, and the line that has not ended. The numbers
 // go by value, and every array behind a reference.
 use group::Group;
+use group::MemberNumber;
 use group::Refusal;
 use group::SequenceNumber;
 use group::Verdict;
@@ -887,6 +888,8 @@ impl Player {
         let group = Group {
             n: 0,
             resilience: 0,
+            survivors: 0,
+            elected: MemberNumber(0),
             number: 0,
         };
         let sequencer = sequencer::Head {

@@ -43,6 +43,7 @@ answers : map (λ (answer : Answer). lineOf 10 answer 199)
     ∷ byMember member.Old (7 ∷ [])
     ∷ byMember member.Kept (7 ∷ [])
     ∷ byMember member.Noted []
+    ∷ byMember member.Noted (10 ∷ [])
     ∷ byMember member.KeptGap []
     ∷ byMember member.Beyond []
     ∷ byMember member.BeyondGap []
@@ -66,6 +67,7 @@ answers : map (λ (answer : Answer). lineOf 10 answer 199)
     ∷ "10 old 199\n"
     ∷ "10 kept 199\n"
     ∷ "10 noted\n"
+    ∷ "10 noted 199\n"
     ∷ "10 keptgap 199\n"
     ∷ "10 beyond\n"
     ∷ "10 beyondgap 199\n"

@@ -190,7 +190,7 @@ fn put_member(
         member::Answer::Gap => put_indexed(b"gap", index, out, at),
         member::Answer::Status => put_indexed(b"status", index, out, at),
         member::Answer::None => put_word(b"none", out, at),
-        member::Answer::Noted => put_word(b"noted", out, at),
+        member::Answer::Noted => put_any(b"noted", payload.len(), index, out, at),
         member::Answer::Took {
             number,
             originator,

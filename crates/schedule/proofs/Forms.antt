@@ -15,7 +15,8 @@ use Rattle.model.specs.World.{repeat, take, status, poll, copy, handSequencer}
 use Rattle.text.specs.Text.{space}
 use Rattle.schedule.specs.Line.{lineMost, alone, withNumber, formOf, eventOf, payloadOf, openingForm, openingOf}
 use Rattle.text.specs.Field.{before, fieldsOf}
-use Rattle.schedule.specs.Steps.{partsAt, fourAt}
+use Rattle.schedule.specs.Parts.{partsAt}
+use Rattle.schedule.specs.Steps.{fourAt}
 use Rattle.schedule.specs.declared.Opening.{Opening}
 use Rattle.schedule.specs.declared.Parts.{Parts}
 use Rattle.schedule.specs.declared.Parts.the-variants.{More}
@@ -43,7 +44,7 @@ module _ (line : List ℕ) where
   opening-long h = sym (if-nle (length line) lineMost Opening.Other (openingForm (fieldsOf line)) Opening.Other h refl)
 
 -- there is a field, so four or more are no event
-fields-some : (l : List ℕ) → (field : List ℕ) × (rest : List (List ℕ)) × (fieldsOf l ≡ field ∷ rest)
+pub fields-some : (l : List ℕ) → (field : List ℕ) × (rest : List (List ℕ)) × (fieldsOf l ≡ field ∷ rest)
 unfolding fieldsOf if_then_else_ before
 fields-some [] = ([], [], refl)
 fields-some (c ∷ l) = go (c =? space) (fieldsOf l)

@@ -36,7 +36,7 @@ command-means (some (handMember k i)) lent = refl
 command-means (some (handSequencer k)) lent = refl
 
 -- the characters of all fields
-unfoldable total : List (List ℕ) → ℕ
+unfoldable pub total : List (List ℕ) → ℕ
 total [] = 0
 total (field ∷ rest) = length field + total rest
 
@@ -45,7 +45,7 @@ unfolding total before
 total-before c [] = refl
 total-before c (part ∷ rest) = omega arith
 
-fields-total : (line : List ℕ) → total (fieldsOf line) ≤ length line
+pub fields-total : (line : List ℕ) → total (fieldsOf line) ≤ length line
 unfolding fieldsOf total
 fields-total [] = le-refl 0
 fields-total (c ∷ line) =
@@ -54,7 +54,7 @@ fields-total (c ∷ line) =
     if-elim (λ (parts : List (List ℕ)). total parts ≤ suc (length line)) (c =? space) (λ t. omega arith) (λ t. omega arith)
 
 -- a payload of two digits a byte
-hex-half : (field : List ℕ) → length (hexBytes field) ≤ length field / 2
+pub hex-half : (field : List ℕ) → length (hexBytes field) ≤ length field / 2
 unfolding hexBytes
 hex-half field =
     let n = pairs-length field in

@@ -1,3 +1,4 @@
 pub mod Line
+pub mod Parts
 pub mod Laws
 pub mod Steps

@@ -13,7 +13,8 @@ ghost use Prim.Native.Nat.{_+_, _-_, _*_, _≤_, _<_};
 ghost use lib.ListN.{length, take, drop};
 ghost use Rattle.group.specs.Lent.{front};
 ghost use Rattle.text.specs.Field.{fieldsOf, letterOf, numberIn, read, hexIn};
-ghost use Rattle.schedule.specs.Steps.{partsAt, fourAt, Within};
+ghost use Rattle.schedule.specs.Parts.{partsAt, Within};
+ghost use Rattle.schedule.specs.Steps.{fourAt};
 ghost use Rattle.schedule.specs.Line.{lineMost, payloadRoom, alone, withNumber, submitted, handed, withTwo, formOf, eventOf, commandOf, payloadOf, opened, openingWith, openingForm, openingOf};
 
 // A line of more characters is of another form.
@@ -46,7 +47,7 @@ pub enum Opening {
 }
 
 // Where the spaces stand that part the fields of a line: those before the second, the third and the fourth field.
-enum Parts {
+pub enum Parts {
     One,
     Two(usize),
     Three(usize, usize),
@@ -67,7 +68,7 @@ fn payload_room() -> usize
 }
 
 // The fields of a line, by the spaces that part them.
-fn fields(line: &[u8]) -> Parts
+pub fn fields(line: &[u8]) -> Parts
     ensures parts { λ r. ⌜ fieldsOf (now (line .entry)) ≡ partsAt r (now (line .entry)) ⌝ }
     ensures within { λ r. ⌜ Within r (now (line .entry)) ⌝ }
 {

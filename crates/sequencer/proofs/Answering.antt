@@ -98,26 +98,26 @@ module _ (group : Group) (order : List Ordered) (before : ℕ) (voice : ℕ → 
     sound : Sound s
     sound = sound-of s (r .inv .sound)
 
-    repeated-ready : (m : MemberNumber) → m .0 < group .n → Ready (repeatedOf s m)
+    repeated-ready : (m : MemberNumber) → m .0 < group .n → isIn (group .survivors) (m .0) ≡ true → Ready (repeatedOf s m)
     unfolding repeatedOf
-    repeated-ready m member =
+    repeated-ready m member survives =
         let taken = repeated-taken s (r .inv .typed) sound m (rw (r .inv .group-is) member) in
         record {
-          inv = repeated-inv group order s (r .inv) m member;
+          inv = repeated-inv group order s (r .inv) m member survives;
           acked = λ i h. rw (taken i) (r .acked i h);
           owns = r .owns;
           confirmed = record { marked = r .confirmed .marked; enough = r .confirmed .enough };
           up = r .up;
         }
 
-    pub note-ready : (m : MemberNumber) (taken : SequenceNumber) → m .0 < group .n → taken .0 ≤ voice (m .0) .row → voice (m .0) .row ≤ s .accepted .0
+    pub note-ready : (m : MemberNumber) (taken : SequenceNumber) → m .0 < group .n → isIn (group .survivors) (m .0) ≡ true → taken .0 ≤ voice (m .0) .row → voice (m .0) .row ≤ s .accepted .0
         → Ready (noteOf s m taken)
     unfolding noteOf withTable
-    note-ready m taken member known below =
+    note-ready m taken member survives known below =
         let v = r .inv in
         let member′ : m .0 < s .group .n = rw (v .group-is) member in
         record {
-          inv = note-inv group order s v m taken member (le-trans known below);
+          inv = note-inv group order s v m taken member survives (le-trans known below);
           acked = rw (v .group-is) at (noted-most s m taken (v .typed .table) sound member′ (λ i. voice i .row) (rw (v .group-is) (r .acked)) known);
           owns = r .owns;
           confirmed = record { marked = r .confirmed .marked; enough = r .confirmed .enough };
@@ -128,7 +128,7 @@ module _ (group : Group) (order : List Ordered) (before : ℕ) (voice : ℕ → 
     unfolding pollPacket
     poll-known =
         record {
-          content = Poll (s .top) (s .floor);
+          content = Poll (group .elected) (s .top) (s .floor);
           payload = [];
           bytes-are = rw (r .inv .group-is);
           allowed = rw (r .inv .group-is) at (poll-allowed s (r .inv .typed) sound);
@@ -211,26 +211,26 @@ module _ (group : Group) (order : List Ordered) (before : ℕ) (voice : ℕ → 
           }
 
   module _ (s : Sequencer) (r : Ready s) where
-    again-good : (m : MemberNumber) → m .0 < group .n → (number : ℕ) → (number ≢ 0 → (s .floor .0 < number) × (number ≤ s .floor .0 + (s .top .0 - s .floor .0))) → Good (againOf s m number)
+    again-good : (m : MemberNumber) → m .0 < group .n → isIn (group .survivors) (m .0) ≡ true → (number : ℕ) → (number ≢ 0 → (s .floor .0 < number) × (number ≤ s .floor .0 + (s .top .0 - s .floor .0))) → Good (againOf s m number)
     unfolding againOf oldOf repeatedOf numberedBy
-    again-good m member number found =
-        if-elim Good (number =? 0) (λ c. silent (repeatedOf s m) (repeated-ready s r m member) Old refl)
+    again-good m member survives number found =
+        if-elim Good (number =? 0) (λ c. silent (repeatedOf s m) (repeated-ready s r m member survives) Old refl)
         (λ c.
         let f = found (eqb-false number 0 c) in
         let g = sound s r .floor-le in
         let h = sound s r .accepted-le in
-        writing (repeatedOf s m) (repeated-ready s r m member) (Again (record { 0 = number })) (broadcastOf s number) refl (copy-known s r number (f .0) (omega arith)))
+        writing (repeatedOf s m) (repeated-ready s r m member survives) (Again (record { 0 = number })) (broadcastOf s number) refl (copy-known s r number (f .0) (omega arith)))
 
     -- a request, once A is noted
-    pub request-good : (m : MemberNumber) (count : ℕ) (payload : List ℕ) → m .0 < group .n → at (voice (m .0) .submitted) count ≡ some payload
+    pub request-good : (m : MemberNumber) (count : ℕ) (payload : List ℕ) → m .0 < group .n → isIn (group .survivors) (m .0) ≡ true → at (voice (m .0) .submitted) count ≡ some payload
         → length (voice (m .0) .submitted) ≤ largestNumber → length payload ≤ payloadMost
         → count ≤ lastCount s m + 1 → (lastCount s m < count → s .top .0 < largestNumber) → Good (requestOf s m count payload)
     unfolding requestOf oldOf fullOf numberedBy
-    request-good m count payload member submission sizes short next left =
+    request-good m count payload member survives submission sizes short next left =
         let wide = s .top .0 - s .floor .0 in
-        if-elim Good (count <? lastCount s m) (λ a. silent (repeatedOf s m) (repeated-ready s r m member) Old refl)
+        if-elim Good (count <? lastCount s m) (λ a. silent (repeatedOf s m) (repeated-ready s r m member survives) Old refl)
         (λ a. if-elim Good (count =? lastCount s m)
-        (λ b. again-good m member (findOf (s .history) m count (s .floor .0) wide) (found-in (s .history) m count (s .floor .0) wide))
+        (λ b. again-good m member survives (findOf (s .history) m count (s .floor .0) wide) (found-in (s .history) m count (s .floor .0) wide))
         (λ b. if-elim Good (wide =? placesMost) (λ c. writing s r Full (pollPacket s) refl (poll-known s r))
         (λ c.
         let p = ltb-false count (lastCount s m) a in
@@ -267,7 +267,7 @@ module _ (group : Group) (order : List Ordered) (before : ℕ) (voice : ℕ → 
         } in
         writing s′ r′ Answer.Accepted (acceptPacket s′) refl
         (record {
-          content = Accept (s′ .accepted);
+          content = Accept (group .elected) (s′ .accepted);
           payload = [];
           bytes-are = rw (v .group-is);
           allowed = rw (v .group-is) at (accept-allowed s′ (v′ .typed) (sound-of s′ (v′ .sound)) (omega arith));

@@ -17,10 +17,10 @@ use Rattle.group.specs.declared.MemberNumber.{MemberNumber}
 use Rattle.group.specs.declared.Refusal.{Refusal}
 use Rattle.group.specs.declared.SequenceNumber.{SequenceNumber}
 use Rattle.group.specs.declared.Verdict.{Verdict}
-use Rattle.packet.specs.Packet.{knownKind, contentOf}
+use Rattle.packet.specs.Packet.{knownKind, contentOf, fromElected}
 use Rattle.packet.specs.declared.Header.{Header}
 use Rattle.packet.specs.declared.Packet.{Packet}
-use Rattle.packet.specs.declared.Packet.the-variants.{Request, Broadcast, Gap, Status, Poll, Offer, Confirm, Accept}
+use Rattle.packet.specs.declared.Packet.the-variants.{Request, Broadcast, Gap, Status, Poll, Offer, Confirm, Accept, Invitation, Result}
 use Rattle.packet.specs.declared.Reading.{Reading}
 use Rattle.history.specs.Ask.{senderVerdict, countVerdict, wantedVerdict, expectedVerdict}
 use Rattle.history.specs.Repeat.{findOf}
@@ -66,10 +66,13 @@ accepted-answers s (Broadcast originator number count floor) payload = tt
 accepted-answers s (Gap sender taken first last) payload =
     if-elim (λ (o : Outcome). Answers (o .answer)) (last .0 ≤? noteOf s sender taken .floor .0) (λ t. tt) (λ t. tt)
 accepted-answers s (Status sender taken) payload = tt
-accepted-answers s (Poll top floor) payload = tt
+accepted-answers s (Poll elected top floor) payload = tt
 accepted-answers s (Offer originator number count floor) payload = tt
 accepted-answers s (Confirm sender number) payload = confirm-answers s sender number
-accepted-answers s (Accept number) payload = tt
+accepted-answers s (Accept elected number) payload = tt
+accepted-answers s (Invitation sender attempt) payload = tt
+accepted-answers s (Packet.Reply sender attempt number) payload = tt
+accepted-answers s (Result sender attempt elected number) payload = tt
 
 -- the two questions on a request's count, as they are listed
 abbrev countQuestions : ℕ → ℕ → ℕ → List Question
@@ -88,8 +91,8 @@ count-asked last top count =
 
 -- those on its sender
 abbrev senderQuestions : ℕ → ℕ → MemberNumber → ℕ → List Question
-senderQuestions n top sender taken =
-    record { yes = sender .0 <? n; refusal = Refusal.UnknownMember }
+senderQuestions survivors top sender taken =
+    record { yes = isIn survivors (sender .0); refusal = Refusal.UnknownMember }
     ∷ record { yes = taken ≤? top; refusal = Refusal.AcknowledgedAhead }
     ∷ []
 
@@ -98,15 +101,26 @@ abbrev otherEnd : List Question
 otherEnd = record { yes = false; refusal = Refusal.OtherEnd } ∷ []
 
 module _ (s : Sequencer) (payload : List ℕ) where
+  -- of a poll and an acceptance byte 1 is asked first
+  by-elected : (member group : ℕ)
+      → (if member =? s .group .elected .0 then (if group =? s .group .number then refused s Refusal.OtherEnd else refused s Refusal.OtherGroup) else refused s Refusal.ForbiddenFields)
+      ≡ judged (firstNo (record { yes = member =? s .group .elected .0; refusal = Refusal.ForbiddenFields } ∷ record { yes = group =? s .group .number; refusal = Refusal.OtherGroup } ∷ otherEnd)) (refused s) (answered s Noted)
+  unfolding firstNo judged if_then_else_
+  by-elected member group =
+      ap (λ (o : Outcome). if member =? s .group .elected .0 then o else refused s Refusal.ForbiddenFields)
+      (judged-ask (refused s) (answered s Noted) (group =? s .group .number) Refusal.OtherGroup otherEnd)
+      ∙ judged-ask (refused s) (answered s Noted) (member =? s .group .elected .0) Refusal.ForbiddenFields
+      (record { yes = group =? s .group .number; refusal = Refusal.OtherGroup } ∷ otherEnd)
+
   -- kind by kind
   asked : (kind member group a b c : ℕ) → let h : Header = record { kind = kind; member = record { 0 = member }; group = group; a = a; b = b; c = c } in
       knownKind kind ≡ true → readStep s (Reading.Fields h) payload ≡ judged (firstNo (fieldsQuestions s h)) (refused s) (acceptedStep s (contentOf h) payload)
-  unfolding readStep contentOf contentStep acceptedStep senderVerdict wantedVerdict expectedVerdict knownKind firstNo judged if_then_else_
+  unfolding readStep fromElected contentOf contentStep acceptedStep senderVerdict wantedVerdict expectedVerdict knownKind firstNo judged if_then_else_
   asked zero member group a b c k = let z : false ≡ true = k in cc
   asked (suc zero) member group a b c k =
       let m : MemberNumber = record { 0 = member } in
       let step = requestOf (noteOf s m (record { 0 = a })) m b payload in
-      let sender = senderQuestions (s .group .n) (s .accepted .0) m a in
+      let sender = senderQuestions (s .group .survivors) (s .accepted .0) m a in
       let count = countQuestions (lastCount s m) (s .top .0) b in
       ap (λ (o : Outcome). if group =? s .group .number then o else refused s Refusal.OtherGroup)
       (ap (λ (v : Verdict). judged (firstNo sender) (refused s) (judged v (refused s) step)) (count-asked (lastCount s m) (s .top .0) b)
@@ -116,26 +130,29 @@ module _ (s : Sequencer) (payload : List ℕ) where
   asked (suc (suc (suc zero))) member group a b c k =
       let m : MemberNumber = record { 0 = member } in
       let step = gapOf (noteOf s m (record { 0 = a })) (record { 0 = b }) (record { 0 = c }) in
-      let sender = senderQuestions (s .group .n) (s .accepted .0) m a in
+      let sender = senderQuestions (s .group .survivors) (s .accepted .0) m a in
       let wanted : List Question = record { yes = c ≤? s .top .0; refusal = Refusal.WantedAhead } ∷ [] in
       ap (λ (o : Outcome). if group =? s .group .number then o else refused s Refusal.OtherGroup) (judged-append (refused s) step sender wanted)
       ∙ judged-ask (refused s) step (group =? s .group .number) Refusal.OtherGroup (sender ++ wanted)
   asked (suc (suc (suc (suc zero)))) member group a b c k =
       let m : MemberNumber = record { 0 = member } in
       let step = answered (noteOf s m (record { 0 = a })) Noted in
-      judged-ask (refused s) step (group =? s .group .number) Refusal.OtherGroup (senderQuestions (s .group .n) (s .accepted .0) m a)
-  asked (suc (suc (suc (suc (suc zero))))) member group a b c k = judged-ask (refused s) (answered s Noted) (group =? s .group .number) Refusal.OtherGroup otherEnd
+      judged-ask (refused s) step (group =? s .group .number) Refusal.OtherGroup (senderQuestions (s .group .survivors) (s .accepted .0) m a)
+  asked (suc (suc (suc (suc (suc zero))))) member group a b c k = by-elected member group
   asked (suc (suc (suc (suc (suc (suc zero)))))) member group a b c k = judged-ask (refused s) (answered s Noted) (group =? s .group .number) Refusal.OtherGroup otherEnd
   asked (suc (suc (suc (suc (suc (suc (suc zero))))))) member group a b c k =
       let m : MemberNumber = record { 0 = member } in
       let step = confirmOf s m (record { 0 = a }) in
-      let sender = senderQuestions (s .group .n) (s .top .0) m a in
+      let sender = senderQuestions (s .group .survivors) (s .top .0) m a in
       let expected : List Question = record { yes = if a ≤? s .accepted .0 then true else isIn (expectedOf (s .group)) member; refusal = Refusal.NotExpected } ∷ [] in
       ap (λ (o : Outcome). if group =? s .group .number then o else refused s Refusal.OtherGroup) (judged-append (refused s) step sender expected)
       ∙ judged-ask (refused s) step (group =? s .group .number) Refusal.OtherGroup (sender ++ expected)
-  asked (suc (suc (suc (suc (suc (suc (suc (suc zero)))))))) member group a b c k = judged-ask (refused s) (answered s Noted) (group =? s .group .number) Refusal.OtherGroup otherEnd
-  asked (suc (suc (suc (suc (suc (suc (suc (suc (suc kind))))))))) member group a b c k =
-      let z : suc (suc (suc (suc (suc (suc (suc (suc (suc kind)))))))) ≤ 8 = search says in
+  asked (suc (suc (suc (suc (suc (suc (suc (suc zero)))))))) member group a b c k = by-elected member group
+  asked (suc (suc (suc (suc (suc (suc (suc (suc (suc zero))))))))) member group a b c k = judged-ask (refused s) (answered s Noted) (group =? s .group .number) Refusal.OtherGroup otherEnd
+  asked (suc (suc (suc (suc (suc (suc (suc (suc (suc (suc zero)))))))))) member group a b c k = judged-ask (refused s) (answered s Noted) (group =? s .group .number) Refusal.OtherGroup otherEnd
+  asked (suc (suc (suc (suc (suc (suc (suc (suc (suc (suc (suc zero))))))))))) member group a b c k = judged-ask (refused s) (answered s Noted) (group =? s .group .number) Refusal.OtherGroup otherEnd
+  asked (suc (suc (suc (suc (suc (suc (suc (suc (suc (suc (suc (suc kind)))))))))))) member group a b c k =
+      let z : suc (suc (suc (suc (suc (suc (suc (suc (suc (suc (suc (suc kind))))))))))) ≤ 11 = search says in
       absurd (omega arith)
 
   pub fields-asked : (h : Header) → knownKind (h .kind) ≡ true

@@ -12,10 +12,11 @@ use Rattle.group.specs.Lent.{Laid}
 use Rattle.group.specs.Limits.{membersMost}
 use Rattle.group.specs.declared.MemberNumber.{MemberNumber}
 use Rattle.group.specs.declared.SequenceNumber.{SequenceNumber}
+use Rattle.group.specs.Members.{neededOf}
 use Rattle.group.proofs.Choice.{if-true, if-false}
 use Rattle.packet.specs.Packet.{fieldsOf, packetOf}
 use Rattle.packet.specs.declared.Packet.{Packet}
-use Rattle.packet.specs.declared.Packet.the-variants.{Request, Broadcast, Gap, Status, Poll, Offer, Confirm, Accept}
+use Rattle.packet.specs.declared.Packet.the-variants.{Request, Broadcast, Gap, Status, Poll, Offer, Confirm, Accept, Invitation, Result}
 use Rattle.store.specs.Places.{messagesIn}
 use Rattle.history.specs.Ask.{senderOf}
 use Rattle.history.specs.Marks.{markedOf, enoughOf, unmarkedOf}
@@ -53,7 +54,7 @@ module _ (head : Head) (marks : List ℕ) (m : MemberNumber) (number : SequenceN
       changed-as (if-true (number .0 ≤? head .accepted .0) _ _ _ (le-leb (number .0) (head .accepted .0) h) refl) (answered-changed (marksOnly head marks) Old r e x)
 
   module _ (ahead : head .accepted .0 < number .0) (marks′ : List ℕ) (marked : marks′ ≡ markedOf marks m (head .accepted .0) (number .0 - head .accepted .0))
-      (found : SequenceNumber) (enough : found .0 ≡ enoughOf marks′ (head .group .resilience) (head .accepted .0) (head .top .0 - head .accepted .0)) where
+      (needed : ℕ) (counted : needed ≡ neededOf (head .group)) (found : SequenceNumber) (enough : found .0 ≡ enoughOf marks′ needed (head .accepted .0) (head .top .0 - head .accepted .0)) where
     with-mark : withMark state m number ≡ viewOf (marksOnly head marks′)
     unfolding withMark viewOf
     with-mark = λ i. record { group = head .group; acknowledgements = viewOf (marksOnly head marks) .acknowledgements; top = head .top; accepted = head .accepted; floor = head .floor; history = viewOf (marksOnly head marks) .history; marks = sym marked i }
@@ -66,7 +67,10 @@ module _ (head : Head) (marks : List ℕ) (m : MemberNumber) (number : SequenceN
         ∙ if-false (number .0 ≤? head .accepted .0) _ _ _ (lt-leb (number .0) (head .accepted .0) ahead) refl
       where
         step : found .0 ≡ enoughIn (withMark state m number)
-        step = enough ∙ ap (λ (s : Sequencer). enoughIn s) (sym with-mark)
+        step =
+            enough
+            ∙ ap (λ (k : ℕ). enoughOf marks′ k (head .accepted .0) (head .top .0 - head .accepted .0)) counted
+            ∙ ap (λ (s : Sequencer). enoughIn s) (sym with-mark)
 
     -- Marked
     pub confirm-marked : found .0 ≡ 0 → (r : Reply) → r ≡ record { answer = Marked; written = 0 } → (x : List ℕ)
@@ -77,7 +81,7 @@ module _ (head : Head) (marks : List ℕ) (m : MemberNumber) (number : SequenceN
 
     -- Accepted
     pub confirm-accepted : found .0 ≢ 0 → (marks″ : List ℕ) → marks″ ≡ unmarkedOf marks′ (head .accepted .0) (found .0 - head .accepted .0)
-        → (written : ℕ) (x y : List ℕ) → Laid (packetOf (fieldsOf (head .group .number) (Accept found)) []) written x y
+        → (written : ℕ) (x y : List ℕ) → Laid (packetOf (fieldsOf (head .group .number) (Accept (head .group .elected) found)) []) written x y
         → Changed (confirmOf state m number) (record { answer = Answer.Accepted; written = written })
         (marksOnly (record { group = head .group; top = head .top; accepted = found; floor = head .floor }) marks″) x y
     unfolding settledOf withAccepted acceptPacket viewOf
@@ -134,13 +138,16 @@ confirm-is s (Request sender taken count) payload m number e = absurd (none≢ e
 confirm-is s (Broadcast originator n count floor) payload m number e = absurd (none≢ e)
 confirm-is s (Gap sender taken first last) payload m number e = absurd (none≢ e)
 confirm-is s (Status sender taken) payload m number e = absurd (none≢ e)
-confirm-is s (Poll top floor) payload m number e = absurd (none≢ e)
+confirm-is s (Poll elected top floor) payload m number e = absurd (none≢ e)
 confirm-is s (Offer originator n count floor) payload m number e = absurd (none≢ e)
 confirm-is s (Confirm sender n) payload m number e =
     let a : m ≡ sender = cc in
     let b : number ≡ n = cc in
     λ i. confirmOf s (a i) (b i)
-confirm-is s (Accept n) payload m number e = absurd (none≢ e)
+confirm-is s (Accept elected n) payload m number e = absurd (none≢ e)
+confirm-is s (Invitation sender attempt) payload m number e = absurd (none≢ e)
+confirm-is s (Packet.Reply sender attempt n) payload m number e = absurd (none≢ e)
+confirm-is s (Result sender attempt elected n) payload m number e = absurd (none≢ e)
 
 confirm-sender : (packet : Packet) (m : MemberNumber) (number : SequenceNumber) → confirmationOf packet ≡ Confirmation.Of m number → senderOf packet .member ≡ m
 unfolding confirmationOf senderOf
@@ -148,10 +155,13 @@ confirm-sender (Request sender taken count) m number e = absurd (none≢ e)
 confirm-sender (Broadcast originator n count floor) m number e = absurd (none≢ e)
 confirm-sender (Gap sender taken first last) m number e = absurd (none≢ e)
 confirm-sender (Status sender taken) m number e = absurd (none≢ e)
-confirm-sender (Poll top floor) m number e = absurd (none≢ e)
+confirm-sender (Poll elected top floor) m number e = absurd (none≢ e)
 confirm-sender (Offer originator n count floor) m number e = absurd (none≢ e)
 confirm-sender (Confirm sender n) m number e = cc
-confirm-sender (Accept n) m number e = absurd (none≢ e)
+confirm-sender (Accept elected n) m number e = absurd (none≢ e)
+confirm-sender (Invitation sender attempt) m number e = absurd (none≢ e)
+confirm-sender (Packet.Reply sender attempt n) m number e = absurd (none≢ e)
+confirm-sender (Result sender attempt elected n) m number e = absurd (none≢ e)
 
 -- who confirms is a member
 pub confirm-inside : (head : Head) (taken counts repeats kept marks originators lengths payloads : List ℕ) (fits : Fits (whole head taken counts repeats kept marks originators lengths payloads))

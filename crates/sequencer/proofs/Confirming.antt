@@ -15,7 +15,7 @@ use Rattle.group.proofs.Choice.{both-hold, both-first, both-then}
 use Rattle.group.proofs.Counting.{count, count-within, count-mono, ones-count}
 use Rattle.group.proofs.Lists.{if-elim, le-or}
 use Rattle.group.specs.Choice.{_≤?_, _=?_}
-use Rattle.group.proofs.Members.{in-or, in-only, within-in, more-within, others-in, expected-others}
+use Rattle.group.proofs.Members.{in-or, in-only, within-in, more-within, others-in, expected-others, survivor-lt}
 use Rattle.group.specs.Limits.{membersMost, placesMost}
 use Rattle.group.specs.Members.{isIn, onlyOf, othersOf, expectedOf, neededOf}
 use Rattle.group.specs.declared.Group.{Group}
@@ -27,7 +27,7 @@ use Rattle.sequencer.specs.Calls.{Outcome, answered, withMark, withAccep
 use Rattle.sequencer.specs.Laws.{Typed, FewMarks}
 use Rattle.sequencer.specs.State.{Sequencer}
 use Rattle.sequencer.proofs.Invariant.{Confirmed, reaches}
-use Rattle.sequencer.proofs.Soundness.{Sound, sound-of}
+use Rattle.sequencer.proofs.Soundness.{stands, Sound, sound-of}
 
 -- an expected member confirms an unaccepted number
 module _ (s : Sequencer) (typed : Typed s) (sound : Sound s) (m : MemberNumber) (number : SequenceNumber)
@@ -76,11 +76,14 @@ module _ (s : Sequencer) (typed : Typed s) (sound : Sound s) (m : MemberNumber) 
         n-least = sound .n-least;
         n-most = sound .n-most;
         resilient = sound .resilient;
+        within = sound .within;
+        elected-in = sound .elected-in;
         floor-is = sound .floor-is;
         floor-le = sound .floor-le;
         accepted-le = sound .accepted-le;
         window = sound .window;
         taken-le = sound .taken-le;
+        lost = sound .lost;
         unused = sound .unused;
         kept = sound .kept;
         empty = sound .empty;
@@ -147,11 +150,14 @@ module _ (s : Sequencer) (typed : Typed s) (sound : Sound s) (number : ℕ) (abo
         n-least = sound .n-least;
         n-most = sound .n-most;
         resilient = sound .resilient;
+        within = sound .within;
+        elected-in = sound .elected-in;
         floor-is = sound .floor-is;
         floor-le = omega arith;
         accepted-le = below;
         window = sound .window;
         taken-le = sound .taken-le;
+        lost = sound .lost;
         unused = sound .unused;
         kept = sound .kept;
         empty = sound .empty;
@@ -173,9 +179,9 @@ module _ (s : Sequencer) (typed : Typed s) (sound : Sound s) (number : ℕ) (abo
       let within : count membersMost (isIn mark) ≤ count (group .n) (reaches group reach number) =
       count-within membersMost (group .n) (isIn mark) (reaches group reach number)
       (λ i h.
-      let x = expected-others (s .group) (sound .n-least) (sound .n-most) i (within-in mark (expectedOf (s .group)) i (sound .marks-in number above below) h) in
+      let x = expected-others (s .group) (stands s sound) i (within-in mark (expectedOf (s .group)) i (sound .marks-in number above below) h) in
       let y : isIn (othersOf group) i ≡ true = rw (← e) x in (
-        subst (λ (g : Group). i < g .n) e (others-in (s .group) (sound .n-least) i x .0),
+        subst (λ (g : Group). i < g .n) e (survivor-lt (s .group) (stands s sound) i (others-in (s .group) (stands s sound) i x .0)),
         both-hold _ _ y (le-leb number (reach i) (c .marked number i above below h)),
       )) in
       record {

@@ -12,7 +12,7 @@ use borrow.Author.Tests.{le-leb}
 use lib.Pow.{pow-pos}
 use lib.ListN.{length, getD, length-append, getD-replicate, List·getD-eq-default}
 use Rattle.group.proofs.Counting.{count}
-use Rattle.group.proofs.Members.{others-count}
+use Rattle.group.proofs.Members.{Standing, survivor-lt, others-count}
 use Rattle.group.proofs.Lists.{at, at-le, at-nil, at-snoc, at-some, eq-or, le-or}
 use Rattle.group.specs.Choice.{_≤?_}
 use Rattle.group.specs.Members.{isIn, expectedOf, neededOf}
@@ -32,7 +32,7 @@ use Rattle.history.proofs.Counting.{counted-each, counted-same, counted-up}
 use Rattle.history.proofs.Noting.{cleared-other}
 use Rattle.history.proofs.Soundness.{countIn, floor-most}
 use Rattle.history.specs.Marks.{markAt}
-use Rattle.history.specs.State.{Acknowledgement, noAcknowledgement, messageAt, placeOf}
+use Rattle.history.specs.State.{floorOf, Acknowledgement, noAcknowledgement, messageAt, placeOf}
 use Rattle.sequencer.specs.Calls.{announced, broadcastOf, repeatedOf, withMessage, withMark, withAccepted}
 use Rattle.sequencer.specs.Note.{withTable, noteOf}
 use Rattle.sequencer.specs.State.{Sequencer, repeatCount, freshSequencer}
@@ -53,7 +53,7 @@ module _ (group : Group) (order : List Ordered) (s : Sequencer) (v : SequencerIn
   member-inside h = let n : s .group .n ≡ group .n = ap (λ (g : Group). g .n) (v .group-is) in let f = sound .n-most in let l = v .typed .table in omega arith
 
   -- a member of the group and a number that it can have taken
-  module _ (m : MemberNumber) (taken : SequenceNumber) (member : m .0 < group .n) (known : taken .0 ≤ s .accepted .0) where
+  module _ (m : MemberNumber) (taken : SequenceNumber) (member : m .0 < group .n) (survives : isIn (group .survivors) (m .0) ≡ true) (known : taken .0 ≤ s .accepted .0) where
     pub note-inv : SequencerInv group (noteOf s m taken) order
     unfolding noteOf withTable
     note-inv =
@@ -62,8 +62,8 @@ module _ (group : Group) (order : List Ordered) (s : Sequencer) (v : SequencerIn
         let up = floor-up s m taken (v .typed .table) f member′ in
         record {
           group-is = v .group-is;
-          typed = note-typed s m taken (v .typed .table) f member′ known (v .typed);
-          sound = of-sound (noteOf s m taken) (note-sound s m taken (v .typed .table) f member′ known (v .typed .history));
+          typed = note-typed s m taken (v .typed .table) f member′ known (rw (v .group-is) survives) (v .typed);
+          sound = of-sound (noteOf s m taken) (note-sound s m taken (v .typed .table) f member′ known (rw (v .group-is) survives) (v .typed .history));
           top-is = v .top-is;
           history-is = λ k x e h.
               let l = at-le order k e in
@@ -79,15 +79,15 @@ module _ (group : Group) (order : List Ordered) (s : Sequencer) (v : SequencerIn
           plain = v .plain;
         }
 
-  pub repeated-inv : (m : MemberNumber) → m .0 < group .n → SequencerInv group (repeatedOf s m) order
+  pub repeated-inv : (m : MemberNumber) → m .0 < group .n → isIn (group .survivors) (m .0) ≡ true → SequencerInv group (repeatedOf s m) order
   unfolding repeatedOf
-  repeated-inv m member =
+  repeated-inv m member survives =
       let member′ : m .0 < s .group .n = rw (v .group-is) member in
       let count = repeated-count s (v .typed) sound m member′ in
       record {
         group-is = v .group-is;
         typed = repeated-typed s (v .typed) sound m member′;
-        sound = of-sound (repeatedOf s m) (repeated-sound s (v .typed) sound m member′);
+        sound = of-sound (repeatedOf s m) (repeated-sound s (v .typed) sound m member′ (rw (v .group-is) survives));
         top-is = v .top-is;
         history-is = v .history-is;
         number-is = v .number-is;
@@ -250,7 +250,7 @@ module _ (group : Group) (order : List Ordered) (s : Sequencer) (v : SequencerIn
       }
 
 -- nothing was numbered in a fresh state
-module _ (group : Group) (low : 1 ≤ group .n) (high : group .n ≤ membersMost) (resilient : group .resilience < group .n) (fits : group .number ≤ largestNumber) where
+module _ (group : Group) (standing : Standing group) (fits : group .number ≤ largestNumber) where
   abbrev opened : Sequencer
   opened = freshSequencer group
 
@@ -274,18 +274,31 @@ module _ (group : Group) (low : 1 ≤ group .n) (high : group .n ≤ membersMost
       le-or placesMost i (λ h. rw (List·getD-eq-default (opened .marks) 0 {n = i} h) (pow-pos membersMost))
       (λ h. rw (getD-replicate {A = ℕ} placesMost i 0 0 h) (pow-pos membersMost))
 
+  fresh-floor : floorOf (group .survivors) (opened .acknowledgements) ≡ 0
+  unfolding freshSequencer
+  fresh-floor =
+      let e = group .elected .0 in
+      let l = survivor-lt group standing e (standing .elected-in) in
+      let m = standing .n-most in
+      let t = ap (λ (a : Acknowledgement). a .taken .0) (fresh-entry e) in
+      let z = floor-most (group .survivors) (opened .acknowledgements) e (standing .elected-in) (omega arith) in
+      omega arith
+
   fresh-sound : Sound opened
   unfolding freshSequencer
   fresh-sound =
       record {
-        n-least = low;
-        n-most = high;
-        resilient = resilient;
-        floor-is = let z = floor-most (group .n) (opened .acknowledgements) 0 low (omega arith) in omega arith;
+        n-least = standing .n-least;
+        n-most = standing .n-most;
+        resilient = standing .resilient;
+        within = standing .within;
+        elected-in = standing .elected-in;
+        floor-is = fresh-floor;
         floor-le = omega arith;
         accepted-le = omega arith;
         window = omega arith;
         taken-le = λ i h. let z = ap (λ (a : Acknowledgement). a .taken .0) (fresh-entry i) in omega arith;
+        lost = λ i h. rw (fresh-entry i) (record { taken = refl; repeats = refl });
         unused = λ i h. fresh-entry i;
         kept = λ k a b. absurd (omega arith);
         empty = λ k a b. ap isEmpty (fresh-place k) ∙ empty-zero;
@@ -327,5 +340,7 @@ module _ (group : Group) (low : 1 ≤ group .n) (high : group .n ≤ membersMost
   pub fresh-confirmed : (reach : ℕ → ℕ) → Confirmed group opened reach
   unfolding freshSequencer
   fresh-confirmed reach =
-      let all : group .n - 1 ≤ count (group .n) (reaches group reach 0) = others-count group low (λ i. 0 ≤? reach i) (λ i. le-leb 0 (reach i) (omega arith)) in
-      record { marked = λ k i a b e. absurd (omega arith); enough = omega arith }
+      record {
+        marked = λ k i a b e. absurd (omega arith);
+        enough = others-count group standing (λ i. 0 ≤? reach i) (λ i. le-leb 0 (reach i) (omega arith));
+      }

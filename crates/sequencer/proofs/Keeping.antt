@@ -1,8 +1,8 @@
 -- Each step of a sound sequencer leaves a sound state that its types can hold, and writes nothing or a packet that reading
 -- accepts: the step's text, with a proof for each way that a choice goes. Assumes nothing.
-use mathlib.Core.Path.{_≡_, refl, _∙_}
+use mathlib.Core.Path.{_≡_, refl, sym, _∙_}
 use mathlib.Core.Logic.{_≢_, _⊎_, inl, inr}
-use mathlib.Core.Bool.{true}
+use mathlib.Core.Bool.{true, false, false≢true}
 use mathlib.Core.List.{List, []}
 use Prim.Native.Nat.{ℕ, _+_, _-_, _≤_, _<_}
 use native.Mathlib.Omega.{arith}
@@ -22,7 +22,7 @@ use Rattle.packet.proofs.Laws.{read-written}
 use Rattle.packet.specs.Packet.{obeys, readOf, fieldsOf}
 use Rattle.packet.specs.declared.Header.{Header}
 use Rattle.packet.specs.declared.Packet.{Packet}
-use Rattle.packet.specs.declared.Packet.the-variants.{Request, Broadcast, Gap, Status, Poll, Offer, Confirm, Accept}
+use Rattle.packet.specs.declared.Packet.the-variants.{Request, Broadcast, Gap, Status, Poll, Offer, Confirm, Accept, Invitation, Result}
 use Rattle.packet.specs.declared.Reading.{Reading}
 use Rattle.history.proofs.Finding.{found-in}
 use Rattle.history.specs.Ask.{senderVerdict, countVerdict, wantedVerdict, expectedVerdict}
@@ -33,7 +33,7 @@ use Rattle.history.proofs.Asking.{sender-was, count-was, expected-was}
 use Rattle.history.proofs.Counting.{counted-each, counted-taken}
 use Rattle.history.proofs.Marks.{enough-in}
 use Rattle.history.proofs.Repeating.{more-most}
-use Rattle.history.proofs.Soundness.{takenIn, countIn, kept-under, floor-same}
+use Rattle.history.proofs.Soundness.{Lost, takenIn, countIn, kept-under, floor-same}
 use Rattle.sequencer.specs.Calls.{Outcome, answered, refused, broadcastOf, pollPacket, repeatedOf, oldOf, againOf, fullOf, numberedOf, withMessage, requestOf, gapOf, acceptPacket, withMark, withAccepted, enoughIn, settledOf, confirmOf, contentStep}
 use Rattle.sequencer.specs.Laws.{Typed}
 use Rattle.sequencer.specs.Note.{withTable, noteOf}
@@ -44,7 +44,8 @@ use Rattle.sequencer.proofs.Confirming.{mark-typed, mark-sound, accept-
 use Rattle.sequencer.proofs.Noting.{noted-count, note-typed, note-sound}
 use Rattle.sequencer.proofs.Numbering.{numbered-typed, numbered-sound}
 use Rattle.sequencer.proofs.Packets.{broadcast-allowed, poll-allowed, accept-allowed}
-use Rattle.sequencer.proofs.Soundness.{Sound}
+use Rattle.group.proofs.Members.{survivor-lt}
+use Rattle.sequencer.proofs.Soundness.{stands, Sound}
 
 -- what a step leaves
 pub record Stays (o : Outcome) : Type 0 where
@@ -93,18 +94,21 @@ module _ (s : Sequencer) (typed : Typed s) (sound : Sound s) where
           masks = typed .masks;
         }
 
-    pub repeated-sound : Sound (repeatedOf s m)
+    pub repeated-sound : isIn (s .group .survivors) (m .0) ≡ true → Sound (repeatedOf s m)
     unfolding repeatedOf
-    repeated-sound =
+    repeated-sound survives =
         record {
           n-least = sound .n-least;
           n-most = sound .n-most;
           resilient = sound .resilient;
-          floor-is = floor-same (s .group .n) table′ table (length-set table (m .0) entry) repeated-taken ∙ sound .floor-is;
+          within = sound .within;
+          elected-in = sound .elected-in;
+          floor-is = floor-same (s .group .survivors) table′ table (length-set table (m .0) entry) repeated-taken ∙ sound .floor-is;
           floor-le = sound .floor-le;
           accepted-le = sound .accepted-le;
           window = sound .window;
           taken-le = λ i h. rw (repeated-taken i) (sound .taken-le i h);
+          lost = λ i h. repeated-each (λ j a. Lost a) i (λ q. absurd (false≢true (sym h ∙ rw q survives))) (λ q. sound .lost i h);
           unused = λ i h. repeated-each (λ j a. a ≡ noAcknowledgement) i (λ q. absurd (omega arith)) (λ q. sound .unused i h);
           kept = λ k a b.
               let z = repeated-count (messageAt (s .history) k .originator .0) in
@@ -123,16 +127,16 @@ module _ (s : Sequencer) (typed : Typed s) (sound : Sound s) where
   unfolding pollPacket
   poll-reads = (_, read-written _ _ (poll-allowed s typed sound) .0)
 
-module _ (s : Sequencer) (typed : Typed s) (sound : Sound s) (m : MemberNumber) (member : m .0 < s .group .n) where
+module _ (s : Sequencer) (typed : Typed s) (sound : Sound s) (m : MemberNumber) (member : m .0 < s .group .n) (survives : isIn (s .group .survivors) (m .0) ≡ true) where
   again-stays : (number : ℕ) → (number ≢ 0 → (s .floor .0 < number) × (number ≤ s .floor .0 + (s .top .0 - s .floor .0))) → Stays (againOf s m number)
   unfolding againOf oldOf answered
   again-stays number found =
-      if-elim Stays (number =? 0) (λ t. record { typed = repeated-typed s typed sound m member; sound = repeated-sound s typed sound m member; bytes = inl refl })
+      if-elim Stays (number =? 0) (λ t. record { typed = repeated-typed s typed sound m member; sound = repeated-sound s typed sound m member survives; bytes = inl refl })
       (λ t.
       let f = found (eqb-false number 0 t) in
       let g = sound .floor-le in
       let e = sound .accepted-le in
-      record { typed = repeated-typed s typed sound m member; sound = repeated-sound s typed sound m member; bytes = inr (broadcast-reads s typed sound number (f .0) (omega arith)) })
+      record { typed = repeated-typed s typed sound m member; sound = repeated-sound s typed sound m member survives; bytes = inr (broadcast-reads s typed sound number (f .0) (omega arith)) })
 
   numbered-stays : (count : ℕ) (payload : List ℕ) → 1 ≤ count → count ≤ largestNumber → length payload ≤ payloadMost
       → s .top .0 < s .floor .0 + placesMost → lastCount s m ≤ count → s .top .0 < largestNumber → Stays (numberedOf s m count payload)
@@ -151,7 +155,7 @@ module _ (s : Sequencer) (typed : Typed s) (sound : Sound s) (m : MemberNumber) 
   unfolding requestOf oldOf answered fullOf
   request-stays count payload least most short next left =
       let wide = s .top .0 - s .floor .0 in
-      if-elim Stays (count <? lastCount s m) (λ a. record { typed = repeated-typed s typed sound m member; sound = repeated-sound s typed sound m member; bytes = inl refl })
+      if-elim Stays (count <? lastCount s m) (λ a. record { typed = repeated-typed s typed sound m member; sound = repeated-sound s typed sound m member survives; bytes = inl refl })
       (λ a. if-elim Stays (count =? lastCount s m)
       (λ b. again-stays (findOf (s .history) m count (s .floor .0) wide) (found-in (s .history) m count (s .floor .0) wide))
       (λ b. if-elim Stays (wide =? placesMost) (λ c. record { typed = typed; sound = sound; bytes = inr (poll-reads s typed sound) })
@@ -191,18 +195,25 @@ confirm-stays s typed sound m number member below expected =
     (λ t. let above = leb-false (number .0) (s .accepted .0) t in
     settled-stays (withMark s m number) (mark-typed s typed sound m number member above below) (mark-sound s typed sound m number member above below (expected above)))
 
+-- an accepted sender is a survivor, and so a member
+pub sender-in : (s : Sequencer) → Sound s → (most : ℕ) (sender : MemberNumber) (taken : SequenceNumber) → senderVerdict (s .group .survivors) most sender taken ≡ Verdict.Accepted
+    → (sender .0 < s .group .n) × (taken .0 ≤ most) × (isIn (s .group .survivors) (sender .0) ≡ true)
+sender-in s sound most sender taken e =
+    let a = sender-was (s .group .survivors) most sender taken e in
+    (survivor-lt (s .group) (stands s sound) (sender .0) (a .0), a .1, a .0)
+
 -- what a packet of our group says
 module _ (s : Sequencer) (typed : Typed s) (sound : Sound s) (g : ℕ) (payload : List ℕ) (short : length payload ≤ payloadMost) where
   refused-stays : (refusal : Refusal) → Stays (refused s refusal)
   refused-stays refusal = answered-stays s typed sound (Answer.Refused refusal)
 
   -- once a sender was accepted, its number is noted
-  module _ (sender : MemberNumber) (taken : SequenceNumber) (e : senderVerdict (s .group .n) (s .accepted .0) sender taken ≡ Verdict.Accepted) where
+  module _ (sender : MemberNumber) (taken : SequenceNumber) (e : senderVerdict (s .group .survivors) (s .accepted .0) sender taken ≡ Verdict.Accepted) where
     typed′ : Typed (noteOf s sender taken)
-    typed′ = let a = sender-was (s .group .n) (s .accepted .0) sender taken e in note-typed s sender taken (typed .table) sound (a .0) (a .1) typed
+    typed′ = let a = sender-in s sound (s .accepted .0) sender taken e in note-typed s sender taken (typed .table) sound (a .0) (a .1) (a .2) typed
 
     sound′ : Sound (noteOf s sender taken)
-    sound′ = let a = sender-was (s .group .n) (s .accepted .0) sender taken e in note-sound s sender taken (typed .table) sound (a .0) (a .1) (typed .history)
+    sound′ = let a = sender-in s sound (s .accepted .0) sender taken e in note-sound s sender taken (typed .table) sound (a .0) (a .1) (a .2) (typed .history)
 
     noted-stays : (answer : Answer) → Stays (answered (noteOf s sender taken) answer)
     noted-stays answer = answered-stays (noteOf s sender taken) typed′ sound′ answer
@@ -211,10 +222,10 @@ module _ (s : Sequencer) (typed : Typed s) (sound : Sound s) (g : ℕ) (payload 
         → Stays (requestOf (noteOf s sender taken) sender count payload)
     unfolding noteOf withTable
     requested-stays count least most f =
-        let a = sender-was (s .group .n) (s .accepted .0) sender taken e in
+        let a = sender-in s sound (s .accepted .0) sender taken e in
         let b = count-was (lastCount s sender) (s .top .0) count f in
         let c = noted-count s sender taken (typed .table) sound (a .0) (sender .0) in
-        request-stays (noteOf s sender taken) typed′ sound′ sender (a .0) count payload least most short (omega arith) (λ h. b .1 (omega arith))
+        request-stays (noteOf s sender taken) typed′ sound′ sender (a .0) (a .2) count payload least most short (omega arith) (λ h. b .1 (omega arith))
 
     gap-stays : (first last : SequenceNumber) → Stays (gapOf (noteOf s sender taken) first last)
     unfolding gapOf
@@ -222,23 +233,26 @@ module _ (s : Sequencer) (typed : Typed s) (sound : Sound s) (g : ℕ) (payload 
         if-elim Stays (last .0 ≤? noteOf s sender taken .floor .0) (λ t. noted-stays Noted)
         (λ t. noted-stays (Wanted (record { 0 = largerOf (first .0) (noteOf s sender taken .floor .0 + 1) }) last))
 
-  pub content-stays : (content : Packet) → obeys (fieldsOf g content) ≡ true → fieldsOf g content .b ≤ largestNumber → Stays (contentStep s content payload)
+  pub content-stays : (content : Packet) → obeys (fieldsOf g content) payload ≡ true → fieldsOf g content .b ≤ largestNumber → Stays (contentStep s content payload)
   unfolding contentStep fieldsOf obeys if_then_else_
   content-stays (Request sender taken count) o most =
-      judged-elim Stays (senderVerdict (s .group .n) (s .accepted .0) sender taken) (λ r e. refused-stays r)
+      judged-elim Stays (senderVerdict (s .group .survivors) (s .accepted .0) sender taken) (λ r e. refused-stays r)
       (λ e. judged-elim Stays (countVerdict (lastCount s sender) (s .top .0) count) (λ r f. refused-stays r)
       (λ f. requested-stays sender taken e count (search says) most f))
   content-stays (Broadcast originator number count floor) o most = refused-stays OtherEnd
   content-stays (Gap sender taken first last) o most =
-      judged-elim Stays (senderVerdict (s .group .n) (s .accepted .0) sender taken) (λ r e. refused-stays r)
+      judged-elim Stays (senderVerdict (s .group .survivors) (s .accepted .0) sender taken) (λ r e. refused-stays r)
       (λ e. judged-elim Stays (wantedVerdict (s .top .0) last) (λ r f. refused-stays r) (λ f. gap-stays sender taken e first last))
   content-stays (Status sender taken) o most =
-      judged-elim Stays (senderVerdict (s .group .n) (s .accepted .0) sender taken) (λ r e. refused-stays r) (λ e. noted-stays sender taken e Noted)
-  content-stays (Poll top floor) o most = refused-stays OtherEnd
+      judged-elim Stays (senderVerdict (s .group .survivors) (s .accepted .0) sender taken) (λ r e. refused-stays r) (λ e. noted-stays sender taken e Noted)
+  content-stays (Poll elected top floor) o most = refused-stays OtherEnd
   content-stays (Offer originator number count floor) o most = refused-stays OtherEnd
   content-stays (Confirm sender number) o most =
-      judged-elim Stays (senderVerdict (s .group .n) (s .top .0) sender number) (λ r e. refused-stays r)
+      judged-elim Stays (senderVerdict (s .group .survivors) (s .top .0) sender number) (λ r e. refused-stays r)
       (λ e. judged-elim Stays (expectedVerdict (s .group) (s .accepted .0) sender number) (λ r f. refused-stays r)
-      (λ f. let a = sender-was (s .group .n) (s .top .0) sender number e in
+      (λ f. let a = sender-in s sound (s .top .0) sender number e in
       confirm-stays s typed sound sender number (a .0) (a .1) (expected-was (s .group) (s .accepted .0) sender number f)))
-  content-stays (Accept number) o most = refused-stays OtherEnd
+  content-stays (Accept elected number) o most = refused-stays OtherEnd
+  content-stays (Invitation sender attempt) o most = refused-stays OtherEnd
+  content-stays (Packet.Reply sender attempt number) o most = refused-stays OtherEnd
+  content-stays (Result sender attempt elected number) o most = refused-stays OtherEnd

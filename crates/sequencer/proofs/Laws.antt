@@ -14,12 +14,12 @@ use Rattle.group.specs.Choice.{_and_, _<?_, _≤?_, _=?_}
 use Rattle.group.specs.Limits.{headerSize, largestNumber}
 use Rattle.group.specs.Question.{Question, firstNo, judged}
 use Rattle.group.specs.declared.Refusal.{Refusal}
-use Rattle.group.specs.declared.Refusal.the-variants.{UnsoundState, PacketSize, UnknownKind, NotInHistory, OtherGroup}
+use Rattle.group.specs.declared.Refusal.the-variants.{UnsoundState, PacketSize, UnknownKind, NotInHistory, OtherGroup, ForbiddenFields}
 use Rattle.group.specs.declared.Verdict.{Verdict}
 use Rattle.packet.proofs.Laws.{read-first-no, fields-content}
 use Rattle.packet.proofs.Verdicts.{askable, readable}
 use Rattle.packet.specs.Laws.{readQuestions}
-use Rattle.packet.specs.Packet.{headerOf, payloadAt, knownKind, readOf, contentOf}
+use Rattle.packet.specs.Packet.{headerOf, payloadAt, knownKind, readOf, contentOf, fromElected}
 use Rattle.packet.specs.declared.Reading.{Reading}
 use Rattle.sequencer.specs.Calls.{Outcome, answered, refused, broadcastOf, pollPacket, readStep, callVerdict, receiveOf, pollOf, copyOf}
 use Rattle.sequencer.specs.Laws.{callQuestions, fieldsQuestions, receiveQuestions, copyQuestions, FirstNo, ReceiveFirstNo, PollFirstNo, CopyFirstNo, Typed, Keeps, ReceiveKeeps, PollKeeps, CopyKeeps}
@@ -103,12 +103,14 @@ module _ (s : Sequencer) (typed : Typed s) where
   unfolding readStep
   keeps-read sound p fits (Reading.Fields h) e =
       let a = readable p h e in
-      let f = askable h (length p - headerSize) (length p - headerSize) (a .fields) in
-      let c = fields-content h (length p - headerSize) (length p - headerSize) (a .fields) in
+      let f = askable h (length p - headerSize) (payloadAt p) (a .fields) in
+      let c = fields-content h (length p - headerSize) (payloadAt p) (a .fields) in
       let most : h .b ≤ largestNumber = rw (a .header) fits in
-      if-elim (Keeps s) (h .group =? s .group .number)
+      if-elim (Keeps s) (fromElected (s .group) (contentOf h))
+      (λ u. if-elim (Keeps s) (h .group =? s .group .number)
       (λ t. keeps-stays _ (content-stays s typed (sound-of s sound) (h .group) (payloadAt p) (a .payload) (contentOf h) (rw c (f .obey)) (rw c most)))
-      (λ t. keeps-refused OtherGroup)
+      (λ t. keeps-refused OtherGroup))
+      (λ u. keeps-refused ForbiddenFields)
   keeps-read sound p fits (Reading.Refused refusal) e = keeps-refused refusal
 
 pub receive-keeps : ReceiveKeeps

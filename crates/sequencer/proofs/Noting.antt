@@ -2,6 +2,7 @@
 -- number above the new floor keeps its place. Assumes nothing.
 use mathlib.Core.Path.{_≡_, refl, sym, ap, _∙_}
 use mathlib.Core.Logic.{_≢_}
+use mathlib.Core.Bool.{true, false, false≢true}
 use mathlib.Core.List.{List}
 use Prim.Native.Nat.{ℕ, _+_, _-_, _≤_, _<_}
 use native.Mathlib.Nat.{le-refl, le-trans, le-antisymm}
@@ -9,11 +10,12 @@ use native.Mathlib.Omega.{arith}
 use lib.ListN.{length, getD, length-set}
 use Rattle.group.proofs.Lists.{le-or, set-each}
 use Rattle.group.specs.Limits.{membersMost, placesMost, largestNumber}
+use Rattle.group.specs.Members.{isIn}
 use Rattle.group.specs.declared.MemberNumber.{MemberNumber}
 use Rattle.group.specs.declared.SequenceNumber.{SequenceNumber}
 use Rattle.message.proofs.Kept.{empty-zero}
 use Rattle.message.specs.Message.{isEmpty}
-use Rattle.history.proofs.Soundness.{takenIn, countIn, kept-under, floor-most, floor-least, floor-first, floor-same}
+use Rattle.history.proofs.Soundness.{takenIn, countIn, Lost, kept-under, floor-most, floor-least, floor-first, floor-same}
 use Rattle.history.specs.Marks.{markAt}
 use Rattle.history.specs.Note.{withTaken, tableNoted}
 use Rattle.history.specs.State.{Acknowledgement, noAcknowledgement, acknowledgementOf, messageAt, placeOf, floorOf}
@@ -57,28 +59,28 @@ module _ (s : Sequencer) (m : MemberNumber) (taken : SequenceNumber) (long : len
   noted-most t old new i h =
       noted-each (λ j a. a .taken .0 ≤ t j) i (λ q. rw q (larger-most (takenIn table (m .0)) (taken .0) (t (m .0)) (old (m .0) member) new)) (λ q. old i h)
 
-  pub floor-up : s .floor .0 ≤ floorOf (s .group .n) table′
+  pub floor-up : s .floor .0 ≤ floorOf (s .group .survivors) table′
   floor-up =
-      let first = floor-first (s .group .n) table in
+      let first = floor-first (s .group .survivors) table in
       let is = sound .floor-is in
-      floor-least (s .group .n) table′ (s .floor .0) (omega arith)
+      floor-least (s .group .survivors) table′ (s .floor .0) (omega arith)
       (λ i h k.
       let l = noted-length in
-      let a = floor-most (s .group .n) table i h (omega arith) in
+      let a = floor-most (s .group .survivors) table i h (omega arith) in
       let b = noted-least i in
       omega arith)
 
-  module _ (known : taken .0 ≤ s .accepted .0) where
+  module _ (known : taken .0 ≤ s .accepted .0) (survives : isIn (s .group .survivors) (m .0) ≡ true) where
     -- the new floor is accepted: the member's entry is, or it stays as it was, and with it the floor
-    pub floor-down : floorOf (s .group .n) table′ ≤ s .accepted .0
+    pub floor-down : floorOf (s .group .survivors) table′ ≤ s .accepted .0
     floor-down =
         let l = noted-length in
         let low = sound .floor-le in
         let is = sound .floor-is in
         le-or (takenIn table (m .0)) (s .accepted .0)
-        (λ h. le-trans (floor-most (s .group .n) table′ (m .0) member (omega arith))
+        (λ h. le-trans (floor-most (s .group .survivors) table′ (m .0) survives (omega arith))
         (noted-each (λ j a. a .taken .0 ≤ s .accepted .0) (m .0) (λ q. larger-most (takenIn table (m .0)) (taken .0) (s .accepted .0) h known) (λ q. absurd (q refl))))
-        (λ h. let z = floor-same (s .group .n) table′ table (noted-length ∙ sym long)
+        (λ h. let z = floor-same (s .group .survivors) table′ table (noted-length ∙ sym long)
         (λ i. noted-each (λ j a. a .taken .0 ≡ takenIn table j) i
         (λ q. rw q (le-antisymm (larger-most (takenIn table (m .0)) (taken .0) (takenIn table (m .0)) (le-refl _) (omega arith)) (larger-least (takenIn table (m .0)) (taken .0))))
         (λ q. refl)) in
@@ -92,7 +94,7 @@ module _ (s : Sequencer) (m : MemberNumber) (taken : SequenceNumber) (long : len
           top = typed .top;
           accepted = typed .accepted;
           table = noted-length;
-          history = cleared-length (s .history) (s .floor .0) (floorOf (s .group .n) table′ - s .floor .0) ∙ typed .history;
+          history = cleared-length (s .history) (s .floor .0) (floorOf (s .group .survivors) table′ - s .floor .0) ∙ typed .history;
           counts = λ i. rw (noted-count i) (typed .counts i);
           repeats = λ i. noted-each (λ j a. a .repeats ≤ largestNumber) i (λ q. typed .repeats (m .0)) (λ q. typed .repeats i);
           marks = typed .marks;
@@ -104,17 +106,20 @@ module _ (s : Sequencer) (m : MemberNumber) (taken : SequenceNumber) (long : len
     note-sound places =
         let up = floor-up in
         let down = floor-down in
-        let floor′ = floorOf (s .group .n) table′ in
+        let floor′ = floorOf (s .group .survivors) table′ in
         let k′ = floor′ - s .floor .0 in
         record {
           n-least = sound .n-least;
           n-most = sound .n-most;
           resilient = sound .resilient;
+          within = sound .within;
+          elected-in = sound .elected-in;
           floor-is = refl;
           floor-le = down;
           accepted-le = sound .accepted-le;
           window = let w = sound .window in omega arith;
           taken-le = noted-most (λ i. s .top .0) (sound .taken-le) (let h = sound .accepted-le in omega arith);
+          lost = λ i h. noted-each (λ j a. Lost a) i (λ q. absurd (false≢true (sym h ∙ rw q survives))) (λ q. sound .lost i h);
           unused = λ i h. noted-each (λ j a. a ≡ noAcknowledgement) i (λ q. absurd (omega arith)) (λ q. sound .unused i h);
           kept = λ k a b.
               rw (cleared-other (s .history) (s .floor .0) k′ k (omega arith) (let w = sound .window in omega arith))

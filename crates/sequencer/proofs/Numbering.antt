@@ -20,7 +20,7 @@ use Rattle.group.specs.declared.SequenceNumber.{SequenceNumber}
 use Rattle.message.proofs.Kept.{kept-zero}
 use Rattle.message.specs.Message.{Message, messageOf, blank, isEmpty}
 use Rattle.history.proofs.Counting.{counted-each, counted-taken, counted-same, counted-up}
-use Rattle.history.proofs.Soundness.{countIn, KeptFacts, kept-under, floor-same}
+use Rattle.history.proofs.Soundness.{Lost, countIn, KeptFacts, kept-under, floor-same}
 use Rattle.history.specs.Marks.{markAt}
 use Rattle.history.specs.Note.{withCounts}
 use Rattle.history.specs.State.{Acknowledgement, noAcknowledgement, acknowledgementOf, placeOf, messageAt}
@@ -85,11 +85,16 @@ module _ (s : Sequencer) (m : MemberNumber) (count : ℕ) (payload : List ℕ) (
           n-least = sound .n-least;
           n-most = sound .n-most;
           resilient = sound .resilient;
-          floor-is = floor-same (s .group .n) table′ table (length-set table (m .0) entry) (counted-taken table m count (repeatCount s m) inside) ∙ sound .floor-is;
+          within = sound .within;
+          elected-in = sound .elected-in;
+          floor-is = floor-same (s .group .survivors) table′ table (length-set table (m .0) entry) (counted-taken table m count (repeatCount s m) inside) ∙ sound .floor-is;
           floor-le = accepted-each (λ a. s .floor .0 ≤ a) (λ e. let h = sound .floor-le in let k = sound .accepted-le in omega arith) (λ e. sound .floor-le);
           accepted-le = accepted-each (λ a. a ≤ s .top .0 + 1) (λ e. le-refl _) (λ e. let h = sound .accepted-le in omega arith);
           window = omega arith;
           taken-le = λ i h. let z = counted-taken table m count (repeatCount s m) inside i in let y = sound .taken-le i h in omega arith;
+          lost = λ i h.
+              counted-each table m count (repeatCount s m) inside (λ j a. Lost a) i
+              (λ q. let l = sound .lost (m .0) (rw q at h) in record { taken = l .taken; repeats = l .repeats }) (λ q. sound .lost i h);
           unused = λ i h. counted-each table m count (repeatCount s m) inside (λ j a. a ≡ noAcknowledgement) i (λ q. absurd (omega arith)) (λ q. sound .unused i h);
           kept = λ k a b.
               eq-or k (s .top .0 + 1) (λ q. rw (q, kept-here) fresh)

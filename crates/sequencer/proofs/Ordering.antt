@@ -2,6 +2,7 @@
 -- that a choice goes. Assumes nothing.
 use mathlib.Core.Path.{_≡_, refl, sym, ap, _∙_, subst}
 use mathlib.Core.Logic.{_≢_}
+use mathlib.Core.Bool.{true}
 use mathlib.Core.Option.{some}
 use mathlib.Core.List.{List, []}
 use Prim.Native.Nat.{ℕ, _≤_, _<_}
@@ -17,7 +18,7 @@ use Rattle.group.specs.Question.{judged}
 use Rattle.group.specs.declared.Group.{Group}
 use Rattle.group.specs.declared.MemberNumber.{MemberNumber}
 use Rattle.group.specs.declared.Refusal.{Refusal}
-use Rattle.group.specs.declared.Refusal.the-variants.{OtherEnd, NotInHistory}
+use Rattle.group.specs.declared.Refusal.the-variants.{ForbiddenFields, OtherEnd, NotInHistory}
 use Rattle.group.specs.declared.SequenceNumber.{SequenceNumber}
 use Rattle.group.specs.declared.Verdict.{Verdict}
 use Rattle.message.proofs.Owning.{Owns}
@@ -26,9 +27,9 @@ use Rattle.packet.proofs.Facts.{Voice, Known, Says}
 use Rattle.packet.proofs.Laws.{read-written, content-fields, fields-group}
 use Rattle.packet.proofs.Verdicts.{writable}
 use Rattle.packet.specs.Laws.{Allowed}
-use Rattle.packet.specs.Packet.{packetOf, fieldsOf, written}
+use Rattle.packet.specs.Packet.{packetOf, fieldsOf, written, fromElected}
 use Rattle.packet.specs.declared.Packet.{Packet}
-use Rattle.packet.specs.declared.Packet.the-variants.{Request, Broadcast, Gap, Status, Poll, Offer, Confirm, Accept}
+use Rattle.packet.specs.declared.Packet.the-variants.{Request, Broadcast, Gap, Status, Poll, Offer, Confirm, Accept, Invitation, Result}
 use Rattle.history.proofs.Asking.{sender-was, count-was, expected-was}
 use Rattle.history.proofs.Soundness.{takenIn, floor-most, floor-least}
 use Rattle.history.specs.Ask.{senderVerdict, countVerdict, wantedVerdict, expectedVerdict}
@@ -41,7 +42,10 @@ use Rattle.sequencer.specs.declared.Answer.the-variants.{Noted, Sent}
 use Rattle.sequencer.proofs.Histories.{broadcast-is}
 use Rattle.sequencer.proofs.Invariant.{SequencerInv, SequencerGood, Confirmed, factsOf}
 use Rattle.sequencer.proofs.Noting.{noted-count, noted-own, noted-other}
-use Rattle.sequencer.proofs.Soundness.{sound-of}
+use Rattle.group.proofs.Members.{survivor-lt}
+use Rattle.group.specs.Members.{isIn}
+use Rattle.sequencer.proofs.Keeping.{sender-in}
+use Rattle.sequencer.proofs.Soundness.{sound-of, stands}
 use Rattle.sequencer.proofs.Answering.{Good, Ready, silent, writing, note-ready, poll-known, copy-known, request-good, gap-good, confirm-good}
 
 -- a state with its invariant
@@ -52,7 +56,8 @@ module _ (group : Group) (order : List Ordered) (s : Sequencer) (v : SequencerIn
 
   -- a packet of the group that may be written reaches its step
   pub received : (content : Packet) (payload : List ℕ) → Allowed (fieldsOf (group .number) content) payload
-      → receiveOf s (packetOf (fieldsOf (group .number) content) payload) longestPacket ≡ contentStep s content payload
+      → receiveOf s (packetOf (fieldsOf (group .number) content) payload) longestPacket
+      ≡ if fromElected (s .group) content then contentStep s content payload else refused s ForbiddenFields
   unfolding receiveOf judged readStep if_then_else_
   received content payload allowed =
       let r = read-written (fieldsOf (group .number) content) payload allowed in
@@ -70,12 +75,12 @@ module _ (group : Group) (order : List Ordered) (s : Sequencer) (v : SequencerIn
       rw (called, lt-ltb (s .floor .0) k above, le-leb k (s .top .0) (omega arith), broadcast-is group order s v k m e above)
 
   -- a member's status is noted
-  pub status-ok : (sender : MemberNumber) (taken : SequenceNumber) → Allowed (fieldsOf (group .number) (Status sender taken)) [] → sender .0 < group .n → taken .0 ≤ s .accepted .0
+  pub status-ok : (sender : MemberNumber) (taken : SequenceNumber) → Allowed (fieldsOf (group .number) (Status sender taken)) [] → isIn (group .survivors) (sender .0) ≡ true → taken .0 ≤ s .accepted .0
       → receiveOf s (packetOf (fieldsOf (group .number) (Status sender taken)) []) longestPacket ≡ answered (noteOf s sender taken) Noted
-  unfolding contentStep senderVerdict judged if_then_else_
+  unfolding contentStep senderVerdict judged if_then_else_ fromElected
   status-ok sender taken allowed member known =
       received (Status sender taken) [] allowed
-      ∙ rw (v .group-is, lt-ltb (sender .0) (group .n) member, le-leb (taken .0) (s .accepted .0) known)
+      ∙ rw (v .group-is, member, le-leb (taken .0) (s .accepted .0) known)
 
   -- of which that member's entry shows as much, and the others' entries what they did
   pub status-own : (sender : MemberNumber) (taken : SequenceNumber) → sender .0 < group .n → taken .0 ≤ takenIn (noteOf s sender taken .acknowledgements) (sender .0)
@@ -87,19 +92,27 @@ module _ (group : Group) (order : List Ordered) (s : Sequencer) (v : SequencerIn
   unfolding noteOf withTable
   status-other sender taken member = noted-other s sender taken (v .typed .table) (sound-of s (v .sound)) (rw (v .group-is) member)
 
-  -- floor is at most each member's entry, and the last accepted number where all of them are
-  pub floor-below : (i : ℕ) → i < group .n → s .floor .0 ≤ takenIn (s .acknowledgements) i
+  -- floor is at most each survivor's entry, and the last accepted number where all of them are
+  pub floor-below : (i : ℕ) → isIn (group .survivors) i ≡ true → s .floor .0 ≤ takenIn (s .acknowledgements) i
   floor-below i h =
       let f = sound-of s (v .sound) in
       let l = v .typed .table in
-      let inside : i < s .group .n = rw (v .group-is) h in
-      rw (f .floor-is) at (floor-most (s .group .n) (s .acknowledgements) i inside (omega arith))
+      let inside : isIn (s .group .survivors) i ≡ true = rw (v .group-is) h in
+      let lt = survivor-lt (s .group) (stands s f) i inside in
+      let most = f .n-most in
+      rw (f .floor-is) at (floor-most (s .group .survivors) (s .acknowledgements) i inside (omega arith))
+
+  pub survivor-in : (i : ℕ) → isIn (group .survivors) i ≡ true → i < group .n
+  survivor-in i h = rw (v .group-is) at (survivor-lt (s .group) (stands s (sound-of s (v .sound))) i (rw (v .group-is) h))
+
+  pub floor-survivors : ((i : ℕ) → isIn (group .survivors) i ≡ true → s .accepted .0 ≤ takenIn (s .acknowledgements) i) → s .floor .0 ≡ s .accepted .0
+  floor-survivors all =
+      let f = sound-of s (v .sound) in
+      let low = floor-least (s .group .survivors) (s .acknowledgements) (s .accepted .0) (v .typed .accepted) (λ i h k. all i (rw (v .group-is) at h)) in
+      omega arith
 
   pub floor-all : ((i : ℕ) → i < group .n → s .accepted .0 ≤ takenIn (s .acknowledgements) i) → s .floor .0 ≡ s .accepted .0
-  floor-all all =
-      let f = sound-of s (v .sound) in
-      let low = floor-least (s .group .n) (s .acknowledgements) (s .accepted .0) (v .typed .accepted) (λ i h k. all i (rw (v .group-is) at h)) in
-      omega arith
+  floor-all all = floor-survivors (λ i h. all i (survivor-in i h))
 
   -- the group's other facts: what its terminals can say of themselves
   module _ (voice : ℕ → Voice)
@@ -121,12 +134,15 @@ module _ (group : Group) (order : List Ordered) (s : Sequencer) (v : SequencerIn
 
     -- the steps, once a sender was accepted and its number is noted
     module _ (sender : MemberNumber) (taken : SequenceNumber) (known : taken .0 ≤ voice (sender .0) .row)
-        (e : senderVerdict (s .group .n) (s .accepted .0) sender taken ≡ Verdict.Accepted) where
+        (e : senderVerdict (s .group .survivors) (s .accepted .0) sender taken ≡ Verdict.Accepted) where
       member : sender .0 < group .n
-      member = rw (v .group-is) at (sender-was (s .group .n) (s .accepted .0) sender taken e .0)
+      member = rw (v .group-is) at (sender-in s (sound-of s (v .sound)) (s .accepted .0) sender taken e .0)
+
+      survives : isIn (group .survivors) (sender .0) ≡ true
+      survives = rw (v .group-is) at (sender-in s (sound-of s (v .sound)) (s .accepted .0) sender taken e .2)
 
       noted : Ready group order before voice (noteOf s sender taken)
-      noted = note-ready group order before voice s ready sender taken member known (rows (sender .0) member)
+      noted = note-ready group order before voice s ready sender taken member survives known (rows (sender .0) member)
 
       noted-request : (count : ℕ) (payload : List ℕ) → at (voice (sender .0) .submitted) count ≡ some payload → length payload ≤ payloadMost
           → countVerdict (lastCount s sender) (s .top .0) count ≡ Verdict.Accepted → Owes (requestOf (noteOf s sender taken) sender count payload)
@@ -135,39 +151,44 @@ module _ (group : Group) (order : List Ordered) (s : Sequencer) (v : SequencerIn
           let b = count-was (lastCount s sender) (s .top .0) count f in
           let c = noted-count s sender taken (v .typed .table) (sound-of s (v .sound)) (rw (v .group-is) member) (sender .0) in
           request-good group order before voice (noteOf s sender taken) noted
-          sender count payload member submission (sizes (sender .0) member) short (omega arith) (λ h. b .1 (omega arith))
+          sender count payload member survives submission (sizes (sender .0) member) short (omega arith) (λ h. b .1 (omega arith))
 
     content-good : (content : Packet) (payload : List ℕ) → length payload ≤ payloadMost → Says (factsOf group order before voice) content payload
         → Owes (contentStep s content payload)
     unfolding contentStep numberedBy
     content-good (Request sender taken count) payload short says =
-        judged-elim Owes (senderVerdict (s .group .n) (s .accepted .0) sender taken) (λ r e. refused-good r)
+        judged-elim Owes (senderVerdict (s .group .survivors) (s .accepted .0) sender taken) (λ r e. refused-good r)
         (λ e. judged-elim Owes (countVerdict (lastCount s sender) (s .top .0) count) (λ r f. refused-good r)
         (λ f. noted-request sender taken (says .0) e count payload (says .1) short f))
     content-good (Broadcast originator number count floor) payload short says = refused-good OtherEnd
     content-good (Gap sender taken first last) payload short says =
-        judged-elim Owes (senderVerdict (s .group .n) (s .accepted .0) sender taken) (λ r e. refused-good r)
+        judged-elim Owes (senderVerdict (s .group .survivors) (s .accepted .0) sender taken) (λ r e. refused-good r)
         (λ e. judged-elim Owes (wantedVerdict (s .top .0) last) (λ r f. refused-good r)
         (λ f. gap-good group order before voice (noteOf s sender taken) (noted sender taken says e) first last))
     content-good (Status sender taken) payload short says =
-        judged-elim Owes (senderVerdict (s .group .n) (s .accepted .0) sender taken) (λ r e. refused-good r)
+        judged-elim Owes (senderVerdict (s .group .survivors) (s .accepted .0) sender taken) (λ r e. refused-good r)
         (λ e. silent group order before voice (noteOf s sender taken) (noted sender taken says e) Noted refl)
-    content-good (Poll top floor) payload short says = refused-good OtherEnd
+    content-good (Poll elected top floor) payload short says = refused-good OtherEnd
     content-good (Offer originator number count floor) payload short says = refused-good OtherEnd
     content-good (Confirm sender number) payload short says =
-        judged-elim Owes (senderVerdict (s .group .n) (s .top .0) sender number) (λ r e. refused-good r)
+        judged-elim Owes (senderVerdict (s .group .survivors) (s .top .0) sender number) (λ r e. refused-good r)
         (λ e. judged-elim Owes (expectedVerdict (s .group) (s .accepted .0) sender number) (λ r f. refused-good r)
-        (λ f. let a = sender-was (s .group .n) (s .top .0) sender number e in
+        (λ f. let a = sender-in s (sound-of s (v .sound)) (s .top .0) sender number e in
         confirm-good group order before voice s ready sender number (rw (v .group-is) at (a .0)) (a .1) (says .0)
         (expected-was (s .group) (s .accepted .0) sender number f)))
-    content-good (Accept number) payload short says = refused-good OtherEnd
+    content-good (Accept elected number) payload short says = refused-good OtherEnd
+    content-good (Invitation sender attempt) payload short says = refused-good OtherEnd
+    content-good (Packet.Reply sender attempt number) payload short says = refused-good OtherEnd
+    content-good (Result sender attempt elected number) payload short says = refused-good OtherEnd
 
     pub receive-good : (bytes : List ℕ) → Known (group .number) (factsOf group order before voice) bytes
         → SequencerGood group order before voice (written (receiveOf s bytes longestPacket .bytes)) (receiveOf s bytes longestPacket)
     receive-good bytes k =
-        let w = writable (fieldsOf (group .number) (k .content)) (length (k .payload)) longestPacket (k .allowed .1) in
-        let e : receiveOf s bytes longestPacket ≡ contentStep s (k .content) (k .payload) = rw (k .bytes-are) (received (k .content) (k .payload) (k .allowed)) in
-        subst Owes (sym e) (content-good (k .content) (k .payload) (w .short) (k .says))
+        let w = writable (fieldsOf (group .number) (k .content)) (k .payload) longestPacket (k .allowed .1) in
+        let e = received (k .content) (k .payload) (k .allowed) in
+        subst (λ (p : List ℕ). Owes (receiveOf s p longestPacket)) (sym (k .bytes-are))
+        (subst Owes (sym e)
+        (if-elim Owes (fromElected (s .group) (k .content)) (λ t. content-good (k .content) (k .payload) (w .short) (k .says)) (λ t. refused-good ForbiddenFields)))
 
     pub poll-good : SequencerGood group order before voice (written (pollOf s longestPacket .bytes)) (pollOf s longestPacket)
     unfolding pollOf numberedBy

@@ -7,6 +7,7 @@ use native.Mathlib.Omega.{arith}
 use borrow.Author.Tests.{leb-true}
 use Rattle.group.specs.Choice.{_≤?_}
 use Rattle.group.specs.Limits.{longestPacket}
+use Rattle.group.specs.Members.{isIn}
 use Rattle.group.specs.declared.Group.{Group}
 use Rattle.group.specs.declared.Refusal.the-variants.{UnsoundState, ShortOutput, OtherEnd}
 use Rattle.group.specs.declared.SequenceNumber.{SequenceNumber}
@@ -14,7 +15,7 @@ use Rattle.group.specs.declared.Verdict.the-variants.{Accepted}
 use Rattle.group.proofs.Choice.{if-was}
 use Rattle.group.proofs.Question.{accepted≢}
 use Rattle.packet.specs.declared.Packet.{Packet}
-use Rattle.packet.specs.declared.Packet.the-variants.{Request, Broadcast, Gap, Status, Poll, Offer, Confirm, Accept}
+use Rattle.packet.specs.declared.Packet.the-variants.{Request, Broadcast, Gap, Status, Poll, Offer, Confirm, Accept, Invitation, Result}
 use Rattle.history.specs.Ask.{requestVerdict, gapVerdict, confirmVerdict, senderOf, contentVerdict}
 use Rattle.history.specs.Note.{withTaken, tableNoted}
 use Rattle.history.specs.State.{Acknowledgement, acknowledgementOf}
@@ -33,20 +34,23 @@ call-asked s room e =
     let b = if-was (longestPacket ≤? room) _ _ Accepted (a .1) (accepted≢ ShortOutput) in
     (a .0, leb-true longestPacket room (b .0))
 
--- questions 9, 10, 11 and 16, of a packet that was accepted: its sender is a member, which has taken a number up to the last accepted,
+-- questions 9, 10, 11 and 16, of a packet that was accepted: its sender is a survivor, which has taken a number up to the last accepted,
 -- and a next number is left where it wants one
 module _ (group : Group) (table : List Acknowledgement) (accepted top : ℕ) where
   pub accepted-sender : (packet : Packet) → contentVerdict group table accepted top packet ≡ Accepted
-      → (senderOf packet .member .0 < group .n) × (senderOf packet .taken .0 ≤ accepted)
+      → (isIn (group .survivors) (senderOf packet .member .0) ≡ true) × (senderOf packet .taken .0 ≤ accepted)
   unfolding contentVerdict senderOf requestVerdict gapVerdict confirmVerdict
-  accepted-sender (Request sender taken count) e = sender-was (group .n) accepted sender taken (judged-was _ _ e .0)
+  accepted-sender (Request sender taken count) e = sender-was (group .survivors) accepted sender taken (judged-was _ _ e .0)
   accepted-sender (Broadcast originator number count floor) e = absurd (accepted≢ OtherEnd e)
-  accepted-sender (Gap sender taken first last) e = sender-was (group .n) accepted sender taken (judged-was _ _ e .0)
-  accepted-sender (Status sender taken) e = sender-was (group .n) accepted sender taken e
-  accepted-sender (Poll t floor) e = absurd (accepted≢ OtherEnd e)
+  accepted-sender (Gap sender taken first last) e = sender-was (group .survivors) accepted sender taken (judged-was _ _ e .0)
+  accepted-sender (Status sender taken) e = sender-was (group .survivors) accepted sender taken e
+  accepted-sender (Poll elected t floor) e = absurd (accepted≢ OtherEnd e)
   accepted-sender (Offer originator number count floor) e = absurd (accepted≢ OtherEnd e)
-  accepted-sender (Confirm sender number) e = (sender-was (group .n) top sender number (judged-was _ _ e .0) .0, omega arith)
-  accepted-sender (Accept number) e = absurd (accepted≢ OtherEnd e)
+  accepted-sender (Confirm sender number) e = (sender-was (group .survivors) top sender number (judged-was _ _ e .0) .0, omega arith)
+  accepted-sender (Accept elected number) e = absurd (accepted≢ OtherEnd e)
+  accepted-sender (Invitation sender attempt) e = absurd (accepted≢ OtherEnd e)
+  accepted-sender (Packet.Reply sender attempt number) e = absurd (accepted≢ OtherEnd e)
+  accepted-sender (Result sender attempt elected number) e = absurd (accepted≢ OtherEnd e)
 
   pub accepted-left : (packet : Packet) (taken : SequenceNumber) → contentVerdict group table accepted top packet ≡ Accepted
       → Left packet (acknowledgementOf (tableNoted table (senderOf packet .member) taken) (senderOf packet .member) .count) top
@@ -57,7 +61,10 @@ module _ (group : Group) (table : List Acknowledgement) (accepted top : ℕ) whe
   accepted-left (Broadcast originator number count floor) taken e = tt
   accepted-left (Gap sender t first last) taken e = tt
   accepted-left (Status sender t) taken e = tt
-  accepted-left (Poll t floor) taken e = tt
+  accepted-left (Poll elected t floor) taken e = tt
   accepted-left (Offer originator number count floor) taken e = tt
   accepted-left (Confirm sender number) taken e = tt
-  accepted-left (Accept number) taken e = tt
+  accepted-left (Accept elected number) taken e = tt
+  accepted-left (Invitation sender attempt) taken e = tt
+  accepted-left (Packet.Reply sender attempt number) taken e = tt
+  accepted-left (Result sender attempt elected number) taken e = tt

@@ -23,7 +23,8 @@ use Rattle.history.specs.State.{messageAt}
 use Rattle.sequencer.specs.Calls.{announced}
 use Rattle.sequencer.specs.Laws.{Typed}
 use Rattle.sequencer.specs.State.{Sequencer}
-use Rattle.sequencer.proofs.Soundness.{Sound}
+use Rattle.group.proofs.Members.{survivor-lt}
+use Rattle.sequencer.proofs.Soundness.{stands, Sound}
 
 -- a message's packet is a broadcast or an offer
 pub announced-each : (P : Packet → Type 0) (accepted : SequenceNumber) (originator : MemberNumber) (number : SequenceNumber) (count : ℕ) (floor : SequenceNumber)
@@ -64,35 +65,42 @@ module _ (s : Sequencer) (typed : Typed s) (sound : Sound s) where
       announced-each (λ (p : Packet). Allowed (fieldsOf g p) (payloadOf m)) (s .accepted) (m .originator) number (m .count) (s .floor)
       (λ h. (
         omega arith,
-        accepted (fieldsOf g (Broadcast (m .originator) number (m .count) (s .floor))) size longestPacket
+        accepted (fieldsOf g (Broadcast (m .originator) number (m .count) (s .floor))) (payloadOf m) longestPacket
             (record {
               enough = omega arith;
-              fields = broadcast-fields g (m .originator) number (s .floor) (m .count) size (f .count-least) a;
+              fields = broadcast-fields g (m .originator) number (s .floor) (m .count) (payloadOf m) (f .count-least) a;
               short = payload-short m (f .short);
             }),
       ))
       (λ h. (
         omega arith,
-        accepted (fieldsOf g (Offer (m .originator) number (m .count) (s .floor))) size longestPacket
+        accepted (fieldsOf g (Offer (m .originator) number (m .count) (s .floor))) (payloadOf m) longestPacket
             (record {
               enough = omega arith;
-              fields = offer-fields g (m .originator) number (s .floor) (m .count) size (f .count-least) a;
+              fields = offer-fields g (m .originator) number (s .floor) (m .count) (payloadOf m) (f .count-least) a;
               short = payload-short m (f .short);
             }),
       ))
 
-  pub accept-allowed : 1 ≤ s .accepted .0 → Allowed (fieldsOf (s .group .number) (Accept (s .accepted))) []
+  -- the elected member's number is one byte
+  elected-byte : s .group .elected .0 < 256
+  elected-byte = let z = survivor-lt (s .group) (stands s sound) (s .group .elected .0) (sound .elected-in) in let y = sound .n-most in omega arith
+
+  pub accept-allowed : 1 ≤ s .accepted .0 → Allowed (fieldsOf (s .group .number) (Accept (s .group .elected) (s .accepted))) []
   unfolding fieldsOf
   accept-allowed least = (
-    record { kind = omega arith; member = omega arith; group = typed .group; a = typed .accepted; b = omega arith; c = omega arith },
-    accepted (fieldsOf (s .group .number) (Accept (s .accepted))) 0 longestPacket
-        (record { enough = omega arith; fields = accept-fields (s .group .number) (s .accepted) least; short = omega arith }),
+    record { kind = omega arith; member = elected-byte; group = typed .group; a = typed .accepted; b = omega arith; c = omega arith },
+    accepted (fieldsOf (s .group .number) (Accept (s .group .elected) (s .accepted))) [] longestPacket
+        (record { enough = omega arith; fields = accept-fields (s .group .number) (s .group .elected) (s .accepted) least; short = omega arith }),
   )
 
-  pub poll-allowed : Allowed (fieldsOf (s .group .number) (Poll (s .top) (s .floor))) []
+  pub poll-allowed : Allowed (fieldsOf (s .group .number) (Poll (s .group .elected) (s .top) (s .floor))) []
   unfolding fieldsOf
-  poll-allowed = (
-    omega arith,
-    accepted (fieldsOf (s .group .number) (Poll (s .top) (s .floor))) 0 longestPacket
-        (record { enough = omega arith; fields = poll-fields (s .group .number) (s .top) (s .floor) (let a = sound .floor-le in let b = sound .accepted-le in omega arith); short = omega arith }),
-  )
+  poll-allowed =
+      let low = sound .floor-le in
+      let high = sound .accepted-le in
+      let top = typed .top in (
+        record { kind = omega arith; member = elected-byte; group = typed .group; a = typed .top; b = omega arith; c = omega arith },
+        accepted (fieldsOf (s .group .number) (Poll (s .group .elected) (s .top) (s .floor))) [] longestPacket
+            (record { enough = omega arith; fields = poll-fields (s .group .number) (s .group .elected) (s .top) (s .floor) (omega arith); short = omega arith }),
+      )

@@ -16,14 +16,14 @@ use Rattle.group.specs.declared.MemberNumber.{MemberNumber}
 use Rattle.group.specs.declared.Opened.{Opened}
 use Rattle.group.specs.declared.Opened.the-variants.{Open}
 use Rattle.group.specs.declared.Refusal.{Refusal}
-use Rattle.group.specs.declared.Refusal.the-variants.{UnsoundState, OtherGroup}
+use Rattle.group.specs.declared.Refusal.the-variants.{UnsoundState, ForbiddenFields, OtherGroup}
 use Rattle.group.specs.declared.SequenceNumber.{SequenceNumber}
 use Rattle.group.specs.declared.Verdict.{Verdict}
 use Rattle.packet.proofs.Verdicts.{readable}
-use Rattle.packet.specs.Packet.{requestKind, broadcastKind, gapKind, statusKind, pollKind, offerKind, confirmKind, headerOf, payloadAt, readOf, contentOf}
+use Rattle.packet.specs.Packet.{requestKind, broadcastKind, gapKind, statusKind, pollKind, offerKind, confirmKind, acceptKind, invitationKind, replyKind, fromElected, headerOf, payloadAt, readOf, contentOf}
 use Rattle.packet.specs.declared.Header.{Header}
 use Rattle.packet.specs.declared.Packet.{Packet}
-use Rattle.packet.specs.declared.Packet.the-variants.{Request, Broadcast, Gap, Status, Poll, Offer, Confirm, Accept}
+use Rattle.packet.specs.declared.Packet.the-variants.{Request, Broadcast, Gap, Status, Poll, Offer, Confirm, Accept, Invitation, Result}
 use Rattle.packet.specs.declared.Reading.{Reading}
 use Rattle.history.proofs.Asking.{sender-was}
 use Rattle.history.proofs.Repeating.{repeats-same, repeats-more, repeats-none}
@@ -36,6 +36,7 @@ use Rattle.sequencer.specs.Note.{withTable, noteOf}
 use Rattle.sequencer.specs.Sound.{soundOf}
 use Rattle.sequencer.specs.State.{Sequencer, lastCount, freshSequencer}
 use Rattle.sequencer.specs.declared.Answer.the-variants.{Noted}
+use Rattle.sequencer.proofs.Keeping.{sender-in}
 use Rattle.sequencer.proofs.Noting.{noted-length}
 use Rattle.sequencer.proofs.Soundness.{Sound, sound-of}
 
@@ -92,10 +93,13 @@ isRequest (Request sender taken count) = true
 isRequest (Broadcast originator number count floor) = false
 isRequest (Gap sender taken first last) = false
 isRequest (Status sender taken) = false
-isRequest (Poll top floor) = false
+isRequest (Poll elected top floor) = false
 isRequest (Offer originator number count floor) = false
 isRequest (Confirm sender number) = false
-isRequest (Accept number) = false
+isRequest (Accept elected number) = false
+isRequest (Invitation sender attempt) = false
+isRequest (Packet.Reply sender attempt number) = false
+isRequest (Result sender attempt elected number) = false
 
 request-kind : (h : Header) → isRequest (contentOf h) ≡ (h .kind =? requestKind)
 unfolding contentOf
@@ -107,18 +111,21 @@ request-kind h =
     (λ c. if-elim P (h .kind =? statusKind) (λ d. sym a)
     (λ d. if-elim P (h .kind =? pollKind) (λ e. sym a)
     (λ e. if-elim P (h .kind =? offerKind) (λ f. sym a)
-    (λ f. if-elim P (h .kind =? confirmKind) (λ g. sym a) (λ g. sym a)))))))
+    (λ f. if-elim P (h .kind =? confirmKind) (λ g. sym a)
+    (λ g. if-elim P (h .kind =? acceptKind) (λ i. sym a)
+    (λ i. if-elim P (h .kind =? invitationKind) (λ j. sym a)
+    (λ j. if-elim P (h .kind =? replyKind) (λ k. sym a) (λ k. sym a))))))))))
 
 module _ (s : Sequencer) (typed : Typed s) (sound : Sound s) where
   -- an accepted sender has an entry, in the noted table too
-  module _ (sender : MemberNumber) (taken : SequenceNumber) (e : senderVerdict (s .group .n) (s .accepted .0) sender taken ≡ Verdict.Accepted) where
+  module _ (sender : MemberNumber) (taken : SequenceNumber) (e : senderVerdict (s .group .survivors) (s .accepted .0) sender taken ≡ Verdict.Accepted) where
     inside : sender .0 < length (s .acknowledgements)
-    inside = let a = sender-was (s .group .n) (s .accepted .0) sender taken e in omega arith
+    inside = let a = sender-in s sound (s .accepted .0) sender taken e in omega arith
 
     inside′ : sender .0 < length (noteOf s sender taken .acknowledgements)
     unfolding noteOf withTable
     inside′ =
-        let a = sender-was (s .group .n) (s .accepted .0) sender taken e in
+        let a = sender-in s sound (s .accepted .0) sender taken e in
         let l = noted-length s sender taken (typed .table) sound (a .0) in
         omega arith
 
@@ -128,34 +135,39 @@ module _ (s : Sequencer) (typed : Typed s) (sound : Sound s) where
   content-count : (packet : Packet) (payload : List ℕ) → OldCount s (isRequest packet) (contentStep s packet payload)
   unfolding contentStep answered isRepeat if_then_else_
   content-count (Request sender taken count) payload =
-      judged-elim (OldCount s true) (senderVerdict (s .group .n) (s .accepted .0) sender taken) (λ r e. refl)
+      judged-elim (OldCount s true) (senderVerdict (s .group .survivors) (s .accepted .0) sender taken) (λ r e. refl)
       (λ e. judged-elim (OldCount s true) (countVerdict (lastCount s sender) (s .top .0) count) (λ r f. refl)
       (λ f. once-noted sender taken e true (requestOf (noteOf s sender taken) sender count payload)
       (request-count (noteOf s sender taken) sender (inside′ sender taken e) count payload)))
   content-count (Broadcast originator number count floor) payload = refl
   content-count (Gap sender taken first last) payload =
-      judged-elim (OldCount s false) (senderVerdict (s .group .n) (s .accepted .0) sender taken) (λ r e. refl)
+      judged-elim (OldCount s false) (senderVerdict (s .group .survivors) (s .accepted .0) sender taken) (λ r e. refl)
       (λ e. judged-elim (OldCount s false) (wantedVerdict (s .top .0) last) (λ r f. refl)
       (λ f. once-noted sender taken e false (gapOf (noteOf s sender taken) first last) (gap-count (noteOf s sender taken) first last)))
   content-count (Status sender taken) payload =
-      judged-elim (OldCount s false) (senderVerdict (s .group .n) (s .accepted .0) sender taken) (λ r e. refl)
+      judged-elim (OldCount s false) (senderVerdict (s .group .survivors) (s .accepted .0) sender taken) (λ r e. refl)
       (λ e. once-noted sender taken e false (answered (noteOf s sender taken) Noted) refl)
-  content-count (Poll top floor) payload = refl
+  content-count (Poll elected top floor) payload = refl
   content-count (Offer originator number count floor) payload = refl
   content-count (Confirm sender number) payload =
-      judged-elim (OldCount s false) (senderVerdict (s .group .n) (s .top .0) sender number) (λ r e. refl)
+      judged-elim (OldCount s false) (senderVerdict (s .group .survivors) (s .top .0) sender number) (λ r e. refl)
       (λ e. judged-elim (OldCount s false) (expectedVerdict (s .group) (s .accepted .0) sender number) (λ r f. refl)
       (λ f. confirm-count s sender number))
-  content-count (Accept number) payload = refl
+  content-count (Accept elected number) payload = refl
+  content-count (Invitation sender attempt) payload = refl
+  content-count (Packet.Reply sender attempt number) payload = refl
+  content-count (Result sender attempt elected number) payload = refl
 
   read-count : (p : List ℕ) (reading : Reading) → readOf p ≡ reading → OldCount s (headerOf p .kind =? requestKind) (readStep s reading (payloadAt p))
   unfolding readStep
   read-count p (Reading.Fields h) e =
       let request = headerOf p .kind =? requestKind in
       let same : isRequest (contentOf h) ≡ request = request-kind h ∙ ap (λ (x : Header). x .kind =? requestKind) (readable p h e .header) in
-      if-elim (OldCount s request) (h .group =? s .group .number)
+      if-elim (OldCount s request) (fromElected (s .group) (contentOf h))
+      (λ u. if-elim (OldCount s request) (h .group =? s .group .number)
       (λ t. subst (λ (b : Bool). OldCount s b (contentStep s (contentOf h) (payloadAt p))) same (content-count (contentOf h) (payloadAt p)))
-      (λ t. refused-count s request OtherGroup)
+      (λ t. refused-count s request OtherGroup))
+      (λ u. refused-count s request ForbiddenFields)
   read-count p (Reading.Refused refusal) e = refused-count s (headerOf p .kind =? requestKind) refusal
 
 pub receive-old-count : ReceiveOldCount

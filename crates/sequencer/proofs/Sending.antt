@@ -10,13 +10,14 @@ use native.Mathlib.Omega.{arith}
 use borrow.Author.Tests.{leb-true, leb-false, ltb-false, eqb-false}
 use lib.ListN.{length}
 use Rattle.group.proofs.Lists.{if-elim}
+use Rattle.group.proofs.Members.{survivor-lt}
 use Rattle.group.specs.Choice.{_<?_, _≤?_, _=?_}
 use Rattle.group.specs.Limits.{membersMost, placesMost, payloadMost}
 use Rattle.group.specs.declared.MemberNumber.{MemberNumber}
 use Rattle.group.specs.declared.Verdict.{Verdict}
 use Rattle.message.specs.Message.{Message, messageOf}
 use Rattle.packet.specs.declared.Packet.{Packet}
-use Rattle.packet.specs.declared.Packet.the-variants.{Request, Broadcast, Gap, Status, Poll, Offer, Confirm, Accept}
+use Rattle.packet.specs.declared.Packet.the-variants.{Request, Broadcast, Gap, Status, Poll, Offer, Confirm, Accept, Invitation, Result}
 use Rattle.history.proofs.Finding.{found-in}
 use Rattle.history.specs.Ask.{senderOf, contentVerdict}
 use Rattle.history.specs.Repeat.{findOf}
@@ -29,7 +30,7 @@ use Rattle.sequencer.specs.declared.Change.{Change}
 use Rattle.sequencer.specs.State.{Sequencer}
 use Rattle.sequencer.proofs.Noting.{note-sound}
 use Rattle.sequencer.proofs.Owed.{accepted-sender}
-use Rattle.sequencer.proofs.Soundness.{Sound, sound-of}
+use Rattle.sequencer.proofs.Soundness.{stands, Sound, sound-of}
 
 module _ (s : Sequencer) (sound : Sound s) (m : MemberNumber) (payload : List ℕ) (short : length payload ≤ payloadMost) where
   -- what a change's answer comes with, in a sound state
@@ -75,10 +76,13 @@ module _ (s : Sequencer) (sound : Sound s) (m : MemberNumber) (payload : List �
   change-sends (Gap sender taken first to) last needed repeats =
       if-elim (λ (answer : Answer). Sends (quiet last (s .top) (s .accepted) repeats answer)) (to .0 ≤? s .floor .0) (λ t. tt) (λ t. tt)
   change-sends (Status sender taken) last needed repeats = tt
-  change-sends (Poll top floor) last needed repeats = tt
+  change-sends (Poll elected top floor) last needed repeats = tt
   change-sends (Offer originator number count floor) last needed repeats = tt
   change-sends (Confirm sender number) last needed repeats = tt
-  change-sends (Accept number) last needed repeats = tt
+  change-sends (Accept elected number) last needed repeats = tt
+  change-sends (Invitation sender attempt) last needed repeats = tt
+  change-sends (Packet.Reply sender attempt number) last needed repeats = tt
+  change-sends (Result sender attempt elected number) last needed repeats = tt
 
 -- a sound state that notes the sender of an accepted packet is sound
 pub noted-sound : (s : Sequencer) (packet : Packet) → soundOf s ≡ true → length (s .acknowledgements) ≡ membersMost → length (s .history) ≡ placesMost
@@ -86,4 +90,5 @@ pub noted-sound : (s : Sequencer) (packet : Packet) → soundOf s ≡ true → l
     → Sound (noteOf s (senderOf packet .member) (senderOf packet .taken))
 noted-sound s packet sound table history e =
     let a = accepted-sender (s .group) (s .acknowledgements) (s .accepted .0) (s .top .0) packet e in
-    note-sound s (senderOf packet .member) (senderOf packet .taken) table (sound-of s sound) (a .0) (a .1) history
+    let f = sound-of s sound in
+    note-sound s (senderOf packet .member) (senderOf packet .taken) table f (survivor-lt (s .group) (stands s f) (senderOf packet .member .0) (a .0)) (a .1) (a .0) history

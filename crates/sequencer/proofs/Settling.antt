@@ -17,16 +17,16 @@ use Rattle.group.specs.Question.{judged}
 use Rattle.group.specs.declared.Group.{Group}
 use Rattle.group.specs.declared.MemberNumber.{MemberNumber}
 use Rattle.group.specs.declared.Refusal.{Refusal}
-use Rattle.group.specs.declared.Refusal.the-variants.{OtherGroup, OtherEnd}
+use Rattle.group.specs.declared.Refusal.the-variants.{ForbiddenFields, OtherGroup, OtherEnd}
 use Rattle.group.specs.declared.SequenceNumber.{SequenceNumber}
 use Rattle.group.specs.declared.Verdict.{Verdict}
 use Rattle.group.proofs.Choice.{if-true, if-false, if-was}
 use Rattle.group.proofs.Question.{accepted≢}
 use Rattle.message.specs.Message.{Message, messageOf, blank}
-use Rattle.packet.specs.Packet.{contentOf}
+use Rattle.packet.specs.Packet.{contentOf, fromElected}
 use Rattle.packet.specs.declared.Header.{Header}
 use Rattle.packet.specs.declared.Packet.{Packet}
-use Rattle.packet.specs.declared.Packet.the-variants.{Request, Broadcast, Gap, Status, Poll, Offer, Confirm, Accept}
+use Rattle.packet.specs.declared.Packet.the-variants.{Request, Broadcast, Gap, Status, Poll, Offer, Confirm, Accept, Invitation, Result}
 use Rattle.packet.specs.declared.Reading.{Reading}
 use Rattle.history.specs.Ask.{senderVerdict, requestVerdict, gapVerdict, confirmVerdict, senderOf, contentVerdict, packetVerdict}
 use Rattle.history.specs.Note.{largerOf, withCounts}
@@ -61,7 +61,7 @@ outcomeOf s m payload c =
     record {
       sequencer = changed s m c (laidOf s m c payload);
       answer = c .answer;
-      bytes = sentOf (c .answer) (s .group .number) (c .top) (c .accepted) (s .floor) (laidOf s m c payload);
+      bytes = sentOf (c .answer) (s .group) (c .top) (c .accepted) (s .floor) (laidOf s m c payload);
     }
 
 module _ (s : Sequencer) (m : MemberNumber) (payload : List ℕ) where
@@ -102,7 +102,7 @@ module _ (s : Sequencer) (m : MemberNumber) (payload : List ℕ) where
       let table = set-own (s .acknowledgements) (m .0) noAcknowledgement in
       λ i. record { group = s .group; acknowledgements = table i; top = s .top; accepted = s .accepted; floor = s .floor; history = s .history; marks = s .marks }
 
-  pub noted-is : (answer : Answer) → sentOf answer (s .group .number) (s .top) (s .accepted) (s .floor) (laidOf s m (kept (s .top) (repeatCount s m) answer) payload) ≡ []
+  pub noted-is : (answer : Answer) → sentOf answer (s .group) (s .top) (s .accepted) (s .floor) (laidOf s m (kept (s .top) (repeatCount s m) answer) payload) ≡ []
       → answered s answer ≡ outcomeOf s m payload (quiet (lastCount s m) (s .top) (s .accepted) (repeatCount s m) answer)
   unfolding answered
   noted-is answer e =
@@ -122,7 +122,7 @@ module _ (s : Sequencer) (m : MemberNumber) (payload : List ℕ) where
   again-here number h =
       let answer = Again (record { 0 = number }) in
       let p = stays (record { 0 = number }) (oneMore (repeatCount s m)) answer h in
-      let e = ap (sentOf answer (s .group .number) (s .top) (s .accepted) (s .floor)) (laid-own (record { 0 = number }) (oneMore (repeatCount s m)) answer h) in
+      let e = ap (sentOf answer (s .group) (s .top) (s .accepted) (s .floor)) (laid-own (record { 0 = number }) (oneMore (repeatCount s m)) answer h) in
       λ i. record { sequencer = sym p i; answer = answer; bytes = sym e i }
 
   again-is : (number : ℕ) → (number ≢ 0 → number ≤ s .top .0) → againOf s m number ≡ outcomeOf s m payload (againChange number (lastCount s m) (s .top) (s .accepted) (repeatCount s m))
@@ -197,10 +197,13 @@ accepted-is s (Request sender taken count) payload e none size = request-is (not
 accepted-is s (Broadcast originator number count floor) payload e none size = absurd (accepted≢ OtherEnd e)
 accepted-is s (Gap sender taken first last) payload e none size = gap-is (noteOf s sender taken) sender payload first last
 accepted-is s (Status sender taken) payload e none size = noted-is (noteOf s sender taken) sender payload Noted refl
-accepted-is s (Poll top floor) payload e none size = absurd (accepted≢ OtherEnd e)
+accepted-is s (Poll elected top floor) payload e none size = absurd (accepted≢ OtherEnd e)
 accepted-is s (Offer originator number count floor) payload e none size = absurd (accepted≢ OtherEnd e)
 accepted-is s (Confirm sender number) payload e none size = absurd (none≢ (sym none))
-accepted-is s (Accept number) payload e none size = absurd (accepted≢ OtherEnd e)
+accepted-is s (Accept elected number) payload e none size = absurd (accepted≢ OtherEnd e)
+accepted-is s (Invitation sender attempt) payload e none size = absurd (accepted≢ OtherEnd e)
+accepted-is s (Packet.Reply sender attempt number) payload e none size = absurd (accepted≢ OtherEnd e)
+accepted-is s (Result sender attempt elected number) payload e none size = absurd (accepted≢ OtherEnd e)
 
 -- two verdicts in turn, and a question before a verdict
 judged-turn : {A : Type 0} (v w : Verdict) (f : Refusal → A) (x : A) → judged v f (judged w f x) ≡ judged (judged v Verdict.Refused w) f x
@@ -219,24 +222,33 @@ content-is : (s : Sequencer) (packet : Packet) (payload : List ℕ)
     → contentStep s packet payload
     ≡ judged (contentVerdict (s .group) (s .acknowledgements) (s .accepted .0) (s .top .0) packet) (refused s) (acceptedStep s packet payload)
 unfolding contentStep contentVerdict acceptedStep requestVerdict gapVerdict confirmVerdict judged
-content-is s (Request sender taken count) payload = judged-turn (senderVerdict (s .group .n) (s .accepted .0) sender taken) _ (refused s) _
+content-is s (Request sender taken count) payload = judged-turn (senderVerdict (s .group .survivors) (s .accepted .0) sender taken) _ (refused s) _
 content-is s (Broadcast originator number count floor) payload = refl
-content-is s (Gap sender taken first last) payload = judged-turn (senderVerdict (s .group .n) (s .accepted .0) sender taken) _ (refused s) _
+content-is s (Gap sender taken first last) payload = judged-turn (senderVerdict (s .group .survivors) (s .accepted .0) sender taken) _ (refused s) _
 content-is s (Status sender taken) payload = refl
-content-is s (Poll top floor) payload = refl
+content-is s (Poll elected top floor) payload = refl
 content-is s (Offer originator number count floor) payload = refl
-content-is s (Confirm sender number) payload = judged-turn (senderVerdict (s .group .n) (s .top .0) sender number) _ (refused s) _
-content-is s (Accept number) payload = refl
+content-is s (Confirm sender number) payload = judged-turn (senderVerdict (s .group .survivors) (s .top .0) sender number) _ (refused s) _
+content-is s (Accept elected number) payload = refl
+content-is s (Invitation sender attempt) payload = refl
+content-is s (Packet.Reply sender attempt number) payload = refl
+content-is s (Result sender attempt elected number) payload = refl
 
 pub read-is : (s : Sequencer) (h : Header) (payload : List ℕ)
     → readStep s (Reading.Fields h) payload
     ≡ judged (packetVerdict (s .group) (s .acknowledgements) (s .accepted .0) (s .top .0) (h .group) (contentOf h)) (refused s)
     (acceptedStep s (contentOf h) payload)
 unfolding readStep packetVerdict
-read-is s h payload = rw (content-is s (contentOf h) payload) (judged-if (h .group =? s .group .number) OtherGroup _ (refused s) _)
+read-is s h payload =
+    rw (content-is s (contentOf h) payload)
+    (ap (λ (o : Outcome). if fromElected (s .group) (contentOf h) then o else refused s ForbiddenFields)
+    (judged-if (h .group =? s .group .number) OtherGroup _ (refused s) _)
+    ∙ judged-if (fromElected (s .group) (contentOf h)) ForbiddenFields _ (refused s) _)
 
--- question 7 said yes to a packet that was accepted
+-- questions 6 and 7 said yes to a packet that was accepted
 pub content-was : (group : Group) (table : List Acknowledgement) (accepted top number : ℕ) (packet : Packet)
     → packetVerdict group table accepted top number packet ≡ Verdict.Accepted → contentVerdict group table accepted top packet ≡ Verdict.Accepted
 unfolding packetVerdict
-content-was group table accepted top number packet e = if-was (number =? group .number) _ _ Verdict.Accepted e (accepted≢ OtherGroup) .1
+content-was group table accepted top number packet e =
+    let f = if-was (fromElected group packet) _ _ Verdict.Accepted e (accepted≢ ForbiddenFields) in
+    if-was (number =? group .number) _ _ Verdict.Accepted (f .1) (accepted≢ OtherGroup) .1

@@ -13,6 +13,7 @@ use Rattle.group.specs.Lent.{Laid}
 use Rattle.group.specs.Limits.{membersMost, placesMost, payloadMost, longestPacket}
 use Rattle.group.specs.Members.{neededOf, expectedOf}
 use Rattle.group.proofs.Lists.{if-elim}
+use Rattle.group.proofs.Members.{survivor-lt}
 use Rattle.group.specs.declared.Group.{Group}
 use Rattle.group.specs.declared.MemberNumber.{MemberNumber}
 use Rattle.group.specs.declared.SequenceNumber.{SequenceNumber}
@@ -23,7 +24,7 @@ use Rattle.packet.proofs.Permitted.{broadcast-fields, offer-fields, laid-whole}
 use Rattle.packet.specs.Packet.{fieldsOf, fieldsVerdict, packetOf, writeOf}
 use Rattle.packet.specs.declared.Header.{Header}
 use Rattle.packet.specs.declared.Packet.{Packet}
-use Rattle.packet.specs.declared.Packet.the-variants.{Request, Broadcast, Gap, Status, Poll, Offer, Confirm, Accept}
+use Rattle.packet.specs.declared.Packet.the-variants.{Request, Broadcast, Gap, Status, Poll, Offer, Confirm, Accept, Invitation, Result}
 use Rattle.store.specs.Places.{partOf, messageIn, messagesIn}
 use Rattle.store.proofs.Places.{length-messages, message-in, messages-none}
 use Rattle.history.specs.Ask.{senderOf}
@@ -50,7 +51,7 @@ use Rattle.sequencer.proofs.Outcomes.{changed-as, changed-laid}
 use Rattle.sequencer.proofs.Owed.{accepted-sender, accepted-left}
 use Rattle.sequencer.proofs.Sending.{change-sends, noted-sound}
 use Rattle.sequencer.proofs.Settling.{outcomeOf, accepted-is}
-use Rattle.sequencer.proofs.Soundness.{Sound, sound-of}
+use Rattle.sequencer.proofs.Soundness.{stands, Sound, sound-of}
 
 -- what a packet changes, of a history of which only counts and originators are asked
 change-listed : (kept originators lengths payloads : List ℕ) (packet : Packet) (last floor : ℕ) (top accepted : SequenceNumber) (needed repeats : ℕ)
@@ -62,10 +63,13 @@ change-listed kept originators lengths payloads (Request sender taken count) las
 change-listed kept originators lengths payloads (Broadcast originator number count f) last floor top accepted needed repeats = refl
 change-listed kept originators lengths payloads (Gap sender taken first to) last floor top accepted needed repeats = refl
 change-listed kept originators lengths payloads (Status sender taken) last floor top accepted needed repeats = refl
-change-listed kept originators lengths payloads (Poll t f) last floor top accepted needed repeats = refl
+change-listed kept originators lengths payloads (Poll elected t f) last floor top accepted needed repeats = refl
 change-listed kept originators lengths payloads (Offer originator number count f) last floor top accepted needed repeats = refl
 change-listed kept originators lengths payloads (Confirm sender number) last floor top accepted needed repeats = refl
-change-listed kept originators lengths payloads (Accept number) last floor top accepted needed repeats = refl
+change-listed kept originators lengths payloads (Accept elected number) last floor top accepted needed repeats = refl
+change-listed kept originators lengths payloads (Invitation sender attempt) last floor top accepted needed repeats = refl
+change-listed kept originators lengths payloads (Packet.Reply sender attempt number) last floor top accepted needed repeats = refl
+change-listed kept originators lengths payloads (Result sender attempt elected number) last floor top accepted needed repeats = refl
 
 -- counts and repeats that are laid into an entry
 counts-laid : (taken counts repeats : List ℕ) (i c r : ℕ) → i < length taken → i < length counts → i < length repeats
@@ -84,21 +88,16 @@ module _ (head : Head) (taken counts repeats kept marks originators lengths payl
   abbrev m : MemberNumber
   m = senderOf packet .member
 
-  sender-known : (m .0 < head .group .n) × (senderOf packet .taken .0 ≤ head .accepted .0)
-  unfolding viewOf
-  sender-known = accepted-sender _ _ _ _ packet (due .accepted)
-
-  most : head .group .n ≤ membersMost
-  unfolding viewOf
-  most = sound-of state (due .sizes .sound) .n-most
-
   pub inside : m .0 < membersMost
-  inside = lt-of-lt-of-le (sender-known .0) most
+  unfolding viewOf
+  inside =
+      let f = sound-of state (due .sizes .sound) in
+      lt-of-lt-of-le (survivor-lt (state .group) (stands state f) (m .0) (accepted-sender _ _ _ _ packet (due .accepted) .0)) (f .n-most)
 
   -- A is noted, and what the floor passes is cleared
   module _ (taken′ kept′ originators′ lengths′ payloads′ : List ℕ) (floor : SequenceNumber)
       (noted : taken′ ≡ set taken (m .0) (largerOf (getD taken (m .0) 0) (senderOf packet .taken .0)))
-      (smallest : floor .0 ≡ floorOf (head .group .n) (takenOnly taken′))
+      (smallest : floor .0 ≡ floorOf (head .group .survivors) (takenOnly taken′))
       (cleared : messagesIn kept′ originators′ lengths′ payloads′ ≡ clearedOf (messagesIn kept originators lengths payloads) (head .floor .0) (floor .0 - head .floor .0)) where
     abbrev next : Stored
     next = whole (record { group = head .group; top = head .top; accepted = head .accepted; floor = floor }) taken′ counts repeats kept′ marks originators′ lengths′ payloads′
@@ -118,7 +117,7 @@ module _ (head : Head) (taken counts repeats kept marks originators lengths payl
     noted-is : viewOf next ≡ noteOf state m (senderOf packet .taken)
     unfolding viewOf noteOf withTable
     noted-is =
-        let f = smallest ∙ floor-taken (head .group .n) taken′ counts repeats ∙ ap (floorOf (head .group .n)) table-noted in
+        let f = smallest ∙ floor-taken (head .group .survivors) taken′ counts repeats ∙ ap (floorOf (head .group .survivors)) table-noted in
         (λ i. record { group = head .group; acknowledgements = table-noted i; top = head .top; accepted = head .accepted; floor = floor; history = cleared i; marks = marks })
         ∙ (λ i. record { group = head .group; acknowledgements = tableNoted (tableIn taken counts repeats) m (senderOf packet .taken); top = head .top; accepted = head .accepted; floor = record { 0 = f i }; history = clearedOf (messagesIn kept originators lengths payloads) (head .floor .0) (f i - head .floor .0); marks = marks })
 
@@ -154,7 +153,7 @@ module _ (head : Head) (taken counts repeats kept marks originators lengths payl
 
     -- what the packet changes
     abbrev change : Change
-    change = changeOf (listed kept′ originators′) packet (getD counts (m .0) 0) (floor .0) (head .top) (head .accepted) (head .group .resilience) (getD repeats (m .0) 0)
+    change = changeOf (listed kept′ originators′) packet (getD counts (m .0) 0) (floor .0) (head .top) (head .accepted) (neededOf (head .group)) (getD repeats (m .0) 0)
 
     abbrev changeIn : Sequencer → Change
     changeIn s = changeOf (s .history) packet (lastCount s m) (s .floor .0) (s .top) (s .accepted) (neededOf (s .group)) (repeatCount s m)
@@ -162,8 +161,8 @@ module _ (head : Head) (taken counts repeats kept marks originators lengths payl
     change-is : change ≡ changeIn (viewOf next)
     unfolding viewOf
     change-is =
-        change-listed kept′ originators′ lengths′ payloads′ packet (getD counts (m .0) 0) (floor .0) (head .top) (head .accepted) (head .group .resilience) (getD repeats (m .0) 0)
-        ∙ (λ i. changeOf (messagesIn kept′ originators′ lengths′ payloads′) packet (last-is i) (floor .0) (head .top) (head .accepted) (head .group .resilience) (repeats-is i))
+        change-listed kept′ originators′ lengths′ payloads′ packet (getD counts (m .0) 0) (floor .0) (head .top) (head .accepted) (neededOf (head .group)) (getD repeats (m .0) 0)
+        ∙ (λ i. changeOf (messagesIn kept′ originators′ lengths′ payloads′) packet (last-is i) (floor .0) (head .top) (head .accepted) (neededOf (head .group)) (repeats-is i))
 
     places-kept : length (messagesIn kept′ originators′ lengths′ payloads′) ≡ placesMost
     places-kept =
@@ -194,7 +193,7 @@ module _ (head : Head) (taken counts repeats kept marks originators lengths payl
       next-sends =
           subst (λ (x : Message). MaySend (change .answer) (change .top) floor x) message-is
           (subst (λ (c : Change). MaySend (c .answer) (c .top) floor (laidOf (viewOf next) m c payload)) (sym change-is)
-          (change-sends (viewOf next) next-sound m payload (due .sizes .payload) packet (lastCount (viewOf next) m) (head .group .resilience) (repeatCount (viewOf next) m)))
+          (change-sends (viewOf next) next-sound m payload (due .sizes .payload) packet (lastCount (viewOf next) m) (neededOf (head .group)) (repeatCount (viewOf next) m)))
 
       abbrev last : Stored
       last = whole (record { group = head .group; top = change .top; accepted = change .accepted; floor = floor }) taken′ (set counts (m .0) (change .count)) (set repeats (m .0) (change .repeats)) kept″ marks originators″ lengths″ payloads″
@@ -219,13 +218,13 @@ module _ (head : Head) (taken counts repeats kept marks originators lengths payl
           ∙ sym (accepted-is state packet payload (due .accepted) none size)
 
       accepted-changed : confirmationOf packet ≡ Confirmation.None → (written : ℕ) (x y : List ℕ)
-          → Laid (sentOf (change .answer) (head .group .number) (change .top) (change .accepted) floor (getD (messagesIn kept″ originators″ lengths″ payloads″) (placeOf (change .number .0)) blank)) written x y
+          → Laid (sentOf (change .answer) (head .group) (change .top) (change .accepted) floor (getD (messagesIn kept″ originators″ lengths″ payloads″) (placeOf (change .number .0)) blank)) written x y
           → Changed (acceptedStep state packet payload) (record { answer = change .answer; written = written }) last x y
       unfolding viewOf
       accepted-changed none written x y l =
           changed-as (outcome-is none)
           (changed-laid (outcomeOf (viewOf next) m payload change) last written x y last-view
-          (subst (λ (b : Message). Laid (sentOf (change .answer) (head .group .number) (change .top) (change .accepted) floor b) written x y) (sym message-is) l))
+          (subst (λ (b : Message). Laid (sentOf (change .answer) (head .group) (change .top) (change .accepted) floor b) written x y) (sym message-is) l))
 
 -- the same, of what the functions gave back: the sender, the change and the place of its number
 module _ (head : Head) (taken counts repeats kept marks originators lengths payloads : List ℕ) (fits : Fits (whole head taken counts repeats kept marks originators lengths payloads))
@@ -235,7 +234,7 @@ module _ (head : Head) (taken counts repeats kept marks originators lengths payl
 
   module _ (taken′ kept′ originators′ lengths′ payloads′ : List ℕ) (floor : SequenceNumber)
       (noted : taken′ ≡ set taken (from .member .0) (largerOf (getD taken (from .member .0) 0) (from .taken .0)))
-      (smallest : floor .0 ≡ floorOf (head .group .n) (takenOnly taken′))
+      (smallest : floor .0 ≡ floorOf (head .group .survivors) (takenOnly taken′))
       (cleared : messagesIn kept′ originators′ lengths′ payloads′ ≡ clearedOf (messagesIn kept originators lengths payloads) (head .floor .0) (floor .0 - head .floor .0)) where
     noted-by : taken′ ≡ set taken (senderOf packet .member .0) (largerOf (getD taken (senderOf packet .member .0) 0) (senderOf packet .taken .0))
     noted-by = noted ∙ ap (λ (x : Sender). set taken (x .member .0) (largerOf (getD taken (x .member .0) 0) (x .taken .0))) sent-by
@@ -246,7 +245,7 @@ module _ (head : Head) (taken counts repeats kept marks originators lengths payl
         (next-left head taken counts repeats kept marks originators lengths payloads fits packet payload room due taken′ kept′ originators′ lengths′ payloads′ floor noted-by smallest cleared)
 
     abbrev changeBy : Sender → Change
-    changeBy x = changeOf (listed kept′ originators′) packet (getD counts (x .member .0) 0) (floor .0) (head .top) (head .accepted) (head .group .resilience) (getD repeats (x .member .0) 0)
+    changeBy x = changeOf (listed kept′ originators′) packet (getD counts (x .member .0) 0) (floor .0) (head .top) (head .accepted) (neededOf (head .group)) (getD repeats (x .member .0) 0)
 
     abbrev laidBy : Sender → Change → List Message
     laidBy x c =
@@ -269,7 +268,7 @@ module _ (head : Head) (taken counts repeats kept marks originators lengths payl
 
       abbrev Wrote : Change → ℕ → ℕ → List ℕ → List ℕ → Type 0
       Wrote k place written x y =
-          Laid (sentOf (k .answer) (head .group .number) (k .top) (k .accepted) floor (getD (messagesIn kept″ originators″ lengths″ payloads″) place blank)) written x y
+          Laid (sentOf (k .answer) (head .group) (k .top) (k .accepted) floor (getD (messagesIn kept″ originators″ lengths″ payloads″) place blank)) written x y
 
       abbrev Gave : Sender → Change → ℕ → List ℕ → List ℕ → Type 0
       Gave s k written x y =
@@ -286,7 +285,7 @@ module _ (head : Head) (taken counts repeats kept marks originators lengths payl
 -- question 1 as the code asks it: each part of the arrays that it reads
 pub sound-as : (head : Head) (taken counts repeats kept marks originators lengths payloads : List ℕ) → Fits (whole head taken counts repeats kept marks originators lengths payloads)
     → (frameSound (head .group) (takenOnly taken) (head .floor .0) (head .accepted .0) (head .top .0)
-    and all (entrySound (head .group .n) (head .top .0)) 0 (tableIn taken counts repeats)
+    and all (entrySound (head .group) (head .top .0)) 0 (tableIn taken counts repeats)
     and allAbove (placeSound (head .group .n) (countsOnly counts) (messagesIn kept originators lengths payloads) (head .top .0)) (head .floor .0) placesMost
     and allAbove (markSound (expectedOf (head .group)) marks (head .accepted .0) (head .top .0)) (head .floor .0) placesMost)
     ≡ soundOf (viewOf (whole head taken counts repeats kept marks originators lengths payloads))
@@ -296,7 +295,7 @@ sound-as head taken counts repeats kept marks originators lengths payloads fits 
     let frame = frame-taken (head .group) taken counts repeats (head .floor .0) (head .accepted .0) (head .top .0) in
     let places = places-only taken counts repeats size (head .group .n) (messagesIn kept originators lengths payloads) (head .top .0) in
     λ i.
-    frame i and all (entrySound (head .group .n) (head .top .0)) 0 (tableIn taken counts repeats) and allAbove (places i) (head .floor .0) placesMost
+    frame i and all (entrySound (head .group) (head .top .0)) 0 (tableIn taken counts repeats) and allAbove (places i) (head .floor .0) placesMost
     and allAbove (markSound (expectedOf (head .group)) marks (head .accepted .0) (head .top .0)) (head .floor .0) placesMost
 
 -- the first bytes of a place, as they are lent
@@ -311,12 +310,12 @@ pub place-laid : (h : Header) (payloads : List ℕ) (at size room : ℕ) {r : �
 place-laid h payloads at size room {r} {x} {y} short l = subst (λ (p : List ℕ). Laid (writeOf h p room .bytes) r x y) (place-bytes payloads at size short) l
 
 -- a message's packet, broadcast or offered, may be written
-announced-fields : (group : ℕ) (accepted : SequenceNumber) (originator : MemberNumber) (number floor : SequenceNumber) (count size : ℕ) → 1 ≤ count → floor .0 < number .0
-    → fieldsVerdict (fieldsOf group (announced accepted originator number count floor)) size size ≡ Verdict.Accepted
+announced-fields : (group : ℕ) (accepted : SequenceNumber) (originator : MemberNumber) (number floor : SequenceNumber) (count : ℕ) (payload : List ℕ) → 1 ≤ count → floor .0 < number .0
+    → fieldsVerdict (fieldsOf group (announced accepted originator number count floor)) (length payload) payload ≡ Verdict.Accepted
 unfolding announced
-announced-fields group accepted originator number floor count size a b =
-    if-elim (λ (packet : Packet). fieldsVerdict (fieldsOf group packet) size size ≡ Verdict.Accepted) (number .0 ≤? accepted .0)
-    (λ t. broadcast-fields group originator number floor count size a b) (λ t. offer-fields group originator number floor count size a b)
+announced-fields group accepted originator number floor count payload a b =
+    if-elim (λ (packet : Packet). fieldsVerdict (fieldsOf group packet) (length payload) payload ≡ Verdict.Accepted) (number .0 ≤? accepted .0)
+    (λ t. broadcast-fields group originator number floor count payload a b) (λ t. offer-fields group originator number floor count payload a b)
 
 -- the packet of the message in a place
 module _ (group : ℕ) (accepted floor number : SequenceNumber) (at : ℕ) (kept originators lengths payloads : List ℕ) (inside : at < length kept) where
@@ -338,7 +337,7 @@ module _ (group : ℕ) (accepted floor number : SequenceNumber) (at : ℕ) (kept
       let may = may-send h in
       subst (λ (m : Message). Laid (packetOf (fieldsOf group (announced accepted (m .originator) number (m .count) floor)) (payloadOf m)) size x y) (sym placed-is)
       (laid-whole _ (payloadOf placed) room
-      (announced-fields group accepted (placed .originator) number floor (placed .count) (length (payloadOf placed)) (may .1) (may .2))
+      (announced-fields group accepted (placed .originator) number floor (placed .count) (payloadOf placed) (may .1) (may .2))
       (payload-short placed (may .0)) enough l)
 
 -- a fresh state

@@ -12,12 +12,12 @@ use Rattle.group.specs.declared.SequenceNumber.{SequenceNumber}
 use Rattle.group.specs.declared.Opened.{Opened}
 use Rattle.group.specs.declared.Opened.the-variants.{Open}
 use Rattle.group.specs.declared.Refusal.{Refusal}
-use Rattle.group.specs.declared.Refusal.the-variants.{UnsoundState, ShortOutput, OtherGroup, OtherEnd, NotInHistory}
+use Rattle.group.specs.declared.Refusal.the-variants.{UnsoundState, ShortOutput, ForbiddenFields, OtherGroup, OtherEnd, NotInHistory}
 use Rattle.group.specs.declared.Verdict.{Verdict}
 use Rattle.message.specs.Message.{messageOf, payloadOf}
-use Rattle.packet.specs.Packet.{contentOf, fieldsOf, packetOf, payloadAt, readOf}
+use Rattle.packet.specs.Packet.{contentOf, fieldsOf, packetOf, payloadAt, readOf, fromElected}
 use Rattle.packet.specs.declared.Packet.{Packet}
-use Rattle.packet.specs.declared.Packet.the-variants.{Request, Broadcast, Gap, Status, Poll, Offer, Confirm, Accept}
+use Rattle.packet.specs.declared.Packet.the-variants.{Request, Broadcast, Gap, Status, Poll, Offer, Confirm, Accept, Invitation, Result}
 use Rattle.packet.specs.declared.Reading.{Reading}
 use Rattle.packet.specs.declared.Reading.the-variants.{Fields}
 use Rattle.history.specs.Note.{largerOf, withCounts}
@@ -61,11 +61,11 @@ broadcastOf s number =
 
 -- the poll packet
 unfoldable pub pollPacket : Sequencer → List ℕ
-pollPacket s = packetOf (fieldsOf (s .group .number) (Poll (s .top) (s .floor))) []
+pollPacket s = packetOf (fieldsOf (s .group .number) (Poll (s .group .elected) (s .top) (s .floor))) []
 
 -- the packet that accepts all up to the last accepted number
 unfoldable pub acceptPacket : Sequencer → List ℕ
-acceptPacket s = packetOf (fieldsOf (s .group .number) (Accept (s .accepted))) []
+acceptPacket s = packetOf (fieldsOf (s .group .number) (Accept (s .group .elected) (s .accepted))) []
 
 -- m repeated itself: one more in its repeat count
 unfoldable pub repeatedOf : Sequencer → MemberNumber → Sequencer
@@ -178,28 +178,32 @@ confirmOf s m number =
 -- and 4 A is noted
 unfoldable pub contentStep : Sequencer → Packet → List ℕ → Outcome
 contentStep s (Request sender taken count) payload =
-    judged (senderVerdict (s .group .n) (s .accepted .0) sender taken) (refused s)
+    judged (senderVerdict (s .group .survivors) (s .accepted .0) sender taken) (refused s)
     (judged (countVerdict (lastCount s sender) (s .top .0) count) (refused s)
     (requestOf (noteOf s sender taken) sender count payload))
 contentStep s (Broadcast originator number count floor) payload = refused s OtherEnd
 contentStep s (Gap sender taken first last) payload =
-    judged (senderVerdict (s .group .n) (s .accepted .0) sender taken) (refused s)
+    judged (senderVerdict (s .group .survivors) (s .accepted .0) sender taken) (refused s)
     (judged (wantedVerdict (s .top .0) last) (refused s)
     (gapOf (noteOf s sender taken) first last))
 contentStep s (Status sender taken) payload =
-    judged (senderVerdict (s .group .n) (s .accepted .0) sender taken) (refused s)
+    judged (senderVerdict (s .group .survivors) (s .accepted .0) sender taken) (refused s)
     (answered (noteOf s sender taken) Noted)
-contentStep s (Poll top floor) payload = refused s OtherEnd
+contentStep s (Poll elected top floor) payload = refused s OtherEnd
 contentStep s (Offer originator number count floor) payload = refused s OtherEnd
 contentStep s (Confirm sender number) payload =
-    judged (senderVerdict (s .group .n) (s .top .0) sender number) (refused s)
+    judged (senderVerdict (s .group .survivors) (s .top .0) sender number) (refused s)
     (judged (expectedVerdict (s .group) (s .accepted .0) sender number) (refused s)
     (confirmOf s sender number))
-contentStep s (Accept number) payload = refused s OtherEnd
+contentStep s (Accept elected number) payload = refused s OtherEnd
+contentStep s (Invitation sender attempt) payload = refused s OtherEnd
+contentStep s (Packet.Reply sender attempt number) payload = refused s OtherEnd
+contentStep s (Result sender attempt elected number) payload = refused s OtherEnd
 
--- a packet that was read: question 7
+-- a packet that was read: question 6 of byte 1, then 7
 unfoldable pub readStep : Sequencer → Reading → List ℕ → Outcome
 readStep s (Fields h) payload =
+    ask fromElected (s .group) (contentOf h) or refused s ForbiddenFields then
     ask h .group =? s .group .number or refused s OtherGroup then
     contentStep s (contentOf h) payload
 readStep s (Reading.Refused refusal) payload = refused s refusal

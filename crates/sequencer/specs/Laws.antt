@@ -15,7 +15,7 @@ use Rattle.group.specs.declared.Refusal.{Refusal}
 use Rattle.group.specs.declared.SequenceNumber.{SequenceNumber}
 use Rattle.group.specs.declared.Verdict.{Verdict}
 use Rattle.packet.specs.Laws.{readQuestions}
-use Rattle.packet.specs.Packet.{requestKind, gapKind, statusKind, confirmKind, headerOf, readOf}
+use Rattle.packet.specs.Packet.{requestKind, gapKind, statusKind, confirmKind, headerOf, readOf, contentOf, fromElected}
 use Rattle.packet.specs.declared.Header.{Header}
 use Rattle.packet.specs.declared.Reading.{Reading}
 use Rattle.history.specs.Marks.{markAt}
@@ -34,12 +34,13 @@ callQuestions s room =
     ∷ record { yes = longestPacket ≤? room; refusal = Refusal.ShortOutput }
     ∷ []
 
--- questions 7 to 12, 25 and 16 of a packet's fields
+-- questions 6 of byte 1, 7 to 12, 25 and 16 of a packet's fields
 abbrev pub fieldsQuestions : Sequencer → Header → List Question
 fieldsQuestions s h =
-    record { yes = h .group =? s .group .number; refusal = Refusal.OtherGroup }
+    record { yes = fromElected (s .group) (contentOf h); refusal = Refusal.ForbiddenFields }
+    ∷ record { yes = h .group =? s .group .number; refusal = Refusal.OtherGroup }
     ∷ record { yes = if h .kind =? requestKind then true else if h .kind =? gapKind then true else if h .kind =? statusKind then true else h .kind =? confirmKind; refusal = Refusal.OtherEnd }
-    ∷ record { yes = h .member .0 <? s .group .n; refusal = Refusal.UnknownMember }
+    ∷ record { yes = isIn (s .group .survivors) (h .member .0); refusal = Refusal.UnknownMember }
     ∷ record { yes = h .a ≤? (if h .kind =? confirmKind then s .top .0 else s .accepted .0); refusal = Refusal.AcknowledgedAhead }
     ∷ record { yes = if h .kind =? requestKind then h .b ≤? lastCount s (h .member) + 1 else true; refusal = Refusal.CountAhead }
     ∷ record { yes = if h .kind =? gapKind then h .c ≤? s .top .0 else true; refusal = Refusal.WantedAhead }

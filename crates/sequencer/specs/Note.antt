@@ -23,4 +23,4 @@ withTable s table floor =
 
 unfoldable pub noteOf : Sequencer → MemberNumber → SequenceNumber → Sequencer
 noteOf s m taken =
-    withTable s (tableNoted (s .acknowledgements) m taken) (floorOf (s .group .n) (tableNoted (s .acknowledgements) m taken))
+    withTable s (tableNoted (s .acknowledgements) m taken) (floorOf (s .group .survivors) (tableNoted (s .acknowledgements) m taken))

@@ -11,7 +11,7 @@ use Rattle.group.specs.declared.Verdict.{Verdict}
 use Rattle.message.specs.Message.{Message}
 use Rattle.packet.specs.Packet.{payloadAt}
 use Rattle.packet.specs.declared.Packet.{Packet}
-use Rattle.packet.specs.declared.Packet.the-variants.{Request, Broadcast, Gap, Status, Poll, Offer, Confirm, Accept}
+use Rattle.packet.specs.declared.Packet.the-variants.{Request, Broadcast, Gap, Status, Poll, Offer, Confirm, Accept, Invitation, Result}
 use Rattle.history.specs.Ask.{contentVerdict}
 use Rattle.sequencer.specs.Calls.{refused, confirmOf, receiveOf}
 use Rattle.sequencer.specs.Sound.{soundOf}
@@ -72,7 +72,10 @@ Left (Request sender taken count) last top = last < count → top < largestNumbe
 Left (Broadcast originator number count floor) last top = Unit {0}
 Left (Gap sender taken first to) last top = Unit {0}
 Left (Status sender taken) last top = Unit {0}
-Left (Poll t floor) last top = Unit {0}
+Left (Poll elected t floor) last top = Unit {0}
 Left (Offer originator number count floor) last top = Unit {0}
 Left (Confirm sender number) last top = Unit {0}
-Left (Accept number) last top = Unit {0}
+Left (Accept elected number) last top = Unit {0}
+Left (Invitation sender attempt) last top = Unit {0}
+Left (Packet.Reply sender attempt number) last top = Unit {0}
+Left (Result sender attempt elected number) last top = Unit {0}

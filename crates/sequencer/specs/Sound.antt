@@ -11,6 +11,6 @@ use Rattle.sequencer.specs.State.{Sequencer}
 unfoldable pub soundOf : Sequencer → Bool
 soundOf s =
     frameSound (s .group) (s .acknowledgements) (s .floor .0) (s .accepted .0) (s .top .0)
-    and all (entrySound (s .group .n) (s .top .0)) 0 (s .acknowledgements)
+    and all (entrySound (s .group) (s .top .0)) 0 (s .acknowledgements)
     and allAbove (placeSound (s .group .n) (s .acknowledgements) (s .history) (s .top .0)) (s .floor .0) placesMost
     and allAbove (markSound (expectedOf (s .group)) (s .marks) (s .accepted .0) (s .top .0)) (s .floor .0) placesMost

@@ -11,7 +11,7 @@ use Rattle.group.specs.declared.SequenceNumber.{SequenceNumber}
 use Rattle.message.specs.Message.{Message, messageOf, payloadOf}
 use Rattle.packet.specs.Packet.{contentOf, fieldsOf, packetOf}
 use Rattle.packet.specs.declared.Packet.{Packet}
-use Rattle.packet.specs.declared.Packet.the-variants.{Request, Broadcast, Gap, Status, Poll, Offer, Confirm, Accept}
+use Rattle.packet.specs.declared.Packet.the-variants.{Request, Broadcast, Gap, Status, Poll, Offer, Confirm, Accept, Invitation, Result}
 use Rattle.packet.specs.declared.Reading.{Reading}
 use Rattle.packet.specs.declared.Reading.the-variants.{Fields}
 use Rattle.history.specs.Ask.{packetVerdict}
@@ -35,10 +35,13 @@ acceptedStep s (Request sender taken count) payload = requestOf (noteOf s sender
 acceptedStep s (Broadcast originator number count floor) payload = answered s Noted
 acceptedStep s (Gap sender taken first last) payload = gapOf (noteOf s sender taken) first last
 acceptedStep s (Status sender taken) payload = answered (noteOf s sender taken) Noted
-acceptedStep s (Poll top floor) payload = answered s Noted
+acceptedStep s (Poll elected top floor) payload = answered s Noted
 acceptedStep s (Offer originator number count floor) payload = answered s Noted
 acceptedStep s (Confirm sender number) payload = confirmOf s sender number
-acceptedStep s (Accept number) payload = answered s Noted
+acceptedStep s (Accept elected number) payload = answered s Noted
+acceptedStep s (Invitation sender attempt) payload = answered s Noted
+acceptedStep s (Packet.Reply sender attempt number) payload = answered s Noted
+acceptedStep s (Result sender attempt elected number) payload = answered s Noted
 
 -- who confirms which number in a packet, if it is a confirmation
 unfoldable pub confirmationOf : Packet → Confirmation
@@ -46,10 +49,13 @@ confirmationOf (Request sender taken count) = None
 confirmationOf (Broadcast originator number count floor) = None
 confirmationOf (Gap sender taken first last) = None
 confirmationOf (Status sender taken) = None
-confirmationOf (Poll top floor) = None
+confirmationOf (Poll elected top floor) = None
 confirmationOf (Offer originator number count floor) = None
 confirmationOf (Confirm sender number) = Of sender number
-confirmationOf (Accept number) = None
+confirmationOf (Accept elected number) = None
+confirmationOf (Invitation sender attempt) = None
+confirmationOf (Packet.Reply sender attempt number) = None
+confirmationOf (Result sender attempt elected number) = None
 
 -- what becomes of a packet that no question refuses
 unfoldable pub sortedBy : Confirmation → Packet → Decision
@@ -109,20 +115,23 @@ changeOf history (Request sender taken count) last floor top accepted needed rep
 changeOf history (Broadcast originator number count f) last floor top accepted needed repeats = quiet last top accepted repeats Noted
 changeOf history (Gap sender taken first to) last floor top accepted needed repeats = quiet last top accepted repeats (gapAnswer floor first to)
 changeOf history (Status sender taken) last floor top accepted needed repeats = quiet last top accepted repeats Noted
-changeOf history (Poll t f) last floor top accepted needed repeats = quiet last top accepted repeats Noted
+changeOf history (Poll elected t f) last floor top accepted needed repeats = quiet last top accepted repeats Noted
 changeOf history (Offer originator number count f) last floor top accepted needed repeats = quiet last top accepted repeats Noted
 changeOf history (Confirm sender number) last floor top accepted needed repeats = quiet last top accepted repeats Noted
-changeOf history (Accept number) last floor top accepted needed repeats = quiet last top accepted repeats Noted
+changeOf history (Accept elected number) last floor top accepted needed repeats = quiet last top accepted repeats Noted
+changeOf history (Invitation sender attempt) last floor top accepted needed repeats = quiet last top accepted repeats Noted
+changeOf history (Packet.Reply sender attempt number) last floor top accepted needed repeats = quiet last top accepted repeats Noted
+changeOf history (Result sender attempt elected number) last floor top accepted needed repeats = quiet last top accepted repeats Noted
 
 -- what is written with an answer to a packet that confirms nothing
-unfoldable pub sentOf : Answer → ℕ → SequenceNumber → SequenceNumber → SequenceNumber → Message → List ℕ
+unfoldable pub sentOf : Answer → Group → SequenceNumber → SequenceNumber → SequenceNumber → Message → List ℕ
 sentOf (Answer.Refused refusal) group top accepted floor m = []
 sentOf Old group top accepted floor m = []
 sentOf (Again number) group top accepted floor m =
-    packetOf (fieldsOf group (announced accepted (m .originator) number (m .count) floor)) (payloadOf m)
-sentOf Full group top accepted floor m = packetOf (fieldsOf group (Poll top floor)) []
+    packetOf (fieldsOf (group .number) (announced accepted (m .originator) number (m .count) floor)) (payloadOf m)
+sentOf Full group top accepted floor m = packetOf (fieldsOf (group .number) (Poll (group .elected) top floor)) []
 sentOf (Numbered number) group top accepted floor m =
-    packetOf (fieldsOf group (announced accepted (m .originator) number (m .count) floor)) (payloadOf m)
+    packetOf (fieldsOf (group .number) (announced accepted (m .originator) number (m .count) floor)) (payloadOf m)
 sentOf Noted group top accepted floor m = []
 sentOf (Wanted first last) group top accepted floor m = []
 sentOf Sent group top accepted floor m = []

@@ -17,7 +17,7 @@ ghost use Rattle.group.specs.Lent.{Laid};
 ghost use Rattle.group.specs.Choice.{if_then_else_, _and_, _=?_};
 ghost use Rattle.group.specs.Fold.{allAbove};
 ghost use Rattle.group.specs.Limits.{membersMost, placesMost, payloadMost, longestPacket, largestNumber};
-ghost use Rattle.group.specs.Members.{expectedOf};
+ghost use Rattle.group.specs.Members.{expectedOf, neededOf};
 ghost use Rattle.message.specs.Message.{blank, payloadOf};
 ghost use Rattle.packet.specs.Packet.{fieldsOf, packetOf, readOf, writeOf};
 ghost use Rattle.store.specs.Places.{messagesIn, partOf, Lies};
@@ -162,29 +162,35 @@ fn send(
 }
 
 // Writes the poll packet.
-fn send_poll(group: u32, top: SequenceNumber, floor: SequenceNumber, out: &mut [u8]) -> usize
+fn send_poll(group: Group, top: SequenceNumber, floor: SequenceNumber, out: &mut [u8]) -> usize
     requires { ⌜ (floor .0 ≤ top .0) × (longestPacket ≤ length (now out)) ⌝ }
-    ensures { λ r. ⌜ Laid (packetOf (fieldsOf group (Packet.Poll top floor)) []) r (now (out .entry)) (now (out .exit)) ⌝ }
+    ensures { λ r. ⌜ Laid (packetOf (fieldsOf (group .number) (Packet.Poll (group .elected) top floor)) []) r (now (out .entry)) (now (out .exit)) ⌝ }
 {
     let none = [0u8; 0];
-    let packet = Packet::Poll { top, floor };
-    packet.put(group, &none, out)
+    let elected = group.elected;
+    let packet = Packet::Poll {
+        elected,
+        top,
+        floor,
+    };
+    packet.put(group.number, &none, out)
 }
 
 // Writes the packet that accepts all up to a number.
-fn send_accept(group: u32, number: SequenceNumber, out: &mut [u8]) -> usize
+fn send_accept(group: Group, number: SequenceNumber, out: &mut [u8]) -> usize
     requires { ⌜ (1 ≤ number .0) × (longestPacket ≤ length (now out)) ⌝ }
-    ensures { λ r. ⌜ Laid (packetOf (fieldsOf group (Packet.Accept number)) []) r (now (out .entry)) (now (out .exit)) ⌝ }
+    ensures { λ r. ⌜ Laid (packetOf (fieldsOf (group .number) (Packet.Accept (group .elected) number)) []) r (now (out .entry)) (now (out .exit)) ⌝ }
 {
     let none = [0u8; 0];
-    let packet = Packet::Accept { number };
-    packet.put(group, &none, out)
+    let elected = group.elected;
+    let packet = Packet::Accept { elected, number };
+    packet.put(group.number, &none, out)
 }
 
 // Writes what the answer to a packet that is noted comes with: the packet of the message in a place, a poll packet, or nothing.
 fn send_answer(
     answer: Answer,
-    group: u32,
+    group: Group,
     top: SequenceNumber,
     accepted: SequenceNumber,
     floor: SequenceNumber,
@@ -202,7 +208,7 @@ fn send_answer(
         Answer::Refused(_) => 0,
         Answer::Old => 0,
         Answer::Again(number) => send(
-            group,
+            group.number,
             accepted,
             floor,
             number,
@@ -215,7 +221,7 @@ fn send_answer(
         ),
         Answer::Full => send_poll(group, top, floor, out),
         Answer::Numbered(number) => send(
-            group,
+            group.number,
             accepted,
             floor,
             number,
@@ -255,10 +261,10 @@ fn quiet(
 }
 
 // The last accepted number, once a next number is given: that one where none has to confirm it.
-fn accepted_next(needed: u8, accepted: SequenceNumber, next: SequenceNumber) -> SequenceNumber
-    ensures { λ r. ⌜ r ≡ (if needed =? 0 then next else accepted) ⌝ }
+fn accepted_next(group: Group, accepted: SequenceNumber, next: SequenceNumber) -> SequenceNumber
+    ensures { λ r. ⌜ r ≡ (if neededOf group =? 0 then next else accepted) ⌝ }
 {
-    if needed == 0 {
+    if group.needed() == 0 {
         return next;
     }
     accepted
@@ -274,11 +280,11 @@ fn request_change(
     floor: SequenceNumber,
     top: SequenceNumber,
     accepted: SequenceNumber,
-    needed: u8,
+    group: Group,
     repeats: u32,
 ) -> Change
     requires { ⌜ (last < count → top .0 < largestNumber) × (length (now kept) ≡ placesMost) × (length (now originators) ≡ placesMost) ⌝ }
-    ensures { λ r. ⌜ r ≡ requestChange (listed (now (kept .entry)) (now (originators .entry))) sender count last (floor .0) top accepted needed repeats ⌝ }
+    ensures { λ r. ⌜ r ≡ requestChange (listed (now (kept .entry)) (now (originators .entry))) sender count last (floor .0) top accepted (neededOf group) repeats ⌝ }
 {
     let more = history::one_more(repeats);
     if count < last {
@@ -304,7 +310,7 @@ fn request_change(
     }
     let next = SequenceNumber(top.0 + 1);
     let answer = Answer::Numbered(next);
-    let up_to = accepted_next(needed, accepted, next);
+    let up_to = accepted_next(group, accepted, next);
     Change {
         number: next,
         top: next,
@@ -335,11 +341,11 @@ fn packet_change(
     floor: SequenceNumber,
     top: SequenceNumber,
     accepted: SequenceNumber,
-    needed: u8,
+    group: Group,
     repeats: u32,
 ) -> Change
     requires { ⌜ Left packet last (top .0) × (length (now kept) ≡ placesMost) × (length (now originators) ≡ placesMost) ⌝ }
-    ensures { λ r. ⌜ r ≡ changeOf (listed (now (kept .entry)) (now (originators .entry))) packet last (floor .0) top accepted needed repeats ⌝ }
+    ensures { λ r. ⌜ r ≡ changeOf (listed (now (kept .entry)) (now (originators .entry))) packet last (floor .0) top accepted (neededOf group) repeats ⌝ }
 {
     match packet {
         Packet::Request {
@@ -355,7 +361,7 @@ fn packet_change(
             floor,
             top,
             accepted,
-            needed,
+            group,
             repeats,
         ),
         Packet::Broadcast {
@@ -374,7 +380,11 @@ fn packet_change(
             sender: _,
             taken: _,
         } => quiet(last, top, accepted, repeats, Answer::Noted),
-        Packet::Poll { top: _, floor: _ } => quiet(last, top, accepted, repeats, Answer::Noted),
+        Packet::Poll {
+            elected: _,
+            top: _,
+            floor: _,
+        } => quiet(last, top, accepted, repeats, Answer::Noted),
         Packet::Offer {
             originator: _,
             number: _,
@@ -385,7 +395,25 @@ fn packet_change(
             sender: _,
             number: _,
         } => quiet(last, top, accepted, repeats, Answer::Noted),
-        Packet::Accept { number: _ } => quiet(last, top, accepted, repeats, Answer::Noted),
+        Packet::Accept {
+            elected: _,
+            number: _,
+        } => quiet(last, top, accepted, repeats, Answer::Noted),
+        Packet::Invitation {
+            sender: _,
+            attempt: _,
+        } => quiet(last, top, accepted, repeats, Answer::Noted),
+        Packet::Reply {
+            sender: _,
+            attempt: _,
+            number: _,
+        } => quiet(last, top, accepted, repeats, Answer::Noted),
+        Packet::Result {
+            sender: _,
+            attempt: _,
+            elected: _,
+            number: _,
+        } => quiet(last, top, accepted, repeats, Answer::Noted),
     }
 }
 
@@ -415,7 +443,11 @@ fn confirmed_by(packet: Packet) -> Confirmation
             sender: _,
             taken: _,
         } => Confirmation::None,
-        Packet::Poll { top: _, floor: _ } => Confirmation::None,
+        Packet::Poll {
+            elected: _,
+            top: _,
+            floor: _,
+        } => Confirmation::None,
         Packet::Offer {
             originator: _,
             number: _,
@@ -423,7 +455,25 @@ fn confirmed_by(packet: Packet) -> Confirmation
             floor: _,
         } => Confirmation::None,
         Packet::Confirm { sender, number } => Confirmation::Of(sender, number),
-        Packet::Accept { number: _ } => Confirmation::None,
+        Packet::Accept {
+            elected: _,
+            number: _,
+        } => Confirmation::None,
+        Packet::Invitation {
+            sender: _,
+            attempt: _,
+        } => Confirmation::None,
+        Packet::Reply {
+            sender: _,
+            attempt: _,
+            number: _,
+        } => Confirmation::None,
+        Packet::Result {
+            sender: _,
+            attempt: _,
+            elected: _,
+            number: _,
+        } => Confirmation::None,
     }
 }
 
@@ -472,7 +522,7 @@ fn places_sound(
 }
 
 // Question 1: is the state sound?
-fn sound(
+pub fn sound(
     head: Head,
     taken: &[u32; Group::MEMBERS],
     counts: &[u32],
@@ -490,7 +540,7 @@ fn sound(
     let group = head.group;
     let floor = head.floor;
     let top = head.top;
-    let entries = history::entries_sound(group.n, top, taken, counts, repeats);
+    let entries = history::entries_sound(group, top, taken, counts, repeats);
     if history::frame_sound(group, floor, head.accepted, top, taken) {
         if entries {
             return places_sound(head, counts, kept, marks, originators, lengths, payloads);
@@ -501,7 +551,7 @@ fn sound(
 }
 
 // Questions 1 and 2, of every call.
-fn ask(
+pub fn ask(
     head: Head,
     taken: &[u32; Group::MEMBERS],
     counts: &[u32],
@@ -577,7 +627,7 @@ fn noted(
     let group = head.group;
     let was = head.floor;
     let top = head.top;
-    let floor = history::note(group.n, taken, sender, acknowledged);
+    let floor = history::note(group.survivors, taken, sender, acknowledged);
     history::clear(was, floor, kept, originators, lengths, payloads);
     let member = sender.0 as usize;
     let count = counts[member];
@@ -591,7 +641,7 @@ fn noted(
         reached,
         top,
         head.accepted,
-        group.resilience,
+        group,
         again,
     );
     counts[member] = c.count;
@@ -614,7 +664,7 @@ fn noted(
     let answer = c.answer;
     let written = send_answer(
         answer,
-        group.number,
+        group,
         last,
         up_to,
         floor,
@@ -662,13 +712,14 @@ fn confirm(
     let group = head.group;
     let top = head.top;
     let floor = head.floor;
-    let found = history::enough(marks, group.resilience, accepted, top);
+    let needed = group.needed();
+    let found = history::enough(marks, needed, accepted, top);
     if found.0 == 0 {
         let reply = unwritten(Answer::Marked);
         return Step { head, reply };
     }
     history::unmark(marks, accepted, found);
-    let written = send_accept(group.number, found, out);
+    let written = send_accept(group, found, out);
     let answer = Answer::Accepted;
     let reply = Reply { answer, written };
     let next = Head {
@@ -680,9 +731,9 @@ fn confirm(
     Step { head: next, reply }
 }
 
-// Questions 3 to 12, 25, and 16, of a packet; then what becomes of it.
+// Questions 3 to 12 (6 of byte 1 at this end), 25, and 16, of a packet; then what becomes of it.
 fn decide(head: Head, counts: &[u32], packet: &[u8]) -> Decision
-    requires { ⌜ (1 ≤ head .group .n) × (head .group .n ≤ membersMost) × (length (now counts) ≡ membersMost) ⌝ }
+    requires { ⌜ length (now counts) ≡ membersMost ⌝ }
     ensures { λ r. ⌜ r ≡ decisionOf (head .group) (countsOnly (now (counts .entry))) (head .accepted) (head .top) (readOf (now (packet .entry))) ⌝ }
 {
     let reading = packet::read(packet);
@@ -823,7 +874,7 @@ pub fn poll_on(
         Verdict::Accepted => {
             let top = head.top;
             let floor = head.floor;
-            let written = send_poll(head.group.number, top, floor, out);
+            let written = send_poll(head.group, top, floor, out);
             let answer = Answer::Sent;
             Reply { answer, written }
         }
@@ -955,6 +1006,8 @@ pub fn open_on(
             let head = fresh_head(Group {
                 n: 0,
                 resilience: 0,
+                survivors: 0,
+                elected: MemberNumber(0),
                 number: 0,
             });
             let verdict = Verdict::Refused(q);

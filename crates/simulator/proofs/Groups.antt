@@ -8,9 +8,9 @@ use Rattle.group.specs.Limits.{placesMost}
 use Rattle.group.specs.declared.Group.{Group}
 use Rattle.group.specs.declared.MemberNumber.{MemberNumber}
 use Rattle.group.specs.declared.SequenceNumber.{SequenceNumber}
-use Rattle.packet.specs.Packet.{contentOf, payloadAt, readOf}
+use Rattle.packet.specs.Packet.{contentOf, payloadAt, readOf, fromElected}
 use Rattle.packet.specs.declared.Packet.{Packet}
-use Rattle.packet.specs.declared.Packet.the-variants.{Request, Broadcast, Gap, Status, Poll, Offer, Confirm, Accept}
+use Rattle.packet.specs.declared.Packet.the-variants.{Request, Broadcast, Gap, Status, Poll, Offer, Confirm, Accept, Invitation, Reply, Result}
 use Rattle.packet.specs.declared.Reading.{Reading}
 use Rattle.packet.specs.declared.Reading.the-variants.{Fields}
 use Rattle.history.specs.Ask.{senderVerdict, countVerdict, wantedVerdict, expectedVerdict}
@@ -58,27 +58,32 @@ module _ (s : Sequencer) where
   content-has : (packet : Packet) (payload : List ℕ) → Has (s .group) (contentStep s packet payload)
   unfolding contentStep answered noteOf withTable
   content-has (Request sender taken count) payload =
-      judged-elim (Has (s .group)) (senderVerdict (s .group .n) (s .accepted .0) sender taken) (λ _ _. refl)
+      judged-elim (Has (s .group)) (senderVerdict (s .group .survivors) (s .accepted .0) sender taken) (λ _ _. refl)
       (λ _. judged-elim (Has (s .group)) (countVerdict (lastCount s sender) (s .top .0) count) (λ _ _. refl)
       (λ _. request-has (noteOf s sender taken) sender count payload))
   content-has (Broadcast originator number count floor) payload = refl
   content-has (Gap sender taken first last) payload =
-      judged-elim (Has (s .group)) (senderVerdict (s .group .n) (s .accepted .0) sender taken) (λ _ _. refl)
+      judged-elim (Has (s .group)) (senderVerdict (s .group .survivors) (s .accepted .0) sender taken) (λ _ _. refl)
       (λ _. judged-elim (Has (s .group)) (wantedVerdict (s .top .0) last) (λ _ _. refl)
       (λ _. gap-has (noteOf s sender taken) first last))
   content-has (Status sender taken) payload =
-      judged-elim (Has (s .group)) (senderVerdict (s .group .n) (s .accepted .0) sender taken) (λ _ _. refl) (λ _. refl)
-  content-has (Poll top floor) payload = refl
+      judged-elim (Has (s .group)) (senderVerdict (s .group .survivors) (s .accepted .0) sender taken) (λ _ _. refl) (λ _. refl)
+  content-has (Poll elected top floor) payload = refl
   content-has (Offer originator number count floor) payload = refl
   content-has (Confirm sender number) payload =
-      judged-elim (Has (s .group)) (senderVerdict (s .group .n) (s .top .0) sender number) (λ _ _. refl)
+      judged-elim (Has (s .group)) (senderVerdict (s .group .survivors) (s .top .0) sender number) (λ _ _. refl)
       (λ _. judged-elim (Has (s .group)) (expectedVerdict (s .group) (s .accepted .0) sender number) (λ _ _. refl) (λ _. confirm-has sender number))
-  content-has (Accept number) payload = refl
+  content-has (Accept elected number) payload = refl
+  content-has (Invitation sender attempt) payload = refl
+  content-has (Reply sender attempt number) payload = refl
+  content-has (Result sender attempt elected number) payload = refl
 
   read-has : (reading : Reading) (payload : List ℕ) → Has (s .group) (readStep s reading payload)
   unfolding readStep answered
   read-has (Fields h) payload =
-      if-elim (Has (s .group)) (h .group =? s .group .number) (λ _. content-has (contentOf h) payload) (λ _. refl)
+      if-elim (Has (s .group)) (fromElected (s .group) (contentOf h))
+      (λ _. if-elim (Has (s .group)) (h .group =? s .group .number) (λ _. content-has (contentOf h) payload) (λ _. refl))
+      (λ _. refl)
   read-has (Reading.Refused refusal) payload = refl
 
   receive-has : (packet : List ℕ) (room : ℕ) → Has (s .group) (receiveOf s packet room)

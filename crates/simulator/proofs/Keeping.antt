@@ -12,9 +12,9 @@ use Rattle.member.specs.Calls.{Outcome, answered, callVerdict, submitVerdict, w
 use Rattle.member.specs.State.{Member}
 use Rattle.member.specs.declared.Answer.{Answer}
 use Rattle.message.specs.Message.{messageOf}
-use Rattle.packet.specs.Packet.{contentOf, payloadAt, readOf}
+use Rattle.packet.specs.Packet.{contentOf, payloadAt, readOf, fromElected}
 use Rattle.packet.specs.declared.Packet.{Packet}
-use Rattle.packet.specs.declared.Packet.the-variants.{Request, Broadcast, Gap, Status, Poll, Offer, Confirm, Accept}
+use Rattle.packet.specs.declared.Packet.the-variants.{Request, Broadcast, Gap, Status, Poll, Offer, Confirm, Accept, Invitation, Reply, Result}
 use Rattle.packet.specs.declared.Reading.{Reading}
 use Rattle.packet.specs.declared.Reading.the-variants.{Fields}
 use Rattle.simulator.specs.Steps.{outcomeOf}
@@ -85,15 +85,21 @@ module _ (m : Member) where
       if-elim (Has m) (originator .0 <? m .group .n) (λ _. broadcast-has originator (number .0) count payload) (λ _. (refl, refl))
   content-has (Gap sender taken first last) payload = (refl, refl)
   content-has (Status sender taken) payload = (refl, refl)
-  content-has (Poll top floor) payload = gap-has m _ Answer.Gap _ (refl, refl) (refl, refl)
+  content-has (Poll elected top floor) payload = gap-has m _ Answer.Gap _ (refl, refl) (refl, refl)
   content-has (Offer originator number count floor) payload =
       if-elim (Has m) (originator .0 <? m .group .n) (λ _. offer-has originator (number .0) count payload) (λ _. (refl, refl))
   content-has (Confirm sender number) payload = (refl, refl)
-  content-has (Accept number) payload = (refl, refl)
+  content-has (Accept elected number) payload = (refl, refl)
+  content-has (Invitation sender attempt) payload = (refl, refl)
+  content-has (Reply sender attempt number) payload = (refl, refl)
+  content-has (Result sender attempt elected number) payload = (refl, refl)
 
   read-has : (reading : Reading) (payload : List ℕ) → Has m (readStep m reading payload)
   unfolding readStep answered
-  read-has (Fields h) payload = if-elim (Has m) (h .group =? m .group .number) (λ _. content-has (contentOf h) payload) (λ _. (refl, refl))
+  read-has (Fields h) payload =
+      if-elim (Has m) (fromElected (m .group) (contentOf h))
+      (λ _. if-elim (Has m) (h .group =? m .group .number) (λ _. content-has (contentOf h) payload) (λ _. (refl, refl)))
+      (λ _. (refl, refl))
   read-has (Reading.Refused refusal) payload = (refl, refl)
 
   receive-has : (packet : List ℕ) (room : ℕ) → Has m (receiveOf m packet room)

@@ -50,6 +50,8 @@ impl Sequencer {
         let head = sequencer::fresh_head(Group {
             n: 0,
             resilience: 0,
+            survivors: 0,
+            elected: MemberNumber(0),
             number: 0,
         });
         Sequencer {
@@ -154,6 +156,8 @@ impl Member {
         let none = Group {
             n: 0,
             resilience: 0,
+            survivors: 0,
+            elected: MemberNumber(0),
             number: 0,
         };
         let head = member::idle(none, MemberNumber(0));

@@ -15,7 +15,7 @@ use Rattle.group.specs.Opening.{descriptionOf}
 use Rattle.group.specs.declared.Group as description
 use Rattle.group.specs.declared.MemberNumber.{MemberNumber}
 use Rattle.group.specs.declared.Refusal.{Refusal}
-use Rattle.group.specs.declared.Refusal.the-variants.{OtherGroup, OtherEnd, NotInHistory}
+use Rattle.group.specs.declared.Refusal.the-variants.{ForbiddenFields, OtherGroup, OtherEnd, NotInHistory}
 use Rattle.group.specs.declared.SequenceNumber.{SequenceNumber}
 use Rattle.group.proofs.Lists.{if-elim, judged-elim, at-le, at-last, All}
 use Rattle.history.specs.Ask.{senderVerdict, countVerdict, wantedVerdict, expectedVerdict}
@@ -35,10 +35,10 @@ use Rattle.model.specs.World.{Event, submit, repeat, status, poll, copy, handMe
 use Rattle.model.specs.World as world
 use Rattle.packet.proofs.Facts.{Facts, Says, Known}
 use Rattle.packet.proofs.Laws.{read-written}
-use Rattle.packet.specs.Packet.{headerOf, readOf, payloadAt, contentOf, fieldsOf, headerBytes, packetOf, written}
+use Rattle.packet.specs.Packet.{headerOf, readOf, payloadAt, contentOf, fieldsOf, headerBytes, packetOf, written, fromElected}
 use Rattle.packet.specs.declared.Header.{Header}
 use Rattle.packet.specs.declared.Packet.{Packet}
-use Rattle.packet.specs.declared.Packet.the-variants.{Request, Broadcast, Gap, Status, Poll, Offer, Confirm, Accept}
+use Rattle.packet.specs.declared.Packet.the-variants.{Request, Broadcast, Gap, Status, Poll, Offer, Confirm, Accept, Invitation, Result}
 use Rattle.packet.specs.declared.Reading.{Reading}
 use Rattle.packet.specs.declared.Reading.the-variants.{Fields}
 use Rattle.sequencer.proofs.Histories.{broadcast-is, broadcast-may}
@@ -179,26 +179,32 @@ confirm-copies s m number =
 content-copies : (s : Sequencer) (content : Packet) (payload : List ℕ) → Copies (sequencer.contentStep s content payload)
 unfolding sequencer.contentStep sequencer.answered
 content-copies s (Request sender taken count) payload =
-    judged-elim Copies (senderVerdict (s .group .n) (s .accepted .0) sender taken) (λ r e. refused-copies s r)
+    judged-elim Copies (senderVerdict (s .group .survivors) (s .accepted .0) sender taken) (λ r e. refused-copies s r)
     (λ e. judged-elim Copies (countVerdict (lastCount s sender) (s .top .0) count) (λ r f. refused-copies s r)
     (λ f. request-copies (noteOf s sender taken) sender count payload))
 content-copies s (Broadcast originator number count floor) payload = refused-copies s OtherEnd
 content-copies s (Gap sender taken first last) payload =
-    judged-elim Copies (senderVerdict (s .group .n) (s .accepted .0) sender taken) (λ r e. refused-copies s r)
+    judged-elim Copies (senderVerdict (s .group .survivors) (s .accepted .0) sender taken) (λ r e. refused-copies s r)
     (λ e. judged-elim Copies (wantedVerdict (s .top .0) last) (λ r f. refused-copies s r) (λ f. gap-copies (noteOf s sender taken) first last))
 content-copies s (Status sender taken) payload =
-    judged-elim Copies (senderVerdict (s .group .n) (s .accepted .0) sender taken) (λ r e. refused-copies s r)
+    judged-elim Copies (senderVerdict (s .group .survivors) (s .accepted .0) sender taken) (λ r e. refused-copies s r)
     (λ e. quiet (noteOf s sender taken) Noted [] (λ number e. no-zero (cc)))
-content-copies s (Poll top floor) payload = refused-copies s OtherEnd
+content-copies s (Poll elected top floor) payload = refused-copies s OtherEnd
 content-copies s (Offer originator number count floor) payload = refused-copies s OtherEnd
 content-copies s (Confirm sender number) payload =
-    judged-elim Copies (senderVerdict (s .group .n) (s .top .0) sender number) (λ r e. refused-copies s r)
+    judged-elim Copies (senderVerdict (s .group .survivors) (s .top .0) sender number) (λ r e. refused-copies s r)
     (λ e. judged-elim Copies (expectedVerdict (s .group) (s .accepted .0) sender number) (λ r f. refused-copies s r) (λ f. confirm-copies s sender number))
-content-copies s (Accept number) payload = refused-copies s OtherEnd
+content-copies s (Accept elected number) payload = refused-copies s OtherEnd
+content-copies s (Invitation sender attempt) payload = refused-copies s OtherEnd
+content-copies s (Packet.Reply sender attempt number) payload = refused-copies s OtherEnd
+content-copies s (Result sender attempt elected number) payload = refused-copies s OtherEnd
 
 read-copies : (s : Sequencer) (reading : Reading) (payload : List ℕ) → Copies (sequencer.readStep s reading payload)
 unfolding sequencer.readStep
-read-copies s (Fields h) payload = if-elim Copies (h .group =? s .group .number) (λ t. content-copies s (contentOf h) payload) (λ f. refused-copies s OtherGroup)
+read-copies s (Fields h) payload =
+    if-elim Copies (fromElected (s .group) (contentOf h))
+    (λ u. if-elim Copies (h .group =? s .group .number) (λ t. content-copies s (contentOf h) payload) (λ f. refused-copies s OtherGroup))
+    (λ u. refused-copies s ForbiddenFields)
 read-copies s (Reading.Refused refusal) payload = refused-copies s refusal
 
 receive-copies : (s : Sequencer) (packet : List ℕ) (room : ℕ) → Copies (sequencer.receiveOf s packet room)
@@ -226,12 +232,15 @@ fields-under g f (Broadcast originator number count floor) payload rest says =
     rw (ne-eqb (number .0) (1 + length (f .order)) (λ e. omega (arith, l, e)))
 fields-under g f (Gap sender taken first last) payload rest says = refl
 fields-under g f (Status sender taken) payload rest says = refl
-fields-under g f (Poll top floor) payload rest says = refl
+fields-under g f (Poll elected top floor) payload rest says = refl
 fields-under g f (Offer originator number count floor) payload rest says =
     let l = at-le (f .order) (number .0) (says .0) in
     rw (ne-eqb (number .0) (1 + length (f .order)) (λ e. omega (arith, l, e)))
 fields-under g f (Confirm sender number) payload rest says = refl
-fields-under g f (Accept number) payload rest says = refl
+fields-under g f (Accept elected number) payload rest says = refl
+fields-under g f (Invitation sender attempt) payload rest says = refl
+fields-under g f (Packet.Reply sender attempt number) payload rest says = refl
+fields-under g f (Result sender attempt elected number) payload rest says = refl
 
 known-under : (g : ℕ) (f : Facts) (packet : List ℕ) → Known g f packet → under (1 + length (f .order)) packet ≡ []
 known-under g f packet k =
@@ -310,7 +319,7 @@ module _ (group : description.Group) (w : Group) (ord : List Ordered) (tk : ℕ 
       let t = v′ .terminal 0 low .seat .acknowledged-le in
       let u = reach-most (v .terminal 0 low .content) in
       let x = acknowledged-reach (getD (w .members) 0 noMember) in
-      let f = floor-below group (ord ++ (m ∷ [])) (o .sequencer) q 0 low in
+      let f = floor-below group (ord ++ (m ∷ [])) (o .sequencer) q 0 (v .everybody 0 low) in
       let above : o .sequencer .floor .0 < k = omega (arith, t, u, x, f) in
       let origin : MemberNumber = record { 0 = m .originator } in
       let number′ : SequenceNumber = record { 0 = k } in

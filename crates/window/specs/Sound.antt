@@ -4,7 +4,8 @@ use mathlib.Core.List.{List}
 use Prim.Native.Nat.{ℕ, _-_}
 use Rattle.group.specs.Choice.{if_then_else_, _and_, _<?_, _≤?_, _=?_}
 use Rattle.group.specs.Fold.{allAbove}
-use Rattle.group.specs.Limits.{membersMost, payloadMost, waitingMost, largestNumber}
+use Rattle.group.specs.Limits.{payloadMost, waitingMost, largestNumber}
+use Rattle.group.specs.Members.{isIn, groupSound}
 use Rattle.group.specs.declared.Group.{Group}
 use Rattle.group.specs.declared.MemberNumber.{MemberNumber}
 use Rattle.message.specs.Message.{Message, zeroBehind, isEmpty}
@@ -39,11 +40,9 @@ waitingSound number submitted waiting queue =
     and waiting ≤? submitted
     and allAbove (queueSound number queue submitted) (submitted - waiting) waitingMost
 
--- n is 1 to 16, r is below n, its number is below n, and what it took is accepted
+-- the group's description is sound, the member is a survivor, and what it took is accepted
 unfoldable pub frameSound : Group → MemberNumber → ℕ → ℕ → Bool
 frameSound group number taken accepted =
-    1 ≤? group .n
-    and group .n ≤? membersMost
-    and group .resilience <? group .n
-    and number .0 <? group .n
+    groupSound group
+    and isIn (group .survivors) (number .0)
     and taken ≤? accepted

@@ -41,7 +41,7 @@ pub fn lowest_missing(counts: &[u32], taken: SequenceNumber, last: SequenceNumbe
     SequenceNumber(0)
 }
 
-// n is 1 to 16, r is below n, the member's number is below n, and what it took is accepted.
+// The group's description is sound, the member is a survivor, and what it took is accepted.
 pub fn frame_sound(
     group: Group,
     number: MemberNumber,
@@ -50,19 +50,13 @@ pub fn frame_sound(
 ) -> bool
     ensures { λ r. ⌜ r ≡ frameSound group number (taken .0) (accepted .0) ⌝ }
 {
-    if group.n < 1 {
+    if group.sound() {
+        if group::is_in(group.survivors, number) {
+            return taken.0 <= accepted.0;
+        }
         return false;
     }
-    if Group::MEMBERS < (group.n as usize) {
-        return false;
-    }
-    if group.n <= group.resilience {
-        return false;
-    }
-    if group.n <= number.0 {
-        return false;
-    }
-    taken.0 <= accepted.0
+    false
 }
 
 // The message with a count lies in place count modulo 5, of those that wait.

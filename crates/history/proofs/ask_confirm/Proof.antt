@@ -14,7 +14,7 @@ enum-told : tie.Need-enum-told
 enum-told c = search needs
 
 ask-expected-requires : tie.Need-ask-expected-requires
-ask-expected-requires c κs = c .before .before .before .pre
+ask-expected-requires c κs = search needs
 
 enum-known-v : tie.Need-enum-known-v
 enum-known-v c = search needs

@@ -1,8 +1,8 @@
 -- The verdict on the sender, and then that on the count; an accepted sender is within the table.
 -- Assumes nothing.
 use mathlib.Core.Path.{sym, _∙_}
-use native.Mathlib.Nat.{lt-of-lt-of-le}
 use denote.Ref.{now}
+use Rattle.group.proofs.Members.{in-lt}
 use Rattle.history.specs.Ask.{requestVerdict}
 use Rattle.history.proofs.Asking.{sender-was, judged-yes, judged-no}
 use Rattle.history.proofs.View.{count-own}
@@ -23,7 +23,7 @@ mul-ask-count : tie.Need-mul-ask-count
 mul-ask-count c = search needs
 
 shared-slice-read-ask-count : tie.Need-shared-slice-read-ask-count
-shared-slice-read-ask-count c = rw (c .before .before .before .before .before .before .pre .1) (lt-of-lt-of-le (sender-was _ _ _ _ (sym (c .before .before .before .before .ask-sender .ensures) ∙ c .before .before .enum-told .given .1) .0) (c .before .before .before .before .before .before .pre .0))
+shared-slice-read-ask-count c = rw (c .before .before .before .before .before .before .pre) (in-lt (c .before .before .before .before .before .before .args .survivors) (c .before .before .before .before .before .before .args .sender .0) (search needs) (sender-was _ _ _ _ (sym (c .before .before .before .before .ask-sender .ensures) ∙ c .before .before .enum-told .given .1) .0))
 
 ask-count-requires : tie.Need-ask-count-requires
 ask-count-requires c κs = search needs

@@ -6,6 +6,9 @@ use borrow.Author.Needs.{needs}
 use Rattle.history.proofs.ask_sender.Statement.{statement}
 use Rattle.history.proofs.ask_sender.Tie as tie
 
+is-in-requires : tie.Need-is-in-requires
+is-in-requires c κs = search needs
+
 returns : tie.Need-returns
 unfolding senderVerdict
 returns c = search (choices, needs) depth 9
@@ -19,4 +22,4 @@ unfolding senderVerdict
 returns-3 c = search (choices, needs) depth 9
 
 pub ask-sender-spec : {M : Type 1} → statement M
-ask-sender-spec = tie.close (tie.spec returns returns-2 returns-3)
+ask-sender-spec = tie.close (tie.spec is-in-requires returns returns-2 returns-3)

@@ -16,10 +16,10 @@ use Rattle.history.proofs.entries_sound.Statement.{statement}
 use Rattle.history.proofs.entries_sound.Tie as tie
 
 abbrev Inv-loop : tie.InvT-loop
-Inv-loop n top taken counts repeats i₀ i = Entries taken counts repeats × (all (entrySound n (top .0)) 0 (tableIn taken counts repeats) ≡ all (entrySound n (top .0)) i (drop i (tableIn taken counts repeats)))
+Inv-loop group top taken counts repeats i₀ i = Entries taken counts repeats × (all (entrySound group (top .0)) 0 (tableIn taken counts repeats) ≡ all (entrySound group (top .0)) i (drop i (tableIn taken counts repeats)))
 
 abbrev μ-loop : tie.MeasureT-loop
-μ-loop n top taken counts repeats i₀ i = membersMost - i
+μ-loop group top taken counts repeats i₀ i = membersMost - i
 
 loop-holds : tie.Need-loop-holds Inv-loop μ-loop
 loop-holds c = (c .before .before .before .pre, refl)
@@ -56,14 +56,14 @@ loop-again c =
     let l = c .before .before .before .before .before .before .loop in
     let a = c .before .before .before .before .before .before .before .before .before .before .args in
     let z = length-table (now (a .taken)) (now (a .counts)) (now (a .repeats)) in
-    (l .inv .0, all-on _ _ (l .i) (l .inv .1) _ (c .before .entry-sound .result) (omega arith) (entry-asked (entrySound (a .n) (a .top .0)) (now (a .taken)) (now (a .counts)) (now (a .repeats)) (l .i) _ (omega arith) (c .before .entry-sound .ensures)) (c .if1 .taken))
+    (l .inv .0, all-on _ _ (l .i) (l .inv .1) _ (c .before .entry-sound .result) (omega arith) (entry-asked (entrySound (a .group) (a .top .0)) (now (a .taken)) (now (a .counts)) (now (a .repeats)) (l .i) _ (omega arith) (c .before .entry-sound .ensures)) (c .if1 .taken))
 
 returns : tie.Need-returns Inv-loop μ-loop
 returns c =
     let l = c .before .before .before .before .before .before .loop in
     let a = c .before .before .before .before .before .before .before .before .before .before .args in
     let z = length-table (now (a .taken)) (now (a .counts)) (now (a .repeats)) in
-    all-off _ _ (l .i) (l .inv .1) _ (c .before .entry-sound .result) (omega arith) (entry-asked (entrySound (a .n) (a .top .0)) (now (a .taken)) (now (a .counts)) (now (a .repeats)) (l .i) _ (omega arith) (c .before .entry-sound .ensures)) (c .if1 .left)
+    all-off _ _ (l .i) (l .inv .1) _ (c .before .entry-sound .result) (omega arith) (entry-asked (entrySound (a .group) (a .top .0)) (now (a .taken)) (now (a .counts)) (now (a .repeats)) (l .i) _ (omega arith) (c .before .entry-sound .ensures)) (c .if1 .left)
 
 returns-2 : tie.Need-returns-2 Inv-loop μ-loop
 returns-2 c =

@@ -6,12 +6,18 @@ use borrow.Author.Needs.{needs}
 use Rattle.history.proofs.frame_sound.Statement.{statement}
 use Rattle.history.proofs.frame_sound.Tie as tie
 
+sound-requires : tie.Need-sound-requires
+sound-requires c κs = search needs
+
+smallest-requires : tie.Need-smallest-requires
+smallest-requires c κs = search needs
+
 returns : tie.Need-returns
 unfolding frameSound
 returns c = search (choices, needs) depth 9
 
-cast-if2 : tie.Need-cast-if2
-cast-if2 c = search needs
+span-sound-requires : tie.Need-span-sound-requires
+span-sound-requires c κs = search needs
 
 returns-2 : tie.Need-returns-2
 unfolding frameSound
@@ -21,19 +27,5 @@ returns-3 : tie.Need-returns-3
 unfolding frameSound
 returns-3 c = search (choices, needs) depth 9
 
-smallest-requires : tie.Need-smallest-requires
-smallest-requires c κs = search needs
-
-returns-4 : tie.Need-returns-4
-unfolding frameSound
-returns-4 c = search (choices, needs) depth 9
-
-span-sound-requires : tie.Need-span-sound-requires
-span-sound-requires c κs = search needs
-
-returns-5 : tie.Need-returns-5
-unfolding frameSound
-returns-5 c = search (choices, needs) depth 9
-
 pub frame-sound-spec : {M : Type 1} → statement M
-frame-sound-spec = tie.close (tie.spec returns cast-if2 returns-2 returns-3 smallest-requires returns-4 span-sound-requires returns-5)
+frame-sound-spec = tie.close (tie.spec sound-requires smallest-requires returns span-sound-requires returns-2 returns-3)

@@ -29,6 +29,15 @@ enum-known-packet-4 c = search needs
 enum-told-4 : tie.Need-enum-told-4
 enum-told-4 c = search needs
 
+enum-told-5 : tie.Need-enum-told-5
+enum-told-5 c = search needs
+
+enum-told-6 : tie.Need-enum-told-6
+enum-told-6 c = search needs
+
+enum-told-7 : tie.Need-enum-told-7
+enum-told-7 c = search needs
+
 returns : tie.Need-returns
 unfolding senderOf
 returns c = rw (c .before .packet .given .1)
@@ -61,5 +70,17 @@ returns-8 : tie.Need-returns-8
 unfolding senderOf
 returns-8 c = rw (c .enum-told4 .given .1)
 
+returns-9 : tie.Need-returns-9
+unfolding senderOf
+returns-9 c = rw (c .enum-told5 .given .1)
+
+returns-10 : tie.Need-returns-10
+unfolding senderOf
+returns-10 c = rw (c .enum-told6 .given .1)
+
+returns-11 : tie.Need-returns-11
+unfolding senderOf
+returns-11 c = rw (c .enum-told7 .given .1)
+
 pub sender-of-spec : {M : Type 1} → statement M
-sender-of-spec = tie.close (tie.spec enum-known-packet enum-told enum-known-packet-2 enum-known-packet-3 enum-told-2 enum-told-3 enum-known-packet-4 enum-told-4 returns returns-2 returns-3 returns-4 returns-5 returns-6 returns-7 returns-8)
+sender-of-spec = tie.close (tie.spec enum-known-packet enum-told enum-known-packet-2 enum-known-packet-3 enum-told-2 enum-told-3 enum-known-packet-4 enum-told-4 enum-told-5 enum-told-6 enum-told-7 returns returns-2 returns-3 returns-4 returns-5 returns-6 returns-7 returns-8 returns-9 returns-10 returns-11)

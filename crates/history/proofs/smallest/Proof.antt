@@ -2,10 +2,11 @@
 -- Assumes nothing.
 use mathlib.Core.Path.{_≡_, refl, sym, _∙_}
 use Prim.Native.Nat.{_-_, _≤_}
-use lib.ListN.{length, take, drop}
+use lib.ListN.{length, drop}
 use native.Mathlib.Omega.{arith}
-use Rattle.group.specs.Fold.{least}
+use Rattle.group.specs.Fold.{leastOf}
 use Rattle.group.specs.Limits.{membersMost}
+use Rattle.group.specs.Members.{isIn}
 use Rattle.history.specs.State.{Acknowledgement, floorOf}
 use Rattle.history.specs.View.{takenOnly}
 use Rattle.history.proofs.View.{smallest-on, smallest-end}
@@ -14,10 +15,10 @@ use Rattle.history.proofs.smallest.Statement.{statement}
 use Rattle.history.proofs.smallest.Tie as tie
 
 abbrev Inv-loop : tie.InvT-loop
-Inv-loop n taken low₀ i₀ low i = (i ≤ n) × (length taken ≡ membersMost) × (least (λ (a : Acknowledgement). a .taken .0) low (drop i (take n (takenOnly taken))) ≡ floorOf n (takenOnly taken))
+Inv-loop survivors taken low₀ i₀ low i = (i ≤ membersMost) × (length taken ≡ membersMost) × (leastOf (isIn survivors) (λ (a : Acknowledgement). a .taken .0) i low (drop i (takenOnly taken)) ≡ floorOf survivors (takenOnly taken))
 
 abbrev μ-loop : tie.MeasureT-loop
-μ-loop n taken low₀ i₀ low i = n - i
+μ-loop survivors taken low₀ i₀ low i = membersMost - i
 
 loop-holds : tie.Need-loop-holds Inv-loop μ-loop
 unfolding floorOf
@@ -42,13 +43,13 @@ loop-again : tie.Need-loop-again Inv-loop μ-loop
 loop-again c =
     let l = c .before .before .loop in
     let a = c .before .before .before .args in
-    (search needs, l .inv .1, sym (smallest-on (a .n) (l .low) (l .i) (c .smaller .result) (a .t2) (omega arith) (omega arith) (c .smaller .ensures)) ∙ l .inv .2)
+    (search needs, l .inv .1, sym (smallest-on (a .survivors) (l .low) (l .i) (c .smaller .result) (a .t2) (omega arith) (c .smaller .ensures)) ∙ l .inv .2)
 
 returns : tie.Need-returns Inv-loop μ-loop
 returns c =
     let l = c .before .loop in
     let a = c .before .before .args in
-    sym (smallest-end (a .n) (l .low) (l .i) (a .t2) (omega arith)) ∙ l .inv .2
+    sym (smallest-end (a .survivors) (l .low) (l .i) (a .t2) (omega arith)) ∙ l .inv .2
 
 pub smallest-spec : {M : Type 1} → statement M
 smallest-spec =

@@ -15,7 +15,7 @@ enum-known-packet : tie.Need-enum-known-packet
 enum-known-packet c = search needs
 
 broadcast-requires : tie.Need-broadcast-requires
-broadcast-requires c κs = let p = c .before .before .before .before .before .before .before .before .before .before .before .before .before .pre in (p .2, p .3)
+broadcast-requires c κs = let p = c .before .before .before .before .before .before .before .before .before .before .before .before .before .pre in (p .1, p .2)
 
 same-length : tie.Need-same-length
 same-length c = search needs
@@ -31,13 +31,13 @@ enum-known-packet-2 : tie.Need-enum-known-packet-2
 enum-known-packet-2 c = search needs
 
 poll-requires : tie.Need-poll-requires
-poll-requires c κs = c .before .before .before .before .before .before .before .pre .3
+poll-requires c κs = c .before .before .before .before .before .before .before .pre .2
 
 enum-known-packet-3 : tie.Need-enum-known-packet-3
 enum-known-packet-3 c = search needs
 
 offer-requires : tie.Need-offer-requires
-offer-requires c κs = let a = c .before .before .before .before .before .before .before .before .before .before .before .before .before .args in let p = c .before .before .before .before .before .before .before .before .before .before .before .before .before .pre in (p .0, offer-number (a .head .group .number) _ _ _ _ (rw (c .before .before .before .before .before .before .before .before .before .packet3 .given .1) at (p .1)), p .2, p .3)
+offer-requires c κs = let a = c .before .before .before .before .before .before .before .before .before .before .before .before .before .args in let p = c .before .before .before .before .before .before .before .before .before .before .before .before .before .pre in (offer-number (a .head .group .number) _ _ _ _ _ (rw (c .before .before .before .before .before .before .before .before .before .packet3 .given .1) at (p .0)), p .1, p .2)
 
 same-length-2 : tie.Need-same-length-2
 same-length-2 c = search needs
@@ -79,6 +79,24 @@ enum-told-4 c = search needs
 declined-requires-6 : tie.Need-declined-requires-6
 declined-requires-6 c κs = search needs
 
+enum-told-5 : tie.Need-enum-told-5
+enum-told-5 c = search needs
+
+declined-requires-7 : tie.Need-declined-requires-7
+declined-requires-7 c κs = search needs
+
+enum-told-6 : tie.Need-enum-told-6
+enum-told-6 c = search needs
+
+declined-requires-8 : tie.Need-declined-requires-8
+declined-requires-8 c κs = search needs
+
+enum-told-7 : tie.Need-enum-told-7
+enum-told-7 c = search needs
+
+declined-requires-9 : tie.Need-declined-requires-9
+declined-requires-9 c κs = search needs
+
 returns-3 : tie.Need-returns-3
 unfolding contentStep
 returns-3 c = λ queue. replied-as (rw (c .before .before .before .before .before .packet .given .1) (search (choices, needs) depth 9)) (quiet-done (c .before .before .before .before .before .before .before .before .before .args .head) queue _ _ _ (now (c .before .before .before .before .before .before .before .before .before .args .out)) (c .declined .ensures))
@@ -114,6 +132,18 @@ returns-10 : tie.Need-returns-10
 unfolding contentStep
 returns-10 c = λ queue. replied-as (rw (c .before .enum-told4 .given .1)) (quiet-done (c .before .before .before .before .before .args .head) queue _ _ _ (now (c .before .before .before .before .before .args .out)) (c .declined6 .ensures))
 
+returns-11 : tie.Need-returns-11
+unfolding contentStep
+returns-11 c = λ queue. replied-as (rw (c .before .enum-told5 .given .1)) (quiet-done (c .before .before .before .before .before .args .head) queue _ _ _ (now (c .before .before .before .before .before .args .out)) (c .declined7 .ensures))
+
+returns-12 : tie.Need-returns-12
+unfolding contentStep
+returns-12 c = λ queue. replied-as (rw (c .before .enum-told6 .given .1)) (quiet-done (c .before .before .before .before .before .args .head) queue _ _ _ (now (c .before .before .before .before .before .args .out)) (c .declined8 .ensures))
+
+returns-13 : tie.Need-returns-13
+unfolding contentStep
+returns-13 c = λ queue. replied-as (rw (c .before .enum-told7 .given .1)) (quiet-done (c .before .before .before .before .before .args .head) queue _ _ _ (now (c .before .before .before .before .before .args .out)) (c .declined9 .ensures))
+
 pub content-spec : {M : Type 1} → statement M
 content-spec =
     tie.close
@@ -140,6 +170,12 @@ content-spec =
     declined-requires-5
     enum-told-4
     declined-requires-6
+    enum-told-5
+    declined-requires-7
+    enum-told-6
+    declined-requires-8
+    enum-told-7
+    declined-requires-9
     returns-3
     same-length-3
     returns-4
@@ -148,4 +184,7 @@ content-spec =
     returns-7
     returns-8
     returns-9
-    returns-10)
+    returns-10
+    returns-11
+    returns-12
+    returns-13)

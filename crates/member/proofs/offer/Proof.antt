@@ -8,13 +8,13 @@ use Rattle.member.proofs.offer.Statement.{statement}
 use Rattle.member.proofs.offer.Tie as tie
 
 message-step-requires : tie.Need-message-step-requires
-message-step-requires c κs = let p = c .before .before .before .before .before .before .before .pre in (p .2, p .3)
+message-step-requires c κs = let p = c .before .before .before .before .before .before .before .pre in (p .1, p .2)
 
 confirmed-requires : tie.Need-confirmed-requires
-confirmed-requires c κs = c .before .before .before .before .before .before .before .before .before .before .before .pre .0
+confirmed-requires c κs = search needs
 
 put-confirm-requires : tie.Need-put-confirm-requires
-put-confirm-requires c κs = let p = c .before .before .before .before .before .before .before .before .before .before .before .before .before .before .pre in (p .1, search needs)
+put-confirm-requires c κs = let p = c .before .before .before .before .before .before .before .before .before .before .before .before .before .before .pre in (p .0, search needs)
 
 same-length : tie.Need-same-length
 same-length c = search needs

@@ -3,7 +3,6 @@
 use mathlib.Core.Path.{_≡_, ap, _∙_}
 use Prim.Native.Nat.{ℕ}
 use denote.Ref.{now}
-use lib.ListN.{length}
 use Rattle.packet.proofs.Permitted.{request-fields, laid-whole}
 use Rattle.window.specs.Places.{smallerOf}
 use Rattle.member.proofs.View.{requested}
@@ -28,7 +27,7 @@ returns c =
     let a = c .before .before .before .before .before .before .before .before .before .before .args in
     let p = c .before .before .before .before .before .before .before .before .before .before .pre in
     requested (a .head) (now (a .held)) (a .count) (now (a .payload)) _ (c .before .before .before .before .earlier .ensures ∙ ap (λ (k : ℕ). smallerOf k (a .head .accepted .0)) (c .before .before .before .before .before .row-end .ensures))
-    (laid-whole _ (now (a .payload)) _ (request-fields (a .head .group .number) (a .head .number) _ (a .count) (length (now (a .payload))) (p .0)) (p .1) (p .2) (c .before .before .put .ensures))
+    (laid-whole _ (now (a .payload)) _ (request-fields (a .head .group .number) (a .head .number) _ (a .count) (now (a .payload)) (p .0)) (p .1) (p .2) (c .before .before .put .ensures))
 
 pub put-request-spec : {M : Type 1} → statement M
 put-request-spec = tie.close (tie.spec row-end-requires earlier-requires put-requires same-length returns)

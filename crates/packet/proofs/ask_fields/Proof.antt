@@ -1,6 +1,10 @@
 -- Each question is one of the definition's, in its order.
 -- Assumes nothing.
+use mathlib.Core.Path.{sym, _∙_}
+use denote.Ref.{now}
+use lib.ListN.{length}
 use Rattle.group.proofs.Choice.{choices}
+use Rattle.packet.proofs.Verdicts.{fits-size}
 use Rattle.packet.specs.Packet.{fieldsVerdict}
 use borrow.Author.Needs.{needs}
 use Rattle.packet.proofs.ask_fields.Statement.{statement}
@@ -13,7 +17,9 @@ fits-requires : tie.Need-fits-requires
 fits-requires c κs = search needs
 
 obeys-requires : tie.Need-obeys-requires
-obeys-requires c κs = search needs
+obeys-requires c κs =
+    let a = c .before .before .before .before .before .args in
+    (sym (c .before .before .before .known .ensures) ∙ c .before .before .if1 .taken, fits-size (a .h .kind) (a .l) (length (now (a .payload))) (sym (c .before .fits2 .ensures) ∙ c .if2 .taken))
 
 returns : tie.Need-returns
 unfolding fieldsVerdict

@@ -1,6 +1,8 @@
 -- Question 2 is asked here, then the verdict on the fields, then question 13 (`write-by`).
 -- Assumes nothing.
 use mathlib.Core.Path.{sym, ap, _∙_}
+use denote.Ref.{now}
+use lib.ListN.{length}
 use Rattle.group.specs.Choice.{if_then_else_, _≤?_}
 use Rattle.group.specs.Limits.{payloadMost}
 use Rattle.group.specs.Question.{judged}
@@ -27,9 +29,10 @@ enum-told c = search needs
 returns-2 : tie.Need-returns-2
 unfolding judged
 returns-2 c =
-    let a = c .before .before .before .before .before .args in
-    let rest = if a .size ≤? payloadMost then Accepted else Refused LongPayload in
-    search (choices, needs) depth 9 ∙ ap (λ (v : Verdict). judged v Refused rest) (sym (c .before .enum-told .given .1)) ∙ write-by (a .h) (a .size) (a .room) (c .before .before .before .ask-fields .result) (search needs) (c .before .before .before .ask-fields .ensures)
+    let a = c .before .before .before .before .before .before .args in
+    let size = length (now (a .payload)) in
+    let rest = if size ≤? payloadMost then Accepted else Refused LongPayload in
+    search (choices, needs) depth 9 ∙ ap (λ (v : Verdict). judged v Refused rest) (sym (c .before .enum-told .given .1)) ∙ write-by (a .h) (now (a .payload)) (a .room) (c .before .before .before .ask-fields .result) (search needs) (c .before .before .before .ask-fields .ensures)
 
 enum-known-v : tie.Need-enum-known-v
 enum-known-v c = search needs
@@ -37,16 +40,18 @@ enum-known-v c = search needs
 returns-3 : tie.Need-returns-3
 unfolding judged
 returns-3 c =
-    let a = c .before .before .before .before .before .args in
-    let rest = if a .size ≤? payloadMost then Accepted else Refused LongPayload in
-    search (choices, needs) depth 9 ∙ ap (λ (v : Verdict). judged v Refused rest) (sym (c .before .enum-told .given .1)) ∙ write-by (a .h) (a .size) (a .room) (c .before .before .before .ask-fields .result) (search needs) (c .before .before .before .ask-fields .ensures)
+    let a = c .before .before .before .before .before .before .args in
+    let size = length (now (a .payload)) in
+    let rest = if size ≤? payloadMost then Accepted else Refused LongPayload in
+    search (choices, needs) depth 9 ∙ ap (λ (v : Verdict). judged v Refused rest) (sym (c .before .enum-told .given .1)) ∙ write-by (a .h) (now (a .payload)) (a .room) (c .before .before .before .ask-fields .result) (search needs) (c .before .before .before .ask-fields .ensures)
 
 returns-4 : tie.Need-returns-4
 unfolding judged
 returns-4 c =
-    let a = c .before .before .before .before .before .args in
-    let rest = if a .size ≤? payloadMost then Accepted else Refused LongPayload in
-    ap (λ (v : Verdict). judged v Refused rest) (sym (c .before .v .given .1)) ∙ write-by (a .h) (a .size) (a .room) (c .before .before .before .ask-fields .result) (search needs) (c .before .before .before .ask-fields .ensures)
+    let a = c .before .before .before .before .before .before .args in
+    let size = length (now (a .payload)) in
+    let rest = if size ≤? payloadMost then Accepted else Refused LongPayload in
+    ap (λ (v : Verdict). judged v Refused rest) (sym (c .before .v .given .1)) ∙ write-by (a .h) (now (a .payload)) (a .room) (c .before .before .before .ask-fields .result) (search needs) (c .before .before .before .ask-fields .ensures)
 
 pub ask-writing-spec : {M : Type 1} → statement M
 ask-writing-spec =

@@ -22,5 +22,9 @@ returns-4 : tie.Need-returns-4
 unfolding payloadFits
 returns-4 c = search (choices, needs) depth 9
 
+returns-5 : tie.Need-returns-5
+unfolding payloadFits
+returns-5 c = search (choices, needs) depth 9
+
 pub fits-spec : {M : Type 1} → statement M
-fits-spec = tie.close (tie.spec returns returns-2 returns-3 returns-4)
+fits-spec = tie.close (tie.spec returns returns-2 returns-3 returns-4 returns-5)

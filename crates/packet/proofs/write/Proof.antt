@@ -24,8 +24,8 @@ lay-requires c κs =
     let w = writable _ _ _ (sym (c .before .before .before .ask-writing .ensures) ∙ c .before .enum-told .given .1) in
     omega arith
 
-add-t13 : tie.Need-add-t13
-add-t13 c = search needs
+add-t12 : tie.Need-add-t12
+add-t12 c = search needs
 
 enum-known-v : tie.Need-enum-known-v
 enum-known-v c = search needs
@@ -52,7 +52,7 @@ write-spec =
     ask-writing-requires
     enum-told
     lay-requires
-    add-t13
+    add-t12
     enum-known-v
     same-length
     returns

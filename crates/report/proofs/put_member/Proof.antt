@@ -96,11 +96,11 @@ put-word-requires-2 c κs = search needs
 enum-told-10 : tie.Need-enum-told-10
 enum-told-10 c = search needs
 
-slice-aggregate-put-word-3 : tie.Need-slice-aggregate-put-word-3
-slice-aggregate-put-word-3 c = search needs
+slice-aggregate-put-any-3 : tie.Need-slice-aggregate-put-any-3
+slice-aggregate-put-any-3 c = search needs
 
-put-word-requires-3 : tie.Need-put-word-requires-3
-put-word-requires-3 c κs = search needs
+put-any-requires-3 : tie.Need-put-any-requires-3
+put-any-requires-3 c κs = search needs
 
 enum-known-answer-2 : tie.Need-enum-known-answer-2
 enum-known-answer-2 c = search needs
@@ -195,7 +195,7 @@ same-length-11 c = search needs
 
 returns-11 : tie.Need-returns-11
 unfolding wordingOf wordingFields valuesText
-returns-11 c = (rw (c .before .before .before .before .before .enum-told10 .given .1) (c .before .before .put-word3 .ensures .0), search needs)
+returns-11 c = (rw (c .before .before .before .before .before .enum-told10 .given .1) (c .before .before .put-any3 .ensures .0), search needs)
 
 same-length-12 : tie.Need-same-length-12
 same-length-12 c = search needs
@@ -245,8 +245,8 @@ put-member-spec =
     slice-aggregate-put-word-2
     put-word-requires-2
     enum-told-10
-    slice-aggregate-put-word-3
-    put-word-requires-3
+    slice-aggregate-put-any-3
+    put-any-requires-3
     enum-known-answer-2
     put-took-requires
     enum-known-answer-3

@@ -6,7 +6,7 @@ use Prim.Native.Nat.{ℕ, _+_}
 use native.Mathlib.Omega.{arith}
 use denote.Ref.{now}
 use Rattle.text.specs.Text.{space}
-use Rattle.schedule.specs.Steps.{partsAt}
+use Rattle.schedule.specs.Parts.{partsAt}
 use Rattle.text.proofs.Split.{fields-one, fields-more, found-from}
 use lib.ListN.{take}
 use borrow.Author.Needs.{needs}

@@ -4,7 +4,7 @@ use mathlib.Core.Path.{sym, _∙_}
 use Prim.Native.Nat.{_+_}
 use denote.Ref.{now}
 use Rattle.text.specs.Text.{space}
-use Rattle.schedule.specs.Steps.{partsAt}
+use Rattle.schedule.specs.Parts.{partsAt}
 use Rattle.text.proofs.Split.{fields-one, fields-more, found-from}
 use borrow.Author.Needs.{needs}
 use Rattle.schedule.proofs.fields_last.Statement.{statement}

@@ -5,7 +5,7 @@ use native.Mathlib.Omega.{arith}
 use denote.Ref.{now}
 use lib.ListN.{length}
 use Rattle.schedule.specs.Line.{payloadRoom, formOf, commandOf, payloadOf}
-use Rattle.schedule.specs.Steps.{partsAt, Within}
+use Rattle.schedule.specs.Parts.{partsAt, Within}
 use Rattle.schedule.proofs.Forms.{event-by, event-long, more-event, alone-payload, number-payload}
 use Rattle.schedule.specs.declared.Parts.{Parts}
 use Rattle.schedule.specs.declared.Parts.the-variants.{One, Two, Three, More}

@@ -2,7 +2,7 @@
 -- Assumes nothing.
 use mathlib.Core.Path.{subst, sym, ap, _∙_}
 use denote.Ref.{now}
-use Rattle.schedule.specs.Steps.{partsAt, Within}
+use Rattle.schedule.specs.Parts.{partsAt, Within}
 use Rattle.schedule.specs.Line.{openingForm}
 use Rattle.schedule.proofs.Forms.{opening-by, opening-long}
 use Rattle.schedule.specs.declared.Parts.{Parts}

@@ -5,7 +5,7 @@ use Prim.Native.Nat.{_+_}
 use denote.Ref.{now}
 use lib.Seq.{length-take-le}
 use Rattle.schedule.specs.Line.{openingForm}
-use Rattle.schedule.specs.Steps.{partsAt}
+use Rattle.schedule.specs.Parts.{partsAt}
 use Rattle.schedule.proofs.Forms.{to-end}
 use borrow.Author.Needs.{needs}
 use Rattle.schedule.proofs.read_whole.Statement.{statement}

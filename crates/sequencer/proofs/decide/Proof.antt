@@ -2,6 +2,11 @@
 -- Assumes nothing.
 use Rattle.sequencer.specs.Steps.{sortedBy}
 use Rattle.sequencer.proofs.Deciding.{unread, not-asked, sorted}
+use mathlib.Core.Path.{sym, _∙_}
+use native.Mathlib.Omega.{arith}
+use denote.Ref.{now}
+use Rattle.big_endian.specs.Laws.{Bytes}
+use Rattle.packet.proofs.Verdicts.{read-named}
 use borrow.Author.Needs.{needs}
 use Rattle.sequencer.proofs.decide.Statement.{statement}
 use Rattle.sequencer.proofs.decide.Tie as tie
@@ -13,7 +18,8 @@ enum-known-reading : tie.Need-enum-known-reading
 enum-known-reading c = search needs
 
 of-requires : tie.Need-of-requires
-of-requires c κs = search needs
+unfolding Bytes
+of-requires c κs = read-named (now (c .before .before .before .before .before .before .args .packet)) (λ i h. let z = c .before .before .before .before .shared-slice-known2 .given i in omega (arith, z)) _ (sym (c .before .before .before .read .ensures .0) ∙ c .before .reading .given .1)
 
 ask-packet-requires : tie.Need-ask-packet-requires
 ask-packet-requires c κs = c .before .before .before .before .before .before .before .before .before .pre

@@ -2,10 +2,7 @@
 -- Assumes nothing.
 use mathlib.Core.Path.{sym, _∙_}
 use denote.Ref.{now}
-use Rattle.sequencer.specs.View.{viewOf}
 use Rattle.sequencer.proofs.Deciding.{refused-is, decided-is}
-use Rattle.sequencer.proofs.Owed.{call-asked}
-use Rattle.sequencer.proofs.Soundness.{sound-of}
 use borrow.Author.Needs.{needs}
 use Rattle.sequencer.proofs.judge.Statement.{statement}
 use Rattle.sequencer.proofs.judge.Tie as tie
@@ -17,8 +14,7 @@ enum-told : tie.Need-enum-told
 enum-told c = search needs
 
 decide-requires : tie.Need-decide-requires
-unfolding viewOf
-decide-requires c κs = let s = sound-of _ (call-asked _ _ (sym (c .before .before .ask .ensures .0) ∙ c .enum-told .given .1) .0) in (s .n-least, s .n-most, c .before .before .ask .ensures .1 .entries .counts-size)
+decide-requires c κs = c .before .before .ask .ensures .1 .entries .counts-size
 
 enum-known-v : tie.Need-enum-known-v
 enum-known-v c = search needs

@@ -14,11 +14,10 @@ sender-of-requires : tie.Need-sender-of-requires
 sender-of-requires c κs = search needs
 
 note-requires : tie.Need-note-requires
-unfolding viewOf
 note-requires c κs =
     let a = c .before .before .before .before .before .before .before .before .before .before .before .before .before .before .before .before .args in
     let p = c .before .before .before .before .before .before .before .before .before .before .before .before .before .before .before .before .pre in
-    (sound-of _ (p .1 .sizes .sound) .n-most, sender-inside (a .head) (now (a .taken)) (now (a .counts)) (now (a .repeats)) (now (a .kept)) (now (a .marks)) (now (a .originators)) (now (a .lengths)) (now (a .payloads)) (p .2) (a .packet) (now (a .payload)) _ (p .1) _ (c .before .before .before .before .before .before .sender-of .ensures))
+    sender-inside (a .head) (now (a .taken)) (now (a .counts)) (now (a .repeats)) (now (a .kept)) (now (a .marks)) (now (a .originators)) (now (a .lengths)) (now (a .payloads)) (p .2) (a .packet) (now (a .payload)) _ (p .1) _ (c .before .before .before .before .before .before .sender-of .ensures)
 
 clear-requires : tie.Need-clear-requires
 clear-requires c κs = c .before .before .before .before .before .before .before .before .before .before .before .before .before .before .before .before .before .before .before .before .before .pre .2 .places

@@ -56,6 +56,24 @@ enum-told-6 c = search needs
 quiet-requires-7 : tie.Need-quiet-requires-7
 quiet-requires-7 c κs = search needs
 
+enum-told-7 : tie.Need-enum-told-7
+enum-told-7 c = search needs
+
+quiet-requires-8 : tie.Need-quiet-requires-8
+quiet-requires-8 c κs = search needs
+
+enum-told-8 : tie.Need-enum-told-8
+enum-told-8 c = search needs
+
+quiet-requires-9 : tie.Need-quiet-requires-9
+quiet-requires-9 c κs = search needs
+
+enum-told-9 : tie.Need-enum-told-9
+enum-told-9 c = search needs
+
+quiet-requires-10 : tie.Need-quiet-requires-10
+quiet-requires-10 c κs = search needs
+
 returns : tie.Need-returns
 unfolding changeOf
 returns c = rw (c .before .before .packet .given .1) (c .request-change .ensures)
@@ -88,5 +106,17 @@ returns-8 : tie.Need-returns-8
 unfolding changeOf
 returns-8 c = rw (c .before .enum-told6 .given .1) (c .quiet7 .ensures)
 
+returns-9 : tie.Need-returns-9
+unfolding changeOf
+returns-9 c = rw (c .before .enum-told7 .given .1) (c .quiet8 .ensures)
+
+returns-10 : tie.Need-returns-10
+unfolding changeOf
+returns-10 c = rw (c .before .enum-told8 .given .1) (c .quiet9 .ensures)
+
+returns-11 : tie.Need-returns-11
+unfolding changeOf
+returns-11 c = rw (c .before .enum-told9 .given .1) (c .quiet10 .ensures)
+
 pub packet-change-spec : {M : Type 1} → statement M
-packet-change-spec = tie.close (tie.spec enum-known-packet request-change-requires enum-told quiet-requires enum-known-packet-2 gap-answer-requires quiet-requires-2 enum-told-2 quiet-requires-3 enum-told-3 quiet-requires-4 enum-told-4 quiet-requires-5 enum-told-5 quiet-requires-6 enum-told-6 quiet-requires-7 returns returns-2 returns-3 returns-4 returns-5 returns-6 returns-7 returns-8)
+packet-change-spec = tie.close (tie.spec enum-known-packet request-change-requires enum-told quiet-requires enum-known-packet-2 gap-answer-requires quiet-requires-2 enum-told-2 quiet-requires-3 enum-told-3 quiet-requires-4 enum-told-4 quiet-requires-5 enum-told-5 quiet-requires-6 enum-told-6 quiet-requires-7 enum-told-7 quiet-requires-8 enum-told-8 quiet-requires-9 enum-told-9 quiet-requires-10 returns returns-2 returns-3 returns-4 returns-5 returns-6 returns-7 returns-8 returns-9 returns-10 returns-11)

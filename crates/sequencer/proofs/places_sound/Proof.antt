@@ -9,7 +9,7 @@ history-sound-requires : tie.Need-history-sound-requires
 history-sound-requires c κs = let p = c .before .before .before .before .before .before .before .before .before .pre in (p .0, p .1, p .3)
 
 expected-requires : tie.Need-expected-requires
-expected-requires c κs = let p = c .before .before .before .before .before .before .before .before .before .before .before .pre in p .0
+expected-requires c κs = search needs
 
 marks-sound-requires : tie.Need-marks-sound-requires
 marks-sound-requires c κs = c .before .before .before .before .before .before .before .before .before .before .before .before .pre .2

@@ -1,7 +1,8 @@
--- Each test is one of the definition's.
+-- Each test is one of the definition's; a known kind that is none of 1 to 8 is above them.
 -- Assumes nothing.
 use Rattle.group.proofs.Choice.{choices}
 use Rattle.packet.specs.Packet.{obeys}
+use Rattle.packet.proofs.Verdicts.{kind-low, kind-above}
 use borrow.Author.Needs.{needs}
 use Rattle.packet.proofs.Header.obeys.Statement.{statement}
 use Rattle.packet.proofs.Header.obeys.Tie as tie
@@ -45,34 +46,35 @@ returns-9 : tie.Need-returns-9
 unfolding obeys
 returns-9 c = search (choices, needs) depth 12
 
+message-obeys-requires-2 : tie.Need-message-obeys-requires-2
+message-obeys-requires-2 c κs = search needs
+
 returns-10 : tie.Need-returns-10
 unfolding obeys
 returns-10 c = search (choices, needs) depth 12
 
-message-obeys-requires-2 : tie.Need-message-obeys-requires-2
-message-obeys-requires-2 c κs = search needs
+number-alone-requires : tie.Need-number-alone-requires
+number-alone-requires c κs = search needs
 
 returns-11 : tie.Need-returns-11
 unfolding obeys
 returns-11 c = search (choices, needs) depth 12
 
-number-alone-requires : tie.Need-number-alone-requires
-number-alone-requires c κs = search needs
+number-alone-requires-2 : tie.Need-number-alone-requires-2
+number-alone-requires-2 c κs = search needs
 
 returns-12 : tie.Need-returns-12
 unfolding obeys
 returns-12 c = search (choices, needs) depth 12
 
+reset-obeys-requires : tie.Need-reset-obeys-requires
+reset-obeys-requires c κs =
+    let s = c .before .before .before .before .before .before .before .before .before .before .before .before .before .before .before .before .before in
+    (kind-above (s .args .self .kind) (kind-low (s .args .self .kind) (s .pre .0)) (c .before .before .before .before .before .before .before .before .before .before .before .before .before .before .if1 .left) (c .before .before .before .before .before .before .before .before .before .before .before .before .if3 .left) (c .before .before .before .before .before .before .before .before .before .before .if4 .left) (c .before .before .before .before .before .before .before .before .if6 .left) (c .before .before .before .before .before .before .if8 .left) (c .before .before .before .before .if10 .left) (c .before .before .if11 .left) (c .if12 .left), s .pre .0, s .pre .1)
+
 returns-13 : tie.Need-returns-13
 unfolding obeys
 returns-13 c = search (choices, needs) depth 12
-
-number-alone-requires-2 : tie.Need-number-alone-requires-2
-number-alone-requires-2 c κs = search needs
-
-returns-14 : tie.Need-returns-14
-unfolding obeys
-returns-14 c = search (choices, needs) depth 12
 
 pub obeys-spec : {M : Type 1} → statement M
 obeys-spec =
@@ -88,11 +90,11 @@ obeys-spec =
     returns-7
     returns-8
     returns-9
-    returns-10
     message-obeys-requires-2
-    returns-11
+    returns-10
     number-alone-requires
-    returns-12
-    returns-13
+    returns-11
     number-alone-requires-2
-    returns-14)
+    returns-12
+    reset-obeys-requires
+    returns-13)

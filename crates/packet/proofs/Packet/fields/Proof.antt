@@ -29,6 +29,18 @@ enum-known-self-7 c = search needs
 enum-known-self-8 : tie.Need-enum-known-self-8
 enum-known-self-8 c = search needs
 
+enum-known-self-9 : tie.Need-enum-known-self-9
+enum-known-self-9 c = search needs
+
+enum-known-self-10 : tie.Need-enum-known-self-10
+enum-known-self-10 c = search needs
+
+enum-known-self-11 : tie.Need-enum-known-self-11
+enum-known-self-11 c = search needs
+
+cast-t37 : tie.Need-cast-t37
+cast-t37 c = search needs
+
 returns : tie.Need-returns
 unfolding fieldsOf
 returns c = rw (c .before .self .given .1)
@@ -61,6 +73,18 @@ returns-8 : tie.Need-returns-8
 unfolding fieldsOf
 returns-8 c = rw (c .before .self8 .given .1)
 
+returns-9 : tie.Need-returns-9
+unfolding fieldsOf
+returns-9 c = rw (c .before .self9 .given .1)
+
+returns-10 : tie.Need-returns-10
+unfolding fieldsOf
+returns-10 c = rw (c .before .self10 .given .1)
+
+returns-11 : tie.Need-returns-11
+unfolding fieldsOf
+returns-11 c = rw (c .before .before .self11 .given .1)
+
 pub fields-spec : {M : Type 1} → statement M
 fields-spec =
     tie.close
@@ -73,6 +97,10 @@ fields-spec =
     enum-known-self-6
     enum-known-self-7
     enum-known-self-8
+    enum-known-self-9
+    enum-known-self-10
+    enum-known-self-11
+    cast-t37
     returns
     returns-2
     returns-3
@@ -80,4 +108,7 @@ fields-spec =
     returns-5
     returns-6
     returns-7
-    returns-8)
+    returns-8
+    returns-9
+    returns-10
+    returns-11)

@@ -16,7 +16,7 @@ use Rattle.player.proofs.Player.fresh.Tie as tie
 returns : tie.Need-returns
 unfolding stageIn
 returns c =
-    let head : Head = record { sequencer = record { group = record { n = 0; resilience = 0; number = 0 }; top = record { 0 = 0 }; accepted = record { 0 = 0 }; floor = record { 0 = 0 } }; count = 0 } in
+    let head : Head = record { sequencer = record { group = record { n = 0; resilience = 0; survivors = 0; elected = record { 0 = 0 }; number = 0 }; top = record { 0 = 0 }; accepted = record { 0 = 0 }; floor = record { 0 = 0 } }; count = 0 } in
     let e = phase-is head Opening (record { members = omega arith; packets = omega arith }) in
     λ w line i. record { stage = ap (λ (p : Phase). stageIn p (groupOf w) 0) e i; line = [] }
 

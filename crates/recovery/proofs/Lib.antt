@@ -1,0 +1,15 @@
+pub mod Asking
+pub mod Masks
+pub mod Kept
+pub mod Beginning
+pub mod Result
+pub mod Choosing
+pub mod Keeping
+pub mod Laws
+pub mod Ordering
+pub mod Reading
+pub mod Turning
+pub mod Parts
+pub mod Begun
+pub mod Leaving
+pub mod Holding

@@ -39,7 +39,7 @@ static uint8_t *filled(int byte, size_t room)
 
 static void sizes(void)
 {
-    enum { ROOM = 16384 };
+    enum { ROOM = 32768 };
     uint8_t *x = filled(0xaa, ROOM), *y = filled(0x55, ROOM);
     warghytes_sequencer_open((struct warghytes_sequencer *)(void *)x, 3, 7, 2);
     warghytes_sequencer_open((struct warghytes_sequencer *)(void *)y, 3, 7, 2);
@@ -49,6 +49,11 @@ static void sizes(void)
     warghytes_member_open((struct warghytes_member *)(void *)x, 3, 2, 7, 2);
     warghytes_member_open((struct warghytes_member *)(void *)y, 3, 2, 7, 2);
     CHECK(end_of(x, y, ROOM) == sizeof(struct warghytes_member));
+    memset(x, 0xaa, ROOM);
+    memset(y, 0x55, ROOM);
+    warghytes_terminal_open((struct warghytes_terminal *)(void *)x, 3, 0, 7, 2);
+    warghytes_terminal_open((struct warghytes_terminal *)(void *)y, 3, 0, 7, 2);
+    CHECK(end_of(x, y, ROOM) == sizeof(struct warghytes_terminal));
     free(x);
     free(y);
 }
@@ -151,6 +156,53 @@ static void marked(void)
     CHECK(told.code == WARGHYTES_MARKED && told.written == 0 && q.accepted == 0 && q.marks[1] == 4);
 }
 
+/* Terminal 0 has the sequencer; terminal 1 invites, and makes the group anew with terminal 2. */
+static void terminal_fields(void)
+{
+    static struct warghytes_terminal t[3];
+    uint8_t offer[WARGHYTES_PACKET], reply[WARGHYTES_PACKET], result[WARGHYTES_PACKET];
+    memset(t, 0xaa, sizeof t);
+    CHECK(warghytes_terminal_take(&t[0], out, sizeof out).code == WARGHYTES_UNSOUND_STATE && t[0].member.n == 0xaa && t[0].payloads[sizeof t[0].payloads - 1] == 0xaa);
+    CHECK(warghytes_terminal_open(&t[0], 3, 3, 7, 1).code == WARGHYTES_OPENING && t[0].member.n == 0 && t[0].sequencing == 0 && t[0].payloads[sizeof t[0].payloads - 1] == 0);
+    CHECK(warghytes_terminal_open(&t[0], 3, 0, 7, 3).code == WARGHYTES_RESILIENCE && t[0].sequencer.n == 0 && t[0].sequencing == 0);
+    for (uint8_t i = 0; i < 3; i++)
+        CHECK(warghytes_terminal_open(&t[i], 3, i, 7, 1).code == WARGHYTES_ACCEPTED && t[i].member.number == i && t[i].member.group == 7 && t[i].sequencing == (i == 0) && t[i].sequencer.n == (i == 0 ? 3 : 0));
+    CHECK(warghytes_terminal_poll(&t[1], out, sizeof out).code == WARGHYTES_UNSOUND_STATE);
+    struct warghytes_told told = warghytes_terminal_poll(&t[0], out, sizeof out);
+    CHECK(told.code == WARGHYTES_SENT && told.written == 20 && out[0] == WARGHYTES_KIND_POLL);
+    told = warghytes_terminal_submit(&t[2], (const uint8_t *)"saw", 3, request, sizeof request);
+    CHECK(told.code == WARGHYTES_SENT && told.written == 23 && t[2].member.submitted == 1 && t[2].member.waiting == 1 && t[2].queued[1] == 1 && t[2].queued_lengths[1] == 3);
+    told = warghytes_terminal_order(&t[0], request, 23, offer, sizeof offer);
+    CHECK(told.code == WARGHYTES_NUMBERED && told.first == 1 && t[0].sequencer.top == 1 && t[0].kept[1] == 1 && t[0].counts[2] == 1 && t[0].lengths[1] == 3);
+    CHECK(warghytes_terminal_receive(&t[1], offer, 23, out, sizeof out).code == WARGHYTES_KEPT && t[1].held[1] == 1 && t[1].held_lengths[1] == 3);
+    told = warghytes_terminal_order(&t[0], memcpy(reply, out, 20), 20, out, sizeof out);
+    CHECK(told.code == WARGHYTES_ACCEPTED && t[0].sequencer.accepted == 1);
+    CHECK(warghytes_terminal_receive(&t[1], memcpy(reply, out, 20), 20, out, sizeof out).code == WARGHYTES_NOTED && t[1].member.accepted == 1);
+    told = warghytes_terminal_take(&t[1], out, sizeof out);
+    CHECK(told.code == WARGHYTES_TOOK && told.first == 1 && told.second == 2 && t[1].member.taken == 1 && t[1].past[1] == 1 && t[1].past_originators[1] == 2 && t[1].past_lengths[1] == 3);
+    CHECK(memcmp(t[1].past_payloads + WARGHYTES_PAYLOAD, "saw", 4) == 0 && t[1].highest[2] == 1);
+    CHECK(warghytes_terminal_make(&t[1], 1, out, sizeof out).code == WARGHYTES_NOT_OF_ATTEMPT);
+    told = warghytes_terminal_invite(&t[1], 8, request, sizeof request);
+    CHECK(told.code == WARGHYTES_SENT && told.written == 20 && request[0] == WARGHYTES_KIND_INVITATION && t[1].inviting == 1 && t[1].invited == 8 && t[1].repliers == 2 && t[1].replies[1] == 1);
+    CHECK(t[1].replied == 1 && t[1].attempt == 8 && t[1].number == 1 && warghytes_terminal_make(&t[1], 2, out, sizeof out).code == WARGHYTES_FEW_SURVIVORS);
+    told = warghytes_terminal_receive(&t[2], request, 20, reply, sizeof reply);
+    CHECK(told.code == WARGHYTES_NOTED && told.written == 20 && reply[0] == WARGHYTES_KIND_REPLY && t[2].replied == 1 && t[2].attempt == 8 && t[2].number == 0);
+    CHECK(warghytes_terminal_receive(&t[2], offer, 23, out, sizeof out).code == WARGHYTES_OTHER_GROUP);
+    told = warghytes_terminal_receive(&t[0], request, 20, out, sizeof out);
+    CHECK(told.code == WARGHYTES_NOTED && t[0].frozen == 1 && warghytes_terminal_order(&t[0], request, 20, out, sizeof out).code == WARGHYTES_OTHER_END);
+    CHECK(warghytes_terminal_receive(&t[1], reply, 20, out, sizeof out).code == WARGHYTES_NOTED && t[1].repliers == 6 && t[1].replies[2] == 0);
+    told = warghytes_terminal_make(&t[1], 2, result, sizeof result);
+    CHECK(told.code == WARGHYTES_SENT && told.written == 22 && result[0] == WARGHYTES_KIND_RESULT && t[1].member.group == 8 && t[1].member.elected == 1 && t[1].member.survivors == 6);
+    CHECK(t[1].sequencing == 1 && t[1].sequencer.group == 8 && t[1].sequencer.top == 1 && t[1].kept[1] == 1 && t[1].replied == 0 && t[1].inviting == 0 && t[1].repliers == 0);
+    CHECK(warghytes_terminal_receive(&t[2], result, 22, out, sizeof out).code == WARGHYTES_NOTED && t[2].member.group == 8 && t[2].sequencing == 0 && t[2].replied == 0);
+    told = warghytes_terminal_copy(&t[1], 1, offer, sizeof offer);
+    CHECK(told.code == WARGHYTES_SENT && warghytes_terminal_receive(&t[2], offer, told.written, out, sizeof out).code == WARGHYTES_KEPT && t[2].held[1] == 1);
+    CHECK(warghytes_terminal_take(&t[2], out, sizeof out).code == WARGHYTES_TOOK && t[2].member.waiting == 0 && t[2].past[1] == 1);
+    CHECK(warghytes_terminal_repeat(&t[2], out, sizeof out).code == WARGHYTES_NOTHING_WAITING);
+    told = warghytes_terminal_status(&t[2], out, sizeof out);
+    CHECK(told.code == WARGHYTES_SENT && warghytes_terminal_order(&t[1], out, told.written, request, sizeof request).code == WARGHYTES_NOTED && t[1].taken[2] == 1);
+}
+
 static void packet_fields(void)
 {
     struct warghytes_fields fields = { 0 };
@@ -214,6 +266,7 @@ int main(void)
     sequencer_fields();
     offered();
     marked();
+    terminal_fields();
     packet_fields();
     job_fields();
     journal_fields();

@@ -1,7 +1,8 @@
 /*
  * Warghytes: every terminal of a workshop gets the same messages in the same order.
  *
- * A terminal holds a member; the terminal that numbers the messages holds a sequencer too. The caller owns every state and every buffer:
+ * A terminal holds a member; the terminal that numbers the messages holds a sequencer too. Where that terminal may be lost, each holds a
+ * warghytes_terminal, so that the others can make their group anew. The caller owns every state and every buffer:
  * the library allocates nothing, keeps no pointer, and has no state of its own. Each call is proved equal to its definition for every
  * state, packet, payload and output, so no call requires anything of the values that it is handed. A state of any bytes may be handed in:
  * one that no calls could have come to is refused, WARGHYTES_UNSOUND_STATE.
@@ -71,7 +72,9 @@ enum {
     WARGHYTES_MANY_UNITS = 22,
     WARGHYTES_NO_ROOM = 23,
     WARGHYTES_RESILIENCE = 24,
-    WARGHYTES_NOT_EXPECTED = 25
+    WARGHYTES_NOT_EXPECTED = 25,
+    WARGHYTES_FEW_SURVIVORS = 26,
+    WARGHYTES_NOT_OF_ATTEMPT = 27
 };
 
 /* The codes from here on are words. */
@@ -80,7 +83,7 @@ enum {
 enum {
     WARGHYTES_OLD = 32,         /* nothing new; member: to an offer, its confirmation may have been written, for the sequencer */
     WARGHYTES_FULL = 33,        /* sequencer: no place in the history; a poll was written, for every member */
-    WARGHYTES_NOTED = 34,       /* sequencer: an acknowledgement; member: what is accepted */
+    WARGHYTES_NOTED = 34,       /* sequencer: an acknowledgement; member: what is accepted; terminal: a packet of a reset, too */
     WARGHYTES_SENT = 35,        /* a packet was written: a member's, for the sequencer; the sequencer's, for every member */
     WARGHYTES_AGAIN = 36,       /* sequencer: a request again; first: its number; its broadcast or offer was written again */
     WARGHYTES_NUMBERED = 37,    /* sequencer: first: the number that the message got; its broadcast or offer was written, for every member */
@@ -107,7 +110,8 @@ enum {
 };
 
 /* The kinds of packet: requests, gaps, statuses and confirmations go to the sequencer, broadcasts, polls, offers and acceptances to every
- * member. */
+ * member; invitations, replies and results, of a group that is made anew, go to the terminals' members, and are refused by a member or a
+ * sequencer that stands alone. */
 enum {
     WARGHYTES_KIND_REQUEST = 1,
     WARGHYTES_KIND_BROADCAST = 2,
@@ -116,7 +120,10 @@ enum {
     WARGHYTES_KIND_POLL = 5,
     WARGHYTES_KIND_OFFER = 6,
     WARGHYTES_KIND_CONFIRM = 7,
-    WARGHYTES_KIND_ACCEPT = 8
+    WARGHYTES_KIND_ACCEPT = 8,
+    WARGHYTES_KIND_INVITATION = 9,
+    WARGHYTES_KIND_REPLY = 10,
+    WARGHYTES_KIND_RESULT = 11
 };
 
 /* ---- states ---- */
@@ -125,6 +132,8 @@ enum {
 struct warghytes_sequencer {
     uint8_t n;
     uint8_t resilience;                                    /* how many other members have a message before it is taken */
+    uint16_t survivors;                                    /* one bit a member; a fresh group has all */
+    uint8_t elected;                                       /* the member whose terminal has the sequencer; 0 in a fresh group */
     uint32_t group;
     uint32_t top;                                          /* the last number given */
     uint32_t accepted;                                     /* the last number that may be taken */
@@ -143,6 +152,8 @@ struct warghytes_sequencer {
 struct warghytes_member {
     uint8_t n;
     uint8_t resilience;
+    uint16_t survivors;
+    uint8_t elected;
     uint32_t group;
     uint8_t number;                                        /* its own */
     uint32_t taken;                                        /* the last number that it took */
@@ -157,6 +168,64 @@ struct warghytes_member {
     uint8_t held_lengths[WARGHYTES_HELD];
     uint8_t queued_payloads[WARGHYTES_WAITING * WARGHYTES_PAYLOAD];
     uint8_t held_payloads[WARGHYTES_HELD * WARGHYTES_PAYLOAD];
+};
+
+/* A terminal: a member, what it keeps so that it can begin a group anew, its part in that, and a sequencer where it has one. Fields may be
+ * read; only the calls write them. Zeros are a closed one. */
+struct warghytes_terminal {
+    struct {                                               /* as a member's */
+        uint8_t n;
+        uint8_t resilience;
+        uint16_t survivors;
+        uint8_t elected;
+        uint32_t group;
+        uint8_t number;
+        uint32_t taken;
+        uint32_t accepted;
+        uint32_t submitted;
+        uint32_t waiting;
+    } member;
+    struct {                                               /* as a sequencer's; zeros where it has none */
+        uint8_t n;
+        uint8_t resilience;
+        uint16_t survivors;
+        uint8_t elected;
+        uint32_t group;
+        uint32_t top;
+        uint32_t accepted;
+        uint32_t floor;
+    } sequencer;
+    uint32_t read;                                         /* the highest floor that it read */
+    uint32_t attempt;                                      /* the group number of the invitation that it replied to */
+    uint32_t number;                                       /* what it replied with: the last number through which it has everything */
+    uint32_t invited;                                      /* the group number of its own invitation */
+    uint16_t repliers;                                     /* whose replies came, one bit a member */
+    uint8_t replied;                                       /* 1: a reply is open, and its group's packets are refused until a result came */
+    uint8_t inviting;                                      /* 1: its own invitation is open */
+    uint8_t sequencing;                                    /* 1: it has the sequencer */
+    uint8_t frozen;                                        /* 1: the sequencer refuses its group's packets until a result came */
+    uint32_t queued[WARGHYTES_WAITING];                    /* as a member's */
+    uint32_t held[WARGHYTES_HELD];
+    uint8_t queued_originators[WARGHYTES_WAITING];
+    uint8_t queued_lengths[WARGHYTES_WAITING];
+    uint8_t held_originators[WARGHYTES_HELD];
+    uint8_t held_lengths[WARGHYTES_HELD];
+    uint8_t queued_payloads[WARGHYTES_WAITING * WARGHYTES_PAYLOAD];
+    uint8_t held_payloads[WARGHYTES_HELD * WARGHYTES_PAYLOAD];
+    uint32_t past[WARGHYTES_PLACES];                       /* the last messages taken: the count of each, 0 for none */
+    uint8_t past_originators[WARGHYTES_PLACES];
+    uint8_t past_lengths[WARGHYTES_PLACES];
+    uint8_t past_payloads[WARGHYTES_PLACES * WARGHYTES_PAYLOAD];
+    uint32_t highest[WARGHYTES_MEMBERS];                   /* of each member: the highest count among all messages taken */
+    uint32_t replies[WARGHYTES_MEMBERS];                   /* of each replier: its number */
+    uint32_t taken[WARGHYTES_MEMBERS];                     /* as a sequencer's */
+    uint32_t counts[WARGHYTES_MEMBERS];
+    uint32_t repeats[WARGHYTES_MEMBERS];
+    uint32_t kept[WARGHYTES_PLACES];
+    uint16_t marks[WARGHYTES_PLACES];
+    uint8_t originators[WARGHYTES_PLACES];
+    uint8_t lengths[WARGHYTES_PLACES];
+    uint8_t payloads[WARGHYTES_PLACES * WARGHYTES_PAYLOAD];
 };
 
 /* A record of a work list; zeros are an unused one, and 64 of them an empty list. */
@@ -227,8 +296,9 @@ struct warghytes_fields {
 
 /* The sizes that the library was built for. */
 #define WARGHYTES_SAME(name, type, size) typedef char warghytes_size_of_##name[sizeof(type) == (size) ? 1 : -1]
-WARGHYTES_SAME(sequencer, struct warghytes_sequencer, 8148);
-WARGHYTES_SAME(member, struct warghytes_member, 3228);
+WARGHYTES_SAME(sequencer, struct warghytes_sequencer, 8152);
+WARGHYTES_SAME(member, struct warghytes_member, 3232);
+WARGHYTES_SAME(terminal, struct warghytes_terminal, 19408);
 WARGHYTES_SAME(job, struct warghytes_job, 256);
 WARGHYTES_SAME(writer, struct warghytes_writer, 20);
 WARGHYTES_SAME(told, struct warghytes_told, 32);
@@ -274,6 +344,32 @@ struct warghytes_told warghytes_member_repeat(const struct warghytes_member *m, 
 
 /* SENT: what it has, acknowledged. */
 struct warghytes_told warghytes_member_status(const struct warghytes_member *m, uint8_t *out, size_t room);
+
+/* ---- a terminal, whose group can be made anew ---- */
+
+/* Terminal `number` of n in the group with that number and resilience degree: ACCEPTED, and it is fresh; else refused by OPENING or RESILIENCE,
+ * and it is closed. Terminal 0 of a fresh group has the sequencer. */
+struct warghytes_told warghytes_terminal_open(struct warghytes_terminal *t, uint8_t n, uint8_t number, uint32_t group, uint8_t resilience);
+
+/* The member's calls. A reply that is open leaves its submissions waiting: the group's packets are refused by OTHER_GROUP until the result
+ * came. A packet of a reset is answered with NOTED; to an invitation a reply is written, for its sender. */
+struct warghytes_told warghytes_terminal_submit(struct warghytes_terminal *t, const uint8_t *payload, size_t size, uint8_t *out, size_t room);
+struct warghytes_told warghytes_terminal_receive(struct warghytes_terminal *t, const uint8_t *packet, size_t size, uint8_t *out, size_t room);
+struct warghytes_told warghytes_terminal_take(struct warghytes_terminal *t, uint8_t *out, size_t room);
+struct warghytes_told warghytes_terminal_repeat(const struct warghytes_terminal *t, uint8_t *out, size_t room);
+struct warghytes_told warghytes_terminal_status(const struct warghytes_terminal *t, uint8_t *out, size_t room);
+
+/* The sequencer's calls: its packets, its poll and its copy. A terminal that has none refuses them by UNSOUND_STATE. */
+struct warghytes_told warghytes_terminal_order(struct warghytes_terminal *t, const uint8_t *packet, size_t size, uint8_t *out, size_t room);
+struct warghytes_told warghytes_terminal_poll(const struct warghytes_terminal *t, uint8_t *out, size_t room);
+struct warghytes_told warghytes_terminal_copy(const struct warghytes_terminal *t, uint32_t number, uint8_t *out, size_t room);
+
+/* SENT: an invitation to a group with that number, for every member. Its own reply is counted with it. */
+struct warghytes_told warghytes_terminal_invite(struct warghytes_terminal *t, uint32_t number, uint8_t *out, size_t room);
+
+/* SENT: the result, for every member: the group of all whose replies came, if they are as many as are demanded; else refused by FEW_SURVIVORS,
+ * and by NOT_OF_ATTEMPT where no invitation of its own is open. The terminal itself has the result with it. */
+struct warghytes_told warghytes_terminal_make(struct warghytes_terminal *t, uint32_t demand, uint8_t *out, size_t room);
 
 /* ---- packets ---- */
 

@@ -2,7 +2,7 @@
 
 extern crate std;
 
-use crate::ffi::{self, Fields, Job, Member, Sequencer, Told, Writer};
+use crate::ffi::{self, Fields, Job, Member, Sequencer, Terminal, Told, Writer};
 use crate::{JOBS, PACKET};
 use std::vec::Vec;
 
@@ -76,6 +76,41 @@ fn sequencers() {
         };
         told.iter().for_each(|told| refused(told, &out));
         assert_eq!((top, taken, kept), (s.top, s.taken, s.kept));
+    }
+}
+
+#[test]
+fn terminals() {
+    for seed in 0..500 {
+        let mut bytes = Bytes(seed);
+        // SAFETY: the struct has numbers and arrays of them.
+        let mut t: Terminal = unsafe { bytes.value() };
+        if seed % 2 == 0 {
+            // half of them with flags that are flags
+            (t.replied, t.inviting) = (t.replied % 2, t.inviting % 2);
+            (t.sequencing, t.frozen) = (t.sequencing % 2, t.frozen % 2);
+        }
+        let (taken, past, kept) = (t.member.taken, t.past, t.kept);
+        let mut out = [0x5a; PACKET];
+        let packet = [bytes.next(); 20];
+        let (p, o) = (packet.as_ptr(), out.as_mut_ptr());
+        // SAFETY: all are lent, apart from each other, with their lengths.
+        let told = unsafe {
+            [
+                ffi::warghytes_terminal_submit(&raw mut t, p, 20, o, PACKET),
+                ffi::warghytes_terminal_receive(&raw mut t, p, 20, o, PACKET),
+                ffi::warghytes_terminal_take(&raw mut t, o, PACKET),
+                ffi::warghytes_terminal_repeat(&raw const t, o, PACKET),
+                ffi::warghytes_terminal_status(&raw const t, o, PACKET),
+                ffi::warghytes_terminal_order(&raw mut t, p, 20, o, PACKET),
+                ffi::warghytes_terminal_poll(&raw const t, o, PACKET),
+                ffi::warghytes_terminal_copy(&raw const t, 1, o, PACKET),
+                ffi::warghytes_terminal_invite(&raw mut t, 1, o, PACKET),
+                ffi::warghytes_terminal_make(&raw mut t, 1, o, PACKET),
+            ]
+        };
+        told.iter().for_each(|told| refused(told, &out));
+        assert_eq!((taken, past, kept), (t.member.taken, t.past, t.kept));
     }
 }
 

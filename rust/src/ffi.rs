@@ -7,6 +7,8 @@ use crate::{BLOCK, HELD, JOB, MEMBERS, PAYLOAD, PLACES, WAITING};
 pub struct Sequencer {
     pub n: u8,
     pub resilience: u8,
+    pub survivors: u16,
+    pub elected: u8,
     pub group: u32,
     pub top: u32,
     pub accepted: u32,
@@ -26,6 +28,8 @@ pub struct Sequencer {
 pub struct Member {
     pub n: u8,
     pub resilience: u8,
+    pub survivors: u16,
+    pub elected: u8,
     pub group: u32,
     pub number: u8,
     pub taken: u32,
@@ -40,6 +44,72 @@ pub struct Member {
     pub held_lengths: [u8; HELD],
     pub queued_payloads: [u8; WAITING * PAYLOAD],
     pub held_payloads: [u8; HELD * PAYLOAD],
+}
+
+#[repr(C)]
+#[derive(Clone)]
+pub struct TerminalMember {
+    pub n: u8,
+    pub resilience: u8,
+    pub survivors: u16,
+    pub elected: u8,
+    pub group: u32,
+    pub number: u8,
+    pub taken: u32,
+    pub accepted: u32,
+    pub submitted: u32,
+    pub waiting: u32,
+}
+
+#[repr(C)]
+#[derive(Clone)]
+pub struct TerminalSequencer {
+    pub n: u8,
+    pub resilience: u8,
+    pub survivors: u16,
+    pub elected: u8,
+    pub group: u32,
+    pub top: u32,
+    pub accepted: u32,
+    pub floor: u32,
+}
+
+#[repr(C)]
+#[derive(Clone)]
+pub struct Terminal {
+    pub member: TerminalMember,
+    pub sequencer: TerminalSequencer,
+    pub read: u32,
+    pub attempt: u32,
+    pub number: u32,
+    pub invited: u32,
+    pub repliers: u16,
+    pub replied: u8,
+    pub inviting: u8,
+    pub sequencing: u8,
+    pub frozen: u8,
+    pub queued: [u32; WAITING],
+    pub held: [u32; HELD],
+    pub queued_originators: [u8; WAITING],
+    pub queued_lengths: [u8; WAITING],
+    pub held_originators: [u8; HELD],
+    pub held_lengths: [u8; HELD],
+    pub queued_payloads: [u8; WAITING * PAYLOAD],
+    pub held_payloads: [u8; HELD * PAYLOAD],
+    pub past: [u32; PLACES],
+    pub past_originators: [u8; PLACES],
+    pub past_lengths: [u8; PLACES],
+    pub past_payloads: [u8; PLACES * PAYLOAD],
+    pub highest: [u32; MEMBERS],
+    pub replies: [u32; MEMBERS],
+    pub taken: [u32; MEMBERS],
+    pub counts: [u32; MEMBERS],
+    pub repeats: [u32; MEMBERS],
+    pub kept: [u32; PLACES],
+    pub marks: [u16; PLACES],
+    pub originators: [u8; PLACES],
+    pub lengths: [u8; PLACES],
+    pub payloads: [u8; PLACES * PAYLOAD],
 }
 
 #[repr(C)]
@@ -107,8 +177,9 @@ pub struct Fields {
 
 /// The sizes for which the library was built.
 const _: () = {
-    assert!(size_of::<Sequencer>() == 8148);
-    assert!(size_of::<Member>() == 3228);
+    assert!(size_of::<Sequencer>() == 8152);
+    assert!(size_of::<Member>() == 3232);
+    assert!(size_of::<Terminal>() == 19408);
     assert!(size_of::<Job>() == 256);
     assert!(size_of::<Writer>() == 20);
     assert!(size_of::<Told>() == 32);
@@ -159,6 +230,17 @@ unsafe extern "C" {
     pub fn warghytes_member_take(m: *mut Member, out: *mut u8, room: usize) -> Told;
     pub fn warghytes_member_repeat(m: *const Member, out: *mut u8, room: usize) -> Told;
     pub fn warghytes_member_status(m: *const Member, out: *mut u8, room: usize) -> Told;
+    pub fn warghytes_terminal_open(t: *mut Terminal, n: u8, number: u8, group: u32, resilience: u8) -> Told;
+    pub fn warghytes_terminal_submit(t: *mut Terminal, payload: *const u8, size: usize, out: *mut u8, room: usize) -> Told;
+    pub fn warghytes_terminal_receive(t: *mut Terminal, packet: *const u8, size: usize, out: *mut u8, room: usize) -> Told;
+    pub fn warghytes_terminal_take(t: *mut Terminal, out: *mut u8, room: usize) -> Told;
+    pub fn warghytes_terminal_repeat(t: *const Terminal, out: *mut u8, room: usize) -> Told;
+    pub fn warghytes_terminal_status(t: *const Terminal, out: *mut u8, room: usize) -> Told;
+    pub fn warghytes_terminal_order(t: *mut Terminal, packet: *const u8, size: usize, out: *mut u8, room: usize) -> Told;
+    pub fn warghytes_terminal_poll(t: *const Terminal, out: *mut u8, room: usize) -> Told;
+    pub fn warghytes_terminal_copy(t: *const Terminal, number: u32, out: *mut u8, room: usize) -> Told;
+    pub fn warghytes_terminal_invite(t: *mut Terminal, number: u32, out: *mut u8, room: usize) -> Told;
+    pub fn warghytes_terminal_make(t: *mut Terminal, demand: u32, out: *mut u8, room: usize) -> Told;
     pub fn warghytes_packet_read(packet: *const u8, size: usize, fields: *mut Fields) -> u32;
     pub fn warghytes_packet_write(kind: u8, member: u8, group: u32, a: u32, b: u32, c: u32, payload: *const u8, size: usize, out: *mut u8, room: usize) -> Answer;
     pub fn warghytes_jobs_feed(jobs: *mut Job, count: usize, originator: u8, payload: *const u8, size: usize) -> Answer;

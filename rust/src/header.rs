@@ -103,6 +103,9 @@ fn kinds() {
         ("OFFER", crate::Fields::OFFER),
         ("CONFIRM", crate::Fields::CONFIRM),
         ("ACCEPT", crate::Fields::ACCEPT),
+        ("INVITATION", crate::Fields::INVITATION),
+        ("REPLY", crate::Fields::REPLY),
+        ("RESULT", crate::Fields::RESULT),
     ] {
         assert_eq!(source[name], kind.to_string(), "{name}");
         assert_eq!(
@@ -154,5 +157,5 @@ fn sizes() {
         assert!(include_str!("ffi.rs").contains(&stated), "{stated}");
         seen += 1;
     }
-    assert_eq!(seen, 9);
+    assert_eq!(seen, 10);
 }

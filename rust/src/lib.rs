@@ -1,7 +1,8 @@
 //! Every terminal of a workshop gets the same messages in the same order.
 //!
 //! A terminal holds a [`Member`]; the one that numbers the messages holds a
-//! [`Sequencer`] too. The caller moves the packets; a packet may be lost,
+//! [`Sequencer`] too. A [`Terminal`] holds what it needs so that the group can
+//! be made anew where that one is lost. The caller moves the packets; a packet may be lost,
 //! doubled or overtaken. Each call is proved equal to its definition for
 //! every state and input: none panics, allocates or keeps a reference, and a
 //! [`Refusal`] leaves the state and the output as they were.
@@ -65,6 +66,7 @@ mod member;
 mod packet;
 mod refusal;
 mod sequencer;
+mod terminal;
 
 pub use jobs::{Fed, Holder, Job, WorkList};
 pub use journal::{Found, Record, Writer, next, plan, read, record, rewrite};
@@ -72,6 +74,7 @@ pub use member::{Heard, Member, Submitted, Taken};
 pub use packet::Fields;
 pub use refusal::Refusal;
 pub use sequencer::{Received, Sequencer};
+pub use terminal::Terminal;
 
 /// The most members that a group has.
 pub const MEMBERS: usize = 16;

@@ -17,7 +17,7 @@ pub enum Submitted<'o> {
     Queued(u32),
 }
 
-/// What a member answers to a packet. What it wrote is for the sequencer.
+/// What a member answers to a packet. What it wrote is for the sequencer, but a reply to an invitation.
 #[derive(Clone, Copy, Debug, PartialEq, Eq)]
 #[non_exhaustive]
 pub enum Heard<'o> {
@@ -35,16 +35,22 @@ pub enum Heard<'o> {
     Gap(&'o [u8]),
     /// Its status, as a poll asks.
     Status(&'o [u8]),
-    /// What is accepted was noted.
+    /// What is accepted was noted; of a reset, a reply or a result.
     Noted,
+    /// An invitation to a group that is made anew: its reply, for the terminal that invites.
+    Replied(&'o [u8]),
 }
 
 impl<'o> Heard<'o> {
-    /// What was written, for the sequencer.
+    /// What was written: for the sequencer, but a reply to an invitation.
     #[must_use]
     pub const fn packet(self) -> Option<&'o [u8]> {
         match self {
-            Heard::KeptGap(p) | Heard::BeyondGap(p) | Heard::Gap(p) | Heard::Status(p) => Some(p),
+            Heard::KeptGap(p)
+            | Heard::BeyondGap(p)
+            | Heard::Gap(p)
+            | Heard::Status(p)
+            | Heard::Replied(p) => Some(p),
             Heard::Old(confirmation) | Heard::Kept(confirmation) => confirmation,
             Heard::Beyond | Heard::Noted => None,
         }
@@ -69,6 +75,49 @@ pub struct Taken<'o> {
 /// What was written, if anything was.
 fn confirmation(written: &[u8]) -> Option<&[u8]> {
     (!written.is_empty()).then_some(written)
+}
+
+/// What a submission answers.
+pub(crate) fn submitted(told: ffi::Told, out: &mut [u8]) -> Result<Submitted<'_>, Refusal> {
+    let (told, written) = told.said(out)?;
+    Ok(match told.code {
+        code::SENT => Submitted::Sent(written),
+        code::QUEUED => Submitted::Queued(told.first),
+        code => no_such(code),
+    })
+}
+
+/// What a packet is answered.
+pub(crate) fn heard(told: ffi::Told, out: &mut [u8]) -> Result<Heard<'_>, Refusal> {
+    let (told, written) = told.said(out)?;
+    Ok(match told.code {
+        code::OLD => Heard::Old(confirmation(written)),
+        code::KEPT => Heard::Kept(confirmation(written)),
+        code::KEPT_GAP => Heard::KeptGap(written),
+        code::BEYOND => Heard::Beyond,
+        code::BEYOND_GAP => Heard::BeyondGap(written),
+        code::GAP => Heard::Gap(written),
+        code::STATUS => Heard::Status(written),
+        code::NOTED if written.is_empty() => Heard::Noted,
+        code::NOTED => Heard::Replied(written),
+        code => no_such(code),
+    })
+}
+
+/// What a take hands out.
+pub(crate) fn taken(told: ffi::Told, out: &mut [u8]) -> Result<Option<Taken<'_>>, Refusal> {
+    let (told, payload) = told.said(out)?;
+    Ok(match told.code {
+        code::NONE => None,
+        code::TOOK => Some(Taken {
+            number: told.first,
+            originator: told.second as u8,
+            count: told.third,
+            payload,
+            more: told.more != 0,
+        }),
+        code => no_such(code),
+    })
 }
 
 impl Member {
@@ -130,12 +179,7 @@ impl Member {
                 room,
             )
         };
-        let (told, written) = told.said(out)?;
-        Ok(match told.code {
-            code::SENT => Submitted::Sent(written),
-            code::QUEUED => Submitted::Queued(told.first),
-            code => no_such(code),
-        })
+        submitted(told, out)
     }
 
     /// Hands it a packet that came.
@@ -156,18 +200,7 @@ impl Member {
                 room,
             )
         };
-        let (told, written) = told.said(out)?;
-        Ok(match told.code {
-            code::OLD => Heard::Old(confirmation(written)),
-            code::KEPT => Heard::Kept(confirmation(written)),
-            code::KEPT_GAP => Heard::KeptGap(written),
-            code::BEYOND => Heard::Beyond,
-            code::BEYOND_GAP => Heard::BeyondGap(written),
-            code::GAP => Heard::Gap(written),
-            code::STATUS => Heard::Status(written),
-            code::NOTED => Heard::Noted,
-            code => no_such(code),
-        })
+        heard(told, out)
     }
 
     /// Takes the next message in order, if it is held and accepted.
@@ -180,18 +213,7 @@ impl Member {
         let room = out.len();
         // SAFETY: state and output are lent, apart from each other, with its length.
         let told = unsafe { ffi::warghytes_member_take(&raw mut self.0, out.as_mut_ptr(), room) };
-        let (told, payload) = told.said(out)?;
-        Ok(match told.code {
-            code::NONE => None,
-            code::TOOK => Some(Taken {
-                number: told.first,
-                originator: told.second as u8,
-                count: told.third,
-                payload,
-                more: told.more != 0,
-            }),
-            code => no_such(code),
-        })
+        taken(told, out)
     }
 
     /// The request of the first message that waits, again, for the sequencer; behind a take this sends the next one.

@@ -32,6 +32,12 @@ impl Fields {
     pub const CONFIRM: u8 = 7;
     /// What was offered is accepted, for every member.
     pub const ACCEPT: u8 = 8;
+    /// A member invites the others to make the group anew, for every member.
+    pub const INVITATION: u8 = 9;
+    /// A member's reply to an invitation, for its sender.
+    pub const REPLY: u8 = 10;
+    /// The group that was made, with its survivors, for every member.
+    pub const RESULT: u8 = 11;
 
     /// Reads a packet: its fields and its payload.
     ///

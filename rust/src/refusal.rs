@@ -81,6 +81,10 @@ refusals! {
     Resilience = 24, "the resilience degree is not below the number of members";
     /// Question 25.
     NotExpected = 25, "the member is not one that confirms offers";
+    /// Question 26.
+    FewSurvivors = 26, "fewer members survive than were demanded";
+    /// Question 27.
+    NotOfAttempt = 27, "it is not of the attempt that is open";
 }
 
 impl Refusal {

@@ -54,6 +54,28 @@ impl<'o> Received<'o> {
     }
 }
 
+/// What a packet is answered.
+pub(crate) fn received(told: ffi::Told, out: &mut [u8]) -> Result<Received<'_>, Refusal> {
+    let (told, written) = told.said(out)?;
+    Ok(match told.code {
+        code::OLD => Received::Old,
+        code::NOTED => Received::Noted,
+        code::NUMBERED => Received::Numbered {
+            number: told.first,
+            packet: written,
+        },
+        code::AGAIN => Received::Again {
+            number: told.first,
+            packet: written,
+        },
+        code::MARKED => Received::Marked,
+        code::ACCEPTED => Received::Accepted(written),
+        code::FULL => Received::Full(written),
+        code::WANTED => Received::Wanted(told.first..=told.second),
+        code => no_such(code),
+    })
+}
+
 impl Sequencer {
     /// The sequencer of `n` members in the group with that number and resilience degree. A message is taken only when so many members
     /// other than 0 have it: with 0 each is broadcast as it is numbered, else it is offered first. Every end has the same degree.
@@ -103,24 +125,7 @@ impl Sequencer {
                 room,
             )
         };
-        let (told, written) = told.said(out)?;
-        Ok(match told.code {
-            code::OLD => Received::Old,
-            code::NOTED => Received::Noted,
-            code::NUMBERED => Received::Numbered {
-                number: told.first,
-                packet: written,
-            },
-            code::AGAIN => Received::Again {
-                number: told.first,
-                packet: written,
-            },
-            code::MARKED => Received::Marked,
-            code::ACCEPTED => Received::Accepted(written),
-            code::FULL => Received::Full(written),
-            code::WANTED => Received::Wanted(told.first..=told.second),
-            code => no_such(code),
-        })
+        received(told, out)
     }
 
     /// A poll, for every member.

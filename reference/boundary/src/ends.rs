@@ -4,7 +4,8 @@
 use crate::{Member, Sequencer, mix, packets};
 use model::limits::{MEMBERS, PAYLOAD};
 use model::place::{Payload, Place};
-use model::{Answer, member, sequencer};
+use model::terminal::Terminal;
+use model::{Answer, Refusal, member, sequencer};
 use std::hint::black_box;
 
 /// What a call tells: the code of its answer, the answer's numbers in their
@@ -135,6 +136,51 @@ impl Membership for member::Member {
     }
     fn status(&self, out: &mut [u8]) -> Told {
         Told::of(member::Member::status(self, out))
+    }
+}
+
+/// A terminal of either side: its member's calls are those of a member.
+pub trait Resetting: Membership {
+    /// Invites to a group of that number.
+    fn invite(&mut self, number: u32, out: &mut [u8]) -> Told;
+    /// Makes the group of all whose replies came.
+    fn make(&mut self, demand: u32, out: &mut [u8]) -> Told;
+    /// Takes a packet at its sequencer.
+    fn order(&mut self, packet: &[u8], out: &mut [u8]) -> Told;
+}
+
+impl Membership for Terminal {
+    fn opened(n: u8, number: u8, group: u32, resilience: u8) -> Self {
+        Terminal::fresh(n.into(), number.into(), group, resilience.into())
+            .expect("an allowed opening")
+    }
+    fn submit(&mut self, payload: &[u8], out: &mut [u8]) -> Told {
+        Told::of(Terminal::submit(self, payload, out))
+    }
+    fn receive(&mut self, packet: &[u8], out: &mut [u8]) -> Told {
+        Told::of(Terminal::receive(self, packet, out))
+    }
+    fn take(&mut self, out: &mut [u8]) -> Told {
+        Told::of(Terminal::take(self, out))
+    }
+    fn repeat(&self, out: &mut [u8]) -> Told {
+        Told::of(Terminal::repeat(&mut self.clone(), out))
+    }
+    fn status(&self, out: &mut [u8]) -> Told {
+        Told::of(Terminal::status(&mut self.clone(), out))
+    }
+}
+
+impl Resetting for Terminal {
+    fn invite(&mut self, number: u32, out: &mut [u8]) -> Told {
+        Told::of(Terminal::invite(self, number, out))
+    }
+    fn make(&mut self, demand: u32, out: &mut [u8]) -> Told {
+        Told::of(Terminal::make(self, demand, out))
+    }
+    fn order(&mut self, packet: &[u8], out: &mut [u8]) -> Told {
+        let answer = Terminal::order(self, packet, out);
+        Told::of(answer.unwrap_or((Answer::Refused(Refusal::Unsound), 0)))
     }
 }
 
@@ -299,6 +345,42 @@ pub fn member_repeat<M: Membership>(
 pub fn member_status<M: Membership>(end: Member<'_>, rounds: u32, out: &mut [u8]) -> u64 {
     let state: M = member(end, out);
     (0..rounds).fold(0, |sum, _| black_box(&state).status(out).summed(sum))
+}
+
+/// Rounds of a packet list that is handed to a terminal's sequencer.
+#[inline(never)]
+pub fn terminal_order<T: Resetting>(
+    end: Member<'_>,
+    list: &[u8],
+    rounds: u32,
+    out: &mut [u8],
+) -> u64 {
+    let start: T = member(end, out);
+    let round = |state: &mut T, sum| {
+        packets(list).fold(sum, |sum, packet| state.order(packet, out).summed(sum))
+    };
+    rounds_from(start, rounds, round).0
+}
+
+/// Rounds of a reset, or of none: an invitation, the replies, and the making.
+#[inline(never)]
+pub fn terminal_reset<T: Resetting>(
+    end: Member<'_>,
+    replies: &[u8],
+    resets: u32,
+    rounds: u32,
+    out: &mut [u8],
+) -> u64 {
+    let start: T = member(end, out);
+    let round = |state: &mut T, sum| {
+        (0..resets).fold(sum, |sum, _| {
+            let sum = state.invite(end.group + 1, out).summed(sum);
+            let sum =
+                packets(replies).fold(sum, |sum, reply| state.receive(reply, out).summed(sum));
+            state.make(2, out).summed(sum)
+        })
+    };
+    rounds_from(start, rounds, round).0
 }
 
 /// The places of the reference from what the proved ends keep of them.

@@ -15,6 +15,7 @@ pub mod ends;
 pub mod proved;
 pub mod reference;
 pub mod shrink;
+pub mod terminals;
 
 /// Characters of a line that `play` prints, at most: a taken payload in
 /// hexadecimal, and the words and numbers around it.

@@ -18,6 +18,10 @@ pub struct SequencerState {
     pub n: u8,
     /// The resilience degree.
     pub resilience: u8,
+    /// Who survives, one bit a member.
+    pub survivors: u16,
+    /// The member whose terminal numbers.
+    pub elected: u8,
     /// The group number.
     pub group: u32,
     /// The last number given.
@@ -44,7 +48,7 @@ pub struct SequencerState {
     pub payloads: [[u8; PAYLOAD]; HISTORY],
 }
 
-const _: () = assert!(size_of::<SequencerState>() == 8148);
+const _: () = assert!(size_of::<SequencerState>() == 8152);
 
 /// A member as the proved library lays it in memory.
 #[repr(C)]
@@ -54,6 +58,10 @@ pub struct MemberState {
     pub n: u8,
     /// The resilience degree.
     pub resilience: u8,
+    /// Who survives, one bit a member.
+    pub survivors: u16,
+    /// The member whose terminal numbers.
+    pub elected: u8,
     /// The group number.
     pub group: u32,
     /// This member's number.
@@ -84,13 +92,15 @@ pub struct MemberState {
     pub held_payloads: [[u8; PAYLOAD]; WINDOW],
 }
 
-const _: () = assert!(size_of::<MemberState>() == 3228);
+const _: () = assert!(size_of::<MemberState>() == 3232);
 
 impl SequencerState {
     /// All zero: closed.
     pub const CLOSED: SequencerState = SequencerState {
         n: 0,
         resilience: 0,
+        survivors: 0,
+        elected: 0,
         group: 0,
         top: 0,
         accepted: 0,
@@ -117,6 +127,8 @@ impl SequencerState {
             n: self.n,
             resilience: self.resilience,
             group: self.group,
+            elected: self.elected,
+            survivors: self.survivors,
             acknowledged: self.taken,
             counts: self.counts,
             repeats: self.repeats,
@@ -161,6 +173,8 @@ impl MemberState {
     pub const CLOSED: MemberState = MemberState {
         n: 0,
         resilience: 0,
+        survivors: 0,
+        elected: 0,
         group: 0,
         number: 0,
         taken: 0,
@@ -192,6 +206,8 @@ impl MemberState {
             resilience: self.resilience,
             number: self.number,
             group: self.group,
+            elected: self.elected,
+            survivors: self.survivors,
             taken: self.taken,
             accepted: self.accepted,
             submitted: self.submitted,

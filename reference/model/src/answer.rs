@@ -12,17 +12,21 @@ pub enum Refusal {
     ShortOutput = 2,
     /// The packet is not 20 to 260 bytes long.
     PacketSize = 3,
-    /// The kind is not 1 to 8.
+    /// The kind is not 1 to 11.
     Kind = 4,
-    /// The length is not 20 + L, or L is not zero in kinds 3, 4, 5, 7 and 8.
+    /// The length is not 20 + L, or L is not two in kind 11 and zero in kinds
+    /// 3, 4, 5 and 7 to 10.
     Length = 5,
-    /// A, B, C (or byte 1 of kinds 5 and 8) do not obey the kind.
+    /// A, B, C or the members named in kind 11 do not obey the kind; at an
+    /// end, byte 1 of a kind 5 or 8 is not its elected member.
     Fields = 6,
-    /// The group number is another's.
+    /// The group number is another's, or the end has replied to an
+    /// invitation.
     OtherGroup = 7,
     /// The kind is for the other end.
     OtherEnd = 8,
-    /// Byte 1 is not below n.
+    /// Byte 1 is not below n, at the sequencer no survivor; a result names a
+    /// survivor not below n.
     NoSuchMember = 9,
     /// An acknowledgement above the last accepted number, or a kind 7 above
     /// top.
@@ -59,6 +63,11 @@ pub enum Refusal {
     /// A kind 7 for an unaccepted number from a member that is not expected
     /// to answer.
     NotExpected = 25,
+    /// A making with fewer survivors than it demands.
+    FewSurvivors = 26,
+    /// A making without an open invitation, a reply not to it, a result not
+    /// of the last invitation replied to, or one that does not fit the reply.
+    NotOfAttempt = 27,
 }
 
 impl Refusal {

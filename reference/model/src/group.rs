@@ -68,6 +68,25 @@ pub struct Outcome {
     pub payload: Vec<u8>,
 }
 
+impl Outcome {
+    /// Of an answer and what the call wrote: a payload that was taken, or the
+    /// next packet, if anything.
+    pub(crate) fn of(answer: Answer, written: &[u8], packets: &mut Vec<Vec<u8>>) -> Outcome {
+        let mut outcome = Outcome {
+            answer,
+            packet: None,
+            payload: Vec::new(),
+        };
+        if let Answer::Took { .. } = answer {
+            outcome.payload = written.to_vec();
+        } else if !written.is_empty() {
+            outcome.packet = Some(packets.len());
+            packets.push(written.to_vec());
+        }
+        outcome
+    }
+}
+
 /// A message as the order knows it.
 #[derive(Clone, Debug, PartialEq, Eq)]
 pub struct Message {
@@ -133,19 +152,7 @@ impl Group {
                 .receive(packets.get(packet)?, &mut out),
             Event::ToSequencer { packet } => sequencer.receive(packets.get(packet)?, &mut out),
         };
-        let written = out[..length].to_vec();
-        let mut outcome = Outcome {
-            answer,
-            packet: None,
-            payload: Vec::new(),
-        };
-        if let Answer::Took { .. } = answer {
-            outcome.payload = written;
-        } else if length > 0 {
-            outcome.packet = Some(packets.len());
-            packets.push(written);
-        }
-        Some(outcome)
+        Some(Outcome::of(answer, &out[..length], packets))
     }
 }
 
@@ -325,7 +332,7 @@ impl Run {
 }
 
 /// The message of a number, in its place.
-fn message(number: u32, places: &[Place]) -> Message {
+pub(crate) fn message(number: u32, places: &[Place]) -> Message {
     let place = &places[number as usize % places.len()];
     Message {
         number,

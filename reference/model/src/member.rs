@@ -2,8 +2,8 @@
 //! takes all accepted messages in the order of their numbers.
 
 use crate::answer::{Answer, Outcome, Refusal, settle};
-use crate::expected;
 use crate::limits::{LARGEST, MEMBERS, PACKET, PAYLOAD, WAITING, WINDOW};
+use crate::members;
 use crate::packet::{self, ACCEPT, BROADCAST, CONFIRM, GAP, Header, OFFER, POLL, REQUEST, STATUS};
 use crate::place::Place;
 
@@ -18,6 +18,10 @@ pub struct Member {
     pub group: u32,
     /// The resilience degree r, below n.
     pub resilience: u8,
+    /// The member whose second role is the sequencer: at first 0.
+    pub elected: u8,
+    /// The members that are in the group, bit i for member i: at first all.
+    pub survivors: u16,
     /// t, the last number taken.
     pub taken: u32,
     /// The last number known accepted, at least t.
@@ -51,6 +55,8 @@ impl Member {
             number: number as u8,
             group,
             resilience: resilience as u8,
+            elected: 0,
+            survivors: members::all(n as u8),
             taken: 0,
             accepted: 0,
             submitted: 0,
@@ -68,6 +74,8 @@ impl Member {
         (1..=MEMBERS).contains(&usize::from(self.n))
             && self.number < self.n
             && self.resilience < self.n
+            && members::stand(self.n, self.survivors, self.elected)
+            && members::has(self.survivors, self.number.into())
             && self.taken <= self.accepted
             && usize::from(self.waiting) <= WAITING
             && u32::from(self.waiting) <= self.submitted
@@ -125,7 +133,7 @@ impl Member {
 
     /// Takes a packet; the answer and the length of the packet written.
     pub fn receive(&mut self, packet: &[u8], out: &mut [u8]) -> (Answer, usize) {
-        settle(self.try_receive(packet, out))
+        settle(self.hear(false, packet, out))
     }
 
     /// The last number through which a sound member has everything, taken or
@@ -138,6 +146,11 @@ impl Member {
     /// accepted: what it acknowledges.
     pub fn row_end(&self) -> u32 {
         self.reach().min(self.accepted)
+    }
+
+    /// The message of a number from t+1 to t+8 that is held.
+    pub(crate) fn held(&self, number: u32) -> &Place {
+        &self.places[place(number)]
     }
 
     /// Questions 1 and 2.
@@ -199,10 +212,13 @@ impl Member {
         Ok((took, length))
     }
 
-    fn try_receive(&mut self, packet: &[u8], out: &mut [u8]) -> Outcome {
+    /// Takes a packet; a member that has replied to an invitation refuses its
+    /// group's packets. Kinds 9 to 11 are for its whole terminal.
+    pub(crate) fn hear(&mut self, replied: bool, packet: &[u8], out: &mut [u8]) -> Outcome {
         self.ready(out)?;
         let header = packet::read(packet)?;
-        Refusal::OtherGroup.unless(header.group == self.group)?;
+        Refusal::Fields.unless(header.is_from(self.elected))?;
+        Refusal::OtherGroup.unless(header.group == self.group && !replied)?;
         Refusal::OtherEnd.unless(matches!(header.kind, BROADCAST | POLL | OFFER | ACCEPT))?;
         Refusal::NoSuchMember.unless(header.member < self.n)?;
         Ok(match header.kind {
@@ -220,6 +236,26 @@ impl Member {
         })
     }
 
+    /// Who answers an offer.
+    fn expected(&self) -> u16 {
+        members::expected(self.survivors, self.elected, self.resilience)
+    }
+
+    /// Enters a group: all up to a number and none above are accepted, and
+    /// held ones above are dropped.
+    pub(crate) fn enter(&mut self, group: u32, elected: u8, survivors: u16, number: u32) {
+        (self.group, self.elected, self.survivors) = (group, elected, survivors);
+        self.accepted = number.max(self.taken);
+        for distance in 1..=WINDOW as u64 {
+            let above = u64::from(self.taken) + distance;
+            if above > u64::from(number) {
+                let at = (above % WINDOW as u64) as usize;
+                self.places[at] = Place::EMPTY;
+                self.held &= !(1 << at);
+            }
+        }
+    }
+
     /// All up to a number is accepted, also what comes later.
     fn accept(&mut self, number: u32) {
         self.accepted = self.accepted.max(number);
@@ -230,7 +266,7 @@ impl Member {
         let (answer, length) = self.message(header, payload, out);
         let answers = matches!(answer, Answer::Kept | Answer::Old)
             && header.a <= self.reach()
-            && expected::contains(self.resilience, self.number);
+            && members::has(self.expected(), self.number.into());
         if answers {
             (answer, self.put(CONFIRM, [header.a, 0, 0], &[], out))
         } else {
@@ -311,7 +347,13 @@ impl Member {
     }
 
     /// Every packet of a member carries its number.
-    fn put(&self, kind: u8, [a, b, c]: [u32; 3], payload: &[u8], out: &mut [u8]) -> usize {
+    pub(crate) fn put(
+        &self,
+        kind: u8,
+        [a, b, c]: [u32; 3],
+        payload: &[u8],
+        out: &mut [u8],
+    ) -> usize {
         let header = Header {
             kind,
             member: self.number,

@@ -79,7 +79,7 @@ fn events(
     Ok(())
 }
 
-fn answer_line(outcome: &Outcome, output: &mut impl Write) -> io::Result<()> {
+pub(crate) fn answer_line(outcome: &Outcome, output: &mut impl Write) -> io::Result<()> {
     write!(output, "{}", outcome.answer)?;
     if let Answer::Took { more, .. } = outcome.answer {
         output.write_all(b" ")?;
@@ -186,12 +186,12 @@ impl<R: Read> Lines<R> {
 }
 
 /// A line without its line feed.
-pub(crate) struct Line<'a>(&'a [u8]);
+pub(crate) struct Line<'a>(pub(crate) &'a [u8]);
 
 impl<'a> Line<'a> {
     /// The first line: n, the group number and, if it has one, the resilience
     /// degree, else 0.
-    fn opening(self) -> Option<(u32, u32, u32)> {
+    pub(crate) fn opening(self) -> Option<(u32, u32, u32)> {
         match self.fields()? {
             [Some(b"N"), Some(n), Some(group), resilience, None] => Some((
                 number(n)?,
@@ -243,7 +243,7 @@ fn digit(byte: u8) -> Option<u32> {
     char::from(byte).to_digit(10)
 }
 
-fn index(field: &[u8]) -> Option<usize> {
+pub(crate) fn index(field: &[u8]) -> Option<usize> {
     number(field).map(|number| number as usize)
 }
 

@@ -2,9 +2,11 @@
 //! it, and keeps those that some member has not yet acknowledged.
 
 use crate::answer::{Answer, Outcome, Refusal, settle};
-use crate::expected;
 use crate::limits::{HISTORY, LARGEST, MEMBERS, PACKET};
-use crate::packet::{self, ACCEPT, BROADCAST, CONFIRM, GAP, Header, OFFER, POLL, REQUEST, STATUS};
+use crate::members;
+use crate::packet::{
+    self, ACCEPT, BROADCAST, CONFIRM, GAP, Header, INVITATION, OFFER, POLL, REQUEST, STATUS,
+};
 use crate::place::Place;
 
 /// The sequencer's state.
@@ -14,18 +16,23 @@ pub struct Sequencer {
     pub n: u8,
     /// The group number.
     pub group: u32,
-    /// The resilience degree r, below n: how many members other than 0 have
-    /// a message before it is taken.
+    /// The resilience degree r, below n: how many survivors other than the
+    /// elected one have a message before it is taken, or all if they are
+    /// fewer.
     pub resilience: u8,
-    /// For each member the last number it acknowledged.
+    /// The member whose second role is this one: at first 0.
+    pub elected: u8,
+    /// The members that are in the group, bit i for member i: at first all.
+    pub survivors: u16,
+    /// For each survivor the last number it acknowledged.
     pub acknowledged: [u32; MEMBERS],
     /// For each member the last own count numbered.
     pub counts: [u32; MEMBERS],
-    /// For each member how many of its requests were answered Old or Again.
+    /// For each survivor how many of its requests were answered Old or Again.
     pub repeats: [u32; MEMBERS],
     /// The last number given.
     pub top: u32,
-    /// The smallest of the n acknowledgements.
+    /// The smallest of the survivors' acknowledgements.
     pub floor: u32,
     /// The last accepted number, floor to top.
     pub accepted: u32,
@@ -52,33 +59,40 @@ impl Sequencer {
             n: n as u8,
             group,
             resilience: resilience as u8,
-            acknowledged: [0; MEMBERS],
-            counts: [0; MEMBERS],
-            repeats: [0; MEMBERS],
-            top: 0,
-            floor: 0,
-            accepted: 0,
-            marks: [0; HISTORY],
-            history: [Place::EMPTY; HISTORY],
+            survivors: members::all(n as u8),
+            ..Sequencer::ABSENT
         })
     }
+
+    /// All zero: what a terminal without a sequencer has in its place.
+    pub const ABSENT: Sequencer = Sequencer {
+        n: 0,
+        group: 0,
+        resilience: 0,
+        elected: 0,
+        survivors: 0,
+        acknowledged: [0; MEMBERS],
+        counts: [0; MEMBERS],
+        repeats: [0; MEMBERS],
+        top: 0,
+        floor: 0,
+        accepted: 0,
+        marks: [0; HISTORY],
+        history: [Place::EMPTY; HISTORY],
+    };
 
     /// Question 1.
     pub fn is_sound(&self) -> bool {
         let n = usize::from(self.n);
-        if !(1..=MEMBERS).contains(&n) || self.resilience >= self.n {
+        if !(1..=MEMBERS).contains(&n)
+            || self.resilience >= self.n
+            || !members::stand(self.n, self.survivors, self.elected)
+        {
             return false;
         }
-        let (acks, spare_acks) = self.acknowledged.split_at(n);
-        let floor = acks.iter().fold(LARGEST, |low, &ack| low.min(ack));
-        let highest = acks.iter().fold(0, |high, &ack| high.max(ack));
-        let spare = spare_acks
-            .iter()
-            .chain(&self.counts[n..])
-            .chain(&self.repeats[n..]);
-        if spare.fold(0, |seen, &entry| seen | entry) != 0
-            || self.floor != floor
-            || highest > self.top
+        let floor = self.least();
+        if self.floor != floor
+            || !self.table_is_sound()
             || self.top - floor > HISTORY as u32
             || !(floor..=self.top).contains(&self.accepted)
             || !self.marks_are_sound()
@@ -98,10 +112,44 @@ impl Sequencer {
         })
     }
 
+    /// Survivors' acknowledgements are at most top; lost members' are zero and
+    /// their repeats too, while their last counts stay; unused entries are
+    /// zero.
+    fn table_is_sound(&self) -> bool {
+        let unused = &self.counts[usize::from(self.n)..];
+        let entries = (0..).zip(self.acknowledged.iter().zip(&self.repeats));
+        unused.iter().fold(0, |seen, &count| seen | count) == 0
+            && entries.fold(true, |sound, (member, (&ack, &repeats))| {
+                let fits = if members::has(self.survivors, member) {
+                    ack <= self.top
+                } else {
+                    ack == 0 && repeats == 0
+                };
+                sound & fits
+            })
+    }
+
+    /// The smallest of the survivors' acknowledgements.
+    fn least(&self) -> u32 {
+        let acks = (0..).zip(&self.acknowledged);
+        acks.fold(LARGEST, |low, (member, &ack)| {
+            if members::has(self.survivors, member) {
+                low.min(ack)
+            } else {
+                low
+            }
+        })
+    }
+
+    /// Who answers an offer.
+    fn expected(&self) -> u16 {
+        members::expected(self.survivors, self.elected, self.resilience)
+    }
+
     /// Only expected members have marks, and only at accepted+1 to top.
     fn marks_are_sound(&self) -> bool {
         let unaccepted = self.top - self.accepted;
-        let expected = expected::mask(self.resilience);
+        let expected = self.expected();
         let marks = (0..).zip(&self.marks);
         let wrong = marks.fold(0, |seen, (at, mark)| {
             let is_unaccepted = distance(self.accepted, at) < unaccepted;
@@ -120,7 +168,7 @@ impl Sequencer {
 
     /// Takes a packet; the answer and the length of the packet written.
     pub fn receive(&mut self, packet: &[u8], out: &mut [u8]) -> (Answer, usize) {
-        settle(self.try_receive(packet, out))
+        settle(self.hear(false, packet, out))
     }
 
     /// Writes the poll packet.
@@ -146,12 +194,16 @@ impl Sequencer {
         Ok((Answer::Sent, self.put_message(number, out)))
     }
 
-    fn try_receive(&mut self, packet: &[u8], out: &mut [u8]) -> Outcome {
+    /// Takes a packet; a frozen sequencer refuses its group's packets but
+    /// kinds 9 to 11.
+    pub(crate) fn hear(&mut self, frozen: bool, packet: &[u8], out: &mut [u8]) -> Outcome {
         self.ready(out)?;
         let header = packet::read(packet)?;
-        Refusal::OtherGroup.unless(header.group == self.group)?;
+        Refusal::Fields.unless(header.is_from(self.elected))?;
+        let is_open = !frozen || header.kind >= INVITATION;
+        Refusal::OtherGroup.unless(header.group == self.group && is_open)?;
         Refusal::OtherEnd.unless(matches!(header.kind, REQUEST | GAP | STATUS | CONFIRM))?;
-        Refusal::NoSuchMember.unless(header.member < self.n)?;
+        Refusal::NoSuchMember.unless(members::has(self.survivors, header.member.into()))?;
         let is_confirm = header.kind == CONFIRM;
         let last = if is_confirm { self.top } else { self.accepted };
         Refusal::NumberAhead.unless(header.a <= last)?;
@@ -195,7 +247,7 @@ impl Sequencer {
         self.top += 1;
         self.counts[member] = count;
         self.history[place(self.top)].keep(header.member, count, payload);
-        if self.resilience == 0 {
+        if self.expected() == 0 {
             self.accept(self.top);
         }
         Ok((Answer::Numbered(self.top), self.put_message(self.top, out)))
@@ -206,14 +258,15 @@ impl Sequencer {
         if header.a <= self.accepted {
             return Ok((Answer::Old, 0));
         }
-        Refusal::NotExpected.unless(expected::contains(self.resilience, header.member))?;
+        let expected = self.expected();
+        Refusal::NotExpected.unless(members::has(expected, header.member.into()))?;
         for below in self.accepted..header.a {
             self.marks[place(below + 1)] |= 1 << header.member;
         }
         let enough = (self.accepted..self.top)
             .rev()
             .map(|below| below + 1)
-            .find(|&number| self.marks[place(number)].count_ones() >= self.resilience.into());
+            .find(|&number| self.marks[place(number)].count_ones() >= expected.count_ones());
         Ok(match enough {
             Some(number) => {
                 self.accept(number);
@@ -245,8 +298,7 @@ impl Sequencer {
     fn note(&mut self, header: &Header) {
         let entry = &mut self.acknowledged[usize::from(header.member)];
         *entry = header.a.max(*entry);
-        let acks = &self.acknowledged[..usize::from(self.n)];
-        let floor = acks.iter().fold(LARGEST, |low, &ack| low.min(ack));
+        let floor = self.least();
         for below in self.floor..floor {
             self.history[place(below + 1)] = Place::EMPTY;
         }
@@ -267,7 +319,7 @@ impl Sequencer {
     fn put_poll(&self, out: &mut [u8]) -> usize {
         let header = Header {
             kind: POLL,
-            member: 0,
+            member: self.elected,
             group: self.group,
             a: self.top,
             b: 0,
@@ -279,7 +331,7 @@ impl Sequencer {
     fn put_accept(&self, out: &mut [u8]) -> usize {
         let header = Header {
             kind: ACCEPT,
-            member: 0,
+            member: self.elected,
             group: self.group,
             a: self.accepted,
             b: 0,

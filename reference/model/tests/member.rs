@@ -132,6 +132,13 @@ fn unsound_states_are_refused_by_every_call() {
         ("resilience n", |s| s.resilience = 3),
         ("resilience 16", |s| s.resilience = 16),
         ("resilience 255", |s| s.resilience = 255),
+        ("elected lost", |s| (s.survivors, s.elected) = (6, 0)),
+        ("elected 16", |s| s.elected = 16),
+        ("elected 255", |s| s.elected = 255),
+        ("no survivors", |s| s.survivors = 0),
+        ("itself lost", |s| s.survivors &= !(1 << s.number)),
+        ("survivor n", |s| s.survivors |= 1 << s.n),
+        ("survivor 15", |s| s.survivors |= 1 << 15),
         ("accepted below t", |s| s.accepted = 10),
         ("nothing accepted", |s| s.accepted = 0),
     ];
@@ -304,7 +311,7 @@ fn single_refusals() {
     for length in [0, 19, PACKET + 1, 1000] {
         assert_eq!(give_refused(&state, &vec![5; length]), 3);
     }
-    for kind in [0, 9, 255] {
+    for kind in [0, 12, 255] {
         assert_eq!(give_refused(&state, &packet(kind, 0, [0; 3], b"")), 4);
     }
     let mut faulty = broadcast(0, 14, 1, 0, b"x");

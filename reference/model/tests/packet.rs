@@ -4,7 +4,7 @@ mod common;
 
 use common::{BLANK, GROUP, MAX, packet};
 use model::limits::{PACKET, PAYLOAD};
-use model::packet::{Header, payload, read, write};
+use model::packet::{Header, payload, read, survivors, write};
 
 fn header(kind: u8, member: u8, [a, b, c]: [u32; 3]) -> Header {
     Header {
@@ -53,26 +53,32 @@ fn layout() {
 }
 
 /// Question 6 as the list of kinds words it.
-fn obeys(kind: u8, member: u8, [a, b, c]: [u32; 3]) -> bool {
+fn obeys(kind: u8, member: u8, [a, b, c]: [u32; 3], payload: &[u8]) -> bool {
     match kind {
         1 => b != 0 && c == 0,
         2 | 6 => a != 0 && b != 0 && c < a,
         3 => a < b && b <= c,
         4 => [b, c] == [0, 0],
-        5 => member == 0 && b == 0 && a >= c,
-        7 => a != 0 && [b, c] == [0, 0],
-        8 => a != 0 && [b, c] == [0, 0] && member == 0,
+        5 => b == 0 && a >= c,
+        7 | 8 => a != 0 && [b, c] == [0, 0],
+        9 => [b, c] == [0, 0],
+        10 => c == 0,
+        11 => [u32::from(member), b].iter().all(|&named| {
+            let survives = |bit: u32| payload[1 - bit as usize / 8] & 1 << (bit % 8) != 0;
+            named < 16 && survives(named)
+        }),
         _ => unreachable!(),
     }
 }
 
 #[test]
 fn every_kind_with_edge_fields() {
-    let words = [0, 1, 2, 255, 256, MAX - 1, MAX];
-    let payloads =
-        [0, 1, 2, PAYLOAD - 1, PAYLOAD, PAYLOAD + 1, 300].map(|length| vec![0x5a; length]);
+    let words = [0, 1, 2, 15, 16, 255, 256, MAX - 1, MAX];
+    let lengths = [0, 1, 2, 3, PAYLOAD - 1, PAYLOAD, PAYLOAD + 1, 300];
+    let mut payloads = Vec::from(lengths.map(|length| vec![0x5a; length]));
+    payloads.extend([[0, 0], [0, 1], [0, 3], [0x80, 2], [0xff; 2]].map(Vec::from));
     let mut allowed = 0;
-    for kind in [0, 1, 2, 3, 4, 5, 6, 7, 8, 9, 255] {
+    for kind in [0, 1, 2, 3, 4, 5, 6, 7, 8, 9, 10, 11, 12, 255] {
         for member in [0, 1, 15, 16, 255] {
             for fields in words
                 .iter()
@@ -81,11 +87,13 @@ fn every_kind_with_edge_fields() {
                 for payload in &payloads {
                     let header = header(kind, member, fields);
                     let bytes = packet(kind, member, fields, payload);
-                    let verdict = if !(1..=8).contains(&kind) {
+                    let verdict = if !(1..=11).contains(&kind) {
                         4
-                    } else if [3, 4, 5, 7, 8].contains(&kind) && !payload.is_empty() {
+                    } else if [3, 4, 5, 7, 8, 9, 10].contains(&kind) && !payload.is_empty()
+                        || kind == 11 && payload.len() != 2
+                    {
                         5
-                    } else if !obeys(kind, member, fields) {
+                    } else if !obeys(kind, member, fields, payload) {
                         6
                     } else if payload.len() > PAYLOAD {
                         13
@@ -127,12 +135,51 @@ fn sizes_and_lengths() {
         faulty[2..4].copy_from_slice(&length.to_be_bytes());
         assert_eq!(read_refused(&faulty), 5);
     }
-    for kind in [3, 4, 5, 7, 8] {
+    for kind in [3, 4, 5, 7, 8, 9, 10] {
         let mut faulty = packet(kind, 0, [2, 3, 4], b"");
         faulty[3] = 1;
         assert_eq!(read_refused(&faulty), 5);
         faulty.push(0);
         assert_eq!(read_refused(&faulty), 5);
+    }
+    // A result has just two bytes behind its header.
+    assert!(read(&packet(11, 0, [2, 1, 4], &[0, 3])).is_ok());
+    for length in [0, 1, 3, 4, PAYLOAD] {
+        assert_eq!(read_refused(&packet(11, 0, [2, 1, 4], &vec![3; length])), 5);
+    }
+}
+
+/// Group 7, member 2 makes group 9 of members 1, 2 and 15, which 15 numbers
+/// from 6 on.
+#[test]
+fn a_result() {
+    let bytes = packet(11, 2, [9, 15, 5], &[0x80, 0x06]);
+    let expected = [
+        11, 2, 0, 2, 0, 0, 0, 7, 0, 0, 0, 9, 0, 0, 0, 15, 0, 0, 0, 5, 0x80, 0x06,
+    ];
+    assert_eq!(bytes, expected);
+    assert_eq!(read(&bytes), Ok(header(11, 2, [9, 15, 5])));
+    assert_eq!(survivors(payload(&bytes)), 0x8006);
+    // The sender and the sequencer are survivors.
+    for (member, b) in [
+        (0, 15),
+        (3, 15),
+        (16, 15),
+        (255, 15),
+        (2, 0),
+        (2, 16),
+        (2, MAX),
+    ] {
+        assert_eq!(
+            read_refused(&packet(11, member, [9, b, 5], &[0x80, 0x06])),
+            6
+        );
+    }
+    // Numbers may be any, also those of an invitation and a reply.
+    for number in [0, 1, MAX] {
+        assert!(read(&packet(11, 2, [number, 15, number], &[0x80, 0x06])).is_ok());
+        assert!(read(&packet(9, 255, [number, 0, 0], b"")).is_ok());
+        assert!(read(&packet(10, 255, [number, number, 0], b"")).is_ok());
     }
 }
 
@@ -152,7 +199,7 @@ fn the_first_question_counts() {
     assert_eq!(read(&bytes), Ok(header(1, 1, [0, 1, 0])));
 
     let long = [0; PAYLOAD + 1];
-    let faulty = header(9, 1, [0, 0, 1]);
+    let faulty = header(12, 1, [0, 0, 1]);
     for lent in [0, 1, 20, PACKET - 1] {
         assert_eq!(write_refused(&faulty, &long, lent), 2);
     }

@@ -62,7 +62,7 @@ fn unsound_states_are_refused_by_every_call() {
     let changes: &[(&str, Change)] = &[
         ("n zero", |s| s.n = 0),
         ("n below the entries", |s| s.n = 2),
-        ("n above the entries", |s| s.n = 4),
+        ("n above the entries", |s| (s.n, s.survivors) = (4, 15)),
         ("n 17", |s| s.n = 17),
         ("n 255", |s| s.n = 255),
         ("floor too low", |s| s.floor = 1),
@@ -117,6 +117,22 @@ fn unsound_states_are_refused_by_every_call() {
         ("accepted below floor", |s| s.accepted = 1),
         ("accepted above top", |s| s.accepted = 6),
         ("accepted largest", |s| s.accepted = MAX),
+        ("elected lost", |s| s.elected = 3),
+        ("elected 15", |s| s.elected = 15),
+        ("elected 16", |s| s.elected = 16),
+        ("elected 255", |s| s.elected = 255),
+        ("no survivors", |s| s.survivors = 0),
+        ("survivors without the elected", |s| s.survivors = 6),
+        ("survivor n", |s| s.survivors = 15),
+        ("survivor 15", |s| s.survivors = 0x8007),
+        ("lost acknowledgement", |s| s.survivors = 3),
+        ("lost repeats", |s| {
+            (s.survivors, s.acknowledged[2]) = (3, 0)
+        }),
+        ("floor of the lost", |s| {
+            (s.survivors, s.acknowledged[1], s.repeats[1]) = (5, 0, 0);
+            (s.acknowledged[0], s.floor) = (3, 2);
+        }),
     ];
     for (name, change) in changes {
         let mut state = busy();
@@ -158,6 +174,10 @@ fn nothing_else_is_unsound() {
         |s| s.history[5] = kept(0, 1, b"x"),
         |s| s.history[5] = s.history[3],
         |s| s.counts[..3].copy_from_slice(&[MAX; 3]),
+        |s| s.elected = 2,
+        // A lost member's last count stays, and its messages.
+        |s| (s.survivors, s.acknowledged[2], s.repeats[2]) = (3, 0, 0),
+        |s| (s.n, s.counts[3]) = (4, MAX),
         |s| s.history[3].payload = payload(&[0; PAYLOAD]),
         |s| {
             s.acknowledged[..3].copy_from_slice(&[5; 3]);
@@ -219,7 +239,7 @@ fn short_outputs() {
 fn packets_go_down_the_questions() {
     // Everything is wrong; each step repairs what was refused.
     let state = busy();
-    let mut bytes = packet(9, 200, [MAX, 0, 1], &[0; PAYLOAD + 1]);
+    let mut bytes = packet(12, 200, [MAX, 0, 1], &[0; PAYLOAD + 1]);
     bytes[4] = 1;
     assert_eq!(hand_refused(&state, &bytes), 3);
     bytes.truncate(22);
@@ -249,7 +269,7 @@ fn single_refusals() {
     for length in [0, 19, PACKET + 1, 1000] {
         assert_eq!(hand_refused(&state, &vec![4; length]), 3);
     }
-    for kind in [0, 9, 255] {
+    for kind in [0, 12, 255] {
         assert_eq!(hand_refused(&state, &packet(kind, 0, [0; 3], b"")), 4);
     }
     let mut faulty = status(0, 0);

@@ -1,5 +1,6 @@
 //! Schedules for `play`, and what it prints for each of them: those written
 //! by hand, one for each thing to show, random ones and loads from fixed seeds.
+//! [`resets`] has those for `recover`.
 //!
 //! [`store`] keeps them in files, [`coverage`] tells what they reach, and
 //! [`random`] makes as many more as a fuzz run wants.
@@ -12,6 +13,7 @@ pub mod longest;
 pub mod malformed;
 pub mod offers;
 pub mod random;
+pub mod resets;
 pub mod script;
 pub mod store;
 

@@ -4,13 +4,20 @@
 //! own schedule, `crates/inspect` one that leaves each column something and
 //! work lists of several jobs, and `crates/load` the words of a load.
 //! `crates/journal_tool` has the stored journals and what it is asked to do with
-//! them.
+//! them. `reference/schedules/resets` has the schedules for `recover` and what
+//! they print, until there is a proved program that is held to them.
 
-use crate::{Schedule, all, inspected, journals, played};
+use crate::{Schedule, all, inspected, journals, played, resets};
 use model::{load, play};
 use std::fmt::Write as _;
 use std::path::{Path, PathBuf};
 use std::{fs, io};
+
+/// Where the schedules with resets are.
+const RESETS: &str = "reference/schedules/resets";
+
+/// What a program prints of its input.
+type Prints = fn(&[u8]) -> Vec<u8>;
 
 /// The root of the repository.
 fn root() -> PathBuf {
@@ -36,8 +43,10 @@ fn files(schedules: &[Schedule]) -> io::Result<Vec<(PathBuf, Vec<u8>)>> {
         .collect();
     let outputs: Vec<u8> = schedules.iter().flat_map(Schedule::played).collect();
     files.push((crates.join("schedules/stdout"), outputs));
-    files.push((root.join("reference/schedules/TABLE.md"), table(schedules)));
-    let programs: [(&str, fn(&[u8]) -> Vec<u8>); 2] = [("play", played), ("inspect", inspected)];
+    let table = table(schedules, "crates/schedules");
+    files.push((root.join("reference/schedules/TABLE.md"), table));
+    files.extend(reset_files());
+    let programs: [(&str, Prints); 2] = [("play", played), ("inspect", inspected)];
     for (name, prints) in programs {
         let program = crates.join(name);
         if program.exists() {
@@ -62,6 +71,22 @@ fn files(schedules: &[Schedule]) -> io::Result<Vec<(PathBuf, Vec<u8>)>> {
     Ok(files)
 }
 
+/// The files of the schedules with resets.
+fn reset_files() -> Vec<(PathBuf, Vec<u8>)> {
+    let folder = root().join(RESETS);
+    let schedules = resets::schedules();
+    let texts = schedules.iter().map(|schedule| &schedule.text);
+    let outputs = texts.clone().flat_map(|text| resets::recovered(text));
+    let outputs = (folder.join("stdout"), outputs.collect());
+    let table = (folder.join("TABLE.md"), table(&schedules, RESETS));
+    let data = folder.join("data");
+    let texts = texts.enumerate();
+    texts
+        .map(|(number, text)| (data.join(name(number)), text.clone()))
+        .chain([outputs, table])
+        .collect()
+}
+
 /// What `load` prints of its words, one to a line.
 fn loaded(words: &[u8]) -> Vec<u8> {
     let numbers: Option<Vec<u32>> = words
@@ -76,10 +101,10 @@ fn loaded(words: &[u8]) -> Vec<u8> {
 }
 
 /// What each schedule shows, as a table.
-fn table(schedules: &[Schedule]) -> Vec<u8> {
-    let mut table = String::from(
+fn table(schedules: &[Schedule], folder: &str) -> Vec<u8> {
+    let mut table = format!(
         "# Stored schedules\n\n\
-         What each file of `crates/schedules/data` shows. Written by `schedules write`.\n\n\
+         What each file of `{folder}/data` shows. Written by `schedules write`.\n\n\
          | File | Lines | Shows |\n|---|---|---|\n",
     );
     for (number, schedule) in schedules.iter().enumerate() {
@@ -93,11 +118,13 @@ fn table(schedules: &[Schedule]) -> Vec<u8> {
 /// Writes every file; how many schedules there are.
 pub fn write() -> io::Result<usize> {
     let schedules = all();
-    let data = root().join("crates/schedules/data");
-    if data.exists() {
-        fs::remove_dir_all(&data)?;
+    for folder in ["crates/schedules", RESETS] {
+        let data = root().join(folder).join("data");
+        if data.exists() {
+            fs::remove_dir_all(&data)?;
+        }
+        fs::create_dir_all(&data)?;
     }
-    fs::create_dir_all(&data)?;
     fs::create_dir_all(root().join("crates/journal_tool/data"))?;
     for (path, bytes) in files(&schedules)? {
         fs::write(path, bytes)?;
@@ -120,20 +147,29 @@ pub fn check() -> io::Result<Vec<String>> {
             Err(error) => wrong.push(format!("{named}: {error}")),
         }
     }
-    let data = root().join("crates/schedules/data");
-    let mut stored: Vec<PathBuf> = fs::read_dir(data)?
-        .map(|entry| Ok(entry?.path()))
-        .collect::<io::Result<_>>()?;
-    stored.sort();
-    if stored.len() != schedules.len() {
-        wrong.push(format!("{} files in crates/schedules/data", stored.len()));
-    }
-    let mut outputs = Vec::new();
-    for path in &stored {
-        outputs.extend(played(&fs::read(path)?));
-    }
-    if fs::read(root().join("crates/schedules/stdout"))? != outputs {
-        wrong.push("crates/schedules/stdout: not the outputs of the stored schedules".into());
+    let resets = resets::schedules().len();
+    let folders: [(&str, usize, Prints); 2] = [
+        ("crates/schedules", schedules.len(), played),
+        (RESETS, resets, resets::recovered),
+    ];
+    for (folder, count, prints) in folders {
+        let data = root().join(folder).join("data");
+        let mut stored: Vec<PathBuf> = fs::read_dir(data)?
+            .map(|entry| Ok(entry?.path()))
+            .collect::<io::Result<_>>()?;
+        stored.sort();
+        if stored.len() != count {
+            wrong.push(format!("{} files in {folder}/data", stored.len()));
+        }
+        let mut outputs = Vec::new();
+        for path in &stored {
+            outputs.extend(prints(&fs::read(path)?));
+        }
+        if fs::read(root().join(folder).join("stdout"))? != outputs {
+            wrong.push(format!(
+                "{folder}/stdout: not the outputs of the stored schedules"
+            ));
+        }
     }
     Ok(wrong)
 }

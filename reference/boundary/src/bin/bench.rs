@@ -2,6 +2,7 @@
 //! reference, in turns, and prints the medians.
 
 use boundary::proved::{MemberState, SequencerState};
+use boundary::terminals::TerminalState;
 use boundary::{
     FINISH, LINE, Member, Sequencer, Writer, ends, feeds, list, messages, proved, records,
     reference,
@@ -9,8 +10,12 @@ use boundary::{
 use model::jobs::{ADD, FETCH, List};
 use model::journal::{BLOCK, Message};
 use model::limits::{HISTORY, JOBS, PACKET, PAYLOAD, UNITS, WAITING, WINDOW};
-use model::packet::{self, ACCEPT, BROADCAST, CONFIRM, GAP, Header, OFFER, POLL, REQUEST, STATUS};
+use model::packet::{
+    self, ACCEPT, BROADCAST, CONFIRM, GAP, Header, INVITATION, OFFER, POLL, REPLY, REQUEST, RESULT,
+    STATUS,
+};
 use model::plan::SET;
+use model::terminal::Terminal;
 use model::{member, sequencer};
 use std::collections::BTreeMap;
 use std::hint::black_box;
@@ -58,6 +63,16 @@ macro_rules! on_member {
         match $side {
             Side::Here => ends::$call::<MemberState>($($word),*),
             Side::There => ends::$call::<member::Member>($($word),*),
+        }
+    };
+}
+
+/// A call of a terminal of a side.
+macro_rules! on_terminal {
+    ($side:expr, $call:ident($($word:expr),*)) => {
+        match $side {
+            Side::Here => ends::$call::<TerminalState>($($word),*),
+            Side::There => ends::$call::<Terminal>($($word),*),
         }
     };
 }
@@ -131,6 +146,7 @@ fn main() -> ExitCode {
                 cases.extend(member(n, payload, held));
             }
             cases.extend(offers(n, payload));
+            cases.extend(terminals(n, payload));
         }
     }
     cases.extend(work_lists());
@@ -700,10 +716,104 @@ fn offers(n: u8, length: usize) -> Vec<Case> {
     cases
 }
 
+/// A terminal's calls: terminal 1 keeps and takes eight messages, terminal 0's sequencer numbers, and one hears of a reset, replies and is in
+/// the new group, or invites, has the replies of all others and makes the group; elected as member, with the messages that it has.
+fn terminals(n: u8, length: usize) -> Vec<Case> {
+    let text = payload(length);
+    let window = WINDOW as u32;
+    let broadcast = |number: u32| laid(BROADCAST, 0, GROUP, [number, number, 0], &text);
+    let request = |number| laid(REQUEST, 0, GROUP, [0, number, 0], &text);
+    let heard = list((1..=window).map(broadcast));
+    let all = u16::MAX >> (16 - n);
+    let survivors = (all - 1).to_be_bytes();
+    let invitation = || laid(INVITATION, 2, GROUP, [GROUP + 1, 0, 0], &[]);
+    let result = laid(RESULT, 2, GROUP, [GROUP + 1, 1, window], &survivors);
+    let reply = |i: u8| laid(REPLY, i, GROUP, [GROUP + 1, 0, 0], &[]);
+    let replies = list((2..n).map(reply));
+    let requests = list((1..=HISTORY as u32).map(request));
+    let mut cases = Vec::new();
+    let with = format!("n {n}, payload {length}");
+    let mut case = |call, calls, number, heard: &[u8], rounds: MemberRounds| {
+        let heard = heard.to_vec();
+        cases.push(Case {
+            call,
+            with: with.clone(),
+            calls,
+            rounds: Box::new(move |side, many, out| {
+                let end = Member {
+                    n,
+                    number,
+                    group: GROUP,
+                    resilience: 0,
+                    heard: &heard,
+                    takes: 0,
+                };
+                rounds(side, end, many, out)
+            }),
+        });
+    };
+    let mut receiving = |call, calls, heard: &[u8], packets: Vec<u8>| {
+        case(
+            call,
+            calls,
+            1,
+            heard,
+            Box::new(move |side, end, rounds, out| {
+                let packets = rounds.each(&packets[..]);
+                on_terminal!(side, member_receive(end, packets, rounds.many, out))
+            }),
+        );
+    };
+    receiving("terminal.receive kept", WINDOW, &[], heard.clone());
+    let invitations = list(same(invitation()));
+    receiving("terminal.receive invitation", SAME, &heard, invitations);
+    let entered = list([invitation(), result]);
+    receiving("terminal.receive invitation, result", 2, &heard, entered);
+    case(
+        "terminal.take",
+        WINDOW,
+        1,
+        &heard,
+        Box::new(move |side, end, rounds, out| {
+            on_terminal!(
+                side,
+                member_take(end, rounds.each(window), rounds.many, out)
+            )
+        }),
+    );
+    case(
+        "terminal.order numbered",
+        HISTORY,
+        0,
+        &[],
+        Box::new(move |side, end, rounds, out| {
+            let packets = rounds.each(&requests[..]);
+            on_terminal!(side, terminal_order(end, packets, rounds.many, out))
+        }),
+    );
+    case(
+        "terminal.invite, replies, make",
+        1,
+        1,
+        &heard,
+        Box::new(move |side, end, rounds, out| {
+            on_terminal!(
+                side,
+                terminal_reset(end, &replies, rounds.each(1), rounds.many, out)
+            )
+        }),
+    );
+    cases
+}
+
 /// A schedule in which members submit in turn: each message is numbered, handed to every member, taken and acknowledged, as long
 /// as there is room for the packets.
 fn turns(n: usize, size: usize) -> Vec<u8> {
-    let payload = if size == 0 { "-".into() } else { "61".repeat(size) };
+    let payload = if size == 0 {
+        "-".into()
+    } else {
+        "61".repeat(size)
+    };
     let mut text = format!("N {n} {GROUP}\n");
     let mut packets = 0;
     for turn in 0..200 / (n + 2) {

@@ -19,6 +19,8 @@ use std::collections::BTreeMap;
 use std::process::ExitCode;
 use std::time::Instant;
 
+mod terminals;
+
 /// A case by its seed: the refusal that the reference answers, 0 for none,
 /// and a difference.
 type Case = fn(u64) -> (u8, Option<String>);
@@ -101,6 +103,7 @@ fn main() -> ExitCode {
     });
     run("sequencers of any bytes", options.lists, forged_sequencer);
     run("members of any bytes", options.lists, forged_member);
+    run("terminals with resets", options.lists, terminals::resets);
     run("feeds of a work list", options.lists, feeding);
     run("takes that feed a work list", options.lists, |seed| {
         (0, terminal(seed))
@@ -561,9 +564,12 @@ fn change_byte(random: &mut Random, byte: &mut u8) {
 fn change_sequencer(random: &mut Random, state: &mut SequencerState) {
     let (member, place) = (random.below(MEMBERS), random.below(HISTORY));
     let at = random.below(PAYLOAD);
-    match random.below(15) {
+    match random.below(18) {
         0 => change_byte(random, &mut state.n),
         12 => change_byte(random, &mut state.resilience),
+        15 => change_mask(random, &mut state.survivors),
+        16 => change_byte(random, &mut state.elected),
+        17 => lose(state, member),
         13 => change_number(random, &mut state.accepted),
         14 => change_mask(random, &mut state.marks[place]),
         1 => change_number(random, &mut state.group),
@@ -579,13 +585,32 @@ fn change_sequencer(random: &mut Random, state: &mut SequencerState) {
     }
 }
 
+/// A member less, as a reset leaves it: nothing of it is known taken, and the
+/// floor is that of those who are left.
+fn lose(state: &mut SequencerState, member: usize) {
+    state.survivors &= !(1 << member);
+    (state.taken[member], state.repeats[member]) = (0, 0);
+    let left = (0..MEMBERS).filter(|i| state.survivors >> i & 1 == 1);
+    let floor = left.map(|i| state.taken[i]).min().unwrap_or(0);
+    for number in state.floor..floor.min(state.floor.saturating_add(HISTORY as u32)) {
+        let place = (number as usize + 1) % HISTORY;
+        state.kept[place] = 0;
+        (state.originators[place], state.lengths[place]) = (0, 0);
+        state.payloads[place] = [0; _];
+    }
+    state.floor = floor;
+}
+
 /// Changes one number or byte of a member.
 fn change_member(random: &mut Random, state: &mut MemberState) {
     let (queued, held) = (random.below(limits::WAITING), random.below(WINDOW));
     let at = random.below(PAYLOAD);
-    match random.below(17) {
+    match random.below(20) {
         0 => change_byte(random, &mut state.n),
         15 => change_byte(random, &mut state.resilience),
+        17 => change_mask(random, &mut state.survivors),
+        18 => change_byte(random, &mut state.elected),
+        19 => state.survivors &= !(1 << random.below(MEMBERS)),
         16 => change_number(random, &mut state.accepted),
         1 => change_number(random, &mut state.group),
         2 => change_byte(random, &mut state.number),
@@ -607,6 +632,7 @@ fn change_member(random: &mut Random, state: &mut MemberState) {
 fn any_sequencer(random: &mut Random) -> SequencerState {
     let mut state = SequencerState::CLOSED;
     (state.n, state.resilience) = (random.bits() as u8, random.bits() as u8);
+    (state.survivors, state.elected) = (random.bits() as u16, random.bits() as u8);
     let numbers = [&mut state.top, &mut state.accepted, &mut state.floor];
     for number in numbers.into_iter().chain([&mut state.group]) {
         *number = random.bits() as u32;
@@ -630,6 +656,7 @@ fn any_member(random: &mut Random) -> MemberState {
     let mut state = MemberState::CLOSED;
     (state.n, state.number) = (random.bits() as u8, random.bits() as u8);
     state.resilience = random.bits() as u8;
+    (state.survivors, state.elected) = (random.bits() as u16, random.bits() as u8);
     let numbers = [
         &mut state.group,
         &mut state.taken,

@@ -1,0 +1,2 @@
+pub mod Electing
+pub mod Entering

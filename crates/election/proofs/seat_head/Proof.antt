@@ -1,0 +1,12 @@
+-- The fields are assigned.
+-- Assumes nothing.
+use mathlib.Core.Path.{refl}
+use borrow.Author.Needs.{needs}
+use Rattle.election.proofs.seat_head.Statement.{statement}
+use Rattle.election.proofs.seat_head.Tie as tie
+
+returns : tie.Need-returns
+returns c = refl
+
+pub seat-head-spec : {M : Type 1} → statement M
+seat-head-spec = tie.close (tie.spec returns)

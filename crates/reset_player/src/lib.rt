@@ -1,0 +1,1 @@
+// Plays a schedule with resets: what it prints of a whole input.

@@ -1,0 +1,4 @@
+pub mod Commands
+pub mod Forms
+pub mod Laws
+pub mod Examples

@@ -1,0 +1,4 @@
+pub mod Opened
+pub mod Walking
+pub mod Lends
+pub mod Leaving

@@ -1,0 +1,4 @@
+pub mod Opening
+pub mod Steps
+pub mod Terminal
+pub mod Laws

@@ -37,7 +37,7 @@ pub struct Done {
 }
 
 // A no: the head stays, and nothing is written.
-fn declined(head: Head, refusal: Refusal) -> Done
+pub fn declined(head: Head, refusal: Refusal) -> Done
     ensures { λ r. ⌜ r ≡ record { head = head; reply = record { answer = member.Answer.Refused refusal; written = 0 } } ⌝ }
 {
     let answer = member::Answer::Refused(refusal);

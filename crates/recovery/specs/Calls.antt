@@ -31,7 +31,19 @@ use Rattle.sequencer.specs.State.{Sequencer}
 use Rattle.sequencer.specs.declared.Answer as sequencerAnswer
 use Rattle.recovery.specs.Begin.{cutOf, chosenOf, resultOf}
 use Rattle.recovery.specs.Sound.{memberSound, terminalSound}
-use Rattle.recovery.specs.State.{Kept, Reset, Terminal, serves, replyNumber, counted}
+use Rattle.recovery.specs.State.{Kept, Reset, Terminal, freshKept, noReset, noSequencer, serves, replyNumber, counted}
+
+-- terminal i of a fresh group of n: its member is fresh, and member 0's terminal has the sequencer
+abbrev pub freshTerminal : ℕ → ℕ → ℕ → ℕ → Terminal
+freshTerminal n number resilience i =
+    record {
+      member = member.freshOf n (record { 0 = i }) number resilience .member;
+      kept = freshKept;
+      reset = noReset;
+      sequencing = i =? 0;
+      frozen = false;
+      sequencer = if i =? 0 then sequencer.freshOf n number resilience .sequencer else noSequencer;
+    }
 
 -- what a call of the member's end comes to, and one of the sequencer's
 pub record Outcome : Type 0 where

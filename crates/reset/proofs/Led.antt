@@ -33,10 +33,11 @@ use Rattle.sequencer.proofs.Soundness as sequencerSoundness
 use Rattle.sequencer.specs.Calls as sequencer
 use Rattle.sequencer.specs.State.{Sequencer}
 use Rattle.recovery.specs.Begin.{cutOf, chosenOf}
+use Rattle.recovery.specs.Calls.{freshTerminal}
 use Rattle.recovery.specs.State.{Terminal, serves, replyNumber}
 use Rattle.reset.specs.Claim.{Begins, TakenBegins, MakesNone}
 use Rattle.reset.specs.Course.{Course, opened, isSent, courseOf, courseFrom, courseIn, tookAt, submittedAt, taken, Allowed, Handed, Orderly}
-use Rattle.reset.specs.World.{Event, submit, repeat, take, status, poll, copy, handMember, handSequencer, invite, make, Entry, Group, Happened, happen, terminalAt, World, step, run, noTerminal, freshTerminal, freshTerminals, fresh}
+use Rattle.reset.specs.World.{Event, submit, repeat, take, status, poll, copy, handMember, handSequencer, invite, make, Entry, Group, Happened, happen, terminalAt, World, step, run, noTerminal, freshTerminals, fresh}
 use Rattle.reset.proofs.Away.{inv-same}
 use Rattle.reset.proofs.First.{Stands}
 use Rattle.reset.proofs.Invariant.{Has, Busy, Foreign, groupIn, Low, Survivor, Sits, Inv}

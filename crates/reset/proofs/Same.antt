@@ -50,10 +50,11 @@ use Rattle.recovery.proofs.Kept.{KeptSound, took-kept, counted-length, read-kep
 use Rattle.recovery.proofs.Laws.{Frame, content-frame}
 use Rattle.recovery.proofs.Ordering.{awake-step}
 use Rattle.recovery.specs.Calls as terminal
+use Rattle.recovery.specs.Calls.{freshTerminal}
 use Rattle.recovery.specs.Sound.{memberSound}
 use Rattle.recovery.specs.State.{Kept, Terminal, noReset, freshKept}
 use Rattle.reset.specs.Same.{eventIn, eventsIn, entryIn, entriesIn, Alike, SameWithoutReset}
-use Rattle.reset.specs.World.{Event, Entry, Group, World, Happened, happen, missing, withMember, withSequencer, noTerminal, terminalAt, atTerminal, takeAt, atSequencer, handToMember, handToSequencer, step, run, freshTerminal, freshTerminals, fresh}
+use Rattle.reset.specs.World.{Event, Entry, Group, World, Happened, happen, missing, withMember, withSequencer, noTerminal, terminalAt, atTerminal, takeAt, atSequencer, handToMember, handToSequencer, step, run, freshTerminals, fresh}
 
 -- terminal i of a world without a reset: the group's member, no part in a reset, and, if it is 0, the group's sequencer
 pub record Quiet (i : ℕ) (t : Terminal) (m : Member) (s : Sequencer) : Type 0 where

@@ -37,11 +37,12 @@ use Rattle.sequencer.specs.Sound as sequencerCalls
 use Rattle.sequencer.specs.State.{Sequencer, freshSequencer}
 use Rattle.recovery.proofs.Holding.{no-mark}
 use Rattle.recovery.proofs.Keeping.{Sound, of-sound}
+use Rattle.recovery.specs.Calls.{freshTerminal}
 use Rattle.recovery.specs.Sound.{zeroSequencer, sequencerSound, terminalSound}
 use Rattle.recovery.specs.State.{Terminal, noSequencer}
 use Rattle.reset.specs.Claim.{Unmade, begun, next, MakesNone}
 use Rattle.reset.specs.Course.{Course, opened, numbering, invited, made, isSent, bytesIn, courseOf, courseFrom, courseIn, tookAt, submittedAt, taken, Allowed}
-use Rattle.reset.specs.World.{Event, submit, repeat, take, status, poll, copy, handMember, handSequencer, invite, make, Entry, Group, Happened, happen, missing, terminalAt, handToSequencer, World, step, run, noTerminal, freshTerminal, freshTerminals, fresh}
+use Rattle.reset.specs.World.{Event, submit, repeat, take, status, poll, copy, handMember, handSequencer, invite, make, Entry, Group, Happened, happen, missing, terminalAt, handToSequencer, World, step, run, noTerminal, freshTerminals, fresh}
 use Rattle.reset.proofs.Before.{if-either, orderedBy, Next, Asked, step-next, inv-ext}
 use Rattle.reset.proofs.First.{Stands, Rel}
 use Rattle.reset.proofs.Same.{Quiet, no-reset, fresh-quiet, terminals-length, members-length, terminals-at}

@@ -5,15 +5,14 @@ use mathlib.Core.List.{List, [], _∷_, _++_}
 use mathlib.Core.Option.{Option, none, some}
 use Prim.Native.Nat.{ℕ, zero, suc, _+_}
 use lib.ListN.{length, getD, set, getElem?}
-use Rattle.group.specs.Choice.{if_then_else_, _and_, _<?_, _=?_}
+use Rattle.group.specs.Choice.{if_then_else_, _and_, _<?_}
 use Rattle.group.specs.Limits.{longestPacket}
 use Rattle.group.specs.Opening.{descriptionOf}
-use Rattle.member.specs.Calls as member
 use Rattle.member.specs.State.{Member, freshMember}
 use Rattle.packet.specs.Packet.{written}
-use Rattle.sequencer.specs.Calls as sequencer
 use Rattle.model.specs.World.{Answer, absent, bySequencer, byMember}
 use Rattle.recovery.specs.Calls as terminal
+use Rattle.recovery.specs.Calls.{freshTerminal}
 use Rattle.recovery.specs.State.{Terminal, freshKept, noReset, noSequencer}
 
 -- a terminal's submit, repeat, take and status call, its sequencer's poll and copy call, "hand packet k to terminal i's member" or "to its
@@ -134,18 +133,6 @@ step w event =
 unfoldable pub run : World → List Event → World
 run w [] = w
 run w (event ∷ rest) = run (step w event) rest
-
--- terminal i of a fresh group of n: its member is fresh, and member 0's terminal has the sequencer
-abbrev pub freshTerminal : ℕ → ℕ → ℕ → ℕ → Terminal
-freshTerminal n number resilience i =
-    record {
-      member = member.freshOf n (record { 0 = i }) number resilience .member;
-      kept = freshKept;
-      reset = noReset;
-      sequencing = i =? 0;
-      frozen = false;
-      sequencer = if i =? 0 then sequencer.freshOf n number resilience .sequencer else noSequencer;
-    }
 
 -- terminals i to i + k - 1
 unfoldable pub freshTerminals : ℕ → ℕ → ℕ → ℕ → ℕ → List Terminal

@@ -10,7 +10,7 @@ use Rattle.sequencer.specs.Wording as sequencerWording
 use Rattle.sequencer.specs.declared.Reply as sequencerReply
 use Rattle.recovery.specs.Promise.{Seen, SequencerSeen, Changed, Ordered}
 use Rattle.recovery.specs.View.{Stored, seen, viewOf}
-use Rattle.terminal_state.specs.Opening as opening
+use Rattle.terminal_opening.specs.Opening as opening
 use Rattle.ends.specs.Promise.{Tells}
 use Rattle.ends.specs.Telling.{toldOf, sequencerTold, memberTold, openingTold, SequencerTells, MemberTells, OpeningTells}
 use Rattle.ends.specs.declared.Told.{Told}

@@ -10,7 +10,7 @@ use Rattle.sequencer.specs.Wording as sequencer
 use Rattle.recovery.specs.Calls.{submitOf, receiveOf, takeOf, repeatOf, statusOf, inviteOf, makeOf, orderOf, pollOf, copyOf}
 use Rattle.recovery.specs.Promise.{Seen, SequencerSeen, called, ordered}
 use Rattle.recovery.specs.View.{seen}
-use Rattle.terminal_state.specs.Opening.{freshOf}
+use Rattle.terminal_opening.specs.Opening.{freshOf}
 use Rattle.terminal_state.specs.Terminal.{viewOf}
 use Rattle.terminal_state.specs.declared.Terminal.{Terminal}
 use Rattle.ends.specs.Promise.{Tells}

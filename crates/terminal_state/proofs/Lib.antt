@@ -1,4 +1,3 @@
-pub mod Opened
 pub mod Walking
 pub mod Lends
 pub mod Leaving

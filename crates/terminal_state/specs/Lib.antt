@@ -1,4 +1,2 @@
-pub mod Opening
-pub mod Steps
 pub mod Terminal
 pub mod Laws

@@ -10,7 +10,7 @@ use Rattle.member.specs.declared.Reply as member
 use Rattle.sequencer.specs.declared.Reply as sequencer
 use Rattle.recovery.specs.Promise as promise
 use Rattle.recovery.specs.View as view
-use Rattle.terminal_state.specs.Opening.{Opens, freshOf}
+use Rattle.terminal_opening.specs.Opening.{Opens, freshOf}
 use Rattle.terminal_state.specs.declared.Terminal.{Terminal}
 
 -- its parts

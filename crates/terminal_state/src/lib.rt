@@ -6,11 +6,9 @@ use group::SequenceNumber;
 use group::Verdict;
 use recovery::Head;
 ghost use mathlib.Core.Path.{_≡_};
-ghost use Rattle.group.specs.Choice.{if_then_else_, _=?_};
 ghost use Rattle.recovery.specs.Promise as promise;
 ghost use Rattle.recovery.specs.View.{whole, seen};
-ghost use Rattle.terminal_state.specs.Opening.{Opens, freshOf, closedTerminal};
-ghost use Rattle.terminal_state.specs.Steps.{sequencingOf, freshHead};
+ghost use Rattle.terminal_opening.specs.Opening.{closedTerminal};
 ghost use Rattle.terminal_state.specs.Terminal as inPlace;
 
 // A terminal: its numbers; its member's arrays; of each place of the last messages taken its count (0: none), originator, length and
@@ -42,132 +40,6 @@ pub struct Terminal {
     pub payloads: [u8; Group::HISTORY_BYTES],
 }
 
-// What opening gives back: the head, and what the caller is told.
-pub struct Begun {
-    pub head: Head,
-    pub verdict: Verdict,
-}
-
-// Whether an opened terminal has the sequencer (1: yes, 0: no): member 0's has.
-fn sequencing(verdict: Verdict, number: MemberNumber) -> u8
-    ensures { λ r. ⌜ r ≡ sequencingOf verdict number ⌝ }
-{
-    match verdict {
-        Verdict::Accepted => {
-            if number.0 == 0 {
-                return 1;
-            }
-            0
-        }
-        Verdict::Refused(_) => 0,
-    }
-}
-
-// The members of the sequencer's group: 0 where there is no sequencer.
-fn seats(sequencing: u8, n: u8) -> u8
-    ensures { λ r. ⌜ r ≡ (if sequencing =? 1 then n else 0) ⌝ }
-{
-    if sequencing == 1 {
-        return n;
-    }
-    0
-}
-
-// The head of both ends, with no part in a reset.
-fn fresh_head(member: member::Head, sequencer: sequencer::Head, sequencing: u8) -> Head
-    ensures { λ r. ⌜ r ≡ freshHead member sequencer sequencing ⌝ }
-{
-    Head {
-        member,
-        sequencer,
-        read: SequenceNumber(0),
-        attempt: 0,
-        number: SequenceNumber(0),
-        invited: 0,
-        repliers: 0,
-        replied: 0,
-        inviting: 0,
-        sequencing,
-        frozen: 0,
-    }
-}
-
-// The work of opening: questions 18 and 24. Where it is refused, the state is all zero.
-pub fn open_on(
-    head: Head,
-    queued: &mut [u32; Group::WAITING],
-    held: &mut [u32; Group::HELD],
-    queued_originators: &mut [u8; Group::WAITING],
-    queued_lengths: &mut [u8; Group::WAITING],
-    held_originators: &mut [u8; Group::HELD],
-    held_lengths: &mut [u8; Group::HELD],
-    queued_payloads: &mut [u8; Group::WAITING_BYTES],
-    held_payloads: &mut [u8; Group::HELD_BYTES],
-    past: &mut [u32; Group::PLACES],
-    past_originators: &mut [u8; Group::PLACES],
-    past_lengths: &mut [u8; Group::PLACES],
-    past_payloads: &mut [u8; Group::HISTORY_BYTES],
-    highest: &mut [u32; Group::MEMBERS],
-    replies: &mut [u32; Group::MEMBERS],
-    taken: &mut [u32; Group::MEMBERS],
-    counts: &mut [u32; Group::MEMBERS],
-    repeats: &mut [u32; Group::MEMBERS],
-    kept: &mut [u32; Group::PLACES],
-    marks: &mut [u16; Group::PLACES],
-    originators: &mut [u8; Group::PLACES],
-    lengths: &mut [u8; Group::PLACES],
-    payloads: &mut [u8; Group::HISTORY_BYTES],
-    n: u8,
-    number: MemberNumber,
-    group: u32,
-    resilience: u8,
-) -> Begun
-    ensures { λ r. ⌜ Opens (freshOf n number group resilience) (r .verdict) (whole (r .head) (now (queued .exit)) (now (held .exit)) (now («queued_originators» .exit)) (now («queued_lengths» .exit)) (now («held_originators» .exit)) (now («held_lengths» .exit)) (now («queued_payloads» .exit)) (now («held_payloads» .exit)) (now (past .exit)) (now («past_originators» .exit)) (now («past_lengths» .exit)) (now («past_payloads» .exit)) (now (highest .exit)) (now (replies .exit)) (now (taken .exit)) (now (counts .exit)) (now (repeats .exit)) (now (kept .exit)) (now (marks .exit)) (now (originators .exit)) (now (lengths .exit)) (now (payloads .exit))) ⌝ }
-{
-    *past = [0u32; Group::PLACES];
-    *past_originators = [0u8; Group::PLACES];
-    *past_lengths = [0u8; Group::PLACES];
-    *past_payloads = [0u8; Group::HISTORY_BYTES];
-    *highest = [0u32; Group::MEMBERS];
-    *replies = [0u32; Group::MEMBERS];
-    let begun = member::open_on(
-        head.member,
-        queued,
-        held,
-        queued_originators,
-        queued_lengths,
-        held_originators,
-        held_lengths,
-        queued_payloads,
-        held_payloads,
-        n,
-        number,
-        group,
-        resilience,
-    );
-    let verdict = begun.verdict;
-    let sequencing = sequencing(verdict, number);
-    let start = sequencer::open_on(
-        head.sequencer,
-        taken,
-        counts,
-        repeats,
-        kept,
-        marks,
-        originators,
-        lengths,
-        payloads,
-        seats(sequencing, n),
-        group,
-        resilience,
-    );
-    let next = fresh_head(begun.head, start.head, sequencing);
-    Begun {
-        head: next,
-        verdict,
-    }
-}
-
 // The work of a submission.
 pub fn submit_on(
     head: Head,
@@ -195,7 +67,7 @@ pub fn submit_on(
     payloads: &mut [u8; Group::HISTORY_BYTES],
     payload: &[u8],
     out: &mut [u8],
-) -> terminals::Done
+) -> attempt::Done
     ensures { λ r. ⌜ promise.Submitted (whole head (now (queued .entry)) (now (held .entry)) (now («queued_originators» .entry)) (now («queued_lengths» .entry)) (now («held_originators» .entry)) (now («held_lengths» .entry)) (now («queued_payloads» .entry)) (now («held_payloads» .entry)) (now (past .entry)) (now («past_originators» .entry)) (now («past_lengths» .entry)) (now («past_payloads» .entry)) (now (highest .entry)) (now (replies .entry)) (now (taken .entry)) (now (counts .entry)) (now (repeats .entry)) (now (kept .entry)) (now (marks .entry)) (now (originators .entry)) (now (lengths .entry)) (now (payloads .entry))) (now (payload .entry)) (now (out .entry)) (r .reply) (whole (r .head) (now (queued .exit)) (now (held .exit)) (now («queued_originators» .exit)) (now («queued_lengths» .exit)) (now («held_originators» .exit)) (now («held_lengths» .exit)) (now («queued_payloads» .exit)) (now («held_payloads» .exit)) (now (past .exit)) (now («past_originators» .exit)) (now («past_lengths» .exit)) (now («past_payloads» .exit)) (now (highest .exit)) (now (replies .exit)) (now (taken .exit)) (now (counts .exit)) (now (repeats .exit)) (now (kept .exit)) (now (marks .exit)) (now (originators .exit)) (now (lengths .exit)) (now (payloads .exit))) (now (out .exit)) ⌝ }
 {
     terminals::submit_on(
@@ -343,7 +215,7 @@ pub fn take_on(
     lengths: &mut [u8; Group::PLACES],
     payloads: &mut [u8; Group::HISTORY_BYTES],
     out: &mut [u8],
-) -> terminals::Done
+) -> attempt::Done
     ensures { λ r. ⌜ promise.Taken (whole head (now (queued .entry)) (now (held .entry)) (now («queued_originators» .entry)) (now («queued_lengths» .entry)) (now («held_originators» .entry)) (now («held_lengths» .entry)) (now («queued_payloads» .entry)) (now («held_payloads» .entry)) (now (past .entry)) (now («past_originators» .entry)) (now («past_lengths» .entry)) (now («past_payloads» .entry)) (now (highest .entry)) (now (replies .entry)) (now (taken .entry)) (now (counts .entry)) (now (repeats .entry)) (now (kept .entry)) (now (marks .entry)) (now (originators .entry)) (now (lengths .entry)) (now (payloads .entry))) (now (out .entry)) (r .reply) (whole (r .head) (now (queued .exit)) (now (held .exit)) (now («queued_originators» .exit)) (now («queued_lengths» .exit)) (now («held_originators» .exit)) (now («held_lengths» .exit)) (now («queued_payloads» .exit)) (now («held_payloads» .exit)) (now (past .exit)) (now («past_originators» .exit)) (now («past_lengths» .exit)) (now («past_payloads» .exit)) (now (highest .exit)) (now (replies .exit)) (now (taken .exit)) (now (counts .exit)) (now (repeats .exit)) (now (kept .exit)) (now (marks .exit)) (now (originators .exit)) (now (lengths .exit)) (now (payloads .exit))) (now (out .exit)) ⌝ }
 {
     terminals::take_on(
@@ -393,7 +265,7 @@ pub fn receive_on(
     payloads: &mut [u8; Group::HISTORY_BYTES],
     packet: &[u8],
     out: &mut [u8],
-) -> terminals::Done
+) -> attempt::Done
     ensures { λ r. ⌜ promise.Received (whole head (now (queued .entry)) (now (held .entry)) (now («queued_originators» .entry)) (now («queued_lengths» .entry)) (now («held_originators» .entry)) (now («held_lengths» .entry)) (now («queued_payloads» .entry)) (now («held_payloads» .entry)) (now (past .entry)) (now («past_originators» .entry)) (now («past_lengths» .entry)) (now («past_payloads» .entry)) (now (highest .entry)) (now (replies .entry)) (now (taken .entry)) (now (counts .entry)) (now (repeats .entry)) (now (kept .entry)) (now (marks .entry)) (now (originators .entry)) (now (lengths .entry)) (now (payloads .entry))) (now (packet .entry)) (now (out .entry)) (r .reply) (whole (r .head) (now (queued .exit)) (now (held .exit)) (now («queued_originators» .exit)) (now («queued_lengths» .exit)) (now («held_originators» .exit)) (now («held_lengths» .exit)) (now («queued_payloads» .exit)) (now («held_payloads» .exit)) (now (past .exit)) (now («past_originators» .exit)) (now («past_lengths» .exit)) (now («past_payloads» .exit)) (now (highest .exit)) (now (replies .exit)) (now (taken .exit)) (now (counts .exit)) (now (repeats .exit)) (now (kept .exit)) (now (marks .exit)) (now (originators .exit)) (now (lengths .exit)) (now (payloads .exit))) (now (out .exit)) ⌝ }
 {
     terminals::receive_on(
@@ -690,7 +562,7 @@ impl Terminal {
         };
         let member = member::idle(none, MemberNumber(0));
         let sequencer = sequencer::fresh_head(none);
-        let head = fresh_head(member, sequencer, 0);
+        let head = terminal_opening::fresh_head(member, sequencer, 0);
         Terminal {
             head,
             queued: [0u32; Group::WAITING],
@@ -722,7 +594,7 @@ impl Terminal {
     pub fn open(&mut self, n: u8, number: MemberNumber, group: u32, resilience: u8) -> Verdict
         ensures { λ r. ⌜ inPlace.Begins (now (self .entry)) n number group resilience r (now (self .exit)) ⌝ }
     {
-        let done = open_on(
+        let done = terminal_opening::open_on(
             self.head,
             &mut self.queued,
             &mut self.held,

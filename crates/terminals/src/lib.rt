@@ -1,4 +1,5 @@
 // A terminal's calls: the work of each is lent its state in parts, the numbers of its head by value and the arrays that it looks at.
+use attempt::Done;
 use group::Group;
 use group::Refusal;
 use group::SequenceNumber;
@@ -24,13 +25,7 @@ ghost use Rattle.recovery.specs.View.{whole};
 ghost use Rattle.terminals.specs.Promise.{Submits, Repeats, Reports, Takes, Asks, Hears, Polls, Copies, Orders};
 ghost use Rattle.terminals.specs.Steps.{Remembers, frozenRefusal, closedRefusal, refusalAfter, resets, floorSaid, readAfter, heardHead};
 
-// What the work of a call gives back: the next head, and what the caller is told.
-pub struct Done {
-    pub head: Head,
-    pub reply: member::Reply,
-}
-
-// The same of its sequencer's call for packets.
+// What the work of a sequencer's call for packets gives back: the next head, and what the caller is told.
 pub struct Step {
     pub head: Head,
     pub reply: sequencer::Reply,
@@ -572,15 +567,6 @@ fn ask(
     Verdict::Refused(Refusal::UnsoundState)
 }
 
-// A refusal, which leaves the head.
-fn declined(head: Head, refusal: Refusal) -> Done
-    ensures { λ r. ⌜ r ≡ record { head = head; reply = record { answer = memberAnswer.Answer.Refused refusal; written = 0 } } ⌝ }
-{
-    let answer = member::Answer::Refused(refusal);
-    let reply = member::Reply { answer, written: 0 };
-    Done { head, reply }
-}
-
 // A packet of a reset: questions 1 and 2 of the member's end, then those of the reset.
 fn reset_on(
     head: Head,
@@ -635,7 +621,7 @@ fn reset_on(
             let r = packet::read(packet);
             match r {
                 Reading::Fields(h) => {
-                    let done = attempt::reset_on(
+                    attempt::reset_on(
                         head,
                         queued,
                         held,
@@ -662,15 +648,12 @@ fn reset_on(
                         h,
                         &packet[Group::HEADER..],
                         out,
-                    );
-                    let next = done.head;
-                    let reply = done.reply;
-                    Done { head: next, reply }
+                    )
                 }
-                Reading::Refused(q) => declined(head, q),
+                Reading::Refused(q) => attempt::declined(head, q),
             }
         }
-        Verdict::Refused(q) => declined(head, q),
+        Verdict::Refused(q) => attempt::declined(head, q),
     }
 }
 

@@ -55,7 +55,7 @@ same-length : tie.Need-same-length
 same-length c = search needs
 
 returns : tie.Need-returns
-returns c = let a = c .before .before .before .before .before .before .before .before .before .before .before .before .before .before .before .before .before .before .before .before .before .before .before .before .before .before .before .before .before .before .before .before .before .before .args in let s = whole (a .head) (now (a .queued)) (now (a .held)) (now (a .queued-originators)) (now (a .queued-lengths)) (now (a .held-originators)) (now (a .held-lengths)) (now (a .queued-payloads)) (now (a .held-payloads)) (now (a .past)) (now (a .past-originators)) (now (a .past-lengths)) (now (a .past-payloads)) (now (a .highest)) (now (a .replies)) (now (a .taken)) (now (a .counts)) (now (a .repeats)) (now (a .kept)) (now (a .marks)) (now (a .originators)) (now (a .lengths)) (now (a .payloads)) in let e = (sym (c .before .before .before .before .before .before .before .before .before .before .before .before .before .before .before .before .before .before .before .before .before .before .before .read .ensures .0) ∙ c .before .before .before .before .before .before .before .before .before .before .before .before .before .before .before .before .before .before .before .before .before .r .given .1) in received-reset s (now (a .packet)) (c .before .before .before .before .before .before .before .before .before .before .before .before .before .before .before .before .before .before .before .before .before .before .before .before .before .before .ask .ensures (now (a .taken)) (now (a .counts)) (now (a .repeats)) (now (a .kept)) (now (a .marks)) (now (a .originators)) (now (a .lengths)) (now (a .payloads))) _ (c .before .before .before .before .before .before .before .before .before .before .before .before .before .before .before .before .before .before .before .before .before .before .before .before .enum-told .given .1) e (c .before .before .before .before .before .before .before .before .before .before .before .before .before .before .before .before .before .before .before .before .before .before .before .before .before .before .before .before .before .before .before .before .before .before .pre) (payload-lent (now (a .packet))) (c .before .before .before .before .reset-on .ensures)
+returns c = let a = c .before .before .before .before .before .before .before .before .before .before .before .before .before .before .before .before .before .before .before .before .before .before .before .before .before .before .before .before .before .before .before .before .args in let s = whole (a .head) (now (a .queued)) (now (a .held)) (now (a .queued-originators)) (now (a .queued-lengths)) (now (a .held-originators)) (now (a .held-lengths)) (now (a .queued-payloads)) (now (a .held-payloads)) (now (a .past)) (now (a .past-originators)) (now (a .past-lengths)) (now (a .past-payloads)) (now (a .highest)) (now (a .replies)) (now (a .taken)) (now (a .counts)) (now (a .repeats)) (now (a .kept)) (now (a .marks)) (now (a .originators)) (now (a .lengths)) (now (a .payloads)) in let e = (sym (c .before .before .before .before .before .before .before .before .before .before .before .before .before .before .before .before .before .before .before .before .before .read .ensures .0) ∙ c .before .before .before .before .before .before .before .before .before .before .before .before .before .before .before .before .before .before .before .r .given .1) in received-reset s (now (a .packet)) (c .before .before .before .before .before .before .before .before .before .before .before .before .before .before .before .before .before .before .before .before .before .before .before .before .ask .ensures (now (a .taken)) (now (a .counts)) (now (a .repeats)) (now (a .kept)) (now (a .marks)) (now (a .originators)) (now (a .lengths)) (now (a .payloads))) _ (c .before .before .before .before .before .before .before .before .before .before .before .before .before .before .before .before .before .before .before .before .before .before .enum-told .given .1) e (c .before .before .before .before .before .before .before .before .before .before .before .before .before .before .before .before .before .before .before .before .before .before .before .before .before .before .before .before .before .before .before .before .pre) (payload-lent (now (a .packet))) (c .before .before .reset-on .ensures)
 
 returns-2 : tie.Need-returns-2
 returns-2 c = absurd (not-reset _ _ (sym (c .before .before .before .before .read .ensures .0) ∙ c .before .before .r2 .given .1) (c .before .before .before .before .before .before .before .before .before .before .before .before .before .before .before .pre))

@@ -2,7 +2,7 @@
 -- Assumes nothing.
 use Rattle.member.proofs.Opening.{fresh-is}
 use Rattle.sequencer.proofs.View.{fresh-view}
-use Rattle.terminal_state.proofs.Opened.{closed-seen}
+use Rattle.terminal_opening.proofs.Opened.{closed-seen}
 use borrow.Author.Needs.{needs}
 use Rattle.terminal_state.proofs.Terminal.closed.Statement.{statement}
 use Rattle.terminal_state.proofs.Terminal.closed.Tie as tie

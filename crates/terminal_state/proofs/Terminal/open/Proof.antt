@@ -46,7 +46,7 @@ use Rattle.terminal_state.proofs.Walking.{blank, full, tailOf, envOf, l
 use Rattle.lending.proofs.Whole.{start, Values, Kept, lend, back}
 use Rattle.terminal_state.specs.declared.Terminal.{Terminal}
 use Rattle.recovery.specs.declared.Head.{Head}
-use Rattle.terminal_state.specs.declared.Begun.{Begun}
+use Rattle.terminal_opening.specs.declared.Begun.{Begun}
 use Rattle.group.specs.declared.Verdict.{Verdict}
 use Rattle.group.specs.declared.MemberNumber.{MemberNumber}
 use Rattle.terminal_state.specs.Terminal.{Begins}
@@ -54,17 +54,17 @@ use Rattle.terminal_state.proofs.Terminal as T
 use Rattle.terminal_state.proofs.Terminal.Laws as T′
 use Rattle.recovery.proofs.Head as B
 use Rattle.recovery.proofs.Head.Laws as B′
-use Rattle.terminal_state.proofs.Begun as S
-use Rattle.terminal_state.proofs.Begun.Laws as S′
+use Rattle.terminal_opening.proofs.Begun as S
+use Rattle.terminal_opening.proofs.Begun.Laws as S′
 use Rattle.group.proofs.Verdict as Y
 use Rattle.group.proofs.Verdict.Laws as Y′
 use Rattle.group.proofs.MemberNumber as N₂
 use Rattle.group.proofs.MemberNumber.Laws as N₂′
 use Rattle.terminal_state.proofs.Lends.{arrays, lendable, hval, with, headed, made}
-use Rattle.terminal_state.proofs.open_on as on
-use Rattle.terminal_state.proofs.open_on.Symbol as on-def
-use Rattle.terminal_state.proofs.open_on.Symbol.{name as #on}
-use Rattle.terminal_state.proofs.open_on.Met as on-thm
+use Rattle.terminal_opening.proofs.open_on as on
+use Rattle.terminal_opening.proofs.open_on.Symbol as on-def
+use Rattle.terminal_opening.proofs.open_on.Symbol.{name as #on}
+use Rattle.terminal_opening.proofs.open_on.Met as on-thm
 use Rattle.terminal_state.proofs.Terminal.open.Key.{name as #of}
 use Rattle.terminal_state.proofs.Terminal.open as f
 use Rattle.terminal_state.proofs.Terminal.open.Statement as stated
@@ -274,4 +274,4 @@ open-spec 𝓤 H 𝓜 𝓖 𝓡 =
     entered 𝓤 H (tripleOf 𝓤 H (𝓖 .A) f.signature (f.spec 𝓤 H (𝓖 .A) (𝓜 .mem) (𝓡 .run)))
     (tables 𝓤 H 𝓜 𝓡 code.env .C) (tables 𝓤 H 𝓜 𝓡 code.env .Λ) #of code.function (code.unfolded 𝓤 H 𝓜 𝓡)
     (meets 𝓤 H (𝓖 .A) (givenOf 𝓤 H 𝓜 𝓖) (𝓜 .mem) (𝓡 .run) (tablesOf 𝓤 H 𝓜 (tables 𝓤 H 𝓜 𝓡 code.env))
-    (cited 𝓤 H (On 𝓤 H (𝓖 .A) (𝓜 .mem) (𝓡 .run)) 𝓜 𝓡 code.env #on on-def.routine code.calls-terminal-state·open-on (on-thm.met 𝓤 H 𝓜 𝓖 𝓡)))
+    (cited 𝓤 H (On 𝓤 H (𝓖 .A) (𝓜 .mem) (𝓡 .run)) 𝓜 𝓡 code.env #on on-def.routine code.calls-terminal-opening·open-on (on-thm.met 𝓤 H 𝓜 𝓖 𝓡)))

@@ -46,15 +46,15 @@ use Rattle.terminal_state.proofs.Walking.{blank, full, tailOf, envOf, l
 use Rattle.lending.proofs.Whole.{start, Values, Kept, lend, back}
 use Rattle.terminal_state.specs.declared.Terminal.{Terminal}
 use Rattle.recovery.specs.declared.Head.{Head}
-use Rattle.terminals.specs.declared.Done.{Done}
+use Rattle.attempt.specs.declared.Done.{Done}
 use Rattle.member.specs.declared.Reply.{Reply}
 use Rattle.terminal_state.specs.Terminal.{Received}
 use Rattle.terminal_state.proofs.Terminal as T
 use Rattle.terminal_state.proofs.Terminal.Laws as T′
 use Rattle.recovery.proofs.Head as B
 use Rattle.recovery.proofs.Head.Laws as B′
-use Rattle.terminals.proofs.Done as S
-use Rattle.terminals.proofs.Done.Laws as S′
+use Rattle.attempt.proofs.Done as S
+use Rattle.attempt.proofs.Done.Laws as S′
 use Rattle.member.proofs.Reply as Y
 use Rattle.member.proofs.Reply.Laws as Y′
 use Rattle.terminal_state.proofs.Lends.{arrays, lendable, hval, with, headed, made}

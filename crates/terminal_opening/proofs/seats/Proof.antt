@@ -2,8 +2,8 @@
 -- Assumes nothing.
 use Rattle.group.proofs.Choice.{choices}
 use borrow.Author.Needs.{needs}
-use Rattle.terminal_state.proofs.seats.Statement.{statement}
-use Rattle.terminal_state.proofs.seats.Tie as tie
+use Rattle.terminal_opening.proofs.seats.Statement.{statement}
+use Rattle.terminal_opening.proofs.seats.Tie as tie
 
 returns : tie.Need-returns
 returns c = search (choices, needs) depth 9

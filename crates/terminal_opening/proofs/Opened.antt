@@ -25,11 +25,12 @@ use Rattle.sequencer.specs.Calls as sequencer
 use Rattle.sequencer.specs.State.{Sequencer}
 use Rattle.sequencer.specs.View as sequencerView
 use Rattle.sequencer.specs.declared.Head as sequencerHead
+use Rattle.recovery.specs.Calls.{freshTerminal}
 use Rattle.recovery.specs.State.{Terminal, freshKept, noReset, noSequencer}
 use Rattle.recovery.specs.View.{Stored, View, seen, whole, terminalOf, flagsSound, viewOf}
 use Rattle.recovery.specs.declared.Head.{Head}
-use Rattle.terminal_state.specs.Opening.{closedTerminal, freshTerminal, Opening, notOpened, freshOf, Opens, RefusedCloses}
-use Rattle.terminal_state.specs.Steps.{sequencingOf, freshHead}
+use Rattle.terminal_opening.specs.Opening.{closedTerminal, Opening, notOpened, freshOf, Opens, RefusedCloses}
+use Rattle.terminal_opening.specs.Steps.{sequencingOf, freshHead}
 
 -- a sequencer of a group of nobody is none
 none-fresh : (group resilience : ℕ) → sequencer.freshOf 0 group resilience .sequencer ≡ noSequencer
@@ -55,16 +56,16 @@ closed-member n number group resilience refusal e = not-opened number refusal (n
 
 -- the two ways of opening
 fresh-yes : (n : ℕ) (number : MemberNumber) (group resilience : ℕ) → Verdict.Accepted ≡ member.freshOf n number group resilience .verdict
-    → record { terminal = freshTerminal n number group resilience; verdict = Verdict.Accepted } ≡ freshOf n number group resilience
+    → record { terminal = freshTerminal n group resilience (number .0); verdict = Verdict.Accepted } ≡ freshOf n number group resilience
 unfolding freshOf judged
 fresh-yes n number group resilience e =
-    ap (λ (v : Verdict). judged v notOpened (record { terminal = freshTerminal n number group resilience; verdict = Verdict.Accepted })) e
+    ap (λ (v : Verdict). judged v notOpened (record { terminal = freshTerminal n group resilience (number .0); verdict = Verdict.Accepted })) e
 
 fresh-no : (n : ℕ) (number : MemberNumber) (group resilience : ℕ) (refusal : Refusal) → Verdict.Refused refusal ≡ member.freshOf n number group resilience .verdict
     → notOpened refusal ≡ freshOf n number group resilience
 unfolding freshOf judged
 fresh-no n number group resilience refusal e =
-    ap (λ (v : Verdict). judged v notOpened (record { terminal = freshTerminal n number group resilience; verdict = Verdict.Accepted })) e
+    ap (λ (v : Verdict). judged v notOpened (record { terminal = freshTerminal n group resilience (number .0); verdict = Verdict.Accepted })) e
 
 -- a refused opening leaves a terminal that is all zero
 pub refused-closes : RefusedCloses

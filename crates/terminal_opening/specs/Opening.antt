@@ -3,7 +3,6 @@
 use mathlib.Core.Path.{_≡_}
 use mathlib.Core.Bool.{false}
 use Prim.Native.Nat.{ℕ}
-use Rattle.group.specs.Choice.{if_then_else_, _=?_}
 use Rattle.group.specs.Opening.{descriptionOf}
 use Rattle.group.specs.Question.{judged}
 use Rattle.group.specs.Wording.{verdictWording}
@@ -12,7 +11,7 @@ use Rattle.group.specs.declared.Refusal.{Refusal}
 use Rattle.group.specs.declared.Verdict.{Verdict}
 use Rattle.member.specs.Calls as member
 use Rattle.member.specs.State.{freshMember}
-use Rattle.sequencer.specs.Calls as sequencer
+use Rattle.recovery.specs.Calls.{freshTerminal}
 use Rattle.recovery.specs.State.{Terminal, freshKept, noReset, noSequencer}
 use Rattle.recovery.specs.View.{Stored, seen, viewOf}
 
@@ -28,18 +27,6 @@ closedTerminal =
       sequencer = noSequencer;
     }
 
--- terminal `number` of a fresh group of n: its member is fresh, and member 0's terminal has the sequencer
-abbrev pub freshTerminal : ℕ → MemberNumber → ℕ → ℕ → Terminal
-freshTerminal n number group resilience =
-    record {
-      member = member.freshOf n number group resilience .member;
-      kept = freshKept;
-      reset = noReset;
-      sequencing = number .0 =? 0;
-      frozen = false;
-      sequencer = if number .0 =? 0 then sequencer.freshOf n group resilience .sequencer else noSequencer;
-    }
-
 -- what opening comes to: questions 18 and 24, as its member's
 pub record Opening : Type 0 where
   pub terminal : Terminal
@@ -51,7 +38,7 @@ notOpened refusal = record { terminal = closedTerminal; verdict = Verdict.Refuse
 unfoldable pub freshOf : ℕ → MemberNumber → ℕ → ℕ → Opening
 freshOf n number group resilience =
     judged (member.freshOf n number group resilience .verdict) notOpened
-    (record { terminal = freshTerminal n number group resilience; verdict = Verdict.Accepted })
+    (record { terminal = freshTerminal n group resilience (number .0); verdict = Verdict.Accepted })
 
 -- it answers and leaves what that says
 pub record Opens (o : Opening) (verdict : Verdict) (left : Stored) : Type 0 where

@@ -1,10 +1,10 @@
 -- Each verdict as the definition has it.
 -- Assumes nothing.
 use Rattle.group.proofs.Choice.{choices}
-use Rattle.terminal_state.specs.Steps.{sequencingOf}
+use Rattle.terminal_opening.specs.Steps.{sequencingOf}
 use borrow.Author.Needs.{needs}
-use Rattle.terminal_state.proofs.sequencing.Statement.{statement}
-use Rattle.terminal_state.proofs.sequencing.Tie as tie
+use Rattle.terminal_opening.proofs.sequencing.Statement.{statement}
+use Rattle.terminal_opening.proofs.sequencing.Tie as tie
 
 enum-told : tie.Need-enum-told
 enum-told c = search needs

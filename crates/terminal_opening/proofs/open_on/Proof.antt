@@ -1,9 +1,9 @@
 -- The member opens, then the sequencer, of nobody where it is not there.
 -- Assumes nothing.
-use Rattle.terminal_state.proofs.Opened.{opened}
+use Rattle.terminal_opening.proofs.Opened.{opened}
 use borrow.Author.Needs.{needs}
-use Rattle.terminal_state.proofs.open_on.Statement.{statement}
-use Rattle.terminal_state.proofs.open_on.Tie as tie
+use Rattle.terminal_opening.proofs.open_on.Statement.{statement}
+use Rattle.terminal_opening.proofs.open_on.Tie as tie
 
 open-on-requires : tie.Need-open-on-requires
 open-on-requires c κs = search needs

@@ -33,7 +33,8 @@ use Rattle.text.specs.Written.{decimalDigits, decimalOf, hexOf, payloadText, sp
 use Rattle.member.specs.Wording as memberWording
 use Rattle.sequencer.specs.Wording as sequencerWording
 use Rattle.report.specs.Print.{moreText, indexText, valuesText, wordingFields, answerFields}
-use Rattle.player.specs.Play.{nextNumber, openTold, eventTold, lineTold, lastOf, linesTold}
+use Rattle.player.specs.Lines.{linesTold}
+use Rattle.player.specs.Play.{nextNumber, openTold, eventTold, lineTold, lastOf}
 use Rattle.playback.specs.Document.{DocumentPlayed}
 
 pub document-played : DocumentPlayed

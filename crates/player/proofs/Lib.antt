@@ -1,5 +1,6 @@
 pub mod Asking
 pub mod Telling
-pub mod Opening
 pub mod Keeping
+pub mod Parts
+pub mod Opening
 pub mod Laws

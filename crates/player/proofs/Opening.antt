@@ -6,7 +6,7 @@ use Prim.Native.Nat.{ℕ, _+_, _≤_, _<_}
 use native.Mathlib.Omega.{arith}
 use borrow.Author.Tests.{lt-leb}
 use lib.ListN.{length, take}
-use Rattle.group.proofs.Choice.{if-eq, if-ne, if-lt, if-nlt, if-false, then-fails}
+use Rattle.group.proofs.Choice.{if-lt, if-nlt, if-false, then-fails}
 use Rattle.group.proofs.Lists.{le-or}
 use Rattle.group.specs.Choice.{if_then_else_, _and_, _≤?_}
 use Rattle.group.specs.Limits.{membersMost}
@@ -17,7 +17,6 @@ use Rattle.group.specs.declared.Refusal.{Refusal}
 use Rattle.group.specs.declared.Verdict.{Verdict}
 use Rattle.model.specs.World.{Group, fresh}
 use Rattle.text.specs.Field.{lineEnd}
-use Rattle.text.specs.declared.Found.{Found}
 use Rattle.text.specs.declared.Found.the-variants.{At, Nothing}
 use Rattle.schedule.specs.declared.Opening.{Opening}
 use Rattle.sequencer.specs.Calls.{freshOf, openedOf}
@@ -25,17 +24,18 @@ use Rattle.simulator.specs.Whole.{groupOf, Whole, Opens}
 use Rattle.simulator.specs.declared.Head.{Head}
 use Rattle.player.specs.Play.{running, Told, refusedTold, openTold, lineTold}
 use Rattle.player.specs.Feed as feed
-use Rattle.player.specs.Feed.{State, keptOf, toldAs, fedUpTo, fedOf, endOf}
-use Rattle.player.specs.Player.{stageIn, phaseOf, Does}
-use Rattle.player.specs.Steps.{Fits, degreeOf, Tells}
+use Rattle.player.specs.Feed.{State, keptOf, toldAs, fedOf, endOf}
+use Rattle.player.specs.Player.{stageIn, phaseOf, degreeOf, Does}
+use Rattle.player.specs.Steps.{Fits, Tells}
 use Rattle.player.specs.declared.Fed.{Fed}
 use Rattle.player.specs.declared.Phase.{Phase}
 use Rattle.player.specs.declared.Phase.the-variants.{Running}
 use Rattle.player.specs.declared.Told as declared
+use Rattle.player.proofs.Parts as parts
 use Rattle.player.proofs.Telling.{phase-is}
 
 -- question 18 refuses more members than there can be
-many-refused : (n number resilience : ℕ) → membersMost < n → freshOf n number resilience .verdict ≡ Verdict.Refused Refusal.Opening
+pub many-refused : (n number resilience : ℕ) → membersMost < n → freshOf n number resilience .verdict ≡ Verdict.Refused Refusal.Opening
 unfolding freshOf openOf openedOf
 many-refused n number resilience h =
     let e : group.Opened.Refused Refusal.Opening ≡ openOf n number resilience =
@@ -72,10 +72,10 @@ module _ (n number resilience : ℕ) where
 
 -- a resilience degree from n on is refused, unless n is
 module _ (n number : ℕ) where
-  abbrev first : Refusal
+  abbrev pub first : Refusal
   first = if 1 ≤? n and n ≤? membersMost then Refusal.Resilience else Refusal.Opening
 
-  degree-refused : (resilience : ℕ) → n ≤ resilience → freshOf n number resilience .verdict ≡ Verdict.Refused first
+  pub degree-refused : (resilience : ℕ) → n ≤ resilience → freshOf n number resilience .verdict ≡ Verdict.Refused first
   unfolding freshOf openOf openedOf if_then_else_
   degree-refused resilience h =
       ap (λ (o : group.Opened). openedOf (if 1 ≤? n and n ≤? membersMost then o else group.Opened.Refused Refusal.Opening) .verdict)
@@ -95,26 +95,19 @@ module _ (n number : ℕ) where
       rw e (sym (told-refused n number membersMost first (degree-refused membersMost h)) ∙ told-refused n number resilience first (degree-refused resilience (omega arith))))
       (λ k. ap (λ (r : ℕ). openTold (Opening.Group n number r)) (is ∙ sym (if-lt resilience membersMost resilience resilience membersMost k refl)))
 
--- the end of the input
+-- the end of the input, and a part of it
 module _ (s : State) (r : Fed) (w : Whole) (bytes lent after : List ℕ) where
-  pub ends-none : length (s .line) ≡ 0 → Does (record { text = []; state = s; used = 0 }) r w bytes lent after → Does (endOf s) r w bytes lent after
-  unfolding endOf
-  ends-none z d = subst (λ (x : feed.Fed). Does x r w bytes lent after) (if-eq (length (s .line)) 0 _ _ _ z refl) d
+  abbrev Done : feed.Fed → Type 0
+  Done told = Does told r w bytes lent after
 
-  pub ends-told : (length (s .line) ≡ 0 → ⊥) → Does (toldAs (lineTold (s .stage) (s .line)) 0) r w bytes lent after → Does (endOf s) r w bytes lent after
-  unfolding endOf
-  ends-told z d = subst (λ (x : feed.Fed). Does x r w bytes lent after) (if-ne (length (s .line)) 0 _ _ _ z refl) d
+  pub ends-none : length (s .line) ≡ 0 → Done (record { text = []; state = s; used = 0 }) → Done (endOf s)
+  ends-none = parts.ends-none lineTold Done s
 
-  -- a part of the input
-  pub feeds-line : (part line : List ℕ) (e : ℕ) → lineEnd part ≡ At e → line ≡ keptOf (s .line ++ take e part)
-      → Does (toldAs (lineTold (s .stage) line) (e + 1)) r w bytes lent after → Does (fedOf s part) r w bytes lent after
-  unfolding fedUpTo
-  feeds-line part line e f l d =
-      let g = rw l at d in
-      subst (λ (x : Found). Does (fedUpTo x s part) r w bytes lent after) (sym f) g
+  pub ends-told : (length (s .line) ≡ 0 → ⊥) → Done (toldAs (lineTold (s .stage) (s .line)) 0) → Done (endOf s)
+  ends-told = parts.ends-told lineTold Done s
 
-  pub feeds-none : (part : List ℕ) → lineEnd part ≡ Nothing
-      → Does (record { text = []; state = record { stage = s .stage; line = keptOf (s .line ++ part) }; used = length part }) r w bytes lent after
-      → Does (fedOf s part) r w bytes lent after
-  unfolding fedUpTo
-  feeds-none part f d = subst (λ (x : Found). Does (fedUpTo x s part) r w bytes lent after) (sym f) d
+  pub feeds-line : (part line : List ℕ) (e : ℕ) → lineEnd part ≡ At e → line ≡ keptOf (s .line ++ take e part) → Done (toldAs (lineTold (s .stage) line) (e + 1)) → Done (fedOf s part)
+  feeds-line = parts.feeds-line lineTold Done s
+
+  pub feeds-none : (part : List ℕ) → lineEnd part ≡ Nothing → Done (record { text = []; state = record { stage = s .stage; line = keptOf (s .line ++ part) }; used = length part }) → Done (fedOf s part)
+  feeds-none = parts.feeds-none lineTold Done s

@@ -36,7 +36,7 @@ use Rattle.simulator.specs.declared.Head.{Head}
 use Rattle.player.specs.Feed as feed
 use Rattle.player.specs.Play.{Stage, running, ended, closed, nextNumber, eventTold, lastOf}
 use Rattle.player.specs.Play as play
-use Rattle.player.specs.Player.{stageIn, phaseOf, takenAt, Shown, LaysLast, Does}
+use Rattle.player.specs.Player.{stageIn, phaseWith, phaseOf, takenAt, Shown, LaysLast, Does}
 use Rattle.player.specs.Steps.{Fits, Performed, Tells}
 use Rattle.player.specs.declared.Fed.{Fed}
 use Rattle.player.specs.declared.Phase.{Phase}
@@ -44,31 +44,38 @@ use Rattle.player.specs.declared.Phase.the-variants.{Opening, Running, E
 use Rattle.player.specs.declared.Told.{Told}
 
 -- the two tests of a group's room
-module _ (head : Head) where
+module _ (n count : ℕ) where
   abbrev test : Bool
-  test = head .sequencer .group .n ≤? membersMost and head .count ≤? packetsMost
+  test = n ≤? membersMost and count ≤? packetsMost
 
+  pub within-is : (phase : Phase) → n ≤ membersMost → count ≤ packetsMost → phaseWith n count phase ≡ phase
+  within-is phase h k = sym (if-true test phase phase Closed (both-hold (n ≤? membersMost) (count ≤? packetsMost) (le-leb n membersMost h) (le-leb count packetsMost k)) refl)
+
+  pub within-was : (phase p : Phase) → phaseWith n count phase ≡ p → (Closed ≡ p → ⊥) → (n ≤ membersMost) × (count ≤ packetsMost) × (phase ≡ p)
+  within-was phase p e shut =
+      let z = if-was test phase Closed p e shut in (
+        leb-true n membersMost (both-first (n ≤? membersMost) (count ≤? packetsMost) (z .0)),
+        leb-true count packetsMost (both-then (n ≤? membersMost) (count ≤? packetsMost) (z .0)),
+        z .1,
+      )
+
+  pub within-closed : phaseWith n count Closed ≡ Closed
+  within-closed = if-elim (λ (p : Phase). p ≡ Closed) test (λ _. refl) (λ _. refl)
+
+module _ (head : Head) where
   pub phase-is : (phase : Phase) → Fits head → phaseOf head phase ≡ phase
   unfolding phaseOf
-  phase-is phase f =
-      sym (if-true test phase phase Closed
-      (both-hold (head .sequencer .group .n ≤? membersMost) (head .count ≤? packetsMost) (le-leb (head .sequencer .group .n) membersMost (f .members)) (le-leb (head .count) packetsMost (f .packets)))
-      refl)
+  phase-is phase f = within-is (head .sequencer .group .n) (head .count) phase (f .members) (f .packets)
 
   pub phase-was : (phase p : Phase) → phaseOf head phase ≡ p → (Closed ≡ p → ⊥) → Fits head × (phase ≡ p)
   unfolding phaseOf
   phase-was phase p e shut =
-      let z = if-was test phase Closed p e shut in (
-        record {
-          members = leb-true (head .sequencer .group .n) membersMost (both-first (head .sequencer .group .n ≤? membersMost) (head .count ≤? packetsMost) (z .0));
-          packets = leb-true (head .count) packetsMost (both-then (head .sequencer .group .n ≤? membersMost) (head .count ≤? packetsMost) (z .0));
-        },
-        z .1,
-      )
+      let z = within-was (head .sequencer .group .n) (head .count) phase p e shut in
+      (record { members = z .0; packets = z .1 }, z .2)
 
   pub phase-closed : (g : Group) (number : ℕ) → stageIn (phaseOf head Closed) g number ≡ closed
   unfolding phaseOf stageIn
-  phase-closed g number = if-elim (λ (p : Phase). stageIn p g number ≡ closed) test (λ _. refl) (λ _. refl)
+  phase-closed g number = ap (λ (p : Phase). stageIn p g number) (within-closed (head .sequencer .group .n) (head .count))
 
 pub running≢ : Closed ≡ Running → ⊥
 running≢ e = let z : _≡_ {A = ℕ} 0 1 = cc in omega arith
@@ -217,11 +224,11 @@ module _ (w : Whole) (number : ℕ) (event : Option Event) where
           subst (λ (x : play.Told). Tells x r w′ lent after) is told
 
 -- a tag from 1 on is not 0
-unfoldable positive : List ℕ → Type 0
+unfoldable pub positive : List ℕ → Type 0
 positive [] = Unit {0}
 positive (k ∷ ks) = (1 ≤ k) × positive ks
 
-no-key : (k : ℕ) (ks : List ℕ) → positive (k ∷ ks) → OneOf (k ∷ ks) 0 → ⊥
+pub no-key : (k : ℕ) (ks : List ℕ) → positive (k ∷ ks) → OneOf (k ∷ ks) 0 → ⊥
 unfolding positive
 no-key k [] p e = let z = p .0 in omega arith
 no-key k (j ∷ ks) p (inl e) = let z = p .0 in omega arith

@@ -1,3 +1,5 @@
+pub mod Lines
+pub mod Parts
 pub mod Play
 pub mod Feed
 pub mod Player

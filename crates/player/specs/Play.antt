@@ -1,5 +1,5 @@
 -- What `play` prints: the first line opens a group, then one event a line.
-use mathlib.Core.List.{List, [], _∷_, _++_, map}
+use mathlib.Core.List.{List, [], map}
 use mathlib.Core.Option.{Option, none, some}
 use Prim.Native.Nat.{ℕ, _+_}
 use lib.ListN.{length}
@@ -8,11 +8,12 @@ use Rattle.group.specs.Question.{judged}
 use Rattle.group.specs.declared.Refusal.{Refusal}
 use Rattle.model.specs.World.{Event, Group, happen, fresh}
 use Rattle.report.specs.Print.{lineOf, badLine, noSpace, badOpening, refusedOpening, lastLine}
-use Rattle.text.specs.Field.{linesOf}
 use Rattle.schedule.specs.Line.{eventOf, openingOf}
 use Rattle.schedule.specs.declared.Opening.{Opening}
 use Rattle.sequencer.specs.Calls.{freshOf}
 use Rattle.simulator.specs.Whole.{packetsMost}
+use Rattle.player.specs.Lines as lines
+use Rattle.player.specs.Lines.{outputFrom}
 
 -- the number of the next event, from 1; one of 64 bits stays at the largest of those, where no run comes
 abbrev pub countLargest : ℕ
@@ -29,9 +30,8 @@ pub data Stage : Type 0 where
   closed : Stage
 
 -- what a line prints, and where it leads
-pub record Told : Type 0 where
-  pub text : List ℕ
-  pub stage : Stage
+abbrev pub Told : Type 0
+Told = lines.Told Stage
 
 -- a first line of another form prints `bad line`, a refused one `refused 18` or `refused 24`, and nothing more
 abbrev pub refusedTold : Refusal → Told
@@ -68,21 +68,12 @@ lastOf (running g number) = lastTold g
 lastOf (ended g) = lastTold g
 lastOf closed = []
 
--- a program that plays a schedule: what it says of the text of a line, by the stage that the line leads to, and what it prints
--- at the end
-pub record Program : Type 0 where
-  pub says : Stage → List ℕ → List ℕ
-  pub last : Stage → List ℕ
+-- a program that plays a schedule, and the output of an input
+abbrev pub Program : Type 0
+Program = lines.Program Stage
 
--- all that lines print
-unfoldable pub linesTold : Program → Stage → List (List ℕ) → List ℕ
-linesTold program stage [] = program .last stage
-linesTold program stage (line ∷ rest) =
-    program .says (lineTold stage line .stage) (lineTold stage line .text) ++ linesTold program (lineTold stage line .stage) rest
-
--- the output of an input
 abbrev pub outputOf : Program → List ℕ → List ℕ
-outputOf program input = linesTold program opening (linesOf input)
+outputOf program input = outputFrom lineTold opening program input
 
 -- `play` says every text, and prints the last line
 abbrev pub playProgram : Program

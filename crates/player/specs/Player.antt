@@ -3,7 +3,7 @@ use mathlib.Core.Path.{_≡_}
 use mathlib.Core.List.{List, [], map}
 use Prim.Native.Nat.{ℕ, _+_, _*_}
 use lib.ListN.{length, take, getD}
-use Rattle.group.specs.Choice.{if_then_else_, _and_, _≤?_}
+use Rattle.group.specs.Choice.{if_then_else_, _and_, _<?_, _≤?_}
 use Rattle.group.specs.Lent.{front, Laid}
 use Rattle.group.specs.Limits.{membersMost, longestPacket}
 use Rattle.model.specs.World.{Group}
@@ -41,6 +41,10 @@ stageOf p w = stageIn (phaseOf (p .head) (p .phase)) (groupOf w) (p .number)
 
 abbrev pub stateOf : Player → Whole → List ℕ → State
 stateOf p w line = record { stage = stageOf p w; line = take (p .length) line }
+
+-- a resilience degree as a byte. No group has one of the most members or more: those become the most members
+unfoldable pub degreeOf : ℕ → ℕ
+degreeOf resilience = if resilience <? membersMost then resilience else membersMost
 
 -- a player that does what the meaning says, with the lent output before and after
 pub record Does (told : feed.Fed) (r : Fed) (w : Whole) (line : List ℕ) (lent after : List ℕ) : Type 0 where

@@ -4,7 +4,6 @@ use mathlib.Core.List.{List}
 use mathlib.Core.Option.{Option, none, some}
 use Prim.Native.Nat.{ℕ, _≤_}
 use lib.ListN.{length}
-use Rattle.group.specs.Choice.{if_then_else_, _<?_}
 use Rattle.group.specs.Lent.{front}
 use Rattle.group.specs.Limits.{membersMost}
 use Rattle.model.specs.World.{Event}
@@ -29,10 +28,6 @@ use Rattle.player.specs.declared.Told.{Told}
 pub record Fits (head : Head) : Type 0 where
   pub members : head .sequencer .group .n ≤ membersMost
   pub packets : head .count ≤ packetsMost
-
--- a resilience degree as a byte. No group has one of the most members or more: those become the most members
-unfoldable pub degreeOf : ℕ → ℕ
-degreeOf resilience = if resilience <? membersMost then resilience else membersMost
 
 -- a submit's payload lies in the bytes that were lent
 abbrev pub Sized : Command → Type 0

@@ -43,8 +43,8 @@ ghost use Rattle.schedule.specs.Line.{eventOf, openingOf, payloadRoom};
 ghost use Rattle.simulator.specs.Whole.{listOf, wholeOf, groupOf};
 ghost use Rattle.player.specs.Play.{nextNumber, refusedTold, openTold, eventTold, lineTold, lastTold};
 ghost use Rattle.player.specs.Feed.{keptMost, keptOf, toldAs, fedOf, endOf};
-ghost use Rattle.player.specs.Player.{outputRoom, stageIn, phaseWith, phaseOf, stageOf, stateOf, takenAt, Does, Lays, LaysLast, Fresh};
-ghost use Rattle.player.specs.Steps.{Fits, degreeOf, actionOf, Sized, Performed, Tells, Refuses, PlaysLine};
+ghost use Rattle.player.specs.Player.{outputRoom, stageIn, phaseWith, phaseOf, stageOf, stateOf, degreeOf, takenAt, Does, Lays, LaysLast, Fresh};
+ghost use Rattle.player.specs.Steps.{Fits, actionOf, Sized, Performed, Tells, Refuses, PlaysLine};
 
 // What is kept of a line: one character more than a line may have.
 pub const LINE: usize = LINE_MOST + 1;
@@ -114,7 +114,8 @@ fn output_room() -> usize
     OUTPUT
 }
 
-fn next_number(number: u64) -> u64
+// The number of the next event.
+pub fn next_number(number: u64) -> u64
     ensures { λ r. ⌜ r ≡ nextNumber number ⌝ }
 {
     if number < u64::MAX {
@@ -124,7 +125,8 @@ fn next_number(number: u64) -> u64
     }
 }
 
-fn smaller(a: usize, b: usize) -> usize
+// The smaller of two.
+pub fn smaller(a: usize, b: usize) -> usize
     ensures { λ r. ⌜ r ≡ (if a <? b then a else b) ⌝ }
 {
     if a < b { a } else { b }
@@ -296,7 +298,7 @@ fn perform(
 }
 
 // Writes the line of an event: its number, what it is answered with the first `size` bytes, and the index of a packet written.
-fn write_answer(
+pub fn write_answer(
     number: u64,
     reply: Reply,
     index: usize,
@@ -429,7 +431,7 @@ fn refuse(head: Head, refusal: Refusal, out: &mut [u8; OUTPUT]) -> Told
 }
 
 // A resilience degree as a byte. No group has one of the most members or more: those become the most members.
-fn degree(resilience: u32) -> u8
+pub fn degree(resilience: u32) -> u8
     ensures { λ r. ⌜ r ≡ degreeOf resilience ⌝ }
 {
     if resilience < (Group::MEMBERS as u32) {
@@ -636,7 +638,7 @@ fn play(
 }
 
 // Keeps a part more of a line of which `kept` bytes stand, and gives how many are.
-fn keep(line: &mut [u8], kept: usize, part: &[u8]) -> usize
+pub fn keep(line: &mut [u8], kept: usize, part: &[u8]) -> usize
     requires { ⌜ length (now line) ≡ keptMost ⌝ }
     ensures kept { λ r. ⌜ take r (now (line .exit)) ≡ keptOf (take kept (now (line .entry)) ++ now (part .entry)) ⌝ }
     ensures most { λ r. ⌜ r ≤ keptMost ⌝ }

@@ -1,1 +1,5 @@
-pub mod Example
+pub mod Asking
+pub mod Telling
+pub mod Opening
+pub mod Ending
+pub mod Laws

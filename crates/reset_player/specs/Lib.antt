@@ -1,2 +1,4 @@
-pub mod Recover
-pub mod Example
+pub mod Feed
+pub mod Player
+pub mod Laws
+pub mod Steps

@@ -1,22 +1,22 @@
 -- What the private functions promise on the way. No public promise speaks of it.
 use mathlib.Core.Bool.{Bool, true, false}
-use mathlib.Core.List.{List, []}
+use mathlib.Core.List.{List}
 use Prim.Native.Nat.{ℕ}
-use Rattle.descriptor.specs.Descriptor.{Gives, Takes}
+use Rattle.descriptor.specs.Descriptor.{Takes}
 use Rattle.descriptor.specs.declared.Source.{Source}
 use Rattle.descriptor.specs.declared.Sink.{Sink}
 use Rattle.inspection.specs.Lists.{Listed}
 use Rattle.inspection.specs.Table.{listsLeft, inspectProgram, Tabled}
 use Rattle.model.specs.World.{Group}
 use Rattle.player.specs.Feed.{State}
-use Rattle.player.specs.Laws.{Continues}
-use Rattle.player.specs.Play.{Program, playProgram}
+use Rattle.player.specs.Play.{Program, lineTold, playProgram}
 use Rattle.player.specs.Player.{stageIn, phaseOf}
 use Rattle.player.specs.declared.Phase.{Phase}
 use Rattle.player.specs.declared.Phase.the-variants.{Opening, Running, Ended, Closed}
 use Rattle.player.specs.declared.Player.{Player}
 use Rattle.simulator.specs.Whole.{Terminals, Packets, packetsIn}
 use Rattle.simulator.specs.declared.Head.{Head}
+use Rattle.stream.specs.Puts.{PutsBy, TurnsBy}
 use Rattle.stream.specs.declared.Turn.{Turn}
 
 -- the program that is quiet about events, and the one that is not
@@ -33,16 +33,12 @@ saidSize true Ended size = 0
 saidSize true Closed size = size
 
 -- an input was played but for what is left of it, and the sink took what was printed
-pub record Puts (program : Program) (from : State) (input : List ℕ) (to : State) (left : List ℕ) (before after : Sink) : Type 0 where
-  pub printed : List ℕ
-  pub takes : Takes before printed after
-  pub continues : Continues program from input printed to left
+abbrev pub Puts : Program → State → List ℕ → State → List ℕ → Sink → Sink → Type 0
+Puts program from input to left before after = PutsBy lineTold program from input to left before after
 
 -- the source gave an input, which was played
-pub record Turns (program : Program) (from to : State) (source : Source) (sink : Sink) (r : Turn) : Type 0 where
-  pub input : List ℕ
-  pub gives : Gives source input (r .source)
-  pub puts : Puts program from input to [] sink (r .sink)
+abbrev pub Turns : Program → State → State → Source → Sink → Turn → Type 0
+Turns program from to source sink r = TurnsBy lineTold program from to source sink (r .source) (r .sink)
 
 -- the sink took what `text` says of every group that is shown by these numbers and packets
 abbrev pub HandsLists : (Group → List ℕ) → Head → List (List ℕ) → Packets → Sink → Sink → Type 0

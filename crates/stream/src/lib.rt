@@ -68,7 +68,7 @@ fn put(sink: Sink, text: &[u8], size: usize) -> Sink
 }
 
 // The same of a text, of a table and of a job's line.
-fn put_text(sink: Sink, text: [u8; OUTPUT], size: usize) -> Sink
+pub fn put_text(sink: Sink, text: [u8; OUTPUT], size: usize) -> Sink
     ensures { λ r. ⌜ Takes sink (take size text) r ⌝ }
 {
     put(sink, &text, size)

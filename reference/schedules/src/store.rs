@@ -1,11 +1,11 @@
 //! The files of the stored schedules: each schedule is a file of
 //! `crates/schedules/data`, named by its number, and `crates/schedules/stdout`
-//! has what they print, one behind the other. `crates/play` has the document's
+//! has what they print, one behind the other; `crates/reset_schedules` has those
+//! with resets, for `recover`. `crates/play` and `crates/recover` have a document's
 //! own schedule, `crates/inspect` one that leaves each column something and
 //! work lists of several jobs, and `crates/load` the words of a load.
 //! `crates/journal_tool` has the stored journals and what it is asked to do with
-//! them. `reference/schedules/resets` has the schedules for `recover` and what
-//! they print, until there is a proved program that is held to them.
+//! them.
 
 use crate::{Schedule, all, inspected, journals, played, resets};
 use model::{load, play};
@@ -14,7 +14,7 @@ use std::path::{Path, PathBuf};
 use std::{fs, io};
 
 /// Where the schedules with resets are.
-const RESETS: &str = "reference/schedules/resets";
+const RESETS: &str = "crates/reset_schedules";
 
 /// What a program prints of its input.
 type Prints = fn(&[u8]) -> Vec<u8>;
@@ -30,7 +30,7 @@ pub fn name(number: usize) -> String {
 }
 
 /// Every file that is kept, and what it has to hold. The inputs of `play`,
-/// `inspect` and `load` are given and not kept; without such a crate there is
+/// `inspect`, `recover` and `load` are given and not kept; without such a crate there is
 /// nothing to hold.
 fn files(schedules: &[Schedule]) -> io::Result<Vec<(PathBuf, Vec<u8>)>> {
     let root = root();
@@ -46,7 +46,11 @@ fn files(schedules: &[Schedule]) -> io::Result<Vec<(PathBuf, Vec<u8>)>> {
     let table = table(schedules, "crates/schedules");
     files.push((root.join("reference/schedules/TABLE.md"), table));
     files.extend(reset_files());
-    let programs: [(&str, Prints); 2] = [("play", played), ("inspect", inspected)];
+    let programs: [(&str, Prints); 3] = [
+        ("play", played),
+        ("inspect", inspected),
+        ("recover", resets::recovered),
+    ];
     for (name, prints) in programs {
         let program = crates.join(name);
         if program.exists() {
@@ -78,7 +82,8 @@ fn reset_files() -> Vec<(PathBuf, Vec<u8>)> {
     let texts = schedules.iter().map(|schedule| &schedule.text);
     let outputs = texts.clone().flat_map(|text| resets::recovered(text));
     let outputs = (folder.join("stdout"), outputs.collect());
-    let table = (folder.join("TABLE.md"), table(&schedules, RESETS));
+    let table_file = root().join("reference/schedules/resets/TABLE.md");
+    let table = (table_file, table(&schedules, RESETS));
     let data = folder.join("data");
     let texts = texts.enumerate();
     texts

@@ -1,7 +1,7 @@
 -- The test is the definition's.
 -- Assumes nothing.
 use Rattle.group.proofs.Choice.{choices}
-use Rattle.player.specs.Steps.{degreeOf}
+use Rattle.player.specs.Player.{degreeOf}
 use borrow.Author.Needs.{needs}
 use Rattle.player.proofs.degree.Statement.{statement}
 use Rattle.player.proofs.degree.Tie as tie

@@ -3,7 +3,7 @@
 use Rattle.stream.specs.Steps.{programOf, Turns}
 use Rattle.player.specs.Player.{stateOf}
 use Rattle.simulator.specs.Whole.{wholeOf}
-use Rattle.stream.proofs.Laws.{turns-none, turns-both}
+use Rattle.stream.proofs.Turning.{turns-none, turns-both}
 use borrow.Author.Needs.{needs}
 use Rattle.stream.proofs.play_all.Statement.{statement}
 use Rattle.stream.proofs.play_all.Tie as tie
@@ -19,7 +19,7 @@ play-some-requires : tie.Need-play-some-requires Inv-loop μ-loop
 play-some-requires c κs = search needs
 
 loop-holds : tie.Need-loop-holds Inv-loop μ-loop
-loop-holds c = turns-none _ _
+loop-holds c = turns-none _ _ _
 
 play-some-requires-2 : tie.Need-play-some-requires-2 Inv-loop μ-loop
 play-some-requires-2 c κs = search needs

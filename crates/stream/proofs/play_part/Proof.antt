@@ -10,7 +10,8 @@ use Rattle.player.proofs.Laws.{reads-within, continues-fed}
 use Rattle.player.specs.Player.{phaseOf, stateOf}
 use Rattle.simulator.specs.Whole.{wholeOf}
 use Rattle.stream.specs.Steps.{programOf, Puts}
-use Rattle.stream.proofs.Laws.{said-told, puts-none}
+use Rattle.stream.proofs.Laws.{said-told}
+use Rattle.stream.proofs.Turning.{puts-none}
 use borrow.Author.Needs.{needs}
 use Rattle.stream.proofs.play_part.Statement.{statement}
 use Rattle.stream.proofs.play_part.Tie as tie

@@ -5,7 +5,8 @@ use mathlib.Core.List.{[]}
 use Rattle.descriptor.proofs.Laws.{takes-both, takes-as}
 use Rattle.player.proofs.Laws.{continues-end}
 use Rattle.stream.specs.Steps.{programOf}
-use Rattle.stream.proofs.Laws.{quiet-of, puts-from}
+use Rattle.stream.proofs.Laws.{quiet-of}
+use Rattle.stream.proofs.Turning.{puts-from}
 use borrow.Author.Needs.{needs}
 use Rattle.stream.proofs.run.Statement.{statement}
 use Rattle.stream.proofs.run.Tie as tie

@@ -1,6 +1,6 @@
 -- Schedules with resets and what they print. `proofs/Example.antt` has the proof, by computation.
 use mathlib.Core.Path.{_≡_}
-use Rattle.reset_player.specs.Recover.{recoverOf}
+use Rattle.reset_output.specs.Recover.{recoverOf}
 use Rattle.text.specs.Text.{textOf}
 
 -- three terminals: 0's message is numbered, and 1 has it; then 0 burns out, 1 invites, 2 replies, and 1 makes the group of both, with itself

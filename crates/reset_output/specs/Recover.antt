@@ -8,6 +8,8 @@ use Rattle.group.specs.Choice.{if_then_else_, _<?_}
 use Rattle.group.specs.Members.{electedOf}
 use Rattle.group.specs.Question.{judged}
 use Rattle.group.specs.declared.Refusal.{Refusal}
+use Rattle.player.specs.Lines as lines
+use Rattle.player.specs.Lines.{outputFrom}
 use Rattle.player.specs.Play.{nextNumber}
 use Rattle.recovery.specs.State.{Terminal}
 use Rattle.report.specs.Print.{lineOf, badLine, noSpace, badOpening, refusedOpening}
@@ -18,7 +20,6 @@ use Rattle.schedule.specs.Line.{openingOf}
 use Rattle.schedule.specs.declared.Opening.{Opening}
 use Rattle.sequencer.specs.Calls.{freshOf}
 use Rattle.simulator.specs.Whole.{packetsMost}
-use Rattle.text.specs.Field.{linesOf}
 
 -- the first line is awaited; events are read, with the number of the next; a line ended the events; no group was opened
 pub data Stage : Type 0 where
@@ -28,9 +29,8 @@ pub data Stage : Type 0 where
   closed : Stage
 
 -- what a line prints, and where it leads
-pub record Told : Type 0 where
-  pub text : List ℕ
-  pub stage : Stage
+abbrev pub Told : Type 0
+Told = lines.Told Stage
 
 -- a first line of another form prints `bad line`, a refused one `refused 18` or `refused 24`, and nothing more
 abbrev pub refusedTold : Refusal → Told
@@ -81,11 +81,10 @@ lastOf (running g number) = terminalsTold 0 (g .terminals)
 lastOf (ended g) = terminalsTold 0 (g .terminals)
 lastOf closed = []
 
--- all that lines print
-unfoldable pub linesTold : Stage → List (List ℕ) → List ℕ
-linesTold stage [] = lastOf stage
-linesTold stage (line ∷ rest) = lineTold stage line .text ++ linesTold (lineTold stage line .stage) rest
+-- `recover` says every text, and prints those lines at the end
+abbrev pub recoverProgram : lines.Program Stage
+recoverProgram = record { says = λ stage text. text; last = lastOf }
 
 -- the output of an input
 abbrev pub recoverOf : List ℕ → List ℕ
-recoverOf input = linesTold opening (linesOf input)
+recoverOf input = outputFrom lineTold opening recoverProgram input

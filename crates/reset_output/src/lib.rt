@@ -1,0 +1,1 @@
+// What a schedule with resets prints: specs and proofs alone.

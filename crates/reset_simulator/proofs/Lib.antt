@@ -1,0 +1,6 @@
+pub mod Rooms
+pub mod Rows
+pub mod Calling
+pub mod Acting
+pub mod Playing
+pub mod Opening

@@ -1,29 +1,25 @@
-// The member: it submits messages, holds what comes until it can be taken in order, and acknowledges what it has. The work of each call is
-// lent its state in parts: the numbers of its head by value, and all arrays.
+// The member: it submits messages, holds what comes until it can be taken in order, and acknowledges what it has. Here are its head, its answers
+// and the steps of its calls, which are lent its state in parts: the numbers of its head by value, and arrays.
 use group::Group;
 use group::MemberNumber;
-use group::Opened;
 use group::Refusal;
 use group::SequenceNumber;
 use group::Verdict;
 use packet::Packet;
-use packet::Reading;
 ghost use mathlib.Core.Path.{_≡_};
-ghost use mathlib.Core.Bool.{true};
 ghost use mathlib.Core.List.{[]};
 ghost use Prim.Native.Nat.{_+_, _-_, _*_, _≤_, _<_};
 ghost use lib.ListN.{length, take, getD};
 ghost use Rattle.group.specs.Lent.{Laid};
 ghost use Rattle.group.specs.Limits.{heldMost, waitingMost, payloadMost, longestPacket, largestNumber};
-ghost use Rattle.group.specs.Opening.{descriptionOf};
-ghost use Rattle.packet.specs.Packet.{obeys, fieldsVerdict, fieldsOf, packetOf, readOf};
+ghost use Rattle.packet.specs.Packet.{fieldsVerdict, fieldsOf, packetOf};
 ghost use Rattle.store.specs.Places.{partOf, messagesIn};
 ghost use Rattle.window.specs.Places.{placeOf, queuePlace, smallerOf};
 ghost use Rattle.member.specs.Sound.{soundOf};
-ghost use Rattle.member.specs.Calls.{answered, callVerdict, submitVerdict, gapUpTo, keptOf, messageStep, broadcastOf, confirms, offerOf, pollOf, contentStep};
+ghost use Rattle.member.specs.Calls.{answered, callVerdict, submitVerdict, gapUpTo, keptOf, messageStep, broadcastOf, confirms, offerOf, pollOf};
 ghost use Rattle.member.specs.View.{Sized, whole, viewOf};
-ghost use Rattle.member.specs.Promise.{Begins, Submitted, Received, Taken, Repeated, Reported, Ended};
-ghost use Rattle.member.specs.Steps.{emptyHanded, accepting, confirmsBy, readOurs, requestIn, Tells, Hears, Submits, Hands};
+ghost use Rattle.member.specs.Promise.{Ended};
+ghost use Rattle.member.specs.Steps.{emptyHanded, accepting, confirmsBy, requestIn, Tells, Hears, Submits, Hands};
 
 // The numbers of a member: they go by value.
 #[repr(C)]
@@ -83,24 +79,6 @@ fn put_bare(packet: Packet, group: u32, out: &mut [u8]) -> usize
 {
     let none = [0u8; 0];
     packet.put(group, &none, out)
-}
-
-// A no: nothing is written.
-fn refused(refusal: Refusal) -> Reply
-    ensures { λ r. ⌜ r ≡ record { answer = Answer.Refused refusal; written = 0 } ⌝ }
-{
-    Reply {
-        answer: Answer::Refused(refusal),
-        written: 0,
-    }
-}
-
-// A no of the work of a call: the head stays.
-fn declined(head: Head, refusal: Refusal) -> Done
-    ensures { λ r. ⌜ r ≡ record { head = head; reply = record { answer = Answer.Refused refusal; written = 0 } } ⌝ }
-{
-    let reply = refused(refusal);
-    Done { head, reply }
 }
 
 // Question 1.
@@ -182,7 +160,7 @@ pub fn ask(
 }
 
 // Questions 13, 14 and 16 of a submission of `size` bytes.
-fn ask_submission(head: Head, size: usize) -> Verdict
+pub fn ask_submission(head: Head, size: usize) -> Verdict
     ensures { λ r. ⌜ r ≡ submitVerdict (emptyHanded head) size ⌝ }
 {
     if Group::PAYLOAD < size {
@@ -220,7 +198,7 @@ fn put_request(
 }
 
 // Lays the request of the first message that waits at the front of the output, and gives its length.
-fn put_first(
+pub fn put_first(
     head: Head,
     held: &[u32; Group::HELD],
     lengths: &[u8],
@@ -239,7 +217,7 @@ fn put_first(
 }
 
 // Lays a status packet at the front of the output, and gives its length. It acknowledges the accepted of the row that ends there.
-fn put_status(head: Head, end: SequenceNumber, out: &mut [u8]) -> usize
+pub fn put_status(head: Head, end: SequenceNumber, out: &mut [u8]) -> usize
     requires { ⌜ longestPacket ≤ length (now out) ⌝ }
     ensures { λ r. ⌜ Laid (packetOf (fieldsOf (head .group .number) (Packet.Status (head .number) (record { 0 = smallerOf (end .0) (head .accepted .0) }))) []) r (now (out .entry)) (now (out .exit)) ⌝ }
 {
@@ -303,7 +281,7 @@ fn gap_up_to(
 }
 
 // A poll: what is missing up to its top, or the status where nothing is.
-fn poll(head: Head, held: &[u32; Group::HELD], top: SequenceNumber, out: &mut [u8]) -> Reply
+pub fn poll(head: Head, held: &[u32; Group::HELD], top: SequenceNumber, out: &mut [u8]) -> Reply
     requires { ⌜ longestPacket ≤ length (now out) ⌝ }
     ensures { λ r. ⌜ Tells head (now (held .entry)) (λ m. pollOf m top) r (now (out .entry)) (now (out .exit)) ⌝ }
 {
@@ -412,7 +390,7 @@ fn accept_up_to(mut head: Head, number: SequenceNumber) -> Head
 }
 
 // A broadcast: it accepts all up to its number, also where a gap packet is written.
-fn broadcast(
+pub fn broadcast(
     head: Head,
     held: &mut [u32; Group::HELD],
     held_originators: &mut [u8; Group::HELD],
@@ -485,7 +463,7 @@ fn confirmed(head: Head, held: &[u32; Group::HELD], number: SequenceNumber, answ
 }
 
 // An offer: it accepts nothing.
-fn offer(
+pub fn offer(
     head: Head,
     held: &mut [u32; Group::HELD],
     held_originators: &mut [u8; Group::HELD],
@@ -521,7 +499,7 @@ fn offer(
 }
 
 // An acceptance.
-fn noted(head: Head, number: SequenceNumber) -> Done
+pub fn noted(head: Head, number: SequenceNumber) -> Done
     ensures { λ r. ⌜ r ≡ record { head = accepting head (number .0); reply = record { answer = Answer.Noted; written = 0 } } ⌝ }
 {
     let next = accept_up_to(head, number);
@@ -530,134 +508,8 @@ fn noted(head: Head, number: SequenceNumber) -> Done
     Done { head: next, reply }
 }
 
-// Reads a packet at this end: questions 3 to 6, then 6 of byte 1, and 7.
-fn read_ours(group: Group, packet: &[u8]) -> Reading
-    ensures { λ r. ⌜ r ≡ readOurs group (readOf (now (packet .entry))) ⌝ }
-{
-    let r = packet::read(packet);
-    match r {
-        Reading::Fields(h) => {
-            let said = Packet::of(h);
-            if said.from_elected(group) {
-                if h.group == group.number {
-                    return Reading::Fields(h);
-                }
-                return Reading::Refused(Refusal::OtherGroup);
-            }
-            Reading::Refused(Refusal::ForbiddenFields)
-        }
-        Reading::Refused(q) => Reading::Refused(q),
-    }
-}
-
-// What a packet of our group says: questions 8 and 9.
-fn content(
-    head: Head,
-    held: &mut [u32; Group::HELD],
-    held_originators: &mut [u8; Group::HELD],
-    held_lengths: &mut [u8; Group::HELD],
-    held_payloads: &mut [u8; Group::HELD_BYTES],
-    packet: Packet,
-    payload: &[u8],
-    out: &mut [u8],
-) -> Done
-    requires { ⌜ (obeys (fieldsOf (head .group .number) packet) (now payload) ≡ true) × (length (now payload) ≤ payloadMost) × (longestPacket ≤ length (now out)) ⌝ }
-    ensures { λ r. ⌜ Hears head (messagesIn (now (held .entry)) (now («held_originators» .entry)) (now («held_lengths» .entry)) (now («held_payloads» .entry))) (r .head) (messagesIn (now (held .exit)) (now («held_originators» .exit)) (now («held_lengths» .exit)) (now («held_payloads» .exit))) (λ m. contentStep m packet (now (payload .entry))) (r .reply) (now (out .entry)) (now (out .exit)) ⌝ }
-{
-    match packet {
-        Packet::Broadcast {
-            originator,
-            number,
-            count,
-            floor: _,
-        } => {
-            if originator.0 < head.group.n {
-                return broadcast(
-                    head,
-                    held,
-                    held_originators,
-                    held_lengths,
-                    held_payloads,
-                    originator,
-                    number,
-                    count,
-                    payload,
-                    out,
-                );
-            }
-            declined(head, Refusal::UnknownMember)
-        }
-        Packet::Poll {
-            elected: _,
-            top,
-            floor: _,
-        } => {
-            let reply = poll(head, held, top, out);
-            Done { head, reply }
-        }
-        Packet::Offer {
-            originator,
-            number,
-            count,
-            floor: _,
-        } => {
-            if originator.0 < head.group.n {
-                let reply = offer(
-                    head,
-                    held,
-                    held_originators,
-                    held_lengths,
-                    held_payloads,
-                    originator,
-                    number,
-                    count,
-                    payload,
-                    out,
-                );
-                return Done { head, reply };
-            }
-            declined(head, Refusal::UnknownMember)
-        }
-        Packet::Accept { elected: _, number } => noted(head, number),
-        Packet::Request {
-            sender: _,
-            taken: _,
-            count: _,
-        } => declined(head, Refusal::OtherEnd),
-        Packet::Gap {
-            sender: _,
-            taken: _,
-            first: _,
-            last: _,
-        } => declined(head, Refusal::OtherEnd),
-        Packet::Status {
-            sender: _,
-            taken: _,
-        } => declined(head, Refusal::OtherEnd),
-        Packet::Confirm {
-            sender: _,
-            number: _,
-        } => declined(head, Refusal::OtherEnd),
-        Packet::Invitation {
-            sender: _,
-            attempt: _,
-        } => declined(head, Refusal::OtherEnd),
-        Packet::Reply {
-            sender: _,
-            attempt: _,
-            number: _,
-        } => declined(head, Refusal::OtherEnd),
-        Packet::Result {
-            sender: _,
-            attempt: _,
-            elected: _,
-            number: _,
-        } => declined(head, Refusal::OtherEnd),
-    }
-}
-
 // A submission that no question refuses: its request is written, or, behind one that waits, nothing.
-fn submitted(
+pub fn submitted(
     mut head: Head,
     held: &[u32; Group::HELD],
     queued: &mut [u32; Group::WAITING],
@@ -699,7 +551,7 @@ fn submitted(
 
 // The following number is handed out: its payload goes to the front of the output, its place is made empty, and if it is the member's
 // own that waits first, the next is first.
-fn hand_out(
+pub fn hand_out(
     mut head: Head,
     queued: &mut [u32; Group::WAITING],
     queued_originators: &mut [u8; Group::WAITING],
@@ -756,316 +608,6 @@ pub fn idle(group: Group, number: MemberNumber) -> Head
         accepted: SequenceNumber(0),
         submitted: 0,
         waiting: 0,
-    }
-}
-
-// An opening that is refused.
-fn unopened(refusal: Refusal) -> Begun
-    ensures { λ r. ⌜ r ≡ record { head = record { group = descriptionOf 0 0 0; number = record { 0 = 0 }; taken = record { 0 = 0 }; accepted = record { 0 = 0 }; submitted = 0; waiting = 0 }; verdict = Verdict.Refused refusal } ⌝ }
-{
-    let none = Group {
-        n: 0,
-        resilience: 0,
-        survivors: 0,
-        elected: MemberNumber(0),
-        number: 0,
-    };
-    let head = idle(none, MemberNumber(0));
-    Begun {
-        head,
-        verdict: Verdict::Refused(refusal),
-    }
-}
-
-// The work of opening: questions 18 and 24. Where it is refused, the state is all zero.
-pub fn open_on(
-    head: Head,
-    queued: &mut [u32; Group::WAITING],
-    held: &mut [u32; Group::HELD],
-    queued_originators: &mut [u8; Group::WAITING],
-    queued_lengths: &mut [u8; Group::WAITING],
-    held_originators: &mut [u8; Group::HELD],
-    held_lengths: &mut [u8; Group::HELD],
-    queued_payloads: &mut [u8; Group::WAITING_BYTES],
-    held_payloads: &mut [u8; Group::HELD_BYTES],
-    n: u8,
-    number: MemberNumber,
-    group: u32,
-    resilience: u8,
-) -> Begun
-    ensures { λ r. ⌜ Begins (whole head (now (queued .entry)) (now (held .entry)) (now («queued_originators» .entry)) (now («queued_lengths» .entry)) (now («held_originators» .entry)) (now («held_lengths» .entry)) (now («queued_payloads» .entry)) (now («held_payloads» .entry))) n number group resilience (r .verdict) (whole (r .head) (now (queued .exit)) (now (held .exit)) (now («queued_originators» .exit)) (now («queued_lengths» .exit)) (now («held_originators» .exit)) (now («held_lengths» .exit)) (now («queued_payloads» .exit)) (now («held_payloads» .exit))) ⌝ }
-{
-    *queued = [0u32; Group::WAITING];
-    *held = [0u32; Group::HELD];
-    *queued_originators = [0u8; Group::WAITING];
-    *queued_lengths = [0u8; Group::WAITING];
-    *held_originators = [0u8; Group::HELD];
-    *held_lengths = [0u8; Group::HELD];
-    *queued_payloads = [0u8; Group::WAITING_BYTES];
-    *held_payloads = [0u8; Group::HELD_BYTES];
-    if n <= number.0 {
-        return unopened(Refusal::Opening);
-    }
-    let opened = Group::fresh(n, group, resilience);
-    match opened {
-        Opened::Open(g) => {
-            let head = idle(g, number);
-            Begun {
-                head,
-                verdict: Verdict::Accepted,
-            }
-        }
-        Opened::Refused(q) => unopened(q),
-    }
-}
-
-// The work of a submission.
-pub fn submit_on(
-    head: Head,
-    queued: &mut [u32; Group::WAITING],
-    held: &mut [u32; Group::HELD],
-    queued_originators: &mut [u8; Group::WAITING],
-    queued_lengths: &mut [u8; Group::WAITING],
-    held_originators: &mut [u8; Group::HELD],
-    held_lengths: &mut [u8; Group::HELD],
-    queued_payloads: &mut [u8; Group::WAITING_BYTES],
-    held_payloads: &mut [u8; Group::HELD_BYTES],
-    payload: &[u8],
-    out: &mut [u8],
-) -> Done
-    ensures { λ r. ⌜ Submitted (whole head (now (queued .entry)) (now (held .entry)) (now («queued_originators» .entry)) (now («queued_lengths» .entry)) (now («held_originators» .entry)) (now («held_lengths» .entry)) (now («queued_payloads» .entry)) (now («held_payloads» .entry))) (now (payload .entry)) (now (out .entry)) (r .reply) (whole (r .head) (now (queued .exit)) (now (held .exit)) (now («queued_originators» .exit)) (now («queued_lengths» .exit)) (now («held_originators» .exit)) (now («held_lengths» .exit)) (now («queued_payloads» .exit)) (now («held_payloads» .exit))) (now (out .exit)) ⌝ }
-{
-    let v = ask(
-        head,
-        queued,
-        held,
-        queued_originators,
-        queued_lengths,
-        held_originators,
-        held_lengths,
-        queued_payloads,
-        held_payloads,
-        out.len(),
-    );
-    match v {
-        Verdict::Accepted => {
-            let w = ask_submission(head, payload.len());
-            match w {
-                Verdict::Accepted => submitted(
-                    head,
-                    held,
-                    queued,
-                    queued_originators,
-                    queued_lengths,
-                    queued_payloads,
-                    payload,
-                    out,
-                ),
-                Verdict::Refused(q) => {
-                    let reply = refused(q);
-                    Done { head, reply }
-                }
-            }
-        }
-        Verdict::Refused(q) => {
-            let reply = refused(q);
-            Done { head, reply }
-        }
-    }
-}
-
-// The work of a packet: questions 1 to 9, then the step.
-pub fn receive_on(
-    head: Head,
-    queued: &mut [u32; Group::WAITING],
-    held: &mut [u32; Group::HELD],
-    queued_originators: &mut [u8; Group::WAITING],
-    queued_lengths: &mut [u8; Group::WAITING],
-    held_originators: &mut [u8; Group::HELD],
-    held_lengths: &mut [u8; Group::HELD],
-    queued_payloads: &mut [u8; Group::WAITING_BYTES],
-    held_payloads: &mut [u8; Group::HELD_BYTES],
-    packet: &[u8],
-    out: &mut [u8],
-) -> Done
-    ensures { λ r. ⌜ Received (whole head (now (queued .entry)) (now (held .entry)) (now («queued_originators» .entry)) (now («queued_lengths» .entry)) (now («held_originators» .entry)) (now («held_lengths» .entry)) (now («queued_payloads» .entry)) (now («held_payloads» .entry))) (now (packet .entry)) (now (out .entry)) (r .reply) (whole (r .head) (now (queued .exit)) (now (held .exit)) (now («queued_originators» .exit)) (now («queued_lengths» .exit)) (now («held_originators» .exit)) (now («held_lengths» .exit)) (now («queued_payloads» .exit)) (now («held_payloads» .exit))) (now (out .exit)) ⌝ }
-{
-    let v = ask(
-        head,
-        queued,
-        held,
-        queued_originators,
-        queued_lengths,
-        held_originators,
-        held_lengths,
-        queued_payloads,
-        held_payloads,
-        out.len(),
-    );
-    match v {
-        Verdict::Accepted => {
-            let r = read_ours(head.group, packet);
-            match r {
-                Reading::Fields(h) => {
-                    let end = Group::HEADER + packet::payload_length(packet);
-                    content(
-                        head,
-                        held,
-                        held_originators,
-                        held_lengths,
-                        held_payloads,
-                        Packet::of(h),
-                        &packet[Group::HEADER..end],
-                        out,
-                    )
-                }
-                Reading::Refused(q) => {
-                    let reply = refused(q);
-                    Done { head, reply }
-                }
-            }
-        }
-        Verdict::Refused(q) => {
-            let reply = refused(q);
-            Done { head, reply }
-        }
-    }
-}
-
-// The work of a take.
-pub fn take_on(
-    head: Head,
-    queued: &mut [u32; Group::WAITING],
-    held: &mut [u32; Group::HELD],
-    queued_originators: &mut [u8; Group::WAITING],
-    queued_lengths: &mut [u8; Group::WAITING],
-    held_originators: &mut [u8; Group::HELD],
-    held_lengths: &mut [u8; Group::HELD],
-    queued_payloads: &mut [u8; Group::WAITING_BYTES],
-    held_payloads: &mut [u8; Group::HELD_BYTES],
-    out: &mut [u8],
-) -> Done
-    ensures { λ r. ⌜ Taken (whole head (now (queued .entry)) (now (held .entry)) (now («queued_originators» .entry)) (now («queued_lengths» .entry)) (now («held_originators» .entry)) (now («held_lengths» .entry)) (now («queued_payloads» .entry)) (now («held_payloads» .entry))) (now (out .entry)) (r .reply) (whole (r .head) (now (queued .exit)) (now (held .exit)) (now («queued_originators» .exit)) (now («queued_lengths» .exit)) (now («held_originators» .exit)) (now («held_lengths» .exit)) (now («queued_payloads» .exit)) (now («held_payloads» .exit))) (now (out .exit)) ⌝ }
-{
-    let v = ask(
-        head,
-        queued,
-        held,
-        queued_originators,
-        queued_lengths,
-        held_originators,
-        held_lengths,
-        queued_payloads,
-        held_payloads,
-        out.len(),
-    );
-    match v {
-        Verdict::Accepted => {
-            let following = window::place(head.taken, 1);
-            if window::ready(held[following], head.taken, head.accepted) {
-                return hand_out(
-                    head,
-                    queued,
-                    queued_originators,
-                    queued_lengths,
-                    queued_payloads,
-                    held,
-                    held_originators,
-                    held_lengths,
-                    held_payloads,
-                    out,
-                );
-            }
-            let answer = Answer::None;
-            let reply = Reply { answer, written: 0 };
-            Done { head, reply }
-        }
-        Verdict::Refused(q) => {
-            let reply = refused(q);
-            Done { head, reply }
-        }
-    }
-}
-
-// The work of a repeat: question 15.
-pub fn repeat_on(
-    head: Head,
-    queued: &[u32; Group::WAITING],
-    held: &[u32; Group::HELD],
-    queued_originators: &[u8; Group::WAITING],
-    queued_lengths: &[u8; Group::WAITING],
-    held_originators: &[u8; Group::HELD],
-    held_lengths: &[u8; Group::HELD],
-    queued_payloads: &[u8; Group::WAITING_BYTES],
-    held_payloads: &[u8; Group::HELD_BYTES],
-    out: &mut [u8],
-) -> Reply
-    ensures { λ r. ⌜ Repeated (whole head (now (queued .entry)) (now (held .entry)) (now («queued_originators» .entry)) (now («queued_lengths» .entry)) (now («held_originators» .entry)) (now («held_lengths» .entry)) (now («queued_payloads» .entry)) (now («held_payloads» .entry))) (now (out .entry)) r (now (out .exit)) ⌝ }
-{
-    let v = ask(
-        head,
-        queued,
-        held,
-        queued_originators,
-        queued_lengths,
-        held_originators,
-        held_lengths,
-        queued_payloads,
-        held_payloads,
-        out.len(),
-    );
-    match v {
-        Verdict::Accepted => {
-            if 1 <= head.waiting {
-                let written = put_first(head, held, queued_lengths, queued_payloads, out);
-                return Reply {
-                    answer: Answer::Sent,
-                    written,
-                };
-            }
-            refused(Refusal::NothingWaiting)
-        }
-        Verdict::Refused(q) => refused(q),
-    }
-}
-
-// The work of a status call.
-pub fn status_on(
-    head: Head,
-    queued: &[u32; Group::WAITING],
-    held: &[u32; Group::HELD],
-    queued_originators: &[u8; Group::WAITING],
-    queued_lengths: &[u8; Group::WAITING],
-    held_originators: &[u8; Group::HELD],
-    held_lengths: &[u8; Group::HELD],
-    queued_payloads: &[u8; Group::WAITING_BYTES],
-    held_payloads: &[u8; Group::HELD_BYTES],
-    out: &mut [u8],
-) -> Reply
-    ensures { λ r. ⌜ Reported (whole head (now (queued .entry)) (now (held .entry)) (now («queued_originators» .entry)) (now («queued_lengths» .entry)) (now («held_originators» .entry)) (now («held_lengths» .entry)) (now («queued_payloads» .entry)) (now («held_payloads» .entry))) (now (out .entry)) r (now (out .exit)) ⌝ }
-{
-    let v = ask(
-        head,
-        queued,
-        held,
-        queued_originators,
-        queued_lengths,
-        held_originators,
-        held_lengths,
-        queued_payloads,
-        held_payloads,
-        out.len(),
-    );
-    match v {
-        Verdict::Accepted => {
-            let end = window::row_end(held, head.taken);
-            let written = put_status(head, end, out);
-            Reply {
-                answer: Answer::Sent,
-                written,
-            }
-        }
-        Verdict::Refused(q) => refused(q),
     }
 }
 

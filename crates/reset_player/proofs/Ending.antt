@@ -10,8 +10,9 @@ use Rattle.member.specs.View as member
 use Rattle.recovery.specs.View.{terminalOf}
 use Rattle.recovery.specs.declared.Head.{Head}
 use Rattle.reset_report.specs.Print.{terminalLine, sequencerLine}
-use Rattle.reset_simulator.specs.Whole.{headIn, storedAt, terminalAt}
+use Rattle.reset_simulator.specs.Whole.{storedAt, terminalAt}
 use Rattle.sequencer.specs.View as sequencer
+use Rattle.terminal_rows.specs.Heads.{headIn}
 use Rattle.reset_player.specs.Player.{LaysLast}
 use Rattle.reset_output.specs.Recover.{memberTold, sequencerTold}
 

@@ -11,11 +11,11 @@ use Rattle.reset.specs.World.{Event, happen}
 use Rattle.reset_schedule.specs.declared.Command.{Command}
 use Rattle.reset_schedule.specs.declared.Command.the-variants.{Submit}
 use Rattle.reset_simulator.specs.Whole.{groupOf, Whole, Plays}
-use Rattle.reset_simulator.specs.declared.Call.{Call}
 use Rattle.reset_simulator.specs.declared.Happening.{Happening}
 use Rattle.reset_simulator.specs.declared.World.{World}
 use Rattle.schedule.specs.Line.{payloadRoom}
 use Rattle.simulator.specs.Whole.{packetsMost}
+use Rattle.terminal_rows.specs.declared.Call.{Call}
 use Rattle.reset_player.specs.Feed as feed
 use Rattle.reset_player.specs.Player.{stageIn, phaseOf, Does}
 use Rattle.reset_output.specs.Recover as recover

@@ -5,27 +5,29 @@ use mathlib.Core.List.{List, [], _++_}
 use Prim.Native.Nat.{ℕ, _+_, _≤_, _<_}
 use native.Mathlib.Omega.{arith}
 use borrow.Author.Tests.{lt-ltb, le-ltb}
-use lib.ListN.{length, take, drop, getD, set, length-append}
+use lib.ListN.{length, take, set}
 use lib.Seq.{take-append-seam, take-all, getD-set-same, getD-set-other}
 use Rattle.group.proofs.Choice.{if-true, if-false}
-use Rattle.group.specs.Choice.{if_then_else_, _=?_}
+use Rattle.group.specs.Choice.{_=?_}
 use Rattle.group.specs.Lent.{front}
 use Rattle.group.specs.Limits.{longestPacket}
 use Rattle.model.specs.World.{answerOf}
 use Rattle.model.specs.declared.Reply.{Reply}
 use Rattle.packet.specs.Packet.{written}
-use Rattle.recovery.specs.State.{Terminal}
 use Rattle.recovery.specs.View.{terminalOf}
 use Rattle.recovery.specs.declared.Head.{Head}
 use Rattle.reset.specs.World as reset
 use Rattle.reset.specs.World.{Group, Happened, missing, noTerminal}
+use Rattle.simulator.proofs.Acting.{wrote, behind, fits}
 use Rattle.simulator.proofs.Lists.{length-list, lists-set, lists-get}
 use Rattle.simulator.specs.Steps.{Stores}
 use Rattle.simulator.specs.Whole.{listOf, Packets, packetsIn}
-use Rattle.reset_simulator.specs.Steps.{keptSize, Came, cameOf, admitsOf, absentAt, cameAt, CallsRow, CallsAt, leads, happenedAt}
-use Rattle.reset_simulator.specs.Whole.{Rows, storedAt, Terminals, terminalsOf, headIn, smallOf, masksOf, numbersOf, headAt, terminalAt, Whole, groupOf, Room, nothing, Plays}
-use Rattle.reset_simulator.specs.declared.Call.{Call}
-use Rattle.reset_simulator.specs.declared.Call.the-variants as call
+use Rattle.terminal_rows.specs.Heads.{headIn, smallOf, masksOf, numbersOf}
+use Rattle.terminal_rows.specs.Steps.{keptSize, admitsOf}
+use Rattle.terminal_rows.specs.declared.Call.{Call}
+use Rattle.terminal_rows.specs.declared.Call.the-variants as call
+use Rattle.reset_simulator.specs.Steps.{Came, cameOf, absentAt, cameAt, CallsRow, CallsAt, leads, happenedAt}
+use Rattle.reset_simulator.specs.Whole.{Rows, storedAt, Terminals, terminalsOf, headAt, terminalAt, Whole, groupOf, Room, nothing, Plays}
 use Rattle.reset_simulator.specs.declared.Called.{Called}
 use Rattle.reset_simulator.specs.declared.Happening.{Happening}
 use Rattle.reset_simulator.specs.declared.World.{World}
@@ -109,17 +111,6 @@ kept-bytes call.Order bytes lent = take-append-seam bytes _ ∙ sym (take-all (l
 kept-bytes call.Poll bytes lent = take-append-seam bytes _ ∙ sym (take-all (length bytes) bytes (omega arith))
 kept-bytes (call.Copy number) bytes lent = take-append-seam bytes _ ∙ sym (take-all (length bytes) bytes (omega arith))
 kept-bytes (call.Open n number resilience i) bytes lent = take-append-seam bytes _ ∙ sym (take-all (length bytes) bytes (omega arith))
-
--- the bytes that a call wrote are as many as it says, and behind them the output is as it was lent
-wrote : (bytes before after : List ℕ) (size : ℕ) → size ≡ length bytes → after ≡ front bytes before → take size after ≡ bytes
-wrote bytes before after size e f = rw (e, f) (take-append-seam bytes (drop (length bytes) before))
-
-behind : (bytes before after : List ℕ) (size : ℕ) → size ≡ length bytes → after ≡ front bytes before → after ≡ front (take size after) before
-behind bytes before after size e f = rw (wrote bytes before after size e f) f
-
--- and there is room for them
-fits : (bytes before after : List ℕ) (size : ℕ) → size ≡ length bytes → after ≡ front bytes before → length after ≡ longestPacket → size ≤ longestPacket
-fits bytes before after size e f l = let z = simp length-append at (ap length f) in omega arith
 
 -- an event of terminal i
 module _ (c : Call) (i : ℕ) (bytes : List ℕ) (world : World) (t t′ : Terminals) (p p′ : Packets) (called : Called) (before after : List ℕ) where

@@ -15,9 +15,9 @@ use Rattle.recovery.specs.State.{Terminal}
 use Rattle.recovery.specs.View.{Stored, View, seen, odd, viewOf, terminalOf, flagsSound}
 use Rattle.recovery.specs.declared.Head.{Head}
 use Rattle.sequencer.specs.declared.Reply as sequencerReply
+use Rattle.terminal_rows.specs.declared.Call.{Call}
+use Rattle.terminal_rows.specs.declared.Call.the-variants as call
 use Rattle.reset_simulator.specs.Steps.{byMember, bySequencer, cameOf, CallsOn}
-use Rattle.reset_simulator.specs.declared.Call.{Call}
-use Rattle.reset_simulator.specs.declared.Call.the-variants as call
 use Rattle.reset_simulator.specs.declared.Called.{Called}
 
 -- the terminal that is seen

@@ -30,9 +30,11 @@ use Rattle.sequencer.specs.View as sequencerView
 use Rattle.sequencer.specs.declared.Head as sequencerHead
 use Rattle.simulator.specs.Whole.{packetsMost, listOf, packetsOf}
 use Rattle.store.proofs.Places.{messages-none}
-use Rattle.reset_simulator.specs.Steps.{admitsOf, cameOf, cameAt, CallsAt, freshHead, Begun}
-use Rattle.reset_simulator.specs.Whole.{Terminals, terminalAt, groupOf, openedWith, Room, Opens}
-use Rattle.reset_simulator.specs.declared.Call.the-variants as call
+use Rattle.terminal_rows.specs.Heads.{freshHead}
+use Rattle.terminal_rows.specs.Steps.{admitsOf, openedWith}
+use Rattle.terminal_rows.specs.declared.Call.the-variants as call
+use Rattle.reset_simulator.specs.Steps.{cameOf, cameAt, CallsAt, Begun}
+use Rattle.reset_simulator.specs.Whole.{Terminals, terminalAt, groupOf, Room, Opens}
 use Rattle.reset_simulator.specs.declared.Called.{Called}
 use Rattle.reset_simulator.specs.declared.World.{World}
 

@@ -16,9 +16,10 @@ use Rattle.recovery.specs.Calls as terminal
 use Rattle.recovery.specs.State.{Terminal}
 use Rattle.reset.specs.World as reset
 use Rattle.reset.specs.World.{Group, Happened, missing, noTerminal, withMember, withSequencer, atTerminal, atSequencer, happen}
-use Rattle.reset_simulator.specs.Steps.{keptSize, bySequencer, cameOf, admitsOf, absentAt, cameAt, leads, happenedAt, handedBy, handedTo}
-use Rattle.reset_simulator.specs.declared.Call.{Call}
-use Rattle.reset_simulator.specs.declared.Call.the-variants as call
+use Rattle.terminal_rows.specs.Steps.{keptSize, admitsOf}
+use Rattle.terminal_rows.specs.declared.Call.{Call}
+use Rattle.terminal_rows.specs.declared.Call.the-variants as call
+use Rattle.reset_simulator.specs.Steps.{bySequencer, cameOf, absentAt, cameAt, leads, happenedAt, handedBy, handedTo}
 
 module _ (i : ℕ) (g : Group) where
   -- all bytes of a call that writes packets are the packet

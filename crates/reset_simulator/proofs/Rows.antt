@@ -1,40 +1,21 @@
 -- A head in its rows and back, and arrays that changed at one index alone. Assumes nothing.
-use mathlib.Core.Path.{_≡_, refl, sym, ap, _∙_, subst}
-use mathlib.Core.Bool.{true}
+use mathlib.Core.Path.{_≡_, sym, subst}
 use mathlib.Core.List.{List, []}
 use Prim.Native.Nat.{ℕ, _<_}
 use native.Mathlib.Omega.{arith}
 use lib.ListN.{length, getD, set}
 use lib.Seq.{getD-set-same, getD-set-other}
-use Rattle.group.proofs.Choice.{both-hold}
-use Rattle.group.proofs.Lists.{if-elim}
-use Rattle.group.specs.Choice.{_and_, _≤?_, _=?_}
 use Rattle.group.specs.Limits.{membersMost}
 use Rattle.member.specs.View as member
-use Rattle.recovery.specs.State.{Terminal}
-use Rattle.recovery.specs.View.{Stored, whole, memberIn, sequencerIn, keptIn, terminalOf, flagsSound}
+use Rattle.recovery.specs.View.{Stored, whole, memberIn, sequencerIn, keptIn, terminalOf}
 use Rattle.recovery.specs.declared.Head.{Head}
 use Rattle.sequencer.specs.View as sequencer
+use Rattle.terminal_rows.proofs.Flags.{flag-same}
+use Rattle.terminal_rows.specs.Heads.{headIn, smallOf, masksOf, numbersOf}
+use Rattle.terminal_rows.specs.declared.Call.{Call}
 use Rattle.reset_simulator.specs.Steps.{cameOf, FullRows, CallsOn, CallsRow}
-use Rattle.reset_simulator.specs.Whole.{Rows, rowsOf, storedAt, flagOf, headIn, smallOf, masksOf, numbersOf}
-use Rattle.reset_simulator.specs.declared.Call.{Call}
+use Rattle.reset_simulator.specs.Whole.{Rows, rowsOf, storedAt}
 use Rattle.reset_simulator.specs.declared.Called.{Called}
-
--- a flag that is read is 0 or 1, and set if the stored one is
-flag-small : (stored : ℕ) → (flagOf stored ≤? 1) ≡ true
-unfolding flagOf
-flag-small stored = if-elim (λ (x : ℕ). (x ≤? 1) ≡ true) (stored =? 1) (λ _. refl) (λ _. refl)
-
-flag-same : (stored : ℕ) → (flagOf stored =? 1) ≡ (stored =? 1)
-unfolding flagOf
-flag-same stored = if-elim (λ (x : ℕ). (x =? 1) ≡ (stored =? 1)) (stored =? 1) (λ yes. sym yes) (λ no. sym no)
-
--- whatever the rows hold, the flags of the head are sound
-pub flags-sound : (small masks numbers : List ℕ) → flagsSound (headIn small masks numbers) ≡ true
-unfolding flagsSound
-flags-sound small masks numbers =
-    both-hold _ _ (flag-small (getD small 7 0))
-    (both-hold _ _ (flag-small (getD small 8 0)) (both-hold _ _ (flag-small (getD small 9 0)) (flag-small (getD small 10 0))))
 
 -- the head whose rows are those of a head is seen as that
 pub head-back : (rows : Rows) (i : ℕ) (h : Head) → terminalOf (storedAt rows i (headIn (smallOf h) (masksOf h) (numbersOf h))) ≡ terminalOf (storedAt rows i h)

@@ -1,6 +1,5 @@
 -- What the steps inside the code promise, in terms of the parts of the world that each is lent.
 use mathlib.Core.Path.{_≡_}
-use mathlib.Core.Bool.{Bool, true}
 use mathlib.Core.List.{List, [], _++_}
 use mathlib.Core.Option.{Option, none, some}
 use Prim.Native.Nat.{ℕ, _<_}
@@ -8,7 +7,6 @@ use lib.ListN.{length, take, set, getElem?}
 use Rattle.group.specs.Choice.{if_then_else_, _<?_}
 use Rattle.group.specs.Lent.{front}
 use Rattle.group.specs.Limits.{membersMost, longestPacket}
-use Rattle.member.specs.declared.Head as memberHead
 use Rattle.model.specs.World.{answerOf}
 use Rattle.model.specs.declared.Reply.{Reply}
 use Rattle.packet.specs.Packet.{written}
@@ -19,33 +17,13 @@ use Rattle.recovery.specs.View.{Stored, terminalOf}
 use Rattle.recovery.specs.declared.Head.{Head}
 use Rattle.reset.specs.World as reset
 use Rattle.reset.specs.World.{Group, Happened, missing}
-use Rattle.sequencer.specs.declared.Head as sequencerHead
+use Rattle.terminal_rows.specs.Steps.{keptSize, admitsOf, ofMember, ofSequencer}
+use Rattle.terminal_rows.specs.declared.Call.{Call}
+use Rattle.terminal_rows.specs.declared.Call.the-variants.{Submit, Repeat, Take, Status, Receive, Invite, Make, Order, Poll, Copy, Open}
+use Rattle.terminal_rows.specs.declared.MemberCall.{MemberCall}
+use Rattle.terminal_rows.specs.declared.SequencerCall.{SequencerCall}
 use Rattle.reset_simulator.specs.Whole.{Rows, storedAt, Terminals, terminalAt}
-use Rattle.reset_simulator.specs.declared.Call.{Call}
-use Rattle.reset_simulator.specs.declared.Call.the-variants.{Submit, Repeat, Take, Status, Receive, Invite, Make, Order, Poll, Copy, Open}
 use Rattle.reset_simulator.specs.declared.Called.{Called}
-use Rattle.reset_simulator.specs.declared.MemberCall.{MemberCall}
-use Rattle.reset_simulator.specs.declared.MemberCall.the-variants as member
-use Rattle.reset_simulator.specs.declared.Part.{Part}
-use Rattle.reset_simulator.specs.declared.Part.the-variants.{Member, Whole, Sequencer}
-use Rattle.reset_simulator.specs.declared.SequencerCall.{SequencerCall}
-use Rattle.reset_simulator.specs.declared.SequencerCall.the-variants as sequencer
-use Rattle.reset_simulator.specs.declared.WholeCall.{WholeCall}
-use Rattle.reset_simulator.specs.declared.WholeCall.the-variants as whole
-
--- the length of the packet that a call wrote: a take writes a payload, and no packet
-unfoldable pub keptSize : Call → ℕ → ℕ
-keptSize Submit size = size
-keptSize Repeat size = size
-keptSize Take size = 0
-keptSize Status size = size
-keptSize Receive size = size
-keptSize (Invite number) size = size
-keptSize (Make demand) size = size
-keptSize Order size = size
-keptSize Poll size = size
-keptSize (Copy number) size = size
-keptSize (Open n number resilience i) size = size
 
 -- what a call comes to, of either end
 pub record Came : Type 0 where
@@ -77,20 +55,7 @@ cameOf Poll bytes room t = bySequencer (pollOf t room)
 cameOf (Copy number) bytes room t = bySequencer (copyOf t number room)
 cameOf (Open n number resilience i) bytes room t = absentAt (freshTerminal n number resilience i)
 
--- the sequencer's calls need one
-unfoldable pub admitsOf : Call → Bool → Bool
-admitsOf Submit sequencing = true
-admitsOf Repeat sequencing = true
-admitsOf Take sequencing = true
-admitsOf Status sequencing = true
-admitsOf Receive sequencing = true
-admitsOf (Invite number) sequencing = true
-admitsOf (Make demand) sequencing = true
-admitsOf Order sequencing = sequencing
-admitsOf Poll sequencing = sequencing
-admitsOf (Copy number) sequencing = sequencing
-admitsOf (Open n number resilience i) sequencing = true
-
+-- the same, if the terminal can be called so
 unfoldable pub cameAt : Call → List ℕ → ℕ → Terminal → Came
 cameAt call bytes room t = if admitsOf call (t .sequencing) then cameOf call bytes room t else absentAt t
 
@@ -125,29 +90,6 @@ pub record CallsOn (o : Came) (r : Called) (left : Stored) (before after : List 
   pub size : r .written ≡ length (o .bytes)
   pub state : terminalOf left ≡ o .terminal
   pub lent : after ≡ front (o .bytes) before
-
--- the calls by the parts that they are lent
-unfoldable pub ofMember : MemberCall → Call
-ofMember member.Submit = Submit
-ofMember member.Repeat = Repeat
-ofMember member.Take = Take
-ofMember member.Status = Status
-
-unfoldable pub ofWhole : WholeCall → Call
-ofWhole whole.Receive = Receive
-ofWhole (whole.Invite number) = Invite number
-ofWhole (whole.Make demand) = Make demand
-ofWhole (whole.Open n number resilience i) = Open n number resilience i
-
-unfoldable pub ofSequencer : SequencerCall → Call
-ofSequencer sequencer.Order = Order
-ofSequencer sequencer.Poll = Poll
-ofSequencer (sequencer.Copy number) = Copy number
-
-unfoldable pub ofPart : Part → Call
-ofPart (Member call) = ofMember call
-ofPart (Whole call) = ofWhole call
-ofPart (Sequencer call) = ofSequencer call
 
 -- its member's look at no array of the sequencer, and its sequencer's at no other: they hold whatever those are
 abbrev pub MemberCallsOn : MemberCall → List ℕ → Head → List ℕ → List ℕ → List ℕ → List ℕ → List ℕ → List ℕ → List ℕ → List ℕ → List ℕ → List ℕ → List ℕ → List ℕ → List ℕ → List ℕ → Called → List ℕ → List ℕ → List ℕ → List ℕ → List ℕ → List ℕ → List ℕ → List ℕ → List ℕ → List ℕ → List ℕ → List ℕ → List ℕ → List ℕ → List ℕ → List ℕ → Type 0
@@ -198,23 +140,6 @@ handedBy call i g (some packet) = happenedAt call i packet g
 
 unfoldable pub handedTo : Call → ℕ → ℕ → Group → Happened
 handedTo call k i g = handedBy call i g (getElem? (g .packets) k)
-
--- a fresh terminal's head
-abbrev pub freshHead : memberHead.Head → sequencerHead.Head → ℕ → Head
-freshHead m s sequencing =
-    record {
-      member = m;
-      sequencer = s;
-      read = record { 0 = 0 };
-      attempt = 0;
-      number = record { 0 = 0 };
-      invited = 0;
-      repliers = 0;
-      replied = 0;
-      inviting = 0;
-      sequencing = sequencing;
-      frozen = 0;
-    }
 
 -- the terminals below k are fresh
 abbrev pub Begun : ℕ → ℕ → ℕ → Terminals → ℕ → Type 0

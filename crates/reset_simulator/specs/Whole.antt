@@ -1,10 +1,9 @@
 -- The executable world as the world of terminals: its terminals 0 to n - 1, and the packets that were written. With room for a packet, an
 -- event does to it what `happen` says.
 use mathlib.Core.Path.{_≡_}
-use mathlib.Core.List.{List, [], _∷_}
+use mathlib.Core.List.{List, []}
 use Prim.Native.Nat.{ℕ, _+_, _≤_, _<_}
-use lib.ListN.{length, take, getD}
-use Rattle.group.specs.Choice.{if_then_else_, _=?_}
+use lib.ListN.{take, getD}
 use Rattle.group.specs.Lent.{front}
 use Rattle.group.specs.Limits.{membersMost, longestPacket}
 use Rattle.group.specs.declared.Verdict.{Verdict}
@@ -17,6 +16,8 @@ use Rattle.recovery.specs.declared.Head.{Head}
 use Rattle.reset.specs.World.{Group, Happened, freshTerminals, fresh}
 use Rattle.sequencer.specs.Calls.{freshOf}
 use Rattle.simulator.specs.Whole.{packetsMost, listOf, Packets, packetsOf, packetAt, packetsIn}
+use Rattle.terminal_rows.specs.Heads.{headIn}
+use Rattle.terminal_rows.specs.Steps.{openedWith}
 use Rattle.reset_simulator.specs.declared.Happening.{Happening}
 use Rattle.reset_simulator.specs.declared.World.{World}
 
@@ -87,71 +88,6 @@ pub record Terminals : Type 0 where
 abbrev pub terminalsOf : List (List ℕ) → List (List ℕ) → List (List ℕ) → Rows → Terminals
 terminalsOf small masks numbers rows = record { small = small; masks = masks; numbers = numbers; rows = rows }
 
--- a flag is set if it is 1
-unfoldable pub flagOf : ℕ → ℕ
-flagOf stored = if stored =? 1 then 1 else 0
-
--- the head whose rows these are
-abbrev pub headIn : List ℕ → List ℕ → List ℕ → Head
-headIn small masks numbers =
-    record {
-      member =
-          record {
-            group =
-                record {
-                  n = getD small 0 0;
-                  resilience = getD small 1 0;
-                  survivors = getD masks 0 0;
-                  elected = record { 0 = getD small 2 0 };
-                  number = getD numbers 0 0;
-                };
-            number = record { 0 = getD small 3 0 };
-            taken = record { 0 = getD numbers 1 0 };
-            accepted = record { 0 = getD numbers 2 0 };
-            submitted = getD numbers 3 0;
-            waiting = getD numbers 4 0;
-          };
-      sequencer =
-          record {
-            group =
-                record {
-                  n = getD small 4 0;
-                  resilience = getD small 5 0;
-                  survivors = getD masks 1 0;
-                  elected = record { 0 = getD small 6 0 };
-                  number = getD numbers 5 0;
-                };
-            top = record { 0 = getD numbers 6 0 };
-            accepted = record { 0 = getD numbers 7 0 };
-            floor = record { 0 = getD numbers 8 0 };
-          };
-      read = record { 0 = getD numbers 9 0 };
-      attempt = getD numbers 10 0;
-      number = record { 0 = getD numbers 11 0 };
-      invited = getD numbers 12 0;
-      repliers = getD masks 2 0;
-      replied = flagOf (getD small 7 0);
-      inviting = flagOf (getD small 8 0);
-      sequencing = flagOf (getD small 9 0);
-      frozen = flagOf (getD small 10 0);
-    }
-
--- the rows of a head
-abbrev pub smallOf : Head → List ℕ
-smallOf h =
-    h .member .group .n ∷ h .member .group .resilience ∷ h .member .group .elected .0 ∷ h .member .number .0
-    ∷ h .sequencer .group .n ∷ h .sequencer .group .resilience ∷ h .sequencer .group .elected .0
-    ∷ h .replied ∷ h .inviting ∷ h .sequencing ∷ h .frozen ∷ []
-
-abbrev pub masksOf : Head → List ℕ
-masksOf h = h .member .group .survivors ∷ h .sequencer .group .survivors ∷ h .repliers ∷ []
-
-abbrev pub numbersOf : Head → List ℕ
-numbersOf h =
-    h .member .group .number ∷ h .member .taken .0 ∷ h .member .accepted .0 ∷ h .member .submitted ∷ h .member .waiting
-    ∷ h .sequencer .group .number ∷ h .sequencer .top .0 ∷ h .sequencer .accepted .0 ∷ h .sequencer .floor .0
-    ∷ h .read .0 ∷ h .attempt ∷ h .number .0 ∷ h .invited ∷ []
-
 -- terminal i
 abbrev pub headAt : Terminals → ℕ → Head
 headAt t i = headIn (getD (t .small) i []) (getD (t .masks) i []) (getD (t .numbers) i [])
@@ -201,11 +137,6 @@ pub record Plays (happens : Group → Happened) (world : World) (w : Whole) (r :
   -- of what the world does not show: no terminal from n on changes, and no packet but the one at count
   pub terminals : (j : ℕ) → world .n ≤ j → terminalAt (w′ .terminals) j ≡ terminalAt (w .terminals) j
   pub packets : (k : ℕ) → (k ≡ world .count → ⊥) → packetAt (w′ .packets) k ≡ packetAt (w .packets) k
-
--- how many terminals there are once a group was opened: none where that is refused
-unfoldable pub openedWith : Verdict → ℕ → ℕ
-openedWith Verdict.Accepted n = n
-openedWith (Verdict.Refused refusal) n = 0
 
 -- the promise of opening, questions 18 and 24: every terminal is fresh, those from n on too, and no packet was written
 pub record Opens (n number resilience : ℕ) (verdict : Verdict) (world : World) (w : Whole) : Type 0 where

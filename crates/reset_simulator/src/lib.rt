@@ -2,91 +2,46 @@
 // array behind a reference: those of the terminals one behind the other, so that a call is lent the arrays of one terminal.
 use group::Group;
 use group::MemberNumber;
-use group::SequenceNumber;
 use group::Verdict;
 use model::Reply;
 use recovery::Head;
 use simulator::PACKETS;
+use simulator::is_there;
+use simulator::store;
+use terminal_rows::Call;
+use terminal_rows::MASKS;
+use terminal_rows::MemberCall;
+use terminal_rows::NUMBERS;
+use terminal_rows::Part;
+use terminal_rows::SMALL;
+use terminal_rows::SequencerCall;
+use terminal_rows::WholeCall;
+use terminal_rows::admits;
+use terminal_rows::fresh_head;
+use terminal_rows::kept_size;
+use terminal_rows::opened_with;
+use terminal_rows::packet_at;
+use terminal_rows::part_of;
+use terminal_rows::read_head;
+use terminal_rows::served;
+use terminal_rows::size_at;
+use terminal_rows::verdict_of;
+use terminal_rows::write_head;
 ghost use mathlib.Core.Path.{_≡_};
 ghost use mathlib.Core.Bool.{true};
 ghost use Prim.Native.Nat.{_<_};
-ghost use mathlib.Core.List.{[]};
-ghost use lib.ListN.{length, getD, set};
+ghost use lib.ListN.{length};
 ghost use Rattle.group.specs.Limits.{membersMost};
 ghost use Rattle.recovery.specs.Calls.{freshTerminal};
 ghost use Rattle.recovery.specs.View.{whole, terminalOf, flagsSound};
-ghost use Rattle.group.specs.Choice.{if_then_else_, _=?_};
-ghost use Rattle.sequencer.specs.Calls.{freshOf};
-ghost use Rattle.simulator.specs.Whole.{packetsMost, packetsOf};
-ghost use Rattle.simulator.specs.Steps.{roomOf, thereOf, fittingOf, Stores};
-ghost use Rattle.reset_simulator.specs.Whole.{flagOf, headIn, smallOf, masksOf, numbersOf, rowsOf, terminalsOf, wholeOf, openedWith, Plays, Opens};
-ghost use Rattle.reset_simulator.specs.Steps.{keptSize, cameOf, admitsOf, happenedAt, handedTo, FullRows, ofPart, ofWhole, CallsOn, MemberCallsOn, SequencerCallsOn, CallsRow, CallsAt, freshHead, Begun};
-
-// The numbers of a terminal's head, by their width: of one byte n, the resilience degree and the elected one of both ends, the member's
-// number and the four flags; of two survivors of both ends and the repliers; of four the rest.
-pub const SMALL: usize = 11;
-
-pub const MASKS: usize = 3;
-
-pub const NUMBERS: usize = 13;
+ghost use Rattle.terminal_rows.specs.Steps.{ofWhole};
+ghost use Rattle.reset_simulator.specs.Whole.{rowsOf, terminalsOf, wholeOf, Plays, Opens};
+ghost use Rattle.reset_simulator.specs.Steps.{cameOf, happenedAt, handedTo, FullRows, CallsOn, MemberCallsOn, SequencerCallsOn, CallsRow, CallsAt, Begun};
 
 // How many terminals there are, and how many packets were written.
 pub struct World {
     pub n: u8,
     pub count: usize,
-}
-
-// The calls of a terminal: its member's, inviting and making, its sequencer's, and its opening as terminal i of a group. A submission and a
-// packet come with bytes.
-pub enum Call {
-    Submit,
-    Repeat,
-    Take,
-    Status,
-    Receive,
-    Invite(u32),
-    Make(u32),
-    Order,
-    Poll,
-    Copy(SequenceNumber),
-    Open {
-        n: u8,
-        number: u32,
-        resilience: u8,
-        i: u8,
-    },
-}
-
-// The same by the parts of a terminal that they are lent: its member's, all of it, its sequencer's.
-enum MemberCall {
-    Submit,
-    Repeat,
-    Take,
-    Status,
-}
-
-enum WholeCall {
-    Receive,
-    Invite(u32),
-    Make(u32),
-    Open {
-        n: u8,
-        number: u32,
-        resilience: u8,
-        i: u8,
-    },
-}
-
-enum SequencerCall {
-    Order,
-    Poll,
-    Copy(SequenceNumber),
-}
-
-enum Part {
-    Member(MemberCall),
-    Whole(WholeCall),
-    Sequencer(SequencerCall),
 }
 
 // What a call gives: the terminal's next head, its answer, and how many bytes it wrote to the front of the lent output.
@@ -107,230 +62,6 @@ pub struct Happening {
 pub struct Opened {
     pub world: World,
     pub verdict: Verdict,
-}
-
-// Whether there is room for one packet more, and for every terminal.
-fn has_room(count: usize, n: u8) -> bool
-    ensures { λ r. ⌜ r ≡ roomOf count n ⌝ }
-{
-    if count < PACKETS {
-        return (n as usize) <= Group::MEMBERS;
-    }
-    false
-}
-
-// Whether there is room, and a terminal or packet k: one below the limit.
-fn is_there(count: usize, n: u8, k: usize, limit: usize) -> bool
-    ensures { λ r. ⌜ r ≡ thereOf count n k limit ⌝ }
-{
-    if has_room(count, n) {
-        return k < limit;
-    }
-    false
-}
-
-// Stores the packet that was written behind the others, if there is one, and gives how many there are.
-fn store(
-    sizes: &mut [usize],
-    packets: &mut [[u8; Group::PACKET]],
-    count: usize,
-    size: usize,
-    bytes: [u8; Group::PACKET],
-) -> usize
-    requires { ⌜ (count < packetsMost) × (length (now sizes) ≡ packetsMost) × (length (now packets) ≡ packetsMost) ⌝ }
-    ensures { λ r. ⌜ Stores (packetsOf (now (sizes .entry)) (now (packets .entry)) count) size bytes (packetsOf (now (sizes .exit)) (now (packets .exit)) r) ⌝ }
-{
-    sizes[count] = size;
-    packets[count] = bytes;
-    if size == 0 {
-        return count;
-    }
-    count + 1
-}
-
-// The length of the packet that a call wrote. A take writes a payload, and no packet.
-fn kept_size(call: Call, written: usize) -> usize
-    ensures { λ r. ⌜ r ≡ keptSize call written ⌝ }
-{
-    match call {
-        Call::Submit => written,
-        Call::Repeat => written,
-        Call::Take => 0,
-        Call::Status => written,
-        Call::Receive => written,
-        Call::Invite(number) => written,
-        Call::Make(demand) => written,
-        Call::Order => written,
-        Call::Poll => written,
-        Call::Copy(number) => written,
-        Call::Open {
-            n,
-            number,
-            resilience,
-            i,
-        } => written,
-    }
-}
-
-// Whether a terminal can be called so: its sequencer's calls need one.
-fn admits(call: Call, sequencing: bool) -> bool
-    ensures { λ r. ⌜ r ≡ admitsOf call sequencing ⌝ }
-{
-    match call {
-        Call::Submit => true,
-        Call::Repeat => true,
-        Call::Take => true,
-        Call::Status => true,
-        Call::Receive => true,
-        Call::Invite(number) => true,
-        Call::Make(demand) => true,
-        Call::Order => sequencing,
-        Call::Poll => sequencing,
-        Call::Copy(number) => sequencing,
-        Call::Open {
-            n,
-            number,
-            resilience,
-            i,
-        } => true,
-    }
-}
-
-// A flag is set if it is 1.
-fn flag(stored: u8) -> u8
-    ensures { λ r. ⌜ r ≡ flagOf stored ⌝ }
-{
-    if stored == 1 {
-        return 1;
-    }
-    0
-}
-
-// The head of the terminal whose rows these are.
-pub fn head_of(small: [u8; SMALL], masks: [u16; MASKS], numbers: [u32; NUMBERS]) -> Head
-    ensures { λ r. ⌜ r ≡ headIn small masks numbers ⌝ }
-{
-    let mine = member::Head {
-        group: Group {
-            n: small[0],
-            resilience: small[1],
-            survivors: masks[0],
-            elected: MemberNumber(small[2]),
-            number: numbers[0],
-        },
-        number: MemberNumber(small[3]),
-        taken: SequenceNumber(numbers[1]),
-        accepted: SequenceNumber(numbers[2]),
-        submitted: numbers[3],
-        waiting: numbers[4],
-    };
-    let order = sequencer::Head {
-        group: Group {
-            n: small[4],
-            resilience: small[5],
-            survivors: masks[1],
-            elected: MemberNumber(small[6]),
-            number: numbers[5],
-        },
-        top: SequenceNumber(numbers[6]),
-        accepted: SequenceNumber(numbers[7]),
-        floor: SequenceNumber(numbers[8]),
-    };
-    let replied = flag(small[7]);
-    let inviting = flag(small[8]);
-    let sequencing = flag(small[9]);
-    let frozen = flag(small[10]);
-    Head {
-        member: mine,
-        sequencer: order,
-        read: SequenceNumber(numbers[9]),
-        attempt: numbers[10],
-        number: SequenceNumber(numbers[11]),
-        invited: numbers[12],
-        repliers: masks[2],
-        replied,
-        inviting,
-        sequencing,
-        frozen,
-    }
-}
-
-// The rows of a head.
-fn small_of(head: Head) -> [u8; SMALL]
-    ensures { λ r. ⌜ r ≡ smallOf head ⌝ }
-{
-    [
-        head.member.group.n,
-        head.member.group.resilience,
-        head.member.group.elected.0,
-        head.member.number.0,
-        head.sequencer.group.n,
-        head.sequencer.group.resilience,
-        head.sequencer.group.elected.0,
-        head.replied,
-        head.inviting,
-        head.sequencing,
-        head.frozen,
-    ]
-}
-
-fn masks_of(head: Head) -> [u16; MASKS]
-    ensures { λ r. ⌜ r ≡ masksOf head ⌝ }
-{
-    [
-        head.member.group.survivors,
-        head.sequencer.group.survivors,
-        head.repliers,
-    ]
-}
-
-fn numbers_of(head: Head) -> [u32; NUMBERS]
-    ensures { λ r. ⌜ r ≡ numbersOf head ⌝ }
-{
-    [
-        head.member.group.number,
-        head.member.taken.0,
-        head.member.accepted.0,
-        head.member.submitted,
-        head.member.waiting,
-        head.sequencer.group.number,
-        head.sequencer.top.0,
-        head.sequencer.accepted.0,
-        head.sequencer.floor.0,
-        head.read.0,
-        head.attempt,
-        head.number.0,
-        head.invited,
-    ]
-}
-
-// How many members the sequencer of terminal i is opened with: that of terminal 0 has the group's, and the others have none.
-fn served(n: u8, i: u8) -> u8
-    ensures { λ r. ⌜ r ≡ (if i =? 0 then n else 0) ⌝ }
-{
-    if i == 0 {
-        return n;
-    }
-    0
-}
-
-// A fresh terminal's head.
-fn fresh_head(member: member::Head, sequencer: sequencer::Head, sequencing: u8) -> Head
-    ensures { λ r. ⌜ r ≡ freshHead member sequencer sequencing ⌝ }
-{
-    Head {
-        member,
-        sequencer,
-        read: SequenceNumber(0),
-        attempt: 0,
-        number: SequenceNumber(0),
-        invited: 0,
-        repliers: 0,
-        replied: 0,
-        inviting: 0,
-        sequencing,
-        frozen: 0,
-    }
 }
 
 // Opens a terminal on its arrays.
@@ -365,7 +96,7 @@ fn open_on(
 ) -> Head
     ensures { λ r. ⌜ terminalOf (whole r (now (queued .exit)) (now (held .exit)) (now («queued_originators» .exit)) (now («queued_lengths» .exit)) (now («held_originators» .exit)) (now («held_lengths» .exit)) (now («queued_payloads» .exit)) (now («held_payloads» .exit)) (now (past .exit)) (now («past_originators» .exit)) (now («past_lengths» .exit)) (now («past_payloads» .exit)) (now (highest .exit)) (now (replies .exit)) (now (taken .exit)) (now (counts .exit)) (now (repeats .exit)) (now (kept .exit)) (now (marks .exit)) (now (originators .exit)) (now (lengths .exit)) (now (payloads .exit))) ≡ freshTerminal n number resilience i ⌝ }
 {
-    let begun = member::open_on(
+    let begun = member_calls::open_on(
         head.member,
         queued,
         held,
@@ -387,7 +118,7 @@ fn open_on(
     *highest = [0u32; Group::MEMBERS];
     *replies = [0u32; Group::MEMBERS];
     let most = served(n, i);
-    let start = sequencer::open_on(
+    let start = sequencer_calls::open_on(
         head.sequencer,
         taken,
         counts,
@@ -403,35 +134,6 @@ fn open_on(
     );
     let sequencing = served(1, i);
     fresh_head(begun.head, start.head, sequencing)
-}
-
-// The parts that a call is lent.
-fn part_of(call: Call) -> Part
-    ensures { λ r. ⌜ ofPart r ≡ call ⌝ }
-{
-    match call {
-        Call::Submit => Part::Member(MemberCall::Submit),
-        Call::Repeat => Part::Member(MemberCall::Repeat),
-        Call::Take => Part::Member(MemberCall::Take),
-        Call::Status => Part::Member(MemberCall::Status),
-        Call::Receive => Part::Whole(WholeCall::Receive),
-        Call::Invite(number) => Part::Whole(WholeCall::Invite(number)),
-        Call::Make(demand) => Part::Whole(WholeCall::Make(demand)),
-        Call::Order => Part::Sequencer(SequencerCall::Order),
-        Call::Poll => Part::Sequencer(SequencerCall::Poll),
-        Call::Copy(number) => Part::Sequencer(SequencerCall::Copy(number)),
-        Call::Open {
-            n,
-            number,
-            resilience,
-            i,
-        } => Part::Whole(WholeCall::Open {
-            n,
-            number,
-            resilience,
-            i,
-        }),
-    }
 }
 
 // A call of its member.
@@ -1007,40 +709,6 @@ fn call_row(
     )
 }
 
-// Terminal i's head, and another in its place.
-pub fn read_head(
-    small: &[[u8; SMALL]],
-    masks: &[[u16; MASKS]],
-    numbers: &[[u32; NUMBERS]],
-    i: usize,
-) -> Head
-    requires { ⌜ (i < length (now small)) × (i < length (now masks)) × (i < length (now numbers)) ⌝ }
-    ensures { λ r. ⌜ r ≡ headIn (getD (now (small .entry)) i []) (getD (now (masks .entry)) i []) (getD (now (numbers .entry)) i []) ⌝ }
-{
-    let first = small[i];
-    let second = masks[i];
-    let third = numbers[i];
-    head_of(first, second, third)
-}
-
-fn write_head(
-    small: &mut [[u8; SMALL]],
-    masks: &mut [[u16; MASKS]],
-    numbers: &mut [[u32; NUMBERS]],
-    i: usize,
-    head: Head,
-)
-    requires { ⌜ (i < length (now small)) × (i < length (now masks)) × (i < length (now numbers)) ⌝ }
-    ensures { λ _. ⌜ (now (small .exit) ≡ set (now (small .entry)) i (smallOf head)) × (now (masks .exit) ≡ set (now (masks .entry)) i (masksOf head)) × (now (numbers .exit) ≡ set (now (numbers .entry)) i (numbersOf head)) ⌝ }
-{
-    let first = small_of(head);
-    small[i] = first;
-    let second = masks_of(head);
-    masks[i] = second;
-    let third = numbers_of(head);
-    numbers[i] = third;
-}
-
 // A call of terminal i, if it can be called so.
 fn call_at(
     call: Call,
@@ -1205,22 +873,6 @@ pub fn act(
     }
 }
 
-// The array of packet k, and how many of its bytes are the packet.
-fn packet_at(packets: &[[u8; Group::PACKET]], k: usize) -> [u8; Group::PACKET]
-    requires { ⌜ k < length (now packets) ⌝ }
-    ensures { λ r. ⌜ r ≡ getD (now (packets .entry)) k [] ⌝ }
-{
-    packets[k]
-}
-
-fn size_at(sizes: &[usize], k: usize) -> usize
-    requires { ⌜ k < length (now sizes) ⌝ }
-    ensures { λ r. ⌜ r ≡ fittingOf (getD (now (sizes .entry)) k 0) ⌝ }
-{
-    let size = sizes[k];
-    simulator::fitting(size)
-}
-
 // Packet k is handed to terminal i, to its member by `Receive`, to its sequencer by `Order`.
 pub fn hand(
     call: Call,
@@ -1300,27 +952,6 @@ pub fn hand(
         world,
         reply: Reply::Absent,
         written: 0,
-    }
-}
-
-// Whether a group can be opened: questions 18 and 24.
-fn verdict_of(n: u8, number: u32, resilience: u8) -> Verdict
-    ensures { λ r. ⌜ r ≡ freshOf n number resilience .verdict ⌝ }
-{
-    let opened = Group::fresh(n, number, resilience);
-    match opened {
-        group::Opened::Open(group) => Verdict::Accepted,
-        group::Opened::Refused(refusal) => Verdict::Refused(refusal),
-    }
-}
-
-// How many terminals there are where that is answered.
-fn opened_with(verdict: Verdict, n: u8) -> u8
-    ensures { λ r. ⌜ r ≡ openedWith verdict n ⌝ }
-{
-    match verdict {
-        Verdict::Accepted => n,
-        Verdict::Refused(refusal) => 0,
     }
 }
 

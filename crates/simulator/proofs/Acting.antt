@@ -174,14 +174,14 @@ kept-bytes call.Status bytes lent = take-append-seam bytes _ ∙ sym (take-all (
 kept-bytes call.Receive bytes lent = take-append-seam bytes _ ∙ sym (take-all (length bytes) bytes (omega arith))
 
 -- the bytes that a call wrote are as many as it says, and behind them the output is as it was lent
-wrote : (bytes before after : List ℕ) (size : ℕ) → size ≡ length bytes → after ≡ front bytes before → take size after ≡ bytes
+pub wrote : (bytes before after : List ℕ) (size : ℕ) → size ≡ length bytes → after ≡ front bytes before → take size after ≡ bytes
 wrote bytes before after size e f = rw (e, f) (take-append-seam bytes (drop (length bytes) before))
 
-behind : (bytes before after : List ℕ) (size : ℕ) → size ≡ length bytes → after ≡ front bytes before → after ≡ front (take size after) before
+pub behind : (bytes before after : List ℕ) (size : ℕ) → size ≡ length bytes → after ≡ front bytes before → after ≡ front (take size after) before
 behind bytes before after size e f = rw (wrote bytes before after size e f) f
 
 -- and there is room for them
-fits : (bytes before after : List ℕ) (size : ℕ) → size ≡ length bytes → after ≡ front bytes before → length after ≡ longestPacket → size ≤ longestPacket
+pub fits : (bytes before after : List ℕ) (size : ℕ) → size ≡ length bytes → after ≡ front bytes before → length after ≡ longestPacket → size ≤ longestPacket
 fits bytes before after size e f l = let z = simp length-append at (ap length f) in omega arith
 
 -- an event of member i

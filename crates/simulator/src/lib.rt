@@ -63,7 +63,7 @@ fn packets_most() -> usize
 }
 
 // Whether there is room for one packet more, and for every member.
-fn has_room(count: usize, n: u8) -> bool
+pub fn has_room(count: usize, n: u8) -> bool
     ensures { λ r. ⌜ r ≡ roomOf count n ⌝ }
 {
     if count < PACKETS {
@@ -73,7 +73,7 @@ fn has_room(count: usize, n: u8) -> bool
 }
 
 // Whether there is room, and a member or packet k: one below the limit.
-fn is_there(count: usize, n: u8, k: usize, limit: usize) -> bool
+pub fn is_there(count: usize, n: u8, k: usize, limit: usize) -> bool
     ensures { λ r. ⌜ r ≡ thereOf count n k limit ⌝ }
 {
     if has_room(count, n) {
@@ -143,7 +143,7 @@ fn call_member(
     ensures { λ r. ⌜ CallsMember call i (now (bytes .entry)) head (rowsOf (now (queued .entry)) (now (held .entry)) (now («queued_originators» .entry)) (now («queued_lengths» .entry)) (now («held_originators» .entry)) (now («held_lengths» .entry)) (now («queued_payloads» .entry)) (now («held_payloads» .entry))) r (rowsOf (now (queued .exit)) (now (held .exit)) (now («queued_originators» .exit)) (now («queued_lengths» .exit)) (now («held_originators» .exit)) (now («held_lengths» .exit)) (now («queued_payloads» .exit)) (now («held_payloads» .exit))) (now (out .entry)) (now (out .exit)) ⌝ }
 {
     match call {
-        MemberCall::Submit => member::submit_on(
+        MemberCall::Submit => member_calls::submit_on(
             head,
             &mut queued[i],
             &mut held[i],
@@ -157,7 +157,7 @@ fn call_member(
             out,
         ),
         MemberCall::Repeat => {
-            let reply = member::repeat_on(
+            let reply = member_calls::repeat_on(
                 head,
                 &queued[i],
                 &held[i],
@@ -171,7 +171,7 @@ fn call_member(
             );
             member::Done { head, reply }
         }
-        MemberCall::Take => member::take_on(
+        MemberCall::Take => member_calls::take_on(
             head,
             &mut queued[i],
             &mut held[i],
@@ -184,7 +184,7 @@ fn call_member(
             out,
         ),
         MemberCall::Status => {
-            let reply = member::status_on(
+            let reply = member_calls::status_on(
                 head,
                 &queued[i],
                 &held[i],
@@ -198,7 +198,7 @@ fn call_member(
             );
             member::Done { head, reply }
         }
-        MemberCall::Receive => member::receive_on(
+        MemberCall::Receive => member_calls::receive_on(
             head,
             &mut queued[i],
             &mut held[i],
@@ -258,7 +258,7 @@ fn call_at(
 }
 
 // Stores the packet that was written behind the others, if there is one, and gives how many there are.
-fn store(
+pub fn store(
     sizes: &mut [usize],
     packets: &mut [[u8; Group::PACKET]],
     count: usize,
@@ -443,7 +443,7 @@ fn call_sequencer(
     ensures { λ r. ⌜ CallsSequencer call (now (bytes .entry)) (sequencerView.whole head (now (taken .entry)) (now (counts .entry)) (now (repeats .entry)) (now (kept .entry)) (now (marks .entry)) (now (originators .entry)) (now (lengths .entry)) (now (payloads .entry))) (r .reply) (sequencerView.whole (r .head) (now (taken .exit)) (now (counts .exit)) (now (repeats .exit)) (now (kept .exit)) (now (marks .exit)) (now (originators .exit)) (now (lengths .exit)) (now (payloads .exit))) (now (out .entry)) (now (out .exit)) ⌝ }
 {
     match call {
-        SequencerCall::Receive => sequencer::receive_on(
+        SequencerCall::Receive => sequencer_calls::receive_on(
             head,
             taken,
             counts,
@@ -457,7 +457,7 @@ fn call_sequencer(
             out,
         ),
         SequencerCall::Poll => {
-            let reply = sequencer::poll_on(
+            let reply = sequencer_calls::poll_on(
                 head,
                 taken,
                 counts,
@@ -472,7 +472,7 @@ fn call_sequencer(
             sequencer::Step { head, reply }
         }
         SequencerCall::Copy(number) => {
-            let reply = sequencer::copy_on(
+            let reply = sequencer_calls::copy_on(
                 head,
                 taken,
                 counts,
@@ -648,7 +648,7 @@ fn open_member(
     ensures { λ _. ⌜ BegunAt i (terminalsOf group (now (numbers .entry)) (rowsOf (now (queued .entry)) (now (held .entry)) (now («queued_originators» .entry)) (now («queued_lengths» .entry)) (now («held_originators» .entry)) (now («held_lengths» .entry)) (now («queued_payloads» .entry)) (now («held_payloads» .entry)))) (terminalsOf group (now (numbers .exit)) (rowsOf (now (queued .exit)) (now (held .exit)) (now («queued_originators» .exit)) (now («queued_lengths» .exit)) (now («held_originators» .exit)) (now («held_lengths» .exit)) (now («queued_payloads» .exit)) (now («held_payloads» .exit)))) ⌝ }
 {
     let head = head_of(group, i, [0u32; NUMBERS]);
-    let begun = member::open_on(
+    let begun = member_calls::open_on(
         head,
         &mut queued[i],
         &mut held[i],
@@ -737,7 +737,7 @@ pub fn open(
     ensures { λ r. ⌜ Opens n number resilience (r .verdict) (r .head) (wholeOf (r .head) (now (taken .exit)) (now (counts .exit)) (now (repeats .exit)) (now (kept .exit)) (now (marks .exit)) (now (originators .exit)) (now (lengths .exit)) (now (payloads .exit)) (now (numbers .exit)) (now (queued .exit)) (now (held .exit)) (now («queued_originators» .exit)) (now («queued_lengths» .exit)) (now («held_originators» .exit)) (now («held_lengths» .exit)) (now («queued_payloads» .exit)) (now («held_payloads» .exit)) (now (sizes .exit)) (now (packets .exit))) ⌝ }
 {
     let mine = head.sequencer;
-    let start = sequencer::open_on(
+    let start = sequencer_calls::open_on(
         mine,
         taken,
         counts,

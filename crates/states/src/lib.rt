@@ -71,7 +71,7 @@ impl Sequencer {
     pub fn open(&mut self, n: u8, group: u32, resilience: u8) -> Verdict
         ensures { λ r. ⌜ sequencerInPlace.Opens (now (self .entry)) n group resilience r (now (self .exit)) ⌝ }
     {
-        let start = sequencer::open_on(
+        let start = sequencer_calls::open_on(
             self.head,
             &mut self.taken,
             &mut self.counts,
@@ -93,7 +93,7 @@ impl Sequencer {
     pub fn receive(&mut self, packet: &[u8], out: &mut [u8]) -> sequencer::Reply
         ensures { λ r. ⌜ sequencerInPlace.Received (now (self .entry)) (now (packet .entry)) (now (out .entry)) r (now (self .exit)) (now (out .exit)) ⌝ }
     {
-        let step = sequencer::receive_on(
+        let step = sequencer_calls::receive_on(
             self.head,
             &mut self.taken,
             &mut self.counts,
@@ -114,7 +114,7 @@ impl Sequencer {
     pub fn poll(&self, out: &mut [u8]) -> sequencer::Reply
         ensures { λ r. ⌜ sequencerInPlace.Polled (now (self .entry)) (now (out .entry)) r (now (out .exit)) ⌝ }
     {
-        sequencer::poll_on(
+        sequencer_calls::poll_on(
             self.head,
             &self.taken,
             &self.counts,
@@ -132,7 +132,7 @@ impl Sequencer {
     pub fn copy(&self, number: SequenceNumber, out: &mut [u8]) -> sequencer::Reply
         ensures { λ r. ⌜ sequencerInPlace.Copied (now (self .entry)) number (now (out .entry)) r (now (out .exit)) ⌝ }
     {
-        sequencer::copy_on(
+        sequencer_calls::copy_on(
             self.head,
             &self.taken,
             &self.counts,
@@ -178,7 +178,7 @@ impl Member {
     pub fn open(&mut self, n: u8, number: MemberNumber, group: u32, resilience: u8) -> Verdict
         ensures { λ r. ⌜ memberInPlace.Begins (now (self .entry)) n number group resilience r (now (self .exit)) ⌝ }
     {
-        let done = member::open_on(
+        let done = member_calls::open_on(
             self.head,
             &mut self.queued,
             &mut self.held,
@@ -201,7 +201,7 @@ impl Member {
     pub fn submit(&mut self, payload: &[u8], out: &mut [u8]) -> member::Reply
         ensures { λ r. ⌜ memberInPlace.Submitted (now (self .entry)) (now (payload .entry)) (now (out .entry)) r (now (self .exit)) (now (out .exit)) ⌝ }
     {
-        let done = member::submit_on(
+        let done = member_calls::submit_on(
             self.head,
             &mut self.queued,
             &mut self.held,
@@ -222,7 +222,7 @@ impl Member {
     pub fn receive(&mut self, packet: &[u8], out: &mut [u8]) -> member::Reply
         ensures { λ r. ⌜ memberInPlace.Received (now (self .entry)) (now (packet .entry)) (now (out .entry)) r (now (self .exit)) (now (out .exit)) ⌝ }
     {
-        let done = member::receive_on(
+        let done = member_calls::receive_on(
             self.head,
             &mut self.queued,
             &mut self.held,
@@ -244,7 +244,7 @@ impl Member {
     pub fn take(&mut self, out: &mut [u8]) -> member::Reply
         ensures { λ r. ⌜ memberInPlace.Taken (now (self .entry)) (now (out .entry)) r (now (self .exit)) (now (out .exit)) ⌝ }
     {
-        let done = member::take_on(
+        let done = member_calls::take_on(
             self.head,
             &mut self.queued,
             &mut self.held,
@@ -264,7 +264,7 @@ impl Member {
     pub fn repeat(&self, out: &mut [u8]) -> member::Reply
         ensures { λ r. ⌜ memberInPlace.Repeated (now (self .entry)) (now (out .entry)) r (now (out .exit)) ⌝ }
     {
-        member::repeat_on(
+        member_calls::repeat_on(
             self.head,
             &self.queued,
             &self.held,
@@ -282,7 +282,7 @@ impl Member {
     pub fn status(&self, out: &mut [u8]) -> member::Reply
         ensures { λ r. ⌜ memberInPlace.Reported (now (self .entry)) (now (out .entry)) r (now (out .exit)) ⌝ }
     {
-        member::status_on(
+        member_calls::status_on(
             self.head,
             &self.queued,
             &self.held,

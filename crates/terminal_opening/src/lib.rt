@@ -99,7 +99,7 @@ pub fn open_on(
     *past_payloads = [0u8; Group::HISTORY_BYTES];
     *highest = [0u32; Group::MEMBERS];
     *replies = [0u32; Group::MEMBERS];
-    let begun = member::open_on(
+    let begun = member_calls::open_on(
         head.member,
         queued,
         held,
@@ -116,7 +116,7 @@ pub fn open_on(
     );
     let verdict = begun.verdict;
     let sequencing = sequencing(verdict, number);
-    let start = sequencer::open_on(
+    let start = sequencer_calls::open_on(
         head.sequencer,
         taken,
         counts,

@@ -86,7 +86,7 @@ pub fn submit_on(
         highest,
         replies,
     ) {
-        let done = member::submit_on(
+        let done = member_calls::submit_on(
             head.member,
             queued,
             held,
@@ -137,7 +137,7 @@ pub fn repeat_on(
         highest,
         replies,
     ) {
-        return member::repeat_on(
+        return member_calls::repeat_on(
             head.member,
             queued,
             held,
@@ -183,7 +183,7 @@ pub fn status_on(
         highest,
         replies,
     ) {
-        return member::status_on(
+        return member_calls::status_on(
             head.member,
             queued,
             held,
@@ -271,7 +271,7 @@ pub fn take_on(
         replies,
     ) {
         held_sizes(held, held_payloads);
-        let done = member::take_on(
+        let done = member_calls::take_on(
             head.member,
             queued,
             held,
@@ -487,7 +487,7 @@ fn hear_on(
             let reply = closed_reply(v, head.member.group, packet);
             return Done { head, reply };
         }
-        let done = member::receive_on(
+        let done = member_calls::receive_on(
             head.member,
             queued,
             held,
@@ -753,7 +753,7 @@ pub fn poll_on(
     ensures { λ r. ⌜ Polls head (now (taken .entry)) (now (counts .entry)) (now (repeats .entry)) (now (kept .entry)) (now (marks .entry)) (now (originators .entry)) (now (lengths .entry)) (now (payloads .entry)) (now (out .entry)) r (now (out .exit)) ⌝ }
 {
     if recovery::flags_sound(head) {
-        return sequencer::poll_on(
+        return sequencer_calls::poll_on(
             head.sequencer,
             taken,
             counts,
@@ -786,7 +786,7 @@ pub fn copy_on(
     ensures { λ r. ⌜ Copies head (now (taken .entry)) (now (counts .entry)) (now (repeats .entry)) (now (kept .entry)) (now (marks .entry)) (now (originators .entry)) (now (lengths .entry)) (now (payloads .entry)) number (now (out .entry)) r (now (out .exit)) ⌝ }
 {
     if recovery::flags_sound(head) {
-        return sequencer::copy_on(
+        return sequencer_calls::copy_on(
             head.sequencer,
             taken,
             counts,
@@ -884,7 +884,7 @@ pub fn order_on(
             let reply = frozen_reply(v, head.sequencer.group, packet);
             return Step { head, reply };
         }
-        let step = sequencer::receive_on(
+        let step = sequencer_calls::receive_on(
             head.sequencer,
             taken,
             counts,

@@ -531,7 +531,7 @@ fn malformed() -> Vec<Schedule> {
 
 /// A random schedule of n terminals: messages get around, and now and then
 /// some terminals make a group, within the limits or not.
-fn random(seed: u64, n: usize) -> Schedule {
+pub fn random(seed: u64, n: usize) -> Schedule {
     let mut random = Random::seeded(seed ^ 0x7265_7365_7400);
     let r = random.below(n);
     let world = World::fresh(n as u32, 7, r as u32).expect("an allowed opening");

@@ -6,7 +6,7 @@ use lib.ListN.{getD}
 use denote.Ref.{now}
 use native.Mathlib.Omega.{arith}
 use Rattle.reset_simulator.specs.Whole.{rowsOf}
-use Rattle.reset_simulator.proofs.Rows.{flags-sound}
+use Rattle.terminal_rows.proofs.Flags.{flags-sound}
 use Rattle.reset_simulator.proofs.Acting.{calls-at, calls-not}
 use borrow.Author.Needs.{needs}
 use Rattle.reset_simulator.proofs.call_at.Statement.{statement}

@@ -2,7 +2,7 @@
 -- Assumes nothing.
 use mathlib.Core.Path.{_≡_, refl, sym, ap, _∙_}
 use denote.Ref.{now}
-use Rattle.reset_simulator.specs.Steps.{ofPart}
+use Rattle.terminal_rows.specs.Steps.{ofPart}
 use Rattle.reset_simulator.proofs.Calling.{call-as}
 use borrow.Author.Needs.{needs}
 use Rattle.reset_simulator.proofs.call_on.Statement.{statement}

@@ -56,10 +56,10 @@ use Rattle.member.proofs.Done.Laws as S′
 use Rattle.member.proofs.Reply as Y
 use Rattle.member.proofs.Reply.Laws as Y′
 use Rattle.states.proofs.MemberLends.{arrays, lendable, hval, with, headed, made}
-use Rattle.member.proofs.take_on as on
-use Rattle.member.proofs.take_on.Symbol as on-def
-use Rattle.member.proofs.take_on.Symbol.{name as #on}
-use Rattle.member.proofs.take_on.Met as on-thm
+use Rattle.member_calls.proofs.take_on as on
+use Rattle.member_calls.proofs.take_on.Symbol as on-def
+use Rattle.member_calls.proofs.take_on.Symbol.{name as #on}
+use Rattle.member_calls.proofs.take_on.Met as on-thm
 use Rattle.states.proofs.Member.take.Key.{name as #of}
 use Rattle.states.proofs.Member.take as f
 use Rattle.states.proofs.Member.take.Statement as stated
@@ -217,4 +217,4 @@ take-spec 𝓤 H 𝓜 𝓖 𝓡 =
     entered 𝓤 H (tripleOf 𝓤 H (𝓖 .A) f.signature (f.spec 𝓤 H (𝓖 .A) (𝓜 .mem) (𝓡 .run)))
     (tables 𝓤 H 𝓜 𝓡 code.env .C) (tables 𝓤 H 𝓜 𝓡 code.env .Λ) #of code.function (code.unfolded 𝓤 H 𝓜 𝓡)
     (meets 𝓤 H (𝓖 .A) (givenOf 𝓤 H 𝓜 𝓖) (𝓜 .mem) (𝓡 .run) (tablesOf 𝓤 H 𝓜 (tables 𝓤 H 𝓜 𝓡 code.env))
-    (cited 𝓤 H (On 𝓤 H (𝓖 .A) (𝓜 .mem) (𝓡 .run)) 𝓜 𝓡 code.env #on on-def.routine code.calls-member·take-on (on-thm.met 𝓤 H 𝓜 𝓖 𝓡)))
+    (cited 𝓤 H (On 𝓤 H (𝓖 .A) (𝓜 .mem) (𝓡 .run)) 𝓜 𝓡 code.env #on on-def.routine code.calls-member-calls·take-on (on-thm.met 𝓤 H 𝓜 𝓖 𝓡)))

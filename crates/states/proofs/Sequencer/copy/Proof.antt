@@ -57,10 +57,10 @@ use Rattle.sequencer.proofs.Reply.Laws as Y′
 use Rattle.group.proofs.SequenceNumber as N₁
 use Rattle.group.proofs.SequenceNumber.Laws as N₁′
 use Rattle.states.proofs.SequencerLends.{arrays, lendable, hval}
-use Rattle.sequencer.proofs.copy_on as on
-use Rattle.sequencer.proofs.copy_on.Symbol as on-def
-use Rattle.sequencer.proofs.copy_on.Symbol.{name as #on}
-use Rattle.sequencer.proofs.copy_on.Met as on-thm
+use Rattle.sequencer_calls.proofs.copy_on as on
+use Rattle.sequencer_calls.proofs.copy_on.Symbol as on-def
+use Rattle.sequencer_calls.proofs.copy_on.Symbol.{name as #on}
+use Rattle.sequencer_calls.proofs.copy_on.Met as on-thm
 use Rattle.states.proofs.Sequencer.copy.Key.{name as #of}
 use Rattle.states.proofs.Sequencer.copy as f
 use Rattle.states.proofs.Sequencer.copy.Statement as stated
@@ -197,4 +197,4 @@ copy-spec 𝓤 H 𝓜 𝓖 𝓡 =
     entered 𝓤 H (tripleOf 𝓤 H (𝓖 .A) f.signature (f.spec 𝓤 H (𝓖 .A) (𝓜 .mem) (𝓡 .run)))
     (tables 𝓤 H 𝓜 𝓡 code.env .C) (tables 𝓤 H 𝓜 𝓡 code.env .Λ) #of code.function (code.unfolded 𝓤 H 𝓜 𝓡)
     (meets 𝓤 H (𝓖 .A) (givenOf 𝓤 H 𝓜 𝓖) (𝓜 .mem) (𝓡 .run) (tablesOf 𝓤 H 𝓜 (tables 𝓤 H 𝓜 𝓡 code.env))
-    (cited 𝓤 H (On 𝓤 H (𝓖 .A) (𝓜 .mem) (𝓡 .run)) 𝓜 𝓡 code.env #on on-def.routine code.calls-sequencer·copy-on (on-thm.met 𝓤 H 𝓜 𝓖 𝓡)))
+    (cited 𝓤 H (On 𝓤 H (𝓖 .A) (𝓜 .mem) (𝓡 .run)) 𝓜 𝓡 code.env #on on-def.routine code.calls-sequencer-calls·copy-on (on-thm.met 𝓤 H 𝓜 𝓖 𝓡)))

@@ -1,6 +1,7 @@
 //! Random packets, packet lists, feeds of work lists, schedules, loads and
-//! journals through the proved library and through the reference. A difference
-//! is printed with its seed, shrunk.
+//! journals through the proved library and through the reference, and schedules
+//! with resets through the proved program. A difference is printed with its
+//! seed, shrunk.
 
 use boundary::ends::{self, Membership, Sequencing, Told};
 use boundary::proved::{MemberState, SequencerState};
@@ -19,6 +20,7 @@ use std::collections::BTreeMap;
 use std::process::ExitCode;
 use std::time::Instant;
 
+mod recover;
 mod terminals;
 
 /// A case by its seed: the refusal that the reference answers, 0 for none,
@@ -109,6 +111,9 @@ fn main() -> ExitCode {
         (0, terminal(seed))
     });
     run("schedules", options.schedules, |seed| (0, playing(seed)));
+    run("schedules with resets", options.schedules, |seed| {
+        (0, recover::recovering(seed))
+    });
     run("loads of every n", options.loads, loading);
     run("journals written", options.journals, journal_writing);
     run("journals read", options.journals, journal_reading);
@@ -969,6 +974,12 @@ fn playing(seed: u64) -> Option<String> {
         text.extend(vec![random.one(b"0 a\0"); 1_000_000]);
         text.extend(b"\nP\n");
     }
+    differing(&text, printed)
+}
+
+/// What an input prints here and in the reference, if that differs, with as
+/// few of its lines as will do.
+fn differing(text: &[u8], printed: impl Fn(&[u8]) -> [Vec<u8>; 2]) -> Option<String> {
     let lines: Vec<&[u8]> = text.split_inclusive(|&byte| byte == b'\n').collect();
     let differs = |lines: &[&[u8]]| {
         let [here, there] = printed(&lines.concat());

@@ -30,7 +30,7 @@ use Rattle.sequencer.specs.View as sequencerView
 use Rattle.sequencer.specs.declared.Head as sequencerHead
 use Rattle.simulator.specs.Whole.{packetsMost, listOf, packetsOf}
 use Rattle.store.proofs.Places.{messages-none}
-use Rattle.terminal_rows.specs.Heads.{freshHead}
+use Rattle.terminal_opening.specs.Steps.{freshHead}
 use Rattle.terminal_rows.specs.Steps.{admitsOf, openedWith}
 use Rattle.terminal_rows.specs.declared.Call.the-variants as call
 use Rattle.reset_simulator.specs.Steps.{cameOf, cameAt, CallsAt, Begun}

@@ -3,9 +3,7 @@ use mathlib.Core.List.{List, [], _∷_}
 use Prim.Native.Nat.{ℕ}
 use lib.ListN.{getD}
 use Rattle.group.specs.Choice.{if_then_else_, _=?_}
-use Rattle.member.specs.declared.Head as memberHead
 use Rattle.recovery.specs.declared.Head.{Head}
-use Rattle.sequencer.specs.declared.Head as sequencerHead
 
 -- a flag is set if it is 1
 unfoldable pub flagOf : ℕ → ℕ
@@ -71,20 +69,3 @@ numbersOf h =
     h .member .group .number ∷ h .member .taken .0 ∷ h .member .accepted .0 ∷ h .member .submitted ∷ h .member .waiting
     ∷ h .sequencer .group .number ∷ h .sequencer .top .0 ∷ h .sequencer .accepted .0 ∷ h .sequencer .floor .0
     ∷ h .read .0 ∷ h .attempt ∷ h .number .0 ∷ h .invited ∷ []
-
--- a fresh terminal's head
-abbrev pub freshHead : memberHead.Head → sequencerHead.Head → ℕ → Head
-freshHead m s sequencing =
-    record {
-      member = m;
-      sequencer = s;
-      read = record { 0 = 0 };
-      attempt = 0;
-      number = record { 0 = 0 };
-      invited = 0;
-      repliers = 0;
-      replied = 0;
-      inviting = 0;
-      sequencing = sequencing;
-      frozen = 0;
-    }

@@ -12,7 +12,7 @@ ghost use lib.ListN.{length, getD, set};
 ghost use Rattle.group.specs.Choice.{if_then_else_, _=?_};
 ghost use Rattle.sequencer.specs.Calls.{freshOf};
 ghost use Rattle.simulator.specs.Steps.{fittingOf};
-ghost use Rattle.terminal_rows.specs.Heads.{flagOf, headIn, smallOf, masksOf, numbersOf, freshHead};
+ghost use Rattle.terminal_rows.specs.Heads.{flagOf, headIn, smallOf, masksOf, numbersOf};
 ghost use Rattle.terminal_rows.specs.Steps.{keptSize, admitsOf, ofPart, openedWith};
 
 // The numbers of a terminal's head, by their width: of one byte n, the resilience degree and the elected one of both ends, the member's
@@ -303,25 +303,6 @@ pub fn served(n: u8, i: u8) -> u8
         return n;
     }
     0
-}
-
-// A fresh terminal's head.
-pub fn fresh_head(member: member::Head, sequencer: sequencer::Head, sequencing: u8) -> Head
-    ensures { λ r. ⌜ r ≡ freshHead member sequencer sequencing ⌝ }
-{
-    Head {
-        member,
-        sequencer,
-        read: SequenceNumber(0),
-        attempt: 0,
-        number: SequenceNumber(0),
-        invited: 0,
-        repliers: 0,
-        replied: 0,
-        inviting: 0,
-        sequencing,
-        frozen: 0,
-    }
 }
 
 // The array of packet k, and how many of its bytes are the packet.

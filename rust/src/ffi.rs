@@ -218,6 +218,29 @@ pub mod code {
     pub const GIVEN: u32 = 65;
 }
 
+/// A call of this module that is lent a state, bytes and an output.
+pub fn with_bytes<S>(
+    call: unsafe extern "C" fn(*mut S, *const u8, usize, *mut u8, usize) -> Told,
+    state: &mut S,
+    bytes: &[u8],
+    out: &mut [u8],
+) -> Told {
+    let (size, room) = (bytes.len(), out.len());
+    // SAFETY: state, bytes and output are lent, apart from each other, with their lengths.
+    unsafe { call(state, bytes.as_ptr(), size, out.as_mut_ptr(), room) }
+}
+
+/// A call of this module that looks at a state and is lent an output.
+pub fn looking<S>(
+    call: unsafe extern "C" fn(*const S, *mut u8, usize) -> Told,
+    state: &S,
+    out: &mut [u8],
+) -> Told {
+    let room = out.len();
+    // SAFETY: state and output are lent, apart from each other, with its length.
+    unsafe { call(state, out.as_mut_ptr(), room) }
+}
+
 #[rustfmt::skip]
 unsafe extern "C" {
     pub fn warghytes_sequencer_open(s: *mut Sequencer, n: u8, group: u32, resilience: u8) -> Told;

@@ -168,17 +168,7 @@ impl Member {
         payload: &[u8],
         out: &'o mut [u8],
     ) -> Result<Submitted<'o>, Refusal> {
-        let (size, room) = (payload.len(), out.len());
-        // SAFETY: state, payload and output are lent, apart from each other, with their lengths.
-        let told = unsafe {
-            ffi::warghytes_member_submit(
-                &raw mut self.0,
-                payload.as_ptr(),
-                size,
-                out.as_mut_ptr(),
-                room,
-            )
-        };
+        let told = ffi::with_bytes(ffi::warghytes_member_submit, &mut self.0, payload, out);
         submitted(told, out)
     }
 
@@ -189,17 +179,7 @@ impl Member {
     /// A packet that is none, of another group, for the sequencer, or that says what cannot be.
     #[must_use = "what it wrote is for the sequencer"]
     pub fn receive<'o>(&mut self, packet: &[u8], out: &'o mut [u8]) -> Result<Heard<'o>, Refusal> {
-        let (size, room) = (packet.len(), out.len());
-        // SAFETY: state, packet and output are lent, apart from each other, with their lengths.
-        let told = unsafe {
-            ffi::warghytes_member_receive(
-                &raw mut self.0,
-                packet.as_ptr(),
-                size,
-                out.as_mut_ptr(),
-                room,
-            )
-        };
+        let told = ffi::with_bytes(ffi::warghytes_member_receive, &mut self.0, packet, out);
         heard(told, out)
     }
 
@@ -231,10 +211,7 @@ impl Member {
     /// ```
     #[must_use = "a request that is not sent is lost"]
     pub fn repeat<'o>(&self, out: &'o mut [u8]) -> Result<&'o [u8], Refusal> {
-        let room = out.len();
-        // SAFETY: state and output are lent, apart from each other, with its length.
-        let told =
-            unsafe { ffi::warghytes_member_repeat(&raw const self.0, out.as_mut_ptr(), room) };
+        let told = ffi::looking(ffi::warghytes_member_repeat, &self.0, out);
         Ok(told.said(out)?.1)
     }
 
@@ -245,10 +222,7 @@ impl Member {
     /// [`Refusal::ShortOutput`].
     #[must_use = "a status that is not sent is lost"]
     pub fn status<'o>(&self, out: &'o mut [u8]) -> Result<&'o [u8], Refusal> {
-        let room = out.len();
-        // SAFETY: state and output are lent, apart from each other, with its length.
-        let told =
-            unsafe { ffi::warghytes_member_status(&raw const self.0, out.as_mut_ptr(), room) };
+        let told = ffi::looking(ffi::warghytes_member_status, &self.0, out);
         Ok(told.said(out)?.1)
     }
 

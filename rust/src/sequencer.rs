@@ -114,17 +114,7 @@ impl Sequencer {
         packet: &[u8],
         out: &'o mut [u8],
     ) -> Result<Received<'o>, Refusal> {
-        let (size, room) = (packet.len(), out.len());
-        // SAFETY: state, packet and output are lent, apart from each other, with their lengths.
-        let told = unsafe {
-            ffi::warghytes_sequencer_receive(
-                &raw mut self.0,
-                packet.as_ptr(),
-                size,
-                out.as_mut_ptr(),
-                room,
-            )
-        };
+        let told = ffi::with_bytes(ffi::warghytes_sequencer_receive, &mut self.0, packet, out);
         received(told, out)
     }
 
@@ -135,10 +125,7 @@ impl Sequencer {
     /// [`Refusal::ShortOutput`].
     #[must_use = "a poll that is not sent is lost"]
     pub fn poll<'o>(&self, out: &'o mut [u8]) -> Result<&'o [u8], Refusal> {
-        let room = out.len();
-        // SAFETY: state and output are lent, apart from each other, with its length.
-        let told =
-            unsafe { ffi::warghytes_sequencer_poll(&raw const self.0, out.as_mut_ptr(), room) };
+        let told = ffi::looking(ffi::warghytes_sequencer_poll, &self.0, out);
         Ok(told.said(out)?.1)
     }
 

@@ -69,17 +69,7 @@ impl Terminal {
         payload: &[u8],
         out: &'o mut [u8],
     ) -> Result<Submitted<'o>, Refusal> {
-        let (size, room) = (payload.len(), out.len());
-        // SAFETY: state, payload and output are lent, apart from each other, with their lengths.
-        let told = unsafe {
-            ffi::warghytes_terminal_submit(
-                &raw mut self.0,
-                payload.as_ptr(),
-                size,
-                out.as_mut_ptr(),
-                room,
-            )
-        };
+        let told = ffi::with_bytes(ffi::warghytes_terminal_submit, &mut self.0, payload, out);
         submitted(told, out)
     }
 
@@ -90,17 +80,7 @@ impl Terminal {
     /// A packet that is none, of another group, for the sequencer, or that says what cannot be; with a reply open, any but those of a reset.
     #[must_use = "what it wrote is for the sequencer, or for the terminal that invites"]
     pub fn receive<'o>(&mut self, packet: &[u8], out: &'o mut [u8]) -> Result<Heard<'o>, Refusal> {
-        let (size, room) = (packet.len(), out.len());
-        // SAFETY: state, packet and output are lent, apart from each other, with their lengths.
-        let told = unsafe {
-            ffi::warghytes_terminal_receive(
-                &raw mut self.0,
-                packet.as_ptr(),
-                size,
-                out.as_mut_ptr(),
-                room,
-            )
-        };
+        let told = ffi::with_bytes(ffi::warghytes_terminal_receive, &mut self.0, packet, out);
         heard(told, out)
     }
 
@@ -124,10 +104,7 @@ impl Terminal {
     /// [`Refusal::NothingWaiting`], [`Refusal::ShortOutput`].
     #[must_use = "a request that is not sent is lost"]
     pub fn repeat<'o>(&self, out: &'o mut [u8]) -> Result<&'o [u8], Refusal> {
-        let room = out.len();
-        // SAFETY: state and output are lent, apart from each other, with its length.
-        let told =
-            unsafe { ffi::warghytes_terminal_repeat(&raw const self.0, out.as_mut_ptr(), room) };
+        let told = ffi::looking(ffi::warghytes_terminal_repeat, &self.0, out);
         Ok(told.said(out)?.1)
     }
 
@@ -138,10 +115,7 @@ impl Terminal {
     /// [`Refusal::ShortOutput`].
     #[must_use = "a status that is not sent is lost"]
     pub fn status<'o>(&self, out: &'o mut [u8]) -> Result<&'o [u8], Refusal> {
-        let room = out.len();
-        // SAFETY: state and output are lent, apart from each other, with its length.
-        let told =
-            unsafe { ffi::warghytes_terminal_status(&raw const self.0, out.as_mut_ptr(), room) };
+        let told = ffi::looking(ffi::warghytes_terminal_status, &self.0, out);
         Ok(told.said(out)?.1)
     }
 
@@ -152,17 +126,7 @@ impl Terminal {
     /// [`Refusal::UnsoundState`], if it has none; a packet that is none, of another group, for members, or that says what cannot be.
     #[must_use = "what it wrote is for every member"]
     pub fn order<'o>(&mut self, packet: &[u8], out: &'o mut [u8]) -> Result<Received<'o>, Refusal> {
-        let (size, room) = (packet.len(), out.len());
-        // SAFETY: state, packet and output are lent, apart from each other, with their lengths.
-        let told = unsafe {
-            ffi::warghytes_terminal_order(
-                &raw mut self.0,
-                packet.as_ptr(),
-                size,
-                out.as_mut_ptr(),
-                room,
-            )
-        };
+        let told = ffi::with_bytes(ffi::warghytes_terminal_order, &mut self.0, packet, out);
         received(told, out)
     }
 
@@ -173,10 +137,7 @@ impl Terminal {
     /// [`Refusal::UnsoundState`], if it has none; [`Refusal::ShortOutput`].
     #[must_use = "a poll that is not sent is lost"]
     pub fn poll<'o>(&self, out: &'o mut [u8]) -> Result<&'o [u8], Refusal> {
-        let room = out.len();
-        // SAFETY: state and output are lent, apart from each other, with its length.
-        let told =
-            unsafe { ffi::warghytes_terminal_poll(&raw const self.0, out.as_mut_ptr(), room) };
+        let told = ffi::looking(ffi::warghytes_terminal_poll, &self.0, out);
         Ok(told.said(out)?.1)
     }
 

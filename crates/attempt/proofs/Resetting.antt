@@ -8,112 +8,112 @@ use native.Mathlib.Omega.{arith}
 use borrow.Author.Tests.{eqb-true, eqb-false}
 use lib.ListN.{length}
 use Rattle.group.specs.Choice.{if◌then◌else◌, ◌and◌, ◌=?◌}
-use Rattle.group.specs.Limits.{headerSize, largestNumber}
+use Rattle.group.specs.Limits.{header_size, largest_number}
 use Rattle.group.specs.declared.Group.{Group}
 use Rattle.group.specs.declared.Refusal.{Refusal}
-use Rattle.group.proofs.Choice.{if-true, if-false, if-eq, if-ne}
-use Rattle.group.proofs.Lists.{eq-or}
+use Rattle.group.proofs.Choice.{if_true, if_false, if_eq, if_ne}
+use Rattle.group.proofs.Lists.{eq_or}
 use Rattle.big_endian.specs.Laws.{Bytes}
-use Rattle.packet.specs.Packet.{requestKind, broadcastKind, gapKind, statusKind, pollKind, offerKind, confirmKind, acceptKind, invitationKind, replyKind, contentOf, fromElected, payloadAt, read_of, survivorsSize, Named}
+use Rattle.packet.specs.Packet.{request_kind, broadcast_kind, gap_kind, status_kind, poll_kind, offer_kind, confirm_kind, accept_kind, invitation_kind, reply_kind, content_of, from_elected, payload_at, read_of, survivors_size, Named}
 use Rattle.packet.specs.declared.Header.{Header}
 use Rattle.packet.specs.declared.Packet.{Packet}
 use Rattle.packet.specs.declared.Reading.{Reading}
-use Rattle.packet.proofs.Verdicts.{askable, readable, fits-size, result-size, read_named}
+use Rattle.packet.proofs.Verdicts.{askable, readable, fits_size, result_size, read_named}
 use Rattle.member.specs.View as memberView
 use Rattle.member.specs.declared.Reply.{Reply}
-use Rattle.recovery.specs.Calls.{Outcome, ofReset, resetStep, read_step}
+use Rattle.recovery.specs.Calls.{Outcome, of_reset, reset_step, read_step}
 use Rattle.recovery.specs.Promise.{called, Changed}
-use Rattle.recovery.specs.Sound.{terminalSound}
+use Rattle.recovery.specs.Sound.{terminal_sound}
 use Rattle.recovery.specs.State.{Terminal}
-use Rattle.recovery.specs.View.{Stored, terminalOf, flagsSound, view_of}
-use Rattle.attempt.specs.Promise.{resetRead, ResetReceived}
-use Rattle.attempt.specs.Steps.{Takes, replyStep, noteStep, answerStep}
+use Rattle.recovery.specs.View.{Stored, terminal_of, flags_sound, view_of}
+use Rattle.attempt.specs.Promise.{reset_read, ResetReceived}
+use Rattle.attempt.specs.Steps.{Takes, reply_step, note_step, answer_step}
 use Rattle.attempt.specs.declared.Done.{Done}
-use Rattle.attempt.proofs.Changing.{Facts, Matches, match-as, no_of, withParts, call-as, step-changed, declined-done, unsound-done}
-use Rattle.attempt.proofs.Replying.{reply-matches, note-matches}
+use Rattle.attempt.proofs.Changing.{Facts, Matches, match_as, no_of, with_parts, call_as, step_changed, declined_done, unsound_done}
+use Rattle.attempt.proofs.Replying.{reply_matches, note_matches}
 
 -- what the fields of each kind mean
-content-invitation : (h : Header) → h.kind ≡ invitationKind → contentOf h ≡ Packet.Invitation h.member h.a
-unfolding contentOf if◌then◌else◌
-content-invitation h e = rw e
+content_invitation : (h : Header) → h.kind ≡ invitation_kind → content_of h ≡ Packet.Invitation h.member h.a
+unfolding content_of if◌then◌else◌
+content_invitation h e = rw e
 
-content-reply : (h : Header) → h.kind ≡ replyKind → contentOf h ≡ Packet.Reply h.member h.a (record { 0 = h.b })
-unfolding contentOf if◌then◌else◌
-content-reply h e = rw e
+content_reply : (h : Header) → h.kind ≡ reply_kind → content_of h ≡ Packet.Reply h.member h.a (record { 0 = h.b })
+unfolding content_of if◌then◌else◌
+content_reply h e = rw e
 
-content-result : (h : Header) → replyKind < h.kind → contentOf h ≡ Packet.Result h.member h.a (record { 0 = h.b }) (record { 0 = h.c })
-unfolding contentOf
-content-result h above =
-    sym (if-ne h.kind requestKind _ _ _ (other requestKind (omega arith)) (if-ne h.kind broadcastKind _ _ _ (other broadcastKind (omega arith)) (if-ne h.kind gapKind _ _ _ (other gapKind (omega arith)) (if-ne h.kind statusKind _ _ _ (other statusKind (omega arith)) (if-ne h.kind pollKind _ _ _ (other pollKind (omega arith)) (if-ne h.kind offerKind _ _ _ (other offerKind (omega arith)) (if-ne h.kind confirmKind _ _ _ (other confirmKind (omega arith)) (if-ne h.kind acceptKind _ _ _ (other acceptKind (omega arith)) (if-ne h.kind invitationKind _ _ _ (other invitationKind (omega arith)) (if-ne h.kind replyKind _ _ _ (other replyKind (omega arith)) refl))))))))))
+content_result : (h : Header) → reply_kind < h.kind → content_of h ≡ Packet.Result h.member h.a (record { 0 = h.b }) (record { 0 = h.c })
+unfolding content_of
+content_result h above =
+    sym (if_ne h.kind request_kind _ _ _ (other request_kind (omega arith)) (if_ne h.kind broadcast_kind _ _ _ (other broadcast_kind (omega arith)) (if_ne h.kind gap_kind _ _ _ (other gap_kind (omega arith)) (if_ne h.kind status_kind _ _ _ (other status_kind (omega arith)) (if_ne h.kind poll_kind _ _ _ (other poll_kind (omega arith)) (if_ne h.kind offer_kind _ _ _ (other offer_kind (omega arith)) (if_ne h.kind confirm_kind _ _ _ (other confirm_kind (omega arith)) (if_ne h.kind accept_kind _ _ _ (other accept_kind (omega arith)) (if_ne h.kind invitation_kind _ _ _ (other invitation_kind (omega arith)) (if_ne h.kind reply_kind _ _ _ (other reply_kind (omega arith)) refl))))))))))
   where
-    other : (k : ℕ) → k ≤ replyKind → h.kind ≡ k → ⊥
+    other : (k : ℕ) → k ≤ reply_kind → h.kind ≡ k → ⊥
     other k low e = omega arith
 
 module _ (s : Stored) (h : Header) (payload : List ℕ) where
   abbrev t : Terminal
-  t = terminalOf s
+  t = terminal_of s
 
   abbrev call : Terminal → Outcome
-  call x = resetRead x h payload
+  call x = reset_read x h payload
 
-  pub reset-unsound : {b : Bool} {done : Done} {before : List ℕ} → b ≡ (flagsSound s.head and terminalSound (terminalOf s)) → b ≡ false → done ≡ record { head = s.head; reply = no_of Refusal.UnsoundState }
-      → ResetReceived s h payload before done.reply (withParts s done.head s.replies) before
-  unfolding resetRead
-  reset-unsound is e d = unsound-done s call is e (λ u. sym (if-false (terminalSound t) _ _ _ u refl)) d
+  pub reset_unsound : {b : Bool} {done : Done} {before : List ℕ} → b ≡ (flags_sound s.head and terminal_sound (terminal_of s)) → b ≡ false → done ≡ record { head = s.head; reply = no_of Refusal.UnsoundState }
+      → ResetReceived s h payload before done.reply (with_parts s done.head s.replies) before
+  unfolding reset_read
+  reset_unsound is e d = unsound_done s call is e (λ u. sym (if_false (terminal_sound t) _ _ _ u refl)) d
 
   module _ (k : Facts s) where
-    pub reset-other : {done : Done} {before : List ℕ} → (h.group ≡ s.head.member.group.number → ⊥) → done ≡ record { head = s.head; reply = no_of Refusal.OtherGroup }
-        → ResetReceived s h payload before done.reply (withParts s done.head s.replies) before
-    unfolding resetRead terminalOf memberView.view_of
-    reset-other n d = declined-done s call Refusal.OtherGroup k.flags (sym (if-true (terminalSound t) _ _ _ k.sound (if-ne h.group s.head.member.group.number _ _ _ n refl))) d
+    pub reset_other : {done : Done} {before : List ℕ} → (h.group ≡ s.head.member.group.number → ⊥) → done ≡ record { head = s.head; reply = no_of Refusal.OtherGroup }
+        → ResetReceived s h payload before done.reply (with_parts s done.head s.replies) before
+    unfolding reset_read terminal_of memberView.view_of
+    reset_other n d = declined_done s call Refusal.OtherGroup k.flags (sym (if_true (terminal_sound t) _ _ _ k.sound (if_ne h.group s.head.member.group.number _ _ _ n refl))) d
 
     module _ (ours : h.group ≡ s.head.member.group.number) where
-      ours-as : resetStep t (contentOf h) payload ≡ call t
-      unfolding resetRead terminalOf memberView.view_of
-      ours-as = if-true (terminalSound t) _ _ _ k.sound (if-eq h.group s.head.member.group.number _ _ _ ours refl)
+      ours_as : reset_step t (content_of h) payload ≡ call t
+      unfolding reset_read terminal_of memberView.view_of
+      ours_as = if_true (terminal_sound t) _ _ _ k.sound (if_eq h.group s.head.member.group.number _ _ _ ours refl)
 
-      answer-matches : s.head.member.taken.0 ≤ largestNumber → acceptKind < h.kind → h.kind ≤ replyKind
-          → Matches s (answerStep s.head s.held s.replies h) (resetStep t (contentOf h) payload)
-      unfolding answerStep if◌then◌else◌
-      answer-matches most above low = go (h.kind =? invitationKind) refl
+      answer_matches : s.head.member.taken.0 ≤ largest_number → accept_kind < h.kind → h.kind ≤ reply_kind
+          → Matches s (answer_step s.head s.held s.replies h) (reset_step t (content_of h) payload)
+      unfolding answer_step if◌then◌else◌
+      answer_matches most above low = go (h.kind =? invitation_kind) refl
         where
-          go : (b : Bool) → (h.kind =? invitationKind) ≡ b
-              → Matches s (if b then replyStep s.head s.held s.replies h.member h.a else noteStep s.head s.replies h.member h.a h.b) (resetStep t (contentOf h) payload)
-          go true e = match-as s (ap (λ (x : Packet). resetStep t x payload) (sym (content-invitation h (eqb-true h.kind invitationKind e)))) (reply-matches s most k.flags h.member h.a payload)
+          go : (b : Bool) → (h.kind =? invitation_kind) ≡ b
+              → Matches s (if b then reply_step s.head s.held s.replies h.member h.a else note_step s.head s.replies h.member h.a h.b) (reset_step t (content_of h) payload)
+          go true e = match_as s (ap (λ (x : Packet). reset_step t x payload) (sym (content_invitation h (eqb-true h.kind invitation_kind e)))) (reply_matches s most k.flags h.member h.a payload)
           go false e =
-              let n : h.kind ≢ invitationKind = eqb-false h.kind invitationKind e in
-              match-as s (ap (λ (x : Packet). resetStep t x payload) (sym (content-reply h (omega arith)))) (note-matches s most k.flags h.member h.a (record { 0 = h.b }) payload)
+              let n : h.kind ≢ invitation_kind = eqb-false h.kind invitation_kind e in
+              match_as s (ap (λ (x : Packet). reset_step t x payload) (sym (content_reply h (omega arith)))) (note_matches s most k.flags h.member h.a (record { 0 = h.b }) payload)
 
-      pub reset-answered : {done : Done} {left before after : List ℕ} → s.head.member.taken.0 ≤ largestNumber → acceptKind < h.kind → h.kind ≤ replyKind
-          → Takes (answerStep s.head s.held s.replies h) done left before after → ResetReceived s h payload before done.reply (withParts s done.head left) after
-      reset-answered most above low p =
-          step-changed s call (answerStep s.head s.held s.replies h) k.flags (match-as s ours-as (answer-matches most above low)) p
+      pub reset_answered : {done : Done} {left before after : List ℕ} → s.head.member.taken.0 ≤ largest_number → accept_kind < h.kind → h.kind ≤ reply_kind
+          → Takes (answer_step s.head s.held s.replies h) done left before after → ResetReceived s h payload before done.reply (with_parts s done.head left) after
+      reset_answered most above low p =
+          step_changed s call (answer_step s.head s.held s.replies h) k.flags (match_as s ours_as (answer_matches most above low)) p
 
-      pub reset-result : {left : Stored} {reply : Reply} {before after : List ℕ} → replyKind < h.kind
-          → Changed (called (λ x. resetStep x (Packet.Result h.member h.a (record { 0 = h.b }) (record { 0 = h.c })) payload) (view_of s)) reply left before after
+      pub reset_result : {left : Stored} {reply : Reply} {before after : List ℕ} → reply_kind < h.kind
+          → Changed (called (λ x. reset_step x (Packet.Result h.member h.a (record { 0 = h.b }) (record { 0 = h.c })) payload) (view_of s)) reply left before after
           → ResetReceived s h payload before reply left after
-      reset-result above p = call-as s (λ x. resetStep x (Packet.Result h.member h.a (record { 0 = h.b }) (record { 0 = h.c })) payload) call k.flags (ap (λ (x : Packet). resetStep t x payload) (sym (content-result h above)) ∙ ours-as) p
+      reset_result above p = call_as s (λ x. reset_step x (Packet.Result h.member h.a (record { 0 = h.b }) (record { 0 = h.c })) payload) call k.flags (ap (λ (x : Packet). reset_step t x payload) (sym (content_result h above)) ∙ ours_as) p
 
 -- what was read of a reset is what the member's call for packets makes of it
-reset-content : (group : Group) (h : Header) → acceptKind < h.kind → (fromElected group (contentOf h) ≡ true) × (ofReset (contentOf h) ≡ true)
-unfolding fromElected ofReset
-reset-content group h above =
-    eq-or h.kind invitationKind (λ e. of (content-invitation h e) (refl, refl))
-    (λ n. eq-or h.kind replyKind (λ e. of (content-reply h e) (refl, refl)) (λ m. of (content-result h (omega arith)) (refl, refl)))
+reset_content : (group : Group) (h : Header) → accept_kind < h.kind → (from_elected group (content_of h) ≡ true) × (of_reset (content_of h) ≡ true)
+unfolding from_elected of_reset
+reset_content group h above =
+    eq_or h.kind invitation_kind (λ e. of (content_invitation h e) (refl, refl))
+    (λ n. eq_or h.kind reply_kind (λ e. of (content_reply h e) (refl, refl)) (λ m. of (content_result h (omega arith)) (refl, refl)))
   where
-    of : {x : Packet} → contentOf h ≡ x → (fromElected group x ≡ true) × (ofReset x ≡ true) → (fromElected group (contentOf h) ≡ true) × (ofReset (contentOf h) ≡ true)
-    of e p = subst (λ (x : Packet). (fromElected group x ≡ true) × (ofReset x ≡ true)) (sym e) p
+    of : {x : Packet} → content_of h ≡ x → (from_elected group x ≡ true) × (of_reset x ≡ true) → (from_elected group (content_of h) ≡ true) × (of_reset (content_of h) ≡ true)
+    of e p = subst (λ (x : Packet). (from_elected group x ≡ true) × (of_reset x ≡ true)) (sym e) p
 
-pub read-reset : (t : Terminal) (h : Header) (payload : List ℕ) → acceptKind < h.kind → resetRead t h payload ≡ read_step t (Reading.Fields h) payload
-unfolding read_step resetRead
-read-reset t h payload above =
-    let c = reset-content t.member.group h above in
-    if-true (fromElected t.member.group (contentOf h)) _ _ _ c.0 (if-true (ofReset (contentOf h)) _ _ _ c.1 refl)
+pub read_reset : (t : Terminal) (h : Header) (payload : List ℕ) → accept_kind < h.kind → reset_read t h payload ≡ read_step t (Reading.Fields h) payload
+unfolding read_step reset_read
+read_reset t h payload above =
+    let c = reset_content t.member.group h above in
+    if_true (from_elected t.member.group (content_of h)) _ _ _ c.0 (if_true (of_reset (content_of h)) _ _ _ c.1 refl)
 
 -- and it has a meaning, of a result with its two bytes
-pub reset-fits : (p : List ℕ) → Bytes p → (h : Header) → read_of p ≡ Reading.Fields h → Named h × (replyKind < h.kind → survivorsSize ≤ length (payloadAt p))
-reset-fits p bytes h e =
-    let a = askable h (length p - headerSize) (payloadAt p) (readable p h e).fields in (
+pub reset_fits : (p : List ℕ) → Bytes p → (h : Header) → read_of p ≡ Reading.Fields h → Named h × (reply_kind < h.kind → survivors_size ≤ length (payload_at p))
+reset_fits p bytes h e =
+    let a = askable h (length p - header_size) (payload_at p) (readable p h e).fields in (
       read_named p bytes h e,
-      λ above. result-size h.kind (length (payloadAt p)) a.known (fits-size h.kind (length p - headerSize) (length (payloadAt p)) a.fits) above,
+      λ above. result_size h.kind (length (payload_at p)) a.known (fits_size h.kind (length p - header_size) (length (payload_at p)) a.fits) above,
     )

@@ -6,36 +6,36 @@ use Prim.Native.Nat.{ℕ}
 use lib.ListN.{length}
 use Rattle.group.specs.Choice.{if◌then◌else◌, ◌and◌, ◌<?◌}
 use Rattle.group.specs.Lent.{front}
-use Rattle.group.specs.Members.{isWithin, all_of}
+use Rattle.group.specs.Members.{is_within, all_of}
 use Rattle.group.specs.Question.{judged}
 use Rattle.group.specs.declared.MemberNumber.{MemberNumber}
 use Rattle.group.specs.declared.Refusal.{Refusal}
 use Rattle.group.specs.declared.SequenceNumber.{SequenceNumber}
 use Rattle.group.specs.declared.Verdict.{Verdict}
-use Rattle.packet.specs.Packet.{survivorsIn}
+use Rattle.packet.specs.Packet.{survivors_in}
 use Rattle.packet.specs.declared.Packet.{Packet}
-use Rattle.history.proofs.Asking.{judged-yes, judged-no}
+use Rattle.history.proofs.Asking.{judged_yes, judged_no}
 use Rattle.member.specs.View as memberView
 use Rattle.member.specs.declared.Answer.{Answer}
 use Rattle.recovery.specs.Begin.{result_of}
-use Rattle.recovery.specs.Calls.{Outcome, refused, noted, resultFits, resetStep}
+use Rattle.recovery.specs.Calls.{Outcome, refused, noted, result_fits, reset_step}
 use Rattle.recovery.specs.Promise.{called, Changed}
 use Rattle.recovery.specs.State.{Terminal}
-use Rattle.recovery.specs.View.{Stored, terminalOf, flagsSound, view_of}
+use Rattle.recovery.specs.View.{Stored, terminal_of, flags_sound, view_of}
 use Rattle.recovery.specs.declared.Head.{Head}
 use Rattle.election.specs.Promise.{Enters}
-use Rattle.attempt.specs.Steps.{fitsIn, resultVerdict}
+use Rattle.attempt.specs.Steps.{fits_in, result_verdict}
 use Rattle.attempt.specs.declared.Done.{Done}
-use Rattle.attempt.proofs.Changing.{no_of, withParts, changed, declined-done}
+use Rattle.attempt.proofs.Changing.{no_of, with_parts, changed, declined_done}
 
 -- two questions, asked one after the other
-judged-two : (t : Terminal) (o : Outcome) (first second : Refusal) (b c : Bool)
+judged_two : (t : Terminal) (o : Outcome) (first second : Refusal) (b c : Bool)
     → (if b then (if c then o else refused t second) else refused t first)
     ≡ judged (if b then (if c then Verdict.Accepted else Verdict.Refused second) else Verdict.Refused first) (refused t) o
 unfolding if◌then◌else◌ judged
-judged-two t o first second true true = refl
-judged-two t o first second true false = refl
-judged-two t o first second false c = refl
+judged_two t o first second true true = refl
+judged_two t o first second true false = refl
+judged_two t o first second false c = refl
 
 -- the parts with what a result leaves
 abbrev pub entered : Stored → Head → List ℕ → List ℕ → List ℕ → List ℕ → List ℕ → List ℕ → List ℕ → List ℕ → List ℕ → List ℕ → List ℕ → List ℕ → List ℕ → Stored
@@ -68,36 +68,36 @@ entered s head' held' held_originators' held_lengths' held_payloads' replies' ta
 
 module _ (s : Stored) (sender : MemberNumber) (attempt : ℕ) (elected : MemberNumber) (number : SequenceNumber) (payload : List ℕ) where
   abbrev t : Terminal
-  t = terminalOf s
+  t = terminal_of s
 
   abbrev call : Terminal → Outcome
-  call x = resetStep x (Packet.Result sender attempt elected number) payload
+  call x = reset_step x (Packet.Result sender attempt elected number) payload
 
-  abbrev done-as : Outcome
-  done-as = noted (result_of t attempt elected number (survivorsIn payload)) []
+  abbrev done_as : Outcome
+  done_as = noted (result_of t attempt elected number (survivors_in payload)) []
 
-  asked : call t ≡ judged (resultVerdict s.head sender attempt elected number (survivorsIn payload)) (refused t) done-as
-  unfolding resetStep resultFits resultVerdict fitsIn terminalOf memberView.view_of
+  asked : call t ≡ judged (result_verdict s.head sender attempt elected number (survivors_in payload)) (refused t) done_as
+  unfolding reset_step result_fits result_verdict fits_in terminal_of memberView.view_of
   asked =
-      judged-two t done-as Refusal.UnknownMember Refusal.NotOfAttempt
-      (sender.0 <? s.head.member.group.n and isWithin (survivorsIn payload) (all_of s.head.member.group.n))
-      (fitsIn s.head attempt elected number (survivorsIn payload))
+      judged_two t done_as Refusal.UnknownMember Refusal.NotOfAttempt
+      (sender.0 <? s.head.member.group.n and is_within (survivors_in payload) (all_of s.head.member.group.n))
+      (fits_in s.head attempt elected number (survivors_in payload))
 
-  module _ {survivors : ℕ} (survivors-are : survivors ≡ survivorsIn payload) {v : Verdict} (v-is : v ≡ resultVerdict s.head sender attempt elected number survivors) (f : flagsSound s.head ≡ true) where
-    verdict-as : v ≡ resultVerdict s.head sender attempt elected number (survivorsIn payload)
-    verdict-as = v-is ∙ ap (λ (m : ℕ). resultVerdict s.head sender attempt elected number m) survivors-are
+  module _ {survivors : ℕ} (survivors_are : survivors ≡ survivors_in payload) {v : Verdict} (v-is : v ≡ result_verdict s.head sender attempt elected number survivors) (f : flags_sound s.head ≡ true) where
+    verdict_as : v ≡ result_verdict s.head sender attempt elected number (survivors_in payload)
+    verdict_as = v-is ∙ ap (λ (m : ℕ). result_verdict s.head sender attempt elected number m) survivors_are
 
-    pub result-declined : (refusal : Refusal) {done : Done} {before : List ℕ} → v ≡ Verdict.Refused refusal → done ≡ record { head = s.head; reply = no_of refusal }
-        → Changed (called call (view_of s)) done.reply (withParts s done.head s.replies) before before
-    result-declined refusal e d =
-        declined-done s call refusal f (asked ∙ sym (judged-no _ (refused t) done-as refusal (sym verdict-as ∙ e))) d
+    pub result_declined : (refusal : Refusal) {done : Done} {before : List ℕ} → v ≡ Verdict.Refused refusal → done ≡ record { head = s.head; reply = no_of refusal }
+        → Changed (called call (view_of s)) done.reply (with_parts s done.head s.replies) before before
+    result_declined refusal e d =
+        declined_done s call refusal f (asked ∙ sym (judged_no _ (refused t) done_as refusal (sym verdict_as ∙ e))) d
 
-    pub result-entered : {before : List ℕ} {head' : Head} {held' held_originators' held_lengths' held_payloads' replies' taken' counts' repeats' kept' marks' originators' lengths' payloads' : List ℕ} → v ≡ Verdict.Accepted
+    pub result_entered : {before : List ℕ} {head' : Head} {held' held_originators' held_lengths' held_payloads' replies' taken' counts' repeats' kept' marks' originators' lengths' payloads' : List ℕ} → v ≡ Verdict.Accepted
         → Enters s.head s.held s.held_originators s.held_lengths s.held_payloads s.past s.past_originators s.past_lengths s.past_payloads s.highest s.replies s.taken s.counts s.repeats s.kept s.marks s.originators s.lengths s.payloads attempt elected number survivors head' held' held_originators' held_lengths' held_payloads' replies' taken' counts' repeats' kept' marks' originators' lengths' payloads'
         → Changed (called call (view_of s)) (record { answer = Answer.Noted; written = 0 }) (entered s head' held' held_originators' held_lengths' held_payloads' replies' taken' counts' repeats' kept' marks' originators' lengths' payloads') before before
-    result-entered {before = before} e p =
-        let yes : call t ≡ done-as = asked ∙ sym (judged-yes _ (refused t) done-as (sym verdict-as ∙ e)) in
+    result_entered {before = before} e p =
+        let yes : call t ≡ done_as = asked ∙ sym (judged_yes _ (refused t) done_as (sym verdict_as ∙ e)) in
         changed s call f (p.flags f)
-        (p.result s.queued s.queued_originators s.queued_lengths s.queued_payloads ∙ ap (λ (m : ℕ). result_of t attempt elected number m) survivors-are ∙ sym (ap (λ (o : Outcome). o.terminal) yes))
+        (p.result s.queued s.queued_originators s.queued_lengths s.queued_payloads ∙ ap (λ (m : ℕ). result_of t attempt elected number m) survivors_are ∙ sym (ap (λ (o : Outcome). o.terminal) yes))
         (sym (ap (λ (o : Outcome). record { answer = o.answer; written = length o.bytes }) yes))
         (sym (ap (λ (o : Outcome). front o.bytes before) yes))

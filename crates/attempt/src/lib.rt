@@ -3,20 +3,20 @@
 ghost use Rattle.std.specs.Prelude.{◌≡◌, true, [], ◌≤◌, ◌<◌, length, set, replicate};
 ghost use Rattle.group.specs.Choice.{if◌then◌else◌, ◌and◌, ◌<?◌};
 ghost use Rattle.group.specs.Lent.{Laid};
-ghost use Rattle.group.specs.Limits.{membersMost, heldMost, longestPacket};
-ghost use Rattle.group.specs.Members.{isIn, isWithin, all_of};
+ghost use Rattle.group.specs.Limits.{members_most, held_most, longest_packet};
+ghost use Rattle.group.specs.Members.{is_in, is_within, all_of};
 ghost use Rattle.group.specs.declared.Verdict.{Verdict};
 ghost use Rattle.big_endian.specs.Number.{bytes_of};
-ghost use Rattle.packet.specs.Packet.{acceptKind, replyKind, fieldsVerdict, fields_of, packetOf, survivorsSize, Named};
+ghost use Rattle.packet.specs.Packet.{accept_kind, reply_kind, fields_verdict, fields_of, packet_of, survivors_size, Named};
 ghost use Rattle.packet.specs.declared.Packet as said;
 ghost use Rattle.member.specs.declared.Answer as member;
 ghost use Rattle.sequencer.specs.View as sequencer;
 ghost use Rattle.recovery.specs.Promise.{Invited, Made};
-ghost use Rattle.recovery.specs.Sound.{terminalSound};
-ghost use Rattle.recovery.specs.Steps.{servesIn, sequencerSoundIn};
-ghost use Rattle.recovery.specs.View.{whole, terminalOf, flagsSound};
+ghost use Rattle.recovery.specs.Sound.{terminal_sound};
+ghost use Rattle.recovery.specs.Steps.{serves_in, sequencer_sound_in};
+ghost use Rattle.recovery.specs.View.{whole, terminal_of, flags_sound};
 ghost use Rattle.attempt.specs.Promise.{ResetReceived};
-ghost use Rattle.attempt.specs.Steps.{Takes, Tells, repliedHead, invitationHead, inviteStep, replyStep, awaitsIn, noteStep, answerStep, fitsIn, resultVerdict, Results, makeVerdict, Makes};
+ghost use Rattle.attempt.specs.Steps.{Takes, Tells, replied_head, invitation_head, invite_step, reply_step, awaits_in, note_step, answer_step, fits_in, result_verdict, Results, make_verdict, Makes};
 
 use group::{Group, MemberNumber, Refusal, SequenceNumber, Verdict};
 use packet::{Header, Packet};
@@ -40,8 +40,8 @@ pub fn declined(head: Head, refusal: Refusal) -> Done
 
 // Lays a packet without payload at the front of the output, and gives its length.
 fn put_bare(packet: Packet, group: u32, out: &mut [u8]) -> usize
-    requires { (fieldsVerdict (fields_of group packet) 0 [] ≡ Verdict.Accepted) × (longestPacket ≤ length out.old) }
-    ensures { Laid (packetOf (fields_of group packet) []) result out.old out.new }
+    requires { (fields_verdict (fields_of group packet) 0 [] ≡ Verdict.Accepted) × (longest_packet ≤ length out.old) }
+    ensures { Laid (packet_of (fields_of group packet) []) result out.old out.new }
 {
     let none = [0u8; 0];
     packet.put(group, &none, out)
@@ -60,7 +60,7 @@ fn sequencer_sound(
     payloads: &[u8],
 ) -> bool
     requires { sequencer.Placed (sequencer.whole head.sequencer taken.now counts.now repeats.now kept.now marks.now originators.now lengths.now payloads.now) }
-    ensures { result ≡ sequencerSoundIn head (sequencer.view_of (sequencer.whole head.sequencer taken.now counts.now repeats.now kept.now marks.now originators.now lengths.now payloads.now)) }
+    ensures { result ≡ sequencer_sound_in head (sequencer.view_of (sequencer.whole head.sequencer taken.now counts.now repeats.now kept.now marks.now originators.now lengths.now payloads.now)) }
 {
     if head.sequencing == 1 {
         if sequencer::sound(
@@ -123,7 +123,7 @@ pub fn terminal_sound(
     lengths: &[u8; Group::PLACES],
     payloads: &[u8; Group::HISTORY_BYTES],
 ) -> bool
-    ensures { result ≡ (flagsSound head and terminalSound (terminalOf (whole head queued.now held.now queued_originators.now queued_lengths.now held_originators.now held_lengths.now queued_payloads.now held_payloads.now past.now past_originators.now past_lengths.now past_payloads.now highest.now replies.now taken.now counts.now repeats.now kept.now marks.now originators.now lengths.now payloads.now))) }
+    ensures { result ≡ (flags_sound head and terminal_sound (terminal_of (whole head queued.now held.now queued_originators.now queued_lengths.now held_originators.now held_lengths.now queued_payloads.now held_payloads.now past.now past_originators.now past_lengths.now past_payloads.now highest.now replies.now taken.now counts.now repeats.now kept.now marks.now originators.now lengths.now payloads.now))) }
 {
     if recovery::beside_sound(
         head,
@@ -167,7 +167,7 @@ pub fn terminal_sound(
 
 // Whether its sequencer is frozen with a reply: its group's is.
 fn frozen_with(head: Head) -> u8
-    ensures { result ≡ (if servesIn head then 1 else head.frozen) }
+    ensures { result ≡ (if serves_in head then 1 else head.frozen) }
 {
     if recovery::serves(head) {
         return 1;
@@ -177,7 +177,7 @@ fn frozen_with(head: Head) -> u8
 
 // The head with a reply open to an attempt.
 fn with_reply(head: Head, attempt: u32, number: SequenceNumber) -> Head
-    ensures { result ≡ repliedHead head attempt number }
+    ensures { result ≡ replied_head head attempt number }
 {
     let frozen = frozen_with(head);
     let mut next = head;
@@ -190,7 +190,7 @@ fn with_reply(head: Head, attempt: u32, number: SequenceNumber) -> Head
 
 // The head with its own invitation: whether it is open, with which number, and whose replies came.
 fn with_invitation(head: Head, inviting: u8, invited: u32, repliers: u16) -> Head
-    ensures { result ≡ invitationHead head inviting invited repliers }
+    ensures { result ≡ invitation_head head inviting invited repliers }
 {
     let mut next = head;
     next.inviting = inviting;
@@ -201,7 +201,7 @@ fn with_invitation(head: Head, inviting: u8, invited: u32, repliers: u16) -> Hea
 
 // A member's reply goes to its place.
 fn keep_reply(replies: &mut [u32], member: MemberNumber, number: SequenceNumber)
-    requires { (length replies.old ≡ membersMost) × (member.0 < membersMost) }
+    requires { (length replies.old ≡ members_most) × (member.0 < members_most) }
     ensures { replies.new ≡ set replies.old member.0 number.0 }
 {
     let at = member.0 as usize;
@@ -210,8 +210,8 @@ fn keep_reply(replies: &mut [u32], member: MemberNumber, number: SequenceNumber)
 
 // Its own reply is the only one.
 fn own_reply(replies: &mut [u32; Group::MEMBERS], member: MemberNumber, number: SequenceNumber)
-    requires { member.0 < membersMost }
-    ensures { replies.new ≡ set (replicate membersMost 0) member.0 number.0 }
+    requires { member.0 < members_most }
+    ensures { replies.new ≡ set (replicate members_most 0) member.0 number.0 }
 {
     *replies = [0u32; Group::MEMBERS];
     keep_reply(replies, member, number);
@@ -225,8 +225,8 @@ fn invite(
     attempt: u32,
     out: &mut [u8],
 ) -> Done
-    requires { (head.member.number.0 < membersMost) × (length held.now ≡ heldMost) × (longestPacket ≤ length out.old) }
-    ensures { Takes (inviteStep head held.now attempt) result replies.new out.old out.new }
+    requires { (head.member.number.0 < members_most) × (length held.now ≡ held_most) × (longest_packet ≤ length out.old) }
+    ensures { Takes (invite_step head held.now attempt) result replies.new out.old out.new }
 {
     let sender = head.member.number;
     let number = recovery::reply_number(head, held);
@@ -315,8 +315,8 @@ fn reply(
     attempt: u32,
     out: &mut [u8],
 ) -> Done
-    requires { (length held.now ≡ heldMost) × (longestPacket ≤ length out.old) }
-    ensures { Takes (replyStep head held.now replies.old sender attempt) result replies.new out.old out.new }
+    requires { (length held.now ≡ held_most) × (longest_packet ≤ length out.old) }
+    ensures { Takes (reply_step head held.now replies.old sender attempt) result replies.new out.old out.new }
 {
     if sender.0 < head.member.group.n {
         let own = head.member.number;
@@ -344,7 +344,7 @@ fn reply(
 
 // Whether its own invitation is open with that number.
 fn awaits(head: Head, attempt: u32) -> bool
-    ensures { result ≡ awaitsIn head attempt }
+    ensures { result ≡ awaits_in head attempt }
 {
     if head.inviting == 1 {
         return head.invited == attempt;
@@ -360,8 +360,8 @@ fn note(
     attempt: u32,
     number: SequenceNumber,
 ) -> Done
-    requires { head.member.group.n ≤ membersMost }
-    ensures { Tells (noteStep head replies.old sender attempt number.0) result replies.new }
+    requires { head.member.group.n ≤ members_most }
+    ensures { Tells (note_step head replies.old sender attempt number.0) result replies.new }
 {
     if sender.0 < head.member.group.n {
         if awaits(head, attempt) {
@@ -390,8 +390,8 @@ fn answer(
     h: Header,
     out: &mut [u8],
 ) -> Done
-    requires { (head.member.group.n ≤ membersMost) × (length held.now ≡ heldMost) × (longestPacket ≤ length out.old) }
-    ensures { Takes (answerStep head held.now replies.old h) result replies.new out.old out.new }
+    requires { (head.member.group.n ≤ members_most) × (length held.now ≡ held_most) × (longest_packet ≤ length out.old) }
+    ensures { Takes (answer_step head held.now replies.old h) result replies.new out.old out.new }
 {
     let sender = h.member;
     if h.kind == Header::INVITATION {
@@ -402,8 +402,8 @@ fn answer(
 
 // Whether a result's sender and its survivors are members: question 9.
 fn known(head: Head, sender: MemberNumber, survivors: u16) -> bool
-    requires { head.member.group.n ≤ membersMost }
-    ensures { result ≡ (sender.0 <? head.member.group.n and isWithin survivors (all_of head.member.group.n)) }
+    requires { head.member.group.n ≤ members_most }
+    ensures { result ≡ (sender.0 <? head.member.group.n and is_within survivors (all_of head.member.group.n)) }
 {
     if sender.0 < head.member.group.n {
         return recovery::are_members(survivors, head.member.group.n);
@@ -420,7 +420,7 @@ fn fits(
     number: SequenceNumber,
     survivors: u16,
 ) -> bool
-    ensures { result ≡ fitsIn head attempt elected number survivors }
+    ensures { result ≡ fits_in head attempt elected number survivors }
 {
     let own = head.member.number;
     if head.replied == 1 {
@@ -450,8 +450,8 @@ fn ask_result(
     number: SequenceNumber,
     survivors: u16,
 ) -> Verdict
-    requires { head.member.group.n ≤ membersMost }
-    ensures { result ≡ resultVerdict head sender attempt elected number survivors }
+    requires { head.member.group.n ≤ members_most }
+    ensures { result ≡ result_verdict head sender attempt elected number survivors }
 {
     if known(head, sender, survivors) {
         if fits(head, attempt, elected, number, survivors) {
@@ -486,7 +486,7 @@ fn result(
     h: Header,
     payload: &[u8],
 ) -> Done
-    requires { (flagsSound head ≡ true) × (head.member.group.n ≤ membersMost) × (h.b < 256) × (survivorsSize ≤ length payload.now) }
+    requires { (flags_sound head ≡ true) × (head.member.group.n ≤ members_most) × (h.b < 256) × (survivors_size ≤ length payload.now) }
     ensures { Results head held.old held_originators.old held_lengths.old held_payloads.old past.now past_originators.now past_lengths.now past_payloads.now highest.now replies.old taken.old counts.old repeats.old kept.old marks.old originators.old lengths.old payloads.old h payload.now result held.new held_originators.new held_lengths.new held_payloads.new replies.new taken.new counts.new repeats.new kept.new marks.new originators.new lengths.new payloads.new }
 {
     let sender = h.member;
@@ -560,7 +560,7 @@ pub fn reset_on(
     payload: &[u8],
     out: &mut [u8],
 ) -> Done
-    requires { (acceptKind < h.kind) × Named h × (replyKind < h.kind → survivorsSize ≤ length payload.now) × (longestPacket ≤ length out.old) }
+    requires { (accept_kind < h.kind) × Named h × (reply_kind < h.kind → survivors_size ≤ length payload.now) × (longest_packet ≤ length out.old) }
     ensures { ResetReceived (whole head queued.now held.old queued_originators.now queued_lengths.now held_originators.old held_lengths.old queued_payloads.now held_payloads.old past.now past_originators.now past_lengths.now past_payloads.now highest.now replies.old taken.old counts.old repeats.old kept.old marks.old originators.old lengths.old payloads.old) h payload.now out.old result.reply (whole result.head queued.now held.new queued_originators.now queued_lengths.now held_originators.new held_lengths.new queued_payloads.now held_payloads.new past.now past_originators.now past_lengths.now past_payloads.now highest.now replies.new taken.new counts.new repeats.new kept.new marks.new originators.new lengths.new payloads.new) out.new }
 {
     if terminal_sound(
@@ -623,7 +623,7 @@ pub fn reset_on(
 
 // Questions 2, 27 and 26 of making.
 fn ask_making(head: Head, demand: u32, room: usize) -> Verdict
-    ensures { result ≡ makeVerdict head demand room }
+    ensures { result ≡ make_verdict head demand room }
 {
     if room < Group::PACKET {
         return Verdict::Refused(Refusal::ShortOutput);
@@ -639,8 +639,8 @@ fn ask_making(head: Head, demand: u32, room: usize) -> Verdict
 
 // Lays the result at the front of the output, and gives its length.
 fn put_result(head: Head, elected: MemberNumber, number: SequenceNumber, out: &mut [u8]) -> usize
-    requires { (isIn head.repliers head.member.number.0 ≡ true) × (isIn head.repliers elected.0 ≡ true) × (longestPacket ≤ length out.old) }
-    ensures { Laid (packetOf (fields_of head.member.group.number (said.Packet.Result head.member.number head.invited elected number)) (bytes_of survivorsSize head.repliers)) result out.old out.new }
+    requires { (is_in head.repliers head.member.number.0 ≡ true) × (is_in head.repliers elected.0 ≡ true) × (longest_packet ≤ length out.old) }
+    ensures { Laid (packet_of (fields_of head.member.group.number (said.Packet.Result head.member.number head.invited elected number)) (bytes_of survivors_size head.repliers)) result out.old out.new }
 {
     let sender = head.member.number;
     let packet = Packet::Result {
@@ -676,7 +676,7 @@ fn make(
     payloads: &mut [u8; Group::HISTORY_BYTES],
     out: &mut [u8],
 ) -> Done
-    requires { (flagsSound head ≡ true) × (head.member.number.0 < membersMost) × (isIn head.repliers head.member.number.0 ≡ true) × (longestPacket ≤ length out.old) }
+    requires { (flags_sound head ≡ true) × (head.member.number.0 < members_most) × (is_in head.repliers head.member.number.0 ≡ true) × (longest_packet ≤ length out.old) }
     ensures { Makes head held.old held_originators.old held_lengths.old held_payloads.old past.now past_originators.now past_lengths.now past_payloads.now highest.now replies.old taken.old counts.old repeats.old kept.old marks.old originators.old lengths.old payloads.old result held.new held_originators.new held_lengths.new held_payloads.new replies.new taken.new counts.new repeats.new kept.new marks.new originators.new lengths.new payloads.new out.old out.new }
 {
     let number = recovery::highest_reply(head.repliers, replies);

@@ -10,18 +10,18 @@ use lib.Seq.{take-suc, get_or_at, get_or-drop, drop-drop}
 use Rattle.big_endian.specs.Laws.{Bytes, NumberOfBytes, BytesOfNumber}
 use Rattle.big_endian.specs.Number.{number_at, bytes_of}
 
-pub bytesOf-length : (k v : ℕ) → length (bytes_of k v) ≡ k
+pub bytes_of-length : (k v : ℕ) → length (bytes_of k v) ≡ k
 unfolding bytes_of
-bytesOf-length zero v = refl
-bytesOf-length (suc k) v = length-append (bytes_of k (v / 256)) (v % 256 ∷ []) ∙ (let z = bytesOf-length k (v / 256) in omega arith)
+bytes_of-length zero v = refl
+bytes_of-length (suc k) v = length-append (bytes_of k (v / 256)) (v % 256 ∷ []) ∙ (let z = bytes_of-length k (v / 256) in omega arith)
 
-pub number-of-bytes : NumberOfBytes
+pub number_of_bytes : NumberOfBytes
 unfolding number_at bytes_of
-number-of-bytes zero v rest h = omega arith
-number-of-bytes (suc k) v rest h =
+number_of_bytes zero v rest h = omega arith
+number_of_bytes (suc k) v rest h =
     let b : v / 256 < 256 ^ k = omega (arith, pow-suc 256 k) in
     let e : 0 + k ≡ k = omega arith in
-    rw (append_assoc (bytes_of k (v / 256)) (v % 256 ∷ []) rest, number-of-bytes k (v / 256) (v % 256 ∷ rest) b, e, get_or_at (bytes_of k (v / 256)) (v % 256) rest 0 k (bytesOf-length k (v / 256))) (div-add-mod' v 256)
+    rw (append_assoc (bytes_of k (v / 256)) (v % 256 ∷ []) rest, number_of_bytes k (v / 256) (v % 256 ∷ rest) b, e, get_or_at (bytes_of k (v / 256)) (v % 256) rest 0 k (bytes_of-length k (v / 256))) (div-add-mod' v 256)
 
 -- where it stands does not matter
 pub number_behind : (k : ℕ) (p : List ℕ) (i : ℕ) → number_at k p i ≡ number_at k (drop i p) 0
@@ -31,14 +31,14 @@ number_behind (suc k) p i =
     let e : 0 + k ≡ k = omega arith in
     rw (number_behind k p i, e, get_or-drop i p k 0)
 
-pub bytes-of-number : BytesOfNumber
+pub bytes_of_number : BytesOfNumber
 unfolding Bytes number_at bytes_of
-bytes-of-number p bytes zero i h = refl
-bytes-of-number p bytes (suc k) i h =
+bytes_of_number p bytes zero i h = refl
+bytes_of_number p bytes (suc k) i h =
     let b = bytes (i + k) (omega arith) in
     let q : (number_at k p i * 256 + get_or p (i + k) 0) / 256 ≡ number_at k p i = omega arith in
     let r : (number_at k p i * 256 + get_or p (i + k) 0) % 256 ≡ get_or p (i + k) 0 = omega arith in
-    rw (q, r, bytes-of-number p bytes k i (omega arith), ← (get_or-drop i p k 0)) (sym (take-suc (drop i p) k 0 (simp length-drop (omega arith))))
+    rw (q, r, bytes_of_number p bytes k i (omega arith), ← (get_or-drop i p k 0)) (sym (take-suc (drop i p) k 0 (simp length-drop (omega arith))))
 
 module _ (p : List ℕ) (bytes : Bytes p) where
   -- a number in k bytes fits them
@@ -51,30 +51,30 @@ module _ (p : List ℕ) (bytes : Bytes p) where
       omega (arith, pow-suc 256 k)
 
   -- the bytes of the number in k bytes, and what stands behind them
-  pub bytes-of-number-then : (k i : ℕ) → i + k ≤ length p → bytes_of k (number_at k p i) ++ drop (i + k) p ≡ drop i p
-  bytes-of-number-then k i h = rw (bytes-of-number p bytes k i h, ← (drop-drop k i p)) (take-append-drop k (drop i p))
+  pub bytes_of_number_then : (k i : ℕ) → i + k ≤ length p → bytes_of k (number_at k p i) ++ drop (i + k) p ≡ drop i p
+  bytes_of_number_then k i h = rw (bytes_of_number p bytes k i h, ← (drop-drop k i p)) (take-append-drop k (drop i p))
 
 -- bytes in front of bytes are bytes
-pub bytes-cons : (b : ℕ) (l : List ℕ) → b < 256 → Bytes l → Bytes (b ∷ l)
+pub bytes_cons : (b : ℕ) (l : List ℕ) → b < 256 → Bytes l → Bytes (b ∷ l)
 unfolding Bytes
-bytes-cons b l f g zero h = f
-bytes-cons b l f g (suc i) h = g i (omega arith)
+bytes_cons b l f g zero h = f
+bytes_cons b l f g (suc i) h = g i (omega arith)
 
-pub bytes-append : (l m : List ℕ) → Bytes l → Bytes m → Bytes (l ++ m)
+pub bytes_append : (l m : List ℕ) → Bytes l → Bytes m → Bytes (l ++ m)
 unfolding Bytes
-bytes-append [] m f g = g
-bytes-append (b ∷ l) m f g = bytes-cons b (l ++ m) (f 0 (omega arith)) (bytes-append l m (λ i h. f (suc i) (omega arith)) g)
+bytes_append [] m f g = g
+bytes_append (b ∷ l) m f g = bytes_cons b (l ++ m) (f 0 (omega arith)) (bytes_append l m (λ i h. f (suc i) (omega arith)) g)
 
-pub bytesOf-bytes : (k v : ℕ) → Bytes (bytes_of k v)
+pub bytes_of-bytes : (k v : ℕ) → Bytes (bytes_of k v)
 unfolding Bytes bytes_of
-bytesOf-bytes zero v = λ i h. absurd (omega arith)
-bytesOf-bytes (suc k) v = bytes-append (bytes_of k (v / 256)) (v % 256 ∷ []) (bytesOf-bytes k (v / 256)) (bytes-cons (v % 256) [] (omega arith) (λ i h. absurd (omega arith)))
+bytes_of-bytes zero v = λ i h. absurd (omega arith)
+bytes_of-bytes (suc k) v = bytes_append (bytes_of k (v / 256)) (v % 256 ∷ []) (bytes_of-bytes k (v / 256)) (bytes_cons (v % 256) [] (omega arith) (λ i h. absurd (omega arith)))
 
 -- the sums that the code works out, at the two widths
-pub number-two : (p : List ℕ) (i : ℕ) → get_or p i 0 * 256 + get_or p (i + 1) 0 ≡ number_at 2 p i
+pub number_two : (p : List ℕ) (i : ℕ) → get_or p i 0 * 256 + get_or p (i + 1) 0 ≡ number_at 2 p i
 unfolding number_at
-number-two p i = let e : i + 0 ≡ i = omega arith in rw e (omega arith)
+number_two p i = let e : i + 0 ≡ i = omega arith in rw e (omega arith)
 
-pub number-four : (p : List ℕ) (i : ℕ) → ((get_or p i 0 * 256 + get_or p (i + 1) 0) * 256 + get_or p (i + 2) 0) * 256 + get_or p (i + 3) 0 ≡ number_at 4 p i
+pub number_four : (p : List ℕ) (i : ℕ) → ((get_or p i 0 * 256 + get_or p (i + 1) 0) * 256 + get_or p (i + 2) 0) * 256 + get_or p (i + 3) 0 ≡ number_at 4 p i
 unfolding number_at
-number-four p i = let e : i + 0 ≡ i = omega arith in rw e (omega arith)
+number_four p i = let e : i + 0 ≡ i = omega arith in rw e (omega arith)

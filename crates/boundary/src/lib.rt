@@ -2,11 +2,11 @@
 // byte slices.
 ghost use Rattle.std.specs.Prelude.{◌≡◌, [], ◌∷◌, length, get_or};
 ghost use Rattle.group.specs.Lent.{front};
-ghost use Rattle.packet.specs.Packet.{read_of, writeOf};
-ghost use Rattle.playback.specs.Shown.{shownOf};
-ghost use Rattle.player.specs.Play.{playOf};
-ghost use Rattle.workload.specs.Calls.{loadAt, openOf, next_of};
-ghost use Rattle.boundary.specs.Codes.{read_code, fieldsAfter, writeCode, headerWith};
+ghost use Rattle.packet.specs.Packet.{read_of, write_of};
+ghost use Rattle.playback.specs.Shown.{shown_of};
+ghost use Rattle.player.specs.Play.{play_of};
+ghost use Rattle.workload.specs.Calls.{load_at, open_of, next_of};
+ghost use Rattle.boundary.specs.Codes.{read_code, fields_after, write_code, header_with};
 
 use generator::Generator;
 use group::MemberNumber;
@@ -17,7 +17,7 @@ use workload::Load;
 #[unsafe(no_mangle)]
 pub extern "C" fn boundary_read(packet: &[u8], fields: &mut [u32; 6]) -> u8
     ensures answer { result ≡ read_code (read_of packet.now) }
-    ensures lent { fields.new ≡ fieldsAfter (read_of packet.now) fields.old }
+    ensures lent { fields.new ≡ fields_after (read_of packet.now) fields.old }
 {
     let reading = packet::read(packet);
     match reading {
@@ -41,8 +41,8 @@ pub extern "C" fn boundary_write(
     payload: &[u8],
     out: &mut [u8],
 ) -> usize
-    ensures answer { result ≡ writeCode (writeOf (headerWith kind member group a b c) payload.now (length out.old)).answer }
-    ensures lent { out.new ≡ front (writeOf (headerWith kind member group a b c) payload.now (length out.old)).bytes out.old }
+    ensures answer { result ≡ write_code (write_of (header_with kind member group a b c) payload.now (length out.old)).answer }
+    ensures lent { out.new ≡ front (write_of (header_with kind member group a b c) payload.now (length out.old)).bytes out.old }
 {
     let h = Header {
         kind,
@@ -62,8 +62,8 @@ pub extern "C" fn boundary_write(
 // Plays a schedule: what it prints goes to the front of the output, as much as has room; how many bytes that are.
 #[unsafe(no_mangle)]
 pub extern "C" fn boundary_play(input: &[u8], out: &mut [u8]) -> usize
-    ensures size { result ≡ length (shownOf (playOf input.now) (length out.old)) }
-    ensures lent { out.new ≡ front (shownOf (playOf input.now) (length out.old)) out.old }
+    ensures size { result ≡ length (shown_of (play_of input.now) (length out.old)) }
+    ensures lent { out.new ≡ front (shown_of (play_of input.now) (length out.old)) out.old }
 {
     playback::play(input, out)
 }
@@ -76,8 +76,8 @@ pub extern "C" fn boundary_load_open(
     group: u32,
     line: &mut [u8; Load::LINE],
 ) -> usize
-    ensures size { result ≡ length (openOf seed n group).bytes }
-    ensures lent { line.new ≡ front (openOf seed n group).bytes line.old }
+    ensures size { result ≡ length (open_of seed n group).bytes }
+    ensures lent { line.new ≡ front (open_of seed n group).bytes line.old }
 {
     let step = Load::open(seed, n, group, line);
     step.written
@@ -91,9 +91,9 @@ pub extern "C" fn boundary_load_next(
     n: u8,
     line: &mut [u8; Load::LINE],
 ) -> usize
-    ensures size { result ≡ length (next_of (loadAt (get_or state.old 0 0) n)).bytes }
-    ensures lent { line.new ≡ front (next_of (loadAt (get_or state.old 0 0) n)).bytes line.old }
-    ensures state { state.new ≡ (next_of (loadAt (get_or state.old 0 0) n)).load.generator.state ∷ [] }
+    ensures size { result ≡ length (next_of (load_at (get_or state.old 0 0) n)).bytes }
+    ensures lent { line.new ≡ front (next_of (load_at (get_or state.old 0 0) n)).bytes line.old }
+    ensures state { state.new ≡ (next_of (load_at (get_or state.old 0 0) n)).load.generator.state ∷ [] }
 {
     let load = Load {
         generator: Generator { state: state[0] },

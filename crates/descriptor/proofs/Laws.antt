@@ -8,31 +8,31 @@ use Rattle.descriptor.specs.declared.Source.{Source}
 use Rattle.descriptor.specs.declared.Sink.{Sink}
 
 -- a turn of the loop over the bytes, and its end
-pub tallied-step : (t : Tally) (l : List ℕ) (i : ℕ) → i < length l → tallied t (drop i l) ≡ tallied (counted t (get_or l i 0)) (drop (i + 1) l)
+pub tallied_step : (t : Tally) (l : List ℕ) (i : ℕ) → i < length l → tallied t (drop i l) ≡ tallied (counted t (get_or l i 0)) (drop (i + 1) l)
 unfolding tallied
-tallied-step t l i h = rw (drop-cons l i 0 h, add-one)
+tallied_step t l i h = rw (drop-cons l i 0 h, add-one)
 
-pub tallied-end : (t : Tally) (l : List ℕ) (i : ℕ) → length l ≤ i → tallied t (drop i l) ≡ t
+pub tallied_end : (t : Tally) (l : List ℕ) (i : ℕ) → length l ≤ i → tallied t (drop i l) ≡ t
 unfolding tallied
-tallied-end t l i h = rw (drop_of_length-le l h)
+tallied_end t l i h = rw (drop_of_length-le l h)
 
-pub tallied-none : (t : Tally) → tallied t [] ≡ t
+pub tallied_none : (t : Tally) → tallied t [] ≡ t
 unfolding tallied
-tallied-none t = refl
+tallied_none t = refl
 
-tallied-both : (t : Tally) (a b : List ℕ) → tallied (tallied t a) b ≡ tallied t (a ++ b)
+tallied_both : (t : Tally) (a b : List ℕ) → tallied (tallied t a) b ≡ tallied t (a ++ b)
 unfolding tallied
-tallied-both t [] b = refl
-tallied-both t (byte ∷ a) b = tallied-both (counted t byte) a b
+tallied_both t [] b = refl
+tallied_both t (byte ∷ a) b = tallied_both (counted t byte) a b
 
 pub gives_none : (s : Source) → Gives s [] s
-gives_none s = record { same = refl; given = sym (tallied-none s.tally) }
+gives_none s = record { same = refl; given = sym (tallied_none s.tally) }
 
 pub gives_both : {r s t : Source} {a b : List ℕ} → Gives r a s → Gives s b t → Gives r (a ++ b) t
 gives_both {r} {s} {t} {a} {b} g h =
     record {
       same = h.same ∙ g.same;
-      given = h.given ∙ ap (λ (x : Tally). tallied x b) g.given ∙ tallied-both r.tally a b;
+      given = h.given ∙ ap (λ (x : Tally). tallied x b) g.given ∙ tallied_both r.tally a b;
     }
 
 apart : {b : Bool} → b ≡ true → b ≡ false → ⊥
@@ -45,13 +45,13 @@ takes_none s =
       handed = [];
       left = [];
       split = refl;
-      taken = sym (tallied-none s.tally);
+      taken = sym (tallied_none s.tally);
       whole = λ h. (h, refl);
       stopped = λ h. refl;
     }
 
-pub takes-both : {r s t : Sink} {a b : List ℕ} → Takes r a s → Takes s b t → Takes r (a ++ b) t
-takes-both {r} {s} {t} {a} {b} g h = go s.failed refl
+pub takes_both : {r s t : Sink} {a b : List ℕ} → Takes r a s → Takes s b t → Takes r (a ++ b) t
+takes_both {r} {s} {t} {a} {b} g h = go s.failed refl
   where
     stopped : r.failed ≡ true → t ≡ r
     stopped f = let e = g.stopped f in h.stopped (ap (λ (x : Sink). x.failed) e ∙ f) ∙ e
@@ -76,24 +76,24 @@ takes-both {r} {s} {t} {a} {b} g h = go s.failed refl
           handed = a ++ h.handed;
           left = h.left;
           split = ap (λ (l : List ℕ). a ++ l) h.split ∙ sym (append_assoc a h.handed h.left);
-          taken = h.taken ∙ ap (λ (x : Tally). tallied x h.handed) (g.taken ∙ ap (tallied r.tally) (sym all)) ∙ tallied-both r.tally a h.handed;
+          taken = h.taken ∙ ap (λ (x : Tally). tallied x h.handed) (g.taken ∙ ap (tallied r.tally) (sym all)) ∙ tallied_both r.tally a h.handed;
           whole = λ x. (w.0, (h.whole x).1);
           stopped = stopped;
         }
 
 -- the bytes under another name
-pub takes-as : {s t : Sink} {a b : List ℕ} → a ≡ b → Takes s a t → Takes s b t
-takes-as {s} {t} e h = subst (λ (l : List ℕ). Takes s l t) e h
+pub takes_as : {s t : Sink} {a b : List ℕ} → a ≡ b → Takes s a t → Takes s b t
+takes_as {s} {t} e h = subst (λ (l : List ℕ). Takes s l t) e h
 
 -- a sink that failed, and one that did not
-pub takes-nothing : (s : Sink) (bytes : List ℕ) → s.failed ≡ true → Takes s bytes s
-takes-nothing s bytes f =
+pub takes_nothing : (s : Sink) (bytes : List ℕ) → s.failed ≡ true → Takes s bytes s
+takes_nothing s bytes f =
     record {
       same = refl;
       handed = [];
       left = bytes;
       split = refl;
-      taken = sym (tallied-none s.tally);
+      taken = sym (tallied_none s.tally);
       whole = λ w. absurd (apart f w);
       stopped = λ h. refl;
     }

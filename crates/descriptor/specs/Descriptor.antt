@@ -7,8 +7,8 @@ use Rattle.descriptor.specs.declared.Sink.{Sink}
 abbrev pub source_of : ℤ → Source
 source_of descriptor = record { descriptor = descriptor; tally = nothing }
 
-abbrev pub sinkTo : ℤ → Sink
-sinkTo descriptor = record { descriptor = descriptor; tally = nothing; failed = false }
+abbrev pub sink_to : ℤ → Sink
+sink_to descriptor = record { descriptor = descriptor; tally = nothing; failed = false }
 
 -- a source that gave the bytes stands where it stood, at their tally
 pub record Gives (before : Source) (bytes : List ℕ) (after : Source) : Type 0 where

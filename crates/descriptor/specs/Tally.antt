@@ -6,12 +6,12 @@ abbrev pub nothing : Tally
 nothing = record { sum = 0; total = 0 }
 
 -- the sum of the bytes, each with 1
-abbrev pub sumWith : Tally → ℕ → ℕ
-sumWith t byte = (t.sum + (byte + 1)) % 2 ^ 64
+abbrev pub sum_with : Tally → ℕ → ℕ
+sum_with t byte = (t.sum + (byte + 1)) % 2 ^ 64
 
 -- with one byte more, which adds the sum to the total
 unfoldable pub counted : Tally → ℕ → Tally
-counted t byte = record { sum = sumWith t byte; total = (t.total + sumWith t byte) % 2 ^ 64 }
+counted t byte = record { sum = sum_with t byte; total = (t.total + sum_with t byte) % 2 ^ 64 }
 
 unfoldable pub tallied : Tally → List ℕ → Tally
 tallied t [] = t

@@ -3,7 +3,7 @@
 ghost use Rattle.std.specs.Prelude.{◌≡◌, take};
 ghost use Rattle.descriptor.specs.Tally.{nothing, counted, tallied};
 ghost use Rattle.io.specs.Counts.{IsPrefixLen};
-ghost use Rattle.descriptor.specs.Descriptor.{source_of, sinkTo, Gives, Takes};
+ghost use Rattle.descriptor.specs.Descriptor.{source_of, sink_to, Gives, Takes};
 
 // Bytes by two sums: of the bytes, each with 1, and of those sums as they grew. So their number and their order count.
 #[derive(Drop)]
@@ -89,7 +89,7 @@ pub struct Sink {
 
 impl Sink {
     pub fn to(descriptor: i32) -> Self
-        ensures { result ≡ sinkTo descriptor }
+        ensures { result ≡ sink_to descriptor }
     {
         let tally = Tally::none();
         Sink {

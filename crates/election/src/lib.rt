@@ -1,12 +1,12 @@
 // What a result leaves at a survivor, in place: its member is the made group's, its part in the reset ends, and the elected terminal's
 // sequencer begins.
 ghost use Rattle.std.specs.Prelude.{◌≡◌, length};
-ghost use Rattle.group.specs.Limits.{membersMost};
+ghost use Rattle.group.specs.Limits.{members_most};
 ghost use Rattle.history.specs.View.{Places};
-ghost use Rattle.recovery.specs.Begin.{madeGroup};
+ghost use Rattle.recovery.specs.Begin.{made_group};
 ghost use Rattle.recovery.specs.Steps.{Held};
 ghost use Rattle.election.specs.Promise.{Enters};
-ghost use Rattle.election.specs.Steps.{FromMember, FromTerminal, SequencerBegun, seatedHead, Seated, enteredHead, MemberEntered};
+ghost use Rattle.election.specs.Steps.{FromMember, FromTerminal, SequencerBegun, seated_head, Seated, entered_head, MemberEntered};
 
 use group::{Group, MemberNumber, SequenceNumber};
 use recovery::Head;
@@ -125,7 +125,7 @@ fn begin(
     group: Group,
     number: SequenceNumber,
 ) -> sequencer::Head
-    requires { Held held.now held_originators.now held_lengths.now held_payloads.now × Places past.now past_originators.now past_lengths.now past_payloads.now × (length taken.old ≡ membersMost) }
+    requires { Held held.now held_originators.now held_lengths.now held_payloads.now × Places past.now past_originators.now past_lengths.now past_payloads.now × (length taken.old ≡ members_most) }
     ensures { SequencerBegun head held.now held_originators.now held_lengths.now held_payloads.now past.now past_originators.now past_lengths.now past_payloads.now highest.now taken.old counts.old repeats.old kept.old marks.old originators.old lengths.old payloads.old group number result taken.new counts.new repeats.new kept.new marks.new originators.new lengths.new payloads.new }
 {
     let floor = begin_from(
@@ -158,7 +158,7 @@ fn begin(
 
 // The head with a sequencer that begins: it is there, and not frozen.
 fn seat_head(head: Head, begun: sequencer::Head) -> Head
-    ensures { result ≡ seatedHead head begun }
+    ensures { result ≡ seated_head head begun }
 {
     let mut next = head;
     next.sequencer = begun;
@@ -190,7 +190,7 @@ fn seat(
     group: Group,
     number: SequenceNumber,
 ) -> Head
-    requires { Held held.now held_originators.now held_lengths.now held_payloads.now × Places past.now past_originators.now past_lengths.now past_payloads.now × (length taken.old ≡ membersMost) }
+    requires { Held held.now held_originators.now held_lengths.now held_payloads.now × Places past.now past_originators.now past_lengths.now past_payloads.now × (length taken.old ≡ members_most) }
     ensures { Seated head held.now held_originators.now held_lengths.now held_payloads.now past.now past_originators.now past_lengths.now past_payloads.now highest.now taken.old counts.old repeats.old kept.old marks.old originators.old lengths.old payloads.old group number result taken.new counts.new repeats.new kept.new marks.new originators.new lengths.new payloads.new }
 {
     if group.elected.0 == head.member.number.0 {
@@ -223,7 +223,7 @@ fn seat(
 
 // The description of a made group.
 fn made(group: Group, attempt: u32, elected: MemberNumber, survivors: u16) -> Group
-    ensures { result ≡ madeGroup group attempt elected survivors }
+    ensures { result ≡ made_group group attempt elected survivors }
 {
     let mut next = group;
     next.survivors = survivors;
@@ -234,7 +234,7 @@ fn made(group: Group, attempt: u32, elected: MemberNumber, survivors: u16) -> Gr
 
 // The head of a member in a made group, with what is accepted; its reply and its own invitation end.
 fn enter_head(head: Head, group: Group, accepted: SequenceNumber) -> Head
-    ensures { result ≡ enteredHead head group accepted }
+    ensures { result ≡ entered_head head group accepted }
 {
     let mut member = head.member;
     member.group = group;

@@ -2,44 +2,44 @@
 -- Assumes nothing.
 use mathlib.Core.Path.{◌≡◌, refl}
 use Rattle.group.specs.Choice.{if◌then◌else◌}
-use Rattle.embedding.specs.Codes.{same, wordCode}
+use Rattle.embedding.specs.Codes.{same, word_code}
 
-pub kept-code : wordCode "kept" ≡ 48
-unfolding wordCode same if◌then◌else◌
-kept-code = refl
+pub kept_code : word_code "kept" ≡ 48
+unfolding word_code same if◌then◌else◌
+kept_code = refl
 
-pub none-code : wordCode "none" ≡ 54
-unfolding wordCode same if◌then◌else◌
-none-code = refl
+pub none_code : word_code "none" ≡ 54
+unfolding word_code same if◌then◌else◌
+none_code = refl
 
-pub closed-code : wordCode "closed" ≡ 57
-unfolding wordCode same if◌then◌else◌
-closed-code = refl
+pub closed_code : word_code "closed" ≡ 57
+unfolding word_code same if◌then◌else◌
+closed_code = refl
 
-pub bytes-code : wordCode "bytes" ≡ 58
-unfolding wordCode same if◌then◌else◌
-bytes-code = refl
+pub bytes_code : word_code "bytes" ≡ 58
+unfolding word_code same if◌then◌else◌
+bytes_code = refl
 
-pub fields-code : wordCode "fields" ≡ 59
-unfolding wordCode same if◌then◌else◌
-fields-code = refl
+pub fields_code : word_code "fields" ≡ 59
+unfolding word_code same if◌then◌else◌
+fields_code = refl
 
-pub read-code : wordCode "read" ≡ 60
-unfolding wordCode same if◌then◌else◌
-read-code = refl
+pub read_code_lem : word_code "read" ≡ 60
+unfolding word_code same if◌then◌else◌
+read_code_lem = refl
 
-pub right-code : wordCode "right" ≡ 61
-unfolding wordCode same if◌then◌else◌
-right-code = refl
+pub right_code : word_code "right" ≡ 61
+unfolding word_code same if◌then◌else◌
+right_code = refl
 
-pub wrong-code : wordCode "wrong" ≡ 62
-unfolding wordCode same if◌then◌else◌
-wrong-code = refl
+pub wrong_code : word_code "wrong" ≡ 62
+unfolding word_code same if◌then◌else◌
+wrong_code = refl
 
-pub added-code : wordCode "added" ≡ 64
-unfolding wordCode same if◌then◌else◌
-added-code = refl
+pub added_code : word_code "added" ≡ 64
+unfolding word_code same if◌then◌else◌
+added_code = refl
 
-pub given-code : wordCode "given" ≡ 65
-unfolding wordCode same if◌then◌else◌
-given-code = refl
+pub given_code : word_code "given" ≡ 65
+unfolding word_code same if◌then◌else◌
+given_code = refl

@@ -4,39 +4,39 @@ use mathlib.Core.Path.{◌≡◌, sym, ap}
 use mathlib.Core.List.{[], ◌∷◌}
 use Prim.Native.Nat.{ℕ}
 use Rattle.group.specs.Wording.{Value, Wording}
-use Rattle.embedding.specs.Codes.{code_of, numbersIn, numbersOf}
-use Rattle.embedding.specs.Journals.{foundOf, recordOf}
+use Rattle.embedding.specs.Codes.{code_of, numbers_in, numbers_of}
+use Rattle.embedding.specs.Journals.{found_of, record_of}
 use Rattle.embedding.specs.declared.Found.{Found}
 use Rattle.embedding.specs.declared.Record.{Record}
-use Rattle.embedding.proofs.Codes.{read-code, right-code, wrong-code}
+use Rattle.embedding.proofs.Codes.{read_code_lem, right_code, wrong_code}
 
 abbrev found : ℕ → ℕ → ℕ → Found
 found k b m = record { code = k; blocks = b; messages = m }
 
-pub refused-found : {k l : ℕ} → k ≡ l → found k 0 0 ≡ foundOf (Wording.refusal l)
-unfolding foundOf code_of numbersOf
-refused-found e = ap (λ k. found k 0 0) e
+pub refused_found : {k l : ℕ} → k ≡ l → found k 0 0 ≡ found_of (Wording.refusal l)
+unfolding found_of code_of numbers_of
+refused_found e = ap (λ k. found k 0 0) e
 
-pub read_found : (b m : ℕ) → found 60 b m ≡ foundOf (Wording.word "read" (Value.number b ∷ Value.number m ∷ []))
-unfolding foundOf code_of numbersOf numbersIn
-read_found b m = ap (λ k. found k b m) (sym read-code)
+pub read_found : (b m : ℕ) → found 60 b m ≡ found_of (Wording.word "read" (Value.number b ∷ Value.number m ∷ []))
+unfolding found_of code_of numbers_of numbers_in
+read_found b m = ap (λ k. found k b m) (sym read_code_lem)
 
-pub right-found : (b m : ℕ) → found 61 b m ≡ foundOf (Wording.word "right" (Value.number b ∷ Value.number m ∷ []))
-unfolding foundOf code_of numbersOf numbersIn
-right-found b m = ap (λ k. found k b m) (sym right-code)
+pub right_found : (b m : ℕ) → found 61 b m ≡ found_of (Wording.word "right" (Value.number b ∷ Value.number m ∷ []))
+unfolding found_of code_of numbers_of numbers_in
+right_found b m = ap (λ k. found k b m) (sym right_code)
 
-pub wrong-found : found 62 0 0 ≡ foundOf (Wording.word "wrong" [])
-unfolding foundOf code_of numbersOf numbersIn
-wrong-found = ap (λ k. found k 0 0) (sym wrong-code)
+pub wrong_found : found 62 0 0 ≡ found_of (Wording.word "wrong" [])
+unfolding found_of code_of numbers_of numbers_in
+wrong_found = ap (λ k. found k 0 0) (sym wrong_code)
 
 abbrev entry : ℕ → ℕ → ℕ → ℕ → ℕ → ℕ → Record
 entry k n o c s l = record { code = k; number = n; originator = o; count = c; start = s; length = l }
 
-pub right-entry : (n o c s l : ℕ)
-    → entry 61 n o c s l ≡ recordOf (Wording.word "right" (Value.number n ∷ Value.number o ∷ Value.number c ∷ Value.number s ∷ Value.number l ∷ []))
-unfolding recordOf code_of numbersOf numbersIn
-right-entry n o c s l = ap (λ k. entry k n o c s l) (sym right-code)
+pub right_entry : (n o c s l : ℕ)
+    → entry 61 n o c s l ≡ record_of (Wording.word "right" (Value.number n ∷ Value.number o ∷ Value.number c ∷ Value.number s ∷ Value.number l ∷ []))
+unfolding record_of code_of numbers_of numbers_in
+right_entry n o c s l = ap (λ k. entry k n o c s l) (sym right_code)
 
-pub wrong-entry : entry 62 0 0 0 0 0 ≡ recordOf (Wording.word "wrong" [])
-unfolding recordOf code_of numbersOf numbersIn
-wrong-entry = ap (λ k. entry k 0 0 0 0 0) (sym wrong-code)
+pub wrong_entry : entry 62 0 0 0 0 0 ≡ record_of (Wording.word "wrong" [])
+unfolding record_of code_of numbers_of numbers_in
+wrong_entry = ap (λ k. entry k 0 0 0 0 0) (sym wrong_code)

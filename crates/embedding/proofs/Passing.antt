@@ -11,16 +11,16 @@ use denote.Triple.End.{Kepts, Fins}
 use denote.Triple.Walked.{Stay, Stays, AllGo, fits_of}
 use denote.Exit.{Kept, left}
 
-abbrev stay-left : (n : ℕ) (s : Slot n) (k : Kept) → Stay s k
-stay-left n s k = record { fit = λ κs x f. Unit {0}; has = λ κs x f vs. left ((s.row κs).exit k) x f }
+abbrev stay_left : (n : ℕ) (s : Slot n) (k : Kept) → Stay s k
+stay_left n s k = record { fit = λ κs x f. Unit {0}; has = λ κs x f vs. left ((s.row κs).exit k) x f }
 
 abbrev pub all_left : (n : ℕ) (ss : List (Slot n)) (ks : Kepts ss) → Stays ss ks
 all_left n [] ks = tt
-all_left n (s ∷ ss) ks = (stay-left n s ks.0, all_left n ss ks.1)
+all_left n (s ∷ ss) ks = (stay_left n s ks.0, all_left n ss ks.1)
 
-pub fits-left : (n : ℕ) (κs : Lfts n) (ss : List (Slot n)) (ks : Kepts ss) (a : Denots (types_at ss κs)) (ws : Fins κs ss ks a) → fits_of κs ss ks (all_left n ss ks) a ws
-fits-left n κs [] ks a ws = tt
-fits-left n κs (s ∷ ss) ks a ws = (tt, fits-left n κs ss ks.1 a.1 ws.1)
+pub fits_left : (n : ℕ) (κs : Lfts n) (ss : List (Slot n)) (ks : Kepts ss) (a : Denots (types_at ss κs)) (ws : Fins κs ss ks a) → fits_of κs ss ks (all_left n ss ks) a ws
+fits_left n κs [] ks a ws = tt
+fits_left n κs (s ∷ ss) ks a ws = (tt, fits_left n κs ss ks.1 a.1 ws.1)
 
 pub go_left : {M : Type 1} {𝓤 : Ura M} (𝓛 : Logic 𝓤) (n : ℕ) (ss : List (Slot n)) (ks : Kepts ss) → AllGo 𝓛 n ss ks (all_left n ss ks)
 go_left 𝓛 n [] ks = tt

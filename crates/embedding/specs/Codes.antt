@@ -15,8 +15,8 @@ same (string.◌∷◌ c rest) string.[] = false
 same (string.◌∷◌ c rest) (string.◌∷◌ d rest') = if code c =? code d then same rest rest' else false
 
 -- the code of each word; 0 for one that no call here answers
-unfoldable pub wordCode : String → ℕ
-wordCode w =
+unfoldable pub word_code : String → ℕ
+word_code w =
     if same w "kept" then 48 else
     if same w "none" then 54 else
     if same w "closed" then 57 else
@@ -32,21 +32,21 @@ wordCode w =
 -- the code of a refusal is its number
 unfoldable pub code_of : Wording → ℕ
 code_of (Wording.refusal k) = k
-code_of (Wording.word w values) = wordCode w
+code_of (Wording.word w values) = word_code w
 
 -- the numbers among the values of an answer
-unfoldable pub numbersIn : List Value → List ℕ
-numbersIn [] = []
-numbersIn (Value.number n ∷ rest) = n ∷ numbersIn rest
-numbersIn (Value.payload ∷ rest) = numbersIn rest
-numbersIn (Value.more m ∷ rest) = numbersIn rest
-numbersIn (Value.packet ∷ rest) = numbersIn rest
-numbersIn (Value.anyPacket ∷ rest) = numbersIn rest
+unfoldable pub numbers_in : List Value → List ℕ
+numbers_in [] = []
+numbers_in (Value.number n ∷ rest) = n ∷ numbers_in rest
+numbers_in (Value.payload ∷ rest) = numbers_in rest
+numbers_in (Value.more m ∷ rest) = numbers_in rest
+numbers_in (Value.packet ∷ rest) = numbers_in rest
+numbers_in (Value.any_packet ∷ rest) = numbers_in rest
 
-unfoldable pub numbersOf : Wording → List ℕ
-numbersOf (Wording.refusal k) = []
-numbersOf (Wording.word w values) = numbersIn values
+unfoldable pub numbers_of : Wording → List ℕ
+numbers_of (Wording.refusal k) = []
+numbers_of (Wording.word w values) = numbers_in values
 
 -- an answer of one number or none
 unfoldable pub answer_of : Wording → Answer
-answer_of w = record { code = code_of w; number = get_or (numbersOf w) 0 0 }
+answer_of w = record { code = code_of w; number = get_or (numbers_of w) 0 0 }

@@ -1,18 +1,18 @@
 // What programs in C or Rust call beside the two ends: packets, the work list, the journal and the plan, on numbers and byte slices.
 ghost use Rattle.std.specs.Prelude.{◌≡◌, [], ◌∷◌, ◌<◌, length};
 ghost use Rattle.group.specs.Lent.{front};
-ghost use Rattle.packet.specs.Packet.{read_of, writeOf};
-ghost use Rattle.packet.specs.Wording.{writingWording};
-ghost use Rattle.jobs.specs.Feed.{feedOf};
+ghost use Rattle.packet.specs.Packet.{read_of, write_of};
+ghost use Rattle.packet.specs.Wording.{writing_wording};
+ghost use Rattle.jobs.specs.Feed.{feed_of};
 ghost use Rattle.journal.specs.Read.{entry_of};
 ghost use Rattle.journal.specs.Read.{read_of as journalOf};
-ghost use Rattle.journal.specs.Write.{messageWith, writerAfter};
-ghost use Rattle.plan.specs.Calls.{plan_of, rewriteOf};
-ghost use Rattle.plan.specs.Wording.{wordingOf as laidWording};
+ghost use Rattle.journal.specs.Write.{message_with, writer_after};
+ghost use Rattle.plan.specs.Calls.{plan_of, rewrite_of};
+ghost use Rattle.plan.specs.Wording.{wording_of as laidWording};
 ghost use Rattle.embedding.specs.Codes.{answer_of};
-ghost use Rattle.embedding.specs.Lists.{feedTold, Feeds};
-ghost use Rattle.embedding.specs.Packets.{read_code, fieldsAfter, headerWith};
-ghost use Rattle.embedding.specs.Journals.{writerIn, writerNumbers, readTold, writerFound, blockTold, writerBehind, recordTold, writerTold, Writes, written_of, finishedOf};
+ghost use Rattle.embedding.specs.Lists.{feed_told, Feeds};
+ghost use Rattle.embedding.specs.Packets.{read_code, fields_after, header_with};
+ghost use Rattle.embedding.specs.Journals.{writer_in, writer_numbers, read_told, writer_found, block_told, writer_behind, record_told, writer_told, Writes, written_of, finished_of};
 
 use group::{MemberNumber, SequenceNumber};
 use jobs::Job;
@@ -79,7 +79,7 @@ const UNSOUND: u32 = 1;
 #[unsafe(no_mangle)]
 pub extern "C" fn warghytes_packet_read(packet: &[u8], fields: &mut [u32; 6]) -> u32
     ensures answer { result ≡ read_code (read_of packet.now) }
-    ensures lent { fields.new ≡ fieldsAfter (read_of packet.now) fields.old }
+    ensures lent { fields.new ≡ fields_after (read_of packet.now) fields.old }
 {
     let reading = packet::read(packet);
     match reading {
@@ -103,8 +103,8 @@ pub extern "C" fn warghytes_packet_write(
     payload: &[u8],
     out: &mut [u8],
 ) -> Answer
-    ensures answer { result ≡ answer_of (writingWording (writeOf (headerWith kind member group a b c) payload.now (length out.old)).answer) }
-    ensures lent { out.new ≡ front (writeOf (headerWith kind member group a b c) payload.now (length out.old)).bytes out.old }
+    ensures answer { result ≡ answer_of (writing_wording (write_of (header_with kind member group a b c) payload.now (length out.old)).answer) }
+    ensures lent { out.new ≡ front (write_of (header_with kind member group a b c) payload.now (length out.old)).bytes out.old }
 {
     let h = Header {
         kind,
@@ -129,7 +129,7 @@ pub extern "C" fn warghytes_packet_write(
 
 // What a feed's answer tells.
 fn feed_tells(answer: jobs::Answer) -> Answer
-    ensures { result ≡ feedTold answer }
+    ensures { result ≡ feed_told answer }
 {
     match answer {
         jobs::Answer::Refused(q) => Answer {
@@ -154,7 +154,7 @@ fn feed_tells(answer: jobs::Answer) -> Answer
 // Feeds a work list that is lent what was taken: the message's originator and its payload. A list of zeros is empty.
 #[unsafe(no_mangle)]
 pub extern "C" fn warghytes_jobs_feed(jobs: &mut [Job], member: u8, payload: &[u8]) -> Answer
-    ensures { Feeds (feedOf jobs.old (record { 0 = member }) payload.now) result jobs.new }
+    ensures { Feeds (feed_of jobs.old (record { 0 = member }) payload.now) result jobs.new }
 {
     let answer = jobs::feed(jobs, MemberNumber(member), payload);
     feed_tells(answer)
@@ -162,7 +162,7 @@ pub extern "C" fn warghytes_jobs_feed(jobs: &mut [Job], member: u8, payload: &[u
 
 // A tail by its numbers: any number above the last may follow if `free` is not 0.
 fn tail_in(last: u32, free: u32) -> Tail
-    ensures { result ≡ (writerIn (last ∷ free ∷ [])).tail }
+    ensures { result ≡ (writer_in (last ∷ free ∷ [])).tail }
 {
     let number = SequenceNumber(last);
     Tail {
@@ -173,7 +173,7 @@ fn tail_in(last: u32, free: u32) -> Tail
 
 // A writer by its numbers.
 fn writer_in(last: u32, free: u32, first: u32, records: u32, used: u32) -> Writer
-    ensures is { result ≡ writerIn (last ∷ free ∷ first ∷ records ∷ used ∷ []) }
+    ensures is { result ≡ writer_in (last ∷ free ∷ first ∷ records ∷ used ∷ []) }
     ensures small { (result.records < 4294967296) × (result.used < 4294967296) }
 {
     let tail = tail_in(last, free);
@@ -189,7 +189,7 @@ fn writer_in(last: u32, free: u32, first: u32, records: u32, used: u32) -> Write
 // The numbers of a writer.
 fn numbers_of(writer: Writer) -> [u32; 5]
     requires { (writer.records < 4294967296) × (writer.used < 4294967296) }
-    ensures { result ≡ writerNumbers writer }
+    ensures { result ≡ writer_numbers writer }
 {
     let last = writer.tail.last.0;
     let first = writer.first.0;
@@ -203,7 +203,7 @@ fn numbers_of(writer: Writer) -> [u32; 5]
 
 // The numbers of a writer behind a tail, with no record in hand.
 fn numbers_after(tail: Tail) -> [u32; 5]
-    ensures { result ≡ writerNumbers (writerAfter tail) }
+    ensures { result ≡ writer_numbers (writer_after tail) }
 {
     let writer = Writer::after(tail);
     numbers_of(writer)
@@ -212,8 +212,8 @@ fn numbers_after(tail: Tail) -> [u32; 5]
 // Reads a journal: how many blocks and messages precede the first wrong block. The lent writer becomes one that goes on behind them.
 #[unsafe(no_mangle)]
 pub extern "C" fn warghytes_journal_read(journal: &[u8], writer: &mut [u32; 5]) -> Found
-    ensures answer { result ≡ readTold (journalOf journal.now) }
-    ensures writer { writer.new ≡ writerFound (journalOf journal.now) writer.old }
+    ensures answer { result ≡ read_told (journalOf journal.now) }
+    ensures writer { writer.new ≡ writer_found (journalOf journal.now) writer.old }
 {
     let reading = journal::read(journal);
     match reading {
@@ -237,8 +237,8 @@ pub extern "C" fn warghytes_journal_read(journal: &[u8], writer: &mut [u32; 5]) 
 // Reads one block behind what the lent writer has: if it is right, the writer goes on behind it.
 #[unsafe(no_mangle)]
 pub extern "C" fn warghytes_journal_next(writer: &mut [u32; 5], block: &[u8]) -> Found
-    ensures answer { result ≡ blockTold writer.old block.now }
-    ensures writer { writer.new ≡ writerBehind writer.old block.now }
+    ensures answer { result ≡ block_told writer.old block.now }
+    ensures writer { writer.new ≡ writer_behind writer.old block.now }
 {
     if 1 < writer[1] {
         return Found {
@@ -270,7 +270,7 @@ pub extern "C" fn warghytes_journal_next(writer: &mut [u32; 5], block: &[u8]) ->
 // Reads the record that stands at an index of a block, under that number.
 #[unsafe(no_mangle)]
 pub extern "C" fn warghytes_journal_record(block: &[u8], at: usize, number: u32) -> Record
-    ensures { result ≡ recordTold (entry_of block.now at (record { 0 = number })) }
+    ensures { result ≡ record_told (entry_of block.now at (record { 0 = number })) }
 {
     let entry = journal::record_at(block, at, SequenceNumber(number));
     match entry {
@@ -295,7 +295,7 @@ pub extern "C" fn warghytes_journal_record(block: &[u8], at: usize, number: u32)
 
 // What a writer's answer tells.
 fn writer_tells(answer: journal::Answer, written: usize) -> Answer
-    ensures { result ≡ writerTold answer written }
+    ensures { result ≡ writer_told answer written }
 {
     match answer {
         journal::Answer::Kept => Answer {
@@ -324,7 +324,7 @@ pub extern "C" fn warghytes_journal_write(
     hand: &mut [u8; Block::SIZE],
     out: &mut [u8; Block::SIZE],
 ) -> Answer
-    ensures { Writes (written_of writer.old (messageWith (record { 0 = number }) (record { 0 = originator }) count payload.now) hand.old) result writer.new hand.new out.old out.new }
+    ensures { Writes (written_of writer.old (message_with (record { 0 = number }) (record { 0 = originator }) count payload.now) hand.old) result writer.new hand.new out.old out.new }
 {
     if 1 < writer[1] {
         return Answer {
@@ -354,7 +354,7 @@ pub extern "C" fn warghytes_journal_finish(
     hand: &[u8; Block::SIZE],
     out: &mut [u8; Block::SIZE],
 ) -> Answer
-    ensures { Writes (finishedOf writer.old hand.now) result writer.new hand.now out.old out.new }
+    ensures { Writes (finished_of writer.old hand.now) result writer.new hand.now out.old out.new }
 {
     if 1 < writer[1] {
         return Answer {
@@ -399,8 +399,8 @@ pub extern "C" fn warghytes_plan(journal: &[u8], out: &mut [u8]) -> Answer
 // Lays the rewritten journal at the front of the lent output.
 #[unsafe(no_mangle)]
 pub extern "C" fn warghytes_rewrite(journal: &[u8], out: &mut [u8]) -> Answer
-    ensures answer { result ≡ answer_of (laidWording (rewriteOf journal.now (length out.old)).answer) }
-    ensures lent { out.new ≡ front (rewriteOf journal.now (length out.old)).bytes out.old }
+    ensures answer { result ≡ answer_of (laidWording (rewrite_of journal.now (length out.old)).answer) }
+    ensures lent { out.new ≡ front (rewrite_of journal.now (length out.old)).bytes out.old }
 {
     let answer = plan::rewrite(journal, out);
     plan_tells(answer)

@@ -1,7 +1,7 @@
 // Both ends for programs in other languages: the caller owns the state, a call changes it where it lies, and what it answers comes back as numbers.
 ghost use Rattle.std.specs.Prelude.{◌≡◌};
-ghost use Rattle.group.specs.Codes.{flagOf};
-ghost use Rattle.ends.specs.Telling.{sequencerTold, memberTold, openingTold};
+ghost use Rattle.group.specs.Codes.{flag_of};
+ghost use Rattle.ends.specs.Telling.{sequencer_told, member_told, opening_told};
 ghost use Rattle.ends.specs.Promise.{SequencerOpens, SequencerReceives, SequencerPolls, SequencerCopies, MemberOpens, MemberSubmits, MemberReceives, MemberTakes, MemberRepeats, MemberReports};
 
 use group::{MemberNumber, SequenceNumber, Verdict};
@@ -89,14 +89,14 @@ fn numbered(code: u32, first: u32, second: u32, written: usize) -> Told
 
 // A yes or no as a number.
 fn flag(yes: bool) -> u32
-    ensures { result ≡ flagOf yes }
+    ensures { result ≡ flag_of yes }
 {
     if yes { 1 } else { 0 }
 }
 
 // What a sequencer's reply tells.
 pub fn sequencer_tells(reply: sequencer::Reply) -> Told
-    ensures { result ≡ sequencerTold reply }
+    ensures { result ≡ sequencer_told reply }
 {
     let answer = reply.answer;
     let written = reply.written;
@@ -118,7 +118,7 @@ pub fn sequencer_tells(reply: sequencer::Reply) -> Told
 
 // What a member's reply tells.
 pub fn member_tells(reply: member::Reply) -> Told
-    ensures { result ≡ memberTold reply }
+    ensures { result ≡ member_told reply }
 {
     let answer = reply.answer;
     let written = reply.written;
@@ -153,7 +153,7 @@ pub fn member_tells(reply: member::Reply) -> Told
 
 // What an opening's verdict tells.
 pub fn opening_tells(verdict: Verdict) -> Told
-    ensures { result ≡ openingTold verdict }
+    ensures { result ≡ opening_told verdict }
 {
     match verdict {
         Verdict::Accepted => word(Told::ACCEPTED, 0),

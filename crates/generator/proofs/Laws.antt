@@ -20,8 +20,8 @@ quotient = 210485888
 multiple : (k t w : ℕ) → k * increment ≡ t * modulus → w + k * quotient ≡ t * inverse → k ≡ w * modulus
 multiple k t w e f = omega arith
 
-no-multiple : (k t : ℕ) → k * increment ≡ t * modulus → 1 ≤ k → k < modulus → ⊥
-no-multiple k t e h l =
+no_multiple : (k t : ℕ) → k * increment ≡ t * modulus → 1 ≤ k → k < modulus → ⊥
+no_multiple k t e h l =
     let m = multiple k t (t * inverse - k * quotient) e (omega arith) in
     omega arith
 
@@ -29,7 +29,7 @@ pub no_return : NoReturn
 no_return seed j k s h l e =
     let a = formula (j + k) seed s in
     let b = formula j seed s in
-    no-multiple k ((seed + (j + k) * increment) / modulus - (seed + j * increment) / modulus) (omega arith) h l
+    no_multiple k ((seed + (j + k) * increment) / modulus - (seed + j * increment) / modulus) (omega arith) h l
 
 pub returns : Returns
 returns seed s = formula modulus seed s ∙ omega arith

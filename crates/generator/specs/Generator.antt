@@ -12,8 +12,8 @@ unfoldable pub stepped : ℕ → ℕ
 stepped state = (state + increment) % modulus
 
 -- the output is the state exclusive-or the state shifted right by 16
-unfoldable pub outputOf : ℕ → ℕ
-outputOf state = bit_xor state (state / 2 ^ 16)
+unfoldable pub output_of : ℕ → ℕ
+output_of state = bit_xor state (state / 2 ^ 16)
 
 -- the state after k steps
 unfoldable pub after : ℕ → ℕ → ℕ

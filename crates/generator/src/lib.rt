@@ -1,6 +1,6 @@
 // The numbers of a repeatable load, from a seed of 32 bits on.
 ghost use Rattle.std.specs.Prelude.{◌≡◌};
-ghost use Rattle.generator.specs.Generator.{stepped, outputOf};
+ghost use Rattle.generator.specs.Generator.{stepped, output_of};
 
 #[derive(Drop)]
 pub struct Generator {
@@ -19,7 +19,7 @@ impl Generator {
     }
 
     pub fn output(self) -> u32
-        ensures { result ≡ outputOf self.state }
+        ensures { result ≡ output_of self.state }
     {
         let state = self.state;
         state ^ (state >> 16)

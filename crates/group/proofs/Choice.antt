@@ -7,64 +7,64 @@ use borrow.Author.Tests.{lt-ltb, le-ltb, le-leb, lt-leb, eq-eqb, ne_eqb, ltb-tru
 use Rattle.group.specs.Choice.{if◌then◌else◌, ◌<?◌, ◌≤?◌, ◌=?◌}
 
 module _ {A : Type 0} where
-  pub if-true : (t : Bool) (x y z : A) → t ≡ true → x ≡ y → x ≡ if t then y else z
+  pub if_true : (t : Bool) (x y z : A) → t ≡ true → x ≡ y → x ≡ if t then y else z
   unfolding if◌then◌else◌
-  if-true t x y z h e = rw h e
+  if_true t x y z h e = rw h e
 
-  pub if-false : (t : Bool) (x y z : A) → t ≡ false → x ≡ z → x ≡ if t then y else z
+  pub if_false : (t : Bool) (x y z : A) → t ≡ false → x ≡ z → x ≡ if t then y else z
   unfolding if◌then◌else◌
-  if-false t x y z h e = rw h e
+  if_false t x y z h e = rw h e
 
-  pub if-lt : (a b : ℕ) (x y z : A) → a < b → x ≡ y → x ≡ if a <? b then y else z
-  if-lt a b x y z h e = if-true _ x y z (lt-ltb a b h) e
+  pub if_lt : (a b : ℕ) (x y z : A) → a < b → x ≡ y → x ≡ if a <? b then y else z
+  if_lt a b x y z h e = if_true _ x y z (lt-ltb a b h) e
 
-  pub if-nlt : (a b : ℕ) (x y z : A) → b ≤ a → x ≡ z → x ≡ if a <? b then y else z
-  if-nlt a b x y z h e = if-false _ x y z (le-ltb a b h) e
+  pub if_nlt : (a b : ℕ) (x y z : A) → b ≤ a → x ≡ z → x ≡ if a <? b then y else z
+  if_nlt a b x y z h e = if_false _ x y z (le-ltb a b h) e
 
-  pub if-le : (a b : ℕ) (x y z : A) → a ≤ b → x ≡ y → x ≡ if a ≤? b then y else z
-  if-le a b x y z h e = if-true _ x y z (le-leb a b h) e
+  pub if_le : (a b : ℕ) (x y z : A) → a ≤ b → x ≡ y → x ≡ if a ≤? b then y else z
+  if_le a b x y z h e = if_true _ x y z (le-leb a b h) e
 
-  pub if-nle : (a b : ℕ) (x y z : A) → b < a → x ≡ z → x ≡ if a ≤? b then y else z
-  if-nle a b x y z h e = if-false _ x y z (lt-leb a b h) e
+  pub if_nle : (a b : ℕ) (x y z : A) → b < a → x ≡ z → x ≡ if a ≤? b then y else z
+  if_nle a b x y z h e = if_false _ x y z (lt-leb a b h) e
 
-  pub if-eq : (a b : ℕ) (x y z : A) → a ≡ b → x ≡ y → x ≡ if a =? b then y else z
-  if-eq a b x y z h e = if-true _ x y z (eq-eqb a b h) e
+  pub if_eq : (a b : ℕ) (x y z : A) → a ≡ b → x ≡ y → x ≡ if a =? b then y else z
+  if_eq a b x y z h e = if_true _ x y z (eq-eqb a b h) e
 
-  pub if-ne : (a b : ℕ) (x y z : A) → (a ≡ b → ⊥) → x ≡ z → x ≡ if a =? b then y else z
-  if-ne a b x y z h e = if-false _ x y z (ne_eqb a b h) e
+  pub if_ne : (a b : ℕ) (x y z : A) → (a ≡ b → ⊥) → x ≡ z → x ≡ if a =? b then y else z
+  if_ne a b x y z h e = if_false _ x y z (ne_eqb a b h) e
 
   -- the test's value, or the number tested, stands in a local that a call gave
-  pub if-true-of : (t u : Bool) (x y z : A) → u ≡ t → u ≡ true → x ≡ y → x ≡ if t then y else z
-  if-true-of t u x y z d h e = if-true t x y z (sym d ∙ h) e
+  pub if_true_of : (t u : Bool) (x y z : A) → u ≡ t → u ≡ true → x ≡ y → x ≡ if t then y else z
+  if_true_of t u x y z d h e = if_true t x y z (sym d ∙ h) e
 
-  pub if-false-of : (t u : Bool) (x y z : A) → u ≡ t → u ≡ false → x ≡ z → x ≡ if t then y else z
-  if-false-of t u x y z d h e = if-false t x y z (sym d ∙ h) e
+  pub if_false_of : (t u : Bool) (x y z : A) → u ≡ t → u ≡ false → x ≡ z → x ≡ if t then y else z
+  if_false_of t u x y z d h e = if_false t x y z (sym d ∙ h) e
 
-  pub if-eq-of : (a b q : ℕ) (x y z : A) → q ≡ a → q ≡ b → x ≡ y → x ≡ if a =? b then y else z
-  if-eq-of a b q x y z d h e = if-eq a b x y z (sym d ∙ h) e
+  pub if_eq_of : (a b q : ℕ) (x y z : A) → q ≡ a → q ≡ b → x ≡ y → x ≡ if a =? b then y else z
+  if_eq_of a b q x y z d h e = if_eq a b x y z (sym d ∙ h) e
 
-  pub if-ne-of : (a b q : ℕ) (x y z : A) → q ≡ a → (q ≡ b → ⊥) → x ≡ z → x ≡ if a =? b then y else z
-  if-ne-of a b q x y z d h e = if-ne a b x y z (λ w. h (d ∙ w)) e
+  pub if_ne_of : (a b q : ℕ) (x y z : A) → q ≡ a → (q ≡ b → ⊥) → x ≡ z → x ≡ if a =? b then y else z
+  if_ne_of a b q x y z d h e = if_ne a b x y z (λ w. h (d ∙ w)) e
 
   -- a choice that is not its second value was made by a test that holds
-  pub if-was : (t : Bool) (x y z : A) → if t then x else y ≡ z → (y ≡ z → ⊥) → (t ≡ true) × (x ≡ z)
+  pub if_was : (t : Bool) (x y z : A) → if t then x else y ≡ z → (y ≡ z → ⊥) → (t ≡ true) × (x ≡ z)
   unfolding if◌then◌else◌
-  if-was true x y z e n = (refl, e)
-  if-was false x y z e n = absurd (n e)
+  if_was true x y z e n = (refl, e)
+  if_was false x y z e n = absurd (n e)
 
 -- a test that is two: both hold, or one does not
 pub both_hold : (s t : Bool) → s ≡ true → t ≡ true → if s then t else false ≡ true
 unfolding if◌then◌else◌
 both_hold s t h k = rw h k
 
-pub first-fails : (s t : Bool) → s ≡ false → if s then t else false ≡ false
+pub first_fails : (s t : Bool) → s ≡ false → if s then t else false ≡ false
 unfolding if◌then◌else◌
-first-fails s t h = rw h
+first_fails s t h = rw h
 
-pub then-fails : (s t : Bool) → t ≡ false → if s then t else false ≡ false
+pub then_fails : (s t : Bool) → t ≡ false → if s then t else false ≡ false
 unfolding if◌then◌else◌
-then-fails true t h = h
-then-fails false t h = refl
+then_fails true t h = h
+then_fails false t h = refl
 
 -- a test and another, where both hold
 pub both_first : (t x : Bool) → if t then x else false ≡ true → t ≡ true
@@ -72,16 +72,16 @@ unfolding if◌then◌else◌
 both_first true x e = refl
 both_first false x e = e
 
-pub both-then : (t x : Bool) → if t then x else false ≡ true → x ≡ true
+pub both_then : (t x : Bool) → if t then x else false ≡ true → x ≡ true
 unfolding if◌then◌else◌
-both-then true x e = e
-both-then false x e = let z : false ≡ true = e in cc
+both_then true x e = e
+both_then false x e = let z : false ≡ true = e in cc
 
 -- forwards, out of a chain of tests that all hold, to what each says
-pub ruleset says = (both_first, both-then, ltb-true, leb-true, eqb-true)
+pub ruleset says = (both_first, both_then, ltb-true, leb-true, eqb-true)
 
 -- down a nest of choices
-pub ruleset choices = (if-lt, if-nlt, if-le, if-nle, if-eq, if-ne, if-true, if-false, if-true-of, if-false-of, if-eq-of, if-ne-of)
+pub ruleset choices = (if_lt, if_nlt, if_le, if_nle, if_eq, if_ne, if_true, if_false, if_true_of, if_false_of, if_eq_of, if_ne_of)
 
 -- the same where a test is two
-pub ruleset tests = (both_hold, first-fails, then-fails, lt-ltb, le-ltb, le-leb, lt-leb, eq-eqb, ne_eqb)
+pub ruleset tests = (both_hold, first_fails, then_fails, lt-ltb, le-ltb, le-leb, lt-leb, eq-eqb, ne_eqb)

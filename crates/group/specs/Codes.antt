@@ -6,30 +6,30 @@ use Rattle.group.specs.Choice.{if◌then◌else◌}
 use Rattle.group.specs.Wording.{Value, Wording}
 
 -- the numbers among the values of an answer
-unfoldable pub numbersIn : List Value → List ℕ
-numbersIn [] = []
-numbersIn (Value.number n ∷ rest) = n ∷ numbersIn rest
-numbersIn (Value.payload ∷ rest) = numbersIn rest
-numbersIn (Value.more m ∷ rest) = numbersIn rest
-numbersIn (Value.packet ∷ rest) = numbersIn rest
-numbersIn (Value.anyPacket ∷ rest) = numbersIn rest
+unfoldable pub numbers_in : List Value → List ℕ
+numbers_in [] = []
+numbers_in (Value.number n ∷ rest) = n ∷ numbers_in rest
+numbers_in (Value.payload ∷ rest) = numbers_in rest
+numbers_in (Value.more m ∷ rest) = numbers_in rest
+numbers_in (Value.packet ∷ rest) = numbers_in rest
+numbers_in (Value.any_packet ∷ rest) = numbers_in rest
 
-unfoldable pub flagOf : Bool → ℕ
-flagOf true = 1
-flagOf false = 0
+unfoldable pub flag_of : Bool → ℕ
+flag_of true = 1
+flag_of false = 0
 
 -- 1 where the following number is held, 0 where it is not or nothing is said of it
-unfoldable pub moreIn : List Value → ℕ
-moreIn [] = 0
-moreIn (Value.number n ∷ rest) = moreIn rest
-moreIn (Value.payload ∷ rest) = moreIn rest
-moreIn (Value.more m ∷ rest) = flagOf m
-moreIn (Value.packet ∷ rest) = moreIn rest
-moreIn (Value.anyPacket ∷ rest) = moreIn rest
+unfoldable pub more_in : List Value → ℕ
+more_in [] = 0
+more_in (Value.number n ∷ rest) = more_in rest
+more_in (Value.payload ∷ rest) = more_in rest
+more_in (Value.more m ∷ rest) = flag_of m
+more_in (Value.packet ∷ rest) = more_in rest
+more_in (Value.any_packet ∷ rest) = more_in rest
 
 -- the code of a word that a call of an end answers with, above the numbers of all refusals; 0 for any other word, whose values say all
-unfoldable pub wordCode : String → ℕ
-wordCode w =
+unfoldable pub word_code : String → ℕ
+word_code w =
     if eqt w "old" then 32 else
     if eqt w "full" then 33 else
     if eqt w "noted" then 34 else
@@ -53,14 +53,14 @@ wordCode w =
 -- the number of a refusal, else the code of the word
 unfoldable pub code_of : Wording → ℕ
 code_of (Wording.refusal k) = k
-code_of (Wording.word w values) = wordCode w
+code_of (Wording.word w values) = word_code w
 
 -- the numbers of an answer
-unfoldable pub numbersOf : Wording → List ℕ
-numbersOf (Wording.refusal k) = []
-numbersOf (Wording.word w values) = numbersIn values
+unfoldable pub numbers_of : Wording → List ℕ
+numbers_of (Wording.refusal k) = []
+numbers_of (Wording.word w values) = numbers_in values
 
 -- whether the following number is held
-unfoldable pub moreOf : Wording → ℕ
-moreOf (Wording.refusal k) = 0
-moreOf (Wording.word w values) = moreIn values
+unfoldable pub more_of : Wording → ℕ
+more_of (Wording.refusal k) = 0
+more_of (Wording.word w values) = more_in values

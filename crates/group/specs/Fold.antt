@@ -8,11 +8,11 @@ all test i [] = true
 all test i (x ∷ rest) = test i x and all test (i + 1) rest
 
 -- whether `test` holds of each of the k numbers above f
-unfoldable pub allAbove : (ℕ → Bool) → ℕ → ℕ → Bool
-allAbove test f zero = true
-allAbove test f (suc k) = test (f + 1) and allAbove test (f + 1) k
+unfoldable pub all_above : (ℕ → Bool) → ℕ → ℕ → Bool
+all_above test f zero = true
+all_above test f (suc k) = test (f + 1) and all_above test (f + 1) k
 
 -- the smaller of m and the smallest of what `value` says of each entry that `test` chooses by its index, where the first stands at index i
-unfoldable pub leastOf : {A : Type 0} → (ℕ → Bool) → (A → ℕ) → ℕ → ℕ → List A → ℕ
-leastOf test value i m [] = m
-leastOf test value i m (x ∷ rest) = leastOf test value (i + 1) (if test i and value x <? m then value x else m) rest
+unfoldable pub least_of : {A : Type 0} → (ℕ → Bool) → (A → ℕ) → ℕ → ℕ → List A → ℕ
+least_of test value i m [] = m
+least_of test value i m (x ∷ rest) = least_of test value (i + 1) (if test i and value x <? m then value x else m) rest

@@ -11,9 +11,9 @@ pub record Question : Type 0 where
   pub refusal : Refusal
 
 -- the first question that says no
-unfoldable pub firstNo : List Question → Verdict
-firstNo [] = Accepted
-firstNo (q ∷ rest) = ask q.yes or Refused q.refusal then firstNo rest
+unfoldable pub first_no : List Question → Verdict
+first_no [] = Accepted
+first_no (q ∷ rest) = ask q.yes or Refused q.refusal then first_no rest
 
 -- what a verdict comes to, where `refused` says what a refusal answers and `accepted` what the step does
 unfoldable pub judged : {A : Type 0} → Verdict → (Refusal → A) → A → A

@@ -14,22 +14,22 @@ pub data Value : Type 0 where
   payload : Value
   more : Bool → Value
   packet : Value
-  anyPacket : Value
+  any_packet : Value
 
 pub data Wording : Type 0 where
   refusal : ℕ → Wording
   word : String → List Value → Wording
 
 -- a refusal, by its question
-abbrev pub refusedWording : Refusal → Wording
-refusedWording r = refusal (number_of r)
+abbrev pub refused_wording : Refusal → Wording
+refused_wording r = refusal (number_of r)
 
 -- what a list of questions comes to
-unfoldable pub verdictWording : Verdict → Wording
-verdictWording Verdict.Accepted = word "accepted" []
-verdictWording (Verdict.Refused r) = refusedWording r
+unfoldable pub verdict_wording : Verdict → Wording
+verdict_wording Verdict.Accepted = word "accepted" []
+verdict_wording (Verdict.Refused r) = refused_wording r
 
 -- what opening a group answers: n, the group number and the resilience degree
-unfoldable pub openedWording : Opened → Wording
-openedWording (Opened.Open group) = word "open" (number group.n ∷ number group.number ∷ number group.resilience ∷ [])
-openedWording (Opened.Refused r) = refusedWording r
+unfoldable pub opened_wording : Opened → Wording
+opened_wording (Opened.Open group) = word "open" (number group.n ∷ number group.number ∷ number group.resilience ∷ [])
+opened_wording (Opened.Refused r) = refused_wording r

@@ -1,10 +1,10 @@
 // The group's own description: its limits, its two kinds of number, and what may be refused.
 ghost use Rattle.std.specs.Prelude.{◌≡◌, ◌≤◌, ◌<◌};
-ghost use Rattle.group.specs.Limits.{membersMost, placesMost, payloadMost, heldMost, waitingMost, headerSize, longestPacket, largestNumber, jobsMost, jobMost};
+ghost use Rattle.group.specs.Limits.{members_most, places_most, payload_most, held_most, waiting_most, header_size, longest_packet, largest_number, jobs_most, job_most};
 ghost use Rattle.group.specs.Refusal.{number_of};
-ghost use Rattle.group.specs.Opening.{openOf};
-ghost use Rattle.group.specs.Members.{onlyOf, isIn, isWithin, lowestOf, all_of, othersOf, expectedOf, neededOf, groupSound};
-ghost use Rattle.group.specs.Wording.{openedWording};
+ghost use Rattle.group.specs.Opening.{open_of};
+ghost use Rattle.group.specs.Members.{only_of, is_in, is_within, lowest_of, all_of, others_of, expected_of, needed_of, group_sound};
+ghost use Rattle.group.specs.Wording.{opened_wording};
 
 // A sequence number: the place of a message in the order, from 1. 0 means none yet.
 #[repr(C)]
@@ -153,8 +153,8 @@ impl Group {
 
     // Question 18 of a group: is n 1 to 16? Then 24: is the resilience degree below n?
     pub fn fresh(n: u8, number: u32, resilience: u8) -> Opened
-        ensures answer { result ≡ openOf n number resilience }
-        ensures wording { openedWording result ≡ openedWording (openOf n number resilience) }
+        ensures answer { result ≡ open_of n number resilience }
+        ensures wording { opened_wording result ≡ opened_wording (open_of n number resilience) }
     {
         if n < 1 {
             return Opened::Refused(Refusal::Opening);
@@ -178,7 +178,7 @@ impl Group {
 
     // Is the description sound: n 1 to 16, r below n, the survivors members, and the elected one of them?
     pub fn sound(self) -> bool
-        ensures { result ≡ groupSound self }
+        ensures { result ≡ group_sound self }
     {
         if self.n < 1 {
             return false;
@@ -200,7 +200,7 @@ impl Group {
 
     // The survivors other than the elected one, one bit a member.
     pub fn others(self) -> u16
-        ensures { result ≡ othersOf self }
+        ensures { result ≡ others_of self }
     {
         if (self.elected.0 as usize) < Group::MEMBERS {
             let elected = 1u16 << (self.elected.0 as u32);
@@ -213,7 +213,7 @@ impl Group {
 
     // The members that are expected to confirm an offer, one bit a member.
     pub fn expected(self) -> u16
-        ensures { result ≡ expectedOf self }
+        ensures { result ≡ expected_of self }
     {
         let others = self.others();
         lowest_of(self.resilience, others)
@@ -221,7 +221,7 @@ impl Group {
 
     // How many confirmations a message needs.
     pub fn needed(self) -> u32
-        ensures { result ≡ neededOf self }
+        ensures { result ≡ needed_of self }
     {
         let expected = self.expected();
         u16::count_ones(expected)
@@ -229,7 +229,7 @@ impl Group {
 
     // Is the member expected to confirm an offer?
     pub fn expects(self, member: MemberNumber) -> bool
-        ensures { result ≡ isIn (expectedOf self) member.0 }
+        ensures { result ≡ is_in (expected_of self) member.0 }
     {
         let expected = self.expected();
         is_in(expected, member)
@@ -238,7 +238,7 @@ impl Group {
 
 // All of n members.
 fn all_of(n: u8) -> u16
-    requires { n ≤ membersMost }
+    requires { n ≤ members_most }
     ensures { result ≡ all_of n }
 {
     let all = (1u32 << (n as u32)) - 1;
@@ -247,7 +247,7 @@ fn all_of(n: u8) -> u16
 
 // The k lowest members of a mask; all of them where it has fewer.
 fn lowest_of(k: u8, mask: u16) -> u16
-    ensures { result ≡ lowestOf k mask }
+    ensures { result ≡ lowest_of k mask }
 {
     let mut found: u16 = 0;
     let mut rest: u16 = mask;
@@ -266,15 +266,15 @@ fn lowest_of(k: u8, mask: u16) -> u16
 
 // The mask of one member.
 pub fn only(member: MemberNumber) -> u16
-    requires { member.0 < membersMost }
-    ensures { result ≡ onlyOf member }
+    requires { member.0 < members_most }
+    ensures { result ≡ only_of member }
 {
     1u16 << (member.0 as u32)
 }
 
 // Is the member in the mask?
 pub fn is_in(mask: u16, member: MemberNumber) -> bool
-    ensures { result ≡ isIn mask member.0 }
+    ensures { result ≡ is_in mask member.0 }
 {
     if (member.0 as usize) < Group::MEMBERS {
         (mask >> (member.0 as u32)) % 2 == 1
@@ -285,68 +285,68 @@ pub fn is_in(mask: u16, member: MemberNumber) -> bool
 
 // Is every member of the mask in the other?
 pub fn is_within(mask: u16, other: u16) -> bool
-    ensures { result ≡ isWithin mask other }
+    ensures { result ≡ is_within mask other }
 {
     mask & other == mask
 }
 
 // The limits of specs/ are these constants.
 fn members_most() -> usize
-    ensures { result ≡ membersMost }
+    ensures { result ≡ members_most }
 {
     Group::MEMBERS
 }
 
 fn places_most() -> usize
-    ensures { result ≡ placesMost }
+    ensures { result ≡ places_most }
 {
     Group::PLACES
 }
 
 fn payload_most() -> usize
-    ensures { result ≡ payloadMost }
+    ensures { result ≡ payload_most }
 {
     Group::PAYLOAD
 }
 
 fn held_most() -> usize
-    ensures { result ≡ heldMost }
+    ensures { result ≡ held_most }
 {
     Group::HELD
 }
 
 fn waiting_most() -> usize
-    ensures { result ≡ waitingMost }
+    ensures { result ≡ waiting_most }
 {
     Group::WAITING
 }
 
 fn header_size() -> usize
-    ensures { result ≡ headerSize }
+    ensures { result ≡ header_size }
 {
     Group::HEADER
 }
 
 fn longest_packet() -> usize
-    ensures { result ≡ longestPacket }
+    ensures { result ≡ longest_packet }
 {
     Group::PACKET
 }
 
 fn largest_number() -> u32
-    ensures { result ≡ largestNumber }
+    ensures { result ≡ largest_number }
 {
     Group::LARGEST
 }
 
 fn jobs_most() -> usize
-    ensures { result ≡ jobsMost }
+    ensures { result ≡ jobs_most }
 {
     Group::JOBS
 }
 
 fn job_most() -> usize
-    ensures { result ≡ jobMost }
+    ensures { result ≡ job_most }
 {
     Group::JOB
 }

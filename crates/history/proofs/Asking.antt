@@ -4,11 +4,11 @@ use mathlib.Core.Path.{◌≡◌, refl}
 use mathlib.Core.Bool.{true}
 use Prim.Native.Nat.{ℕ, ◌+◌, ◌≤◌, ◌<◌}
 use borrow.Author.Tests.{ltb-true, leb-true, lt-leb}
-use Rattle.group.proofs.Choice.{if-was}
+use Rattle.group.proofs.Choice.{if_was}
 use Rattle.group.proofs.Question.{accepted≢}
 use Rattle.group.specs.Choice.{if◌then◌else◌, ◌<?◌, ◌≤?◌}
-use Rattle.group.specs.Limits.{largestNumber}
-use Rattle.group.specs.Members.{isIn, expectedOf}
+use Rattle.group.specs.Limits.{largest_number}
+use Rattle.group.specs.Members.{is_in, expected_of}
 use Rattle.group.specs.declared.Group.{Group}
 use Rattle.group.specs.declared.MemberNumber.{MemberNumber}
 use Rattle.group.specs.Question.{judged}
@@ -16,42 +16,42 @@ use Rattle.group.specs.declared.Refusal.{Refusal}
 use Rattle.group.specs.declared.Refusal.TheVariants.{UnknownMember, AcknowledgedAhead, CountAhead, NumbersUsedUp, NotExpected}
 use Rattle.group.specs.declared.SequenceNumber.{SequenceNumber}
 use Rattle.group.specs.declared.Verdict.{Verdict}
-use Rattle.history.specs.Ask.{senderVerdict, countVerdict, expectedVerdict}
+use Rattle.history.specs.Ask.{sender_verdict, count_verdict, expected_verdict}
 
-pub sender-was : (survivors top : ℕ) (sender : MemberNumber) (taken : SequenceNumber) → senderVerdict survivors top sender taken ≡ Verdict.Accepted
-    → (isIn survivors sender.0 ≡ true) × (taken.0 ≤ top)
-unfolding senderVerdict
-sender-was survivors top sender taken e =
-    let a = if-was (isIn survivors sender.0) _ _ Verdict.Accepted e (accepted≢ UnknownMember) in
-    let b = if-was (taken.0 ≤? top) _ _ Verdict.Accepted a.1 (accepted≢ AcknowledgedAhead) in
+pub sender_was : (survivors top : ℕ) (sender : MemberNumber) (taken : SequenceNumber) → sender_verdict survivors top sender taken ≡ Verdict.Accepted
+    → (is_in survivors sender.0 ≡ true) × (taken.0 ≤ top)
+unfolding sender_verdict
+sender_was survivors top sender taken e =
+    let a = if_was (is_in survivors sender.0) _ _ Verdict.Accepted e (accepted≢ UnknownMember) in
+    let b = if_was (taken.0 ≤? top) _ _ Verdict.Accepted a.1 (accepted≢ AcknowledgedAhead) in
     (a.0, leb-true taken.0 top b.0)
 
-pub count-was : (last top count : ℕ) → countVerdict last top count ≡ Verdict.Accepted → (count ≤ last + 1) × (last < count → top < largestNumber)
-unfolding countVerdict if◌then◌else◌
-count-was last top count e =
-    let a = if-was (count ≤? last + 1) _ _ Verdict.Accepted e (accepted≢ CountAhead) in
-    let b = if-was (if count ≤? last then true else top <? largestNumber) _ _ Verdict.Accepted a.1 (accepted≢ NumbersUsedUp) in
-    (leb-true count (last + 1) a.0, λ h. ltb-true top largestNumber (rw (lt-leb count last h) at b.0))
+pub count_was : (last top count : ℕ) → count_verdict last top count ≡ Verdict.Accepted → (count ≤ last + 1) × (last < count → top < largest_number)
+unfolding count_verdict if◌then◌else◌
+count_was last top count e =
+    let a = if_was (count ≤? last + 1) _ _ Verdict.Accepted e (accepted≢ CountAhead) in
+    let b = if_was (if count ≤? last then true else top <? largest_number) _ _ Verdict.Accepted a.1 (accepted≢ NumbersUsedUp) in
+    (leb-true count (last + 1) a.0, λ h. ltb-true top largest_number (rw (lt-leb count last h) at b.0))
 
-pub expected-was : (group : Group) (accepted : ℕ) (sender : MemberNumber) (number : SequenceNumber) → expectedVerdict group accepted sender number ≡ Verdict.Accepted
-    → accepted < number.0 → isIn (expectedOf group) sender.0 ≡ true
-unfolding expectedVerdict if◌then◌else◌
-expected-was group accepted sender number e h =
+pub expected_was : (group : Group) (accepted : ℕ) (sender : MemberNumber) (number : SequenceNumber) → expected_verdict group accepted sender number ≡ Verdict.Accepted
+    → accepted < number.0 → is_in (expected_of group) sender.0 ≡ true
+unfolding expected_verdict if◌then◌else◌
+expected_was group accepted sender number e h =
     rw (lt-leb number.0 accepted h) at
-    (if-was (if number.0 ≤? accepted then true else isIn (expectedOf group) sender.0) _ _ Verdict.Accepted e (accepted≢ NotExpected)).0
+    (if_was (if number.0 ≤? accepted then true else is_in (expected_of group) sender.0) _ _ Verdict.Accepted e (accepted≢ NotExpected)).0
 
 -- a verdict that is known
 module _ {A : Type 0} (v : Verdict) (f : Refusal → A) (x : A) where
-  pub judged-yes : v ≡ Verdict.Accepted → x ≡ judged v f x
+  pub judged_yes : v ≡ Verdict.Accepted → x ≡ judged v f x
   unfolding judged
-  judged-yes e = rw e
+  judged_yes e = rw e
 
-  pub judged-no : (r : Refusal) → v ≡ Verdict.Refused r → f r ≡ judged v f x
+  pub judged_no : (r : Refusal) → v ≡ Verdict.Refused r → f r ≡ judged v f x
   unfolding judged
-  judged-no r e = rw e
+  judged_no r e = rw e
 
 -- two verdicts of which the second is asked where the first accepts
-pub judged-was : (v w : Verdict) → judged v Verdict.Refused w ≡ Verdict.Accepted → (v ≡ Verdict.Accepted) × (w ≡ Verdict.Accepted)
+pub judged_was : (v w : Verdict) → judged v Verdict.Refused w ≡ Verdict.Accepted → (v ≡ Verdict.Accepted) × (w ≡ Verdict.Accepted)
 unfolding judged
-judged-was Verdict.Accepted w e = (refl, e)
-judged-was (Verdict.Refused r) w e = absurd (accepted≢ r e)
+judged_was Verdict.Accepted w e = (refl, e)
+judged_was (Verdict.Refused r) w e = absurd (accepted≢ r e)

@@ -4,22 +4,22 @@ use mathlib.Core.Bool.{true}
 use mathlib.Core.List.{List, [], ◌∷◌}
 use Prim.Native.Nat.{ℕ, zero, suc, ◌≤◌}
 use lib.ListN.{get_or, set}
-use Rattle.group.specs.Limits.{membersMost}
+use Rattle.group.specs.Limits.{members_most}
 use Rattle.group.specs.declared.Group.{Group}
-use Rattle.group.specs.Members.{groupSound}
+use Rattle.group.specs.Members.{group_sound}
 use Rattle.group.proofs.Choice.{both_first}
-use Rattle.group.proofs.Members.{standing-of}
-use Rattle.history.specs.Sound.{frameSound}
-use Rattle.history.specs.State.{Acknowledgement, noAcknowledgement}
+use Rattle.group.proofs.Members.{standing_of}
+use Rattle.history.specs.Sound.{frame_sound}
+use Rattle.history.specs.State.{Acknowledgement, no_acknowledgement}
 
-pub frame-members : (group : Group) (table : List Acknowledgement) (floor accepted top : ℕ) → frameSound group table floor accepted top ≡ true
-    → (1 ≤ group.n) × (group.n ≤ membersMost)
-unfolding frameSound
-frame-members group table floor accepted top e =
-    let s = standing-of group (both_first (groupSound group) _ e) in
-    (s.n-least, s.n-most)
+pub frame_members : (group : Group) (table : List Acknowledgement) (floor accepted top : ℕ) → frame_sound group table floor accepted top ≡ true
+    → (1 ≤ group.n) × (group.n ≤ members_most)
+unfolding frame_sound
+frame_members group table floor accepted top e =
+    let s = standing_of group (both_first (group_sound group) _ e) in
+    (s.n_least, s.n_most)
 
-pub set-count : (l : List Acknowledgement) (j : ℕ) (x : Acknowledgement) → x.count ≡ (get_or l j noAcknowledgement).count → (get_or (set l j x) j noAcknowledgement).count ≡ (get_or l j noAcknowledgement).count
-set-count [] j x e = refl
-set-count (y ∷ l) zero x e = e
-set-count (y ∷ l) (suc j) x e = set-count l j x e
+pub set_count : (l : List Acknowledgement) (j : ℕ) (x : Acknowledgement) → x.count ≡ (get_or l j no_acknowledgement).count → (get_or (set l j x) j no_acknowledgement).count ≡ (get_or l j no_acknowledgement).count
+set_count [] j x e = refl
+set_count (y ∷ l) zero x e = e
+set_count (y ∷ l) (suc j) x e = set_count l j x e

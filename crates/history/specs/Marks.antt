@@ -3,33 +3,33 @@ use Rattle.std.specs.Prelude.{Bool, List, ℕ, zero, suc, ◌+◌, get_or, set}
 use Rattle.std.specs.Int.Bits.{bit_or}
 use Rattle.std.specs.Int.Count.{ones}
 use Rattle.group.specs.Choice.{if◌then◌else◌, ◌and◌, ◌<?◌, ◌≤?◌, ◌=?◌}
-use Rattle.group.specs.Members.{onlyOf, isWithin}
+use Rattle.group.specs.Members.{only_of, is_within}
 use Rattle.group.specs.declared.MemberNumber.{MemberNumber}
 use Rattle.history.specs.State.{place_of}
 
-abbrev pub markAt : List ℕ → ℕ → ℕ
-markAt marks number = get_or marks (place_of number) 0
+abbrev pub mark_at : List ℕ → ℕ → ℕ
+mark_at marks number = get_or marks (place_of number) 0
 
 -- member m confirmed the k numbers above f
-unfoldable pub markedOf : List ℕ → MemberNumber → ℕ → ℕ → List ℕ
-markedOf marks m f zero = marks
-markedOf marks m f (suc k) =
-    set (markedOf marks m f k) (place_of (f + suc k)) (bit_or (markAt (markedOf marks m f k) (f + suc k)) (onlyOf m))
+unfoldable pub marked_of : List ℕ → MemberNumber → ℕ → ℕ → List ℕ
+marked_of marks m f zero = marks
+marked_of marks m f (suc k) =
+    set (marked_of marks m f k) (place_of (f + suc k)) (bit_or (mark_at (marked_of marks m f k) (f + suc k)) (only_of m))
 
 -- the highest of the k numbers above f with at least so many marks; 0: there is none
-unfoldable pub enoughOf : List ℕ → ℕ → ℕ → ℕ → ℕ
-enoughOf marks needed f zero = 0
-enoughOf marks needed f (suc k) =
-    if needed ≤? ones (markAt marks (f + suc k)) then f + suc k else
-    enoughOf marks needed f k
+unfoldable pub enough_of : List ℕ → ℕ → ℕ → ℕ → ℕ
+enough_of marks needed f zero = 0
+enough_of marks needed f (suc k) =
+    if needed ≤? ones (mark_at marks (f + suc k)) then f + suc k else
+    enough_of marks needed f k
 
 -- the marks of the k numbers above f cleared
-unfoldable pub unmarkedOf : List ℕ → ℕ → ℕ → List ℕ
-unmarkedOf marks f zero = marks
-unmarkedOf marks f (suc k) = set (unmarkedOf marks f k) (place_of (f + suc k)) 0
+unfoldable pub unmarked_of : List ℕ → ℕ → ℕ → List ℕ
+unmarked_of marks f zero = marks
+unmarked_of marks f (suc k) = set (unmarked_of marks f k) (place_of (f + suc k)) 0
 
 -- a mark has expected members' bits only, and stands only at a number above the last accepted, up to top; every other is zero
-unfoldable pub markSound : ℕ → List ℕ → ℕ → ℕ → ℕ → Bool
-markSound expected marks accepted top number =
-    if accepted <? number and number ≤? top then isWithin (markAt marks number) expected else
-    markAt marks number =? 0
+unfoldable pub mark_sound : ℕ → List ℕ → ℕ → ℕ → ℕ → Bool
+mark_sound expected marks accepted top number =
+    if accepted <? number and number ≤? top then is_within (mark_at marks number) expected else
+    mark_at marks number =? 0

@@ -2,18 +2,18 @@
 ghost use Rattle.std.specs.Prelude.{true, [], ◌≡◌, ◌-◌, ◌<◌, ◌≤◌, length, get_or, set};
 ghost use Rattle.std.specs.Int.Count.{ones};
 ghost use Rattle.group.specs.Choice.{if◌then◌else◌, ◌and◌, ◌<?◌, ◌≤?◌, ◌=?◌};
-ghost use Rattle.group.specs.Fold.{all, allAbove};
-ghost use Rattle.group.specs.Limits.{membersMost, placesMost, payloadMost, largestNumber};
-ghost use Rattle.group.specs.Members.{isIn, isWithin, expectedOf};
-ghost use Rattle.message.specs.Message.{messageOf, is_empty};
-ghost use Rattle.store.specs.Places.{messageIn, messagesIn, part_of, mask_of, Lies};
-ghost use Rattle.history.specs.State.{place_of, messageAt, floorOf};
-ghost use Rattle.history.specs.Sound.{entrySound, keptSound, placeSound, frameSound};
-ghost use Rattle.history.specs.Marks.{markedOf, enoughOf, unmarkedOf, markSound};
-ghost use Rattle.history.specs.Note.{largerOf, clearedOf};
-ghost use Rattle.history.specs.Repeat.{oneMore, repeatsOf, is_of, findOf};
-ghost use Rattle.history.specs.Ask.{senderVerdict, countVerdict, wantedVerdict, expectedVerdict, requestVerdict, gapVerdict, confirmVerdict, contentVerdict, packetVerdict, senderOf};
-ghost use Rattle.history.specs.View.{Entries, Places, entryIn, tableIn, takenOnly, countsOnly, repeatsOnly, listed};
+ghost use Rattle.group.specs.Fold.{all, all_above};
+ghost use Rattle.group.specs.Limits.{members_most, places_most, payload_most, largest_number};
+ghost use Rattle.group.specs.Members.{is_in, is_within, expected_of};
+ghost use Rattle.message.specs.Message.{message_of, is_empty};
+ghost use Rattle.store.specs.Places.{message_in, messages_in, part_of, mask_of, Lies};
+ghost use Rattle.history.specs.State.{place_of, message_at, floor_of};
+ghost use Rattle.history.specs.Sound.{entry_sound, kept_sound, place_sound, frame_sound};
+ghost use Rattle.history.specs.Marks.{marked_of, enough_of, unmarked_of, mark_sound};
+ghost use Rattle.history.specs.Note.{larger_of, cleared_of};
+ghost use Rattle.history.specs.Repeat.{one_more, repeats_of, is_of, find_of};
+ghost use Rattle.history.specs.Ask.{sender_verdict, count_verdict, wanted_verdict, expected_verdict, request_verdict, gap_verdict, confirm_verdict, content_verdict, packet_verdict, sender_of};
+ghost use Rattle.history.specs.View.{Entries, Places, entry_in, table_in, taken_only, counts_only, repeats_only, listed};
 
 use group::{Group, MemberNumber, Refusal, SequenceNumber, Verdict};
 use packet::Packet;
@@ -34,16 +34,16 @@ pub fn place(number: u64) -> usize
 
 // Whether the member of an entry is a survivor.
 fn survives(survivors: u16, i: usize) -> bool
-    requires { i < membersMost }
-    ensures { result ≡ isIn survivors i }
+    requires { i < members_most }
+    ensures { result ≡ is_in survivors i }
 {
     (survivors >> (i as u32)) % 2 == 1
 }
 
 // The smaller of a survivor's number and the smallest so far; another's counts for nothing.
 fn smaller(survivors: u16, i: usize, a: u32, b: u32) -> u32
-    requires { i < membersMost }
-    ensures { result ≡ (if isIn survivors i and a <? b then a else b) }
+    requires { i < members_most }
+    ensures { result ≡ (if is_in survivors i and a <? b then a else b) }
 {
     if survives(survivors, i) {
         if a < b {
@@ -56,7 +56,7 @@ fn smaller(survivors: u16, i: usize, a: u32, b: u32) -> u32
 
 // Floor is the smallest of the survivors' acknowledgements.
 pub fn smallest(survivors: u16, taken: [u32; Group::MEMBERS]) -> SequenceNumber
-    ensures { result.0 ≡ floorOf survivors (takenOnly taken) }
+    ensures { result.0 ≡ floor_of survivors (taken_only taken) }
 {
     let mut low = Group::LARGEST;
     let mut i: usize = 0;
@@ -76,8 +76,8 @@ fn entry_sound(
     count: u32,
     repeats: u32,
 ) -> bool
-    requires { i < membersMost }
-    ensures { result ≡ entrySound group top.0 i (entryIn taken count repeats) }
+    requires { i < members_most }
+    ensures { result ≡ entry_sound group top.0 i (entry_in taken count repeats) }
 {
     if survives(group.survivors, i) {
         return taken <= top.0;
@@ -102,7 +102,7 @@ pub fn entries_sound(
     repeats: &[u32],
 ) -> bool
     requires { Entries taken.now counts.now repeats.now }
-    ensures { result ≡ all (entrySound group top.0) 0 (tableIn taken.now counts.now repeats.now) }
+    ensures { result ≡ all (entry_sound group top.0) 0 (table_in taken.now counts.now repeats.now) }
 {
     let mut i: usize = 0;
     while i < Group::MEMBERS {
@@ -126,8 +126,8 @@ fn kept_sound(
     mask: &[u8],
     at: usize,
 ) -> bool
-    requires { (n ≤ membersMost) × Lies at payloads.now × (mask.now ≡ mask_of) × (length counts.now ≡ membersMost) }
-    ensures { result ≡ keptSound n (countsOnly counts.now) (messageIn count originator size (part_of payloads.now at)) }
+    requires { (n ≤ members_most) × Lies at payloads.now × (mask.now ≡ mask_of) × (length counts.now ≡ members_most) }
+    ensures { result ≡ kept_sound n (counts_only counts.now) (message_in count originator size (part_of payloads.now at)) }
 {
     if n <= originator {
         return false;
@@ -155,7 +155,7 @@ fn empty_sound(
     at: usize,
 ) -> bool
     requires { Lies at payloads.now × (mask.now ≡ mask_of) }
-    ensures { result ≡ is_empty (messageIn count originator size (part_of payloads.now at)) }
+    ensures { result ≡ is_empty (message_in count originator size (part_of payloads.now at)) }
 {
     if originator != 0 {
         return false;
@@ -182,8 +182,8 @@ fn place_sound(
     mask: &[u8],
     at: usize,
 ) -> bool
-    requires { (n ≤ membersMost) × Lies at payloads.now × (mask.now ≡ mask_of) × (length counts.now ≡ membersMost) }
-    ensures { result ≡ (if number ≤? top.0 then keptSound n (countsOnly counts.now) (messageIn count originator size (part_of payloads.now at)) else is_empty (messageIn count originator size (part_of payloads.now at))) }
+    requires { (n ≤ members_most) × Lies at payloads.now × (mask.now ≡ mask_of) × (length counts.now ≡ members_most) }
+    ensures { result ≡ (if number ≤? top.0 then kept_sound n (counts_only counts.now) (message_in count originator size (part_of payloads.now at)) else is_empty (message_in count originator size (part_of payloads.now at))) }
 {
     if number <= (top.0 as u64) {
         return kept_sound(n, counts, count, originator, size, payloads, mask, at);
@@ -202,8 +202,8 @@ pub fn history_sound(
     lengths: &[u8],
     payloads: &[u8],
 ) -> bool
-    requires { (n ≤ membersMost) × (length counts.now ≡ membersMost) × Places kept.now originators.now lengths.now payloads.now }
-    ensures { result ≡ allAbove (placeSound n (countsOnly counts.now) (messagesIn kept.now originators.now lengths.now payloads.now) top.0) floor.0 placesMost }
+    requires { (n ≤ members_most) × (length counts.now ≡ members_most) × Places kept.now originators.now lengths.now payloads.now }
+    ensures { result ≡ all_above (place_sound n (counts_only counts.now) (messages_in kept.now originators.now lengths.now payloads.now) top.0) floor.0 places_most }
 {
     let mask = store::mask();
     let mut i: usize = 0;
@@ -232,7 +232,7 @@ pub fn history_sound(
 
 // Whether the last accepted number lies from floor to top, and these have at most the history's places between them.
 fn span_sound(floor: SequenceNumber, accepted: SequenceNumber, top: SequenceNumber) -> bool
-    ensures { result ≡ (floor.0 ≤? accepted.0 and accepted.0 ≤? top.0 and top.0 - floor.0 ≤? placesMost) }
+    ensures { result ≡ (floor.0 ≤? accepted.0 and accepted.0 ≤? top.0 and top.0 - floor.0 ≤? places_most) }
 {
     if accepted.0 < floor.0 {
         return false;
@@ -250,7 +250,7 @@ pub fn frame_sound(
     top: SequenceNumber,
     taken: &[u32; Group::MEMBERS],
 ) -> bool
-    ensures { result ≡ frameSound group (takenOnly taken.now) floor.0 accepted.0 top.0 }
+    ensures { result ≡ frame_sound group (taken_only taken.now) floor.0 accepted.0 top.0 }
 {
     if group.sound() {
         if smallest(group.survivors, *taken).0 != floor.0 {
@@ -269,7 +269,7 @@ fn mark_sound(
     number: u64,
     mark: u16,
 ) -> bool
-    ensures { result ≡ (if accepted.0 <? number and number ≤? top.0 then isWithin mark expected else mark =? 0) }
+    ensures { result ≡ (if accepted.0 <? number and number ≤? top.0 then is_within mark expected else mark =? 0) }
 {
     if (accepted.0 as u64) < number {
         if number <= (top.0 as u64) {
@@ -288,8 +288,8 @@ pub fn marks_sound(
     top: SequenceNumber,
     marks: &[u16],
 ) -> bool
-    requires { length marks.now ≡ placesMost }
-    ensures { result ≡ allAbove (markSound expected marks.now accepted.0 top.0) floor.0 placesMost }
+    requires { length marks.now ≡ places_most }
+    ensures { result ≡ all_above (mark_sound expected marks.now accepted.0 top.0) floor.0 places_most }
 {
     let mut i: usize = 0;
     while i < Group::PLACES {
@@ -306,8 +306,8 @@ pub fn marks_sound(
 
 // Marks that a member confirmed the numbers above one, up to another.
 pub fn mark(marks: &mut [u16], member: MemberNumber, from: SequenceNumber, to: SequenceNumber)
-    requires { (length marks.old ≡ placesMost) × (member.0 < membersMost) }
-    ensures { marks.new ≡ markedOf marks.old member from.0 (to.0 - from.0) }
+    requires { (length marks.old ≡ places_most) × (member.0 < members_most) }
+    ensures { marks.new ≡ marked_of marks.old member from.0 (to.0 - from.0) }
 {
     let mut confirmed = from.0;
     while confirmed < to.0 {
@@ -332,8 +332,8 @@ pub fn enough(
     from: SequenceNumber,
     to: SequenceNumber,
 ) -> SequenceNumber
-    requires { length marks.now ≡ placesMost }
-    ensures { result.0 ≡ enoughOf marks.now needed from.0 (to.0 - from.0) }
+    requires { length marks.now ≡ places_most }
+    ensures { result.0 ≡ enough_of marks.now needed from.0 (to.0 - from.0) }
 {
     let mut last = to.0;
     while from.0 < last {
@@ -348,8 +348,8 @@ pub fn enough(
 
 // Clears the marks of the numbers above one, up to another.
 pub fn unmark(marks: &mut [u16], from: SequenceNumber, to: SequenceNumber)
-    requires { length marks.old ≡ placesMost }
-    ensures { marks.new ≡ unmarkedOf marks.old from.0 (to.0 - from.0) }
+    requires { length marks.old ≡ places_most }
+    ensures { marks.new ≡ unmarked_of marks.old from.0 (to.0 - from.0) }
 {
     let mut passed = from.0;
     while passed < to.0 {
@@ -360,7 +360,7 @@ pub fn unmark(marks: &mut [u16], from: SequenceNumber, to: SequenceNumber)
 }
 
 pub fn larger(a: u32, b: u32) -> u32
-    ensures { result ≡ largerOf a b }
+    ensures { result ≡ larger_of a b }
 {
     if a < b { b } else { a }
 }
@@ -372,9 +372,9 @@ pub fn note(
     sender: MemberNumber,
     number: SequenceNumber,
 ) -> SequenceNumber
-    requires { sender.0 < membersMost }
-    ensures noted { taken.new ≡ set taken.old sender.0 (largerOf (get_or taken.old sender.0 0) number.0) }
-    ensures floor { result.0 ≡ floorOf survivors (takenOnly taken.new) }
+    requires { sender.0 < members_most }
+    ensures noted { taken.new ≡ set taken.old sender.0 (larger_of (get_or taken.old sender.0 0) number.0) }
+    ensures floor { result.0 ≡ floor_of survivors (taken_only taken.new) }
 {
     let at = sender.0 as usize;
     taken[at] = larger(taken[at], number.0);
@@ -391,7 +391,7 @@ pub fn clear(
     payloads: &mut [u8],
 )
     requires { Places kept.old originators.old lengths.old payloads.old }
-    ensures { messagesIn kept.new originators.new lengths.new payloads.new ≡ clearedOf (messagesIn kept.old originators.old lengths.old payloads.old) was.0 (floor.0 - was.0) }
+    ensures { messages_in kept.new originators.new lengths.new payloads.new ≡ cleared_of (messages_in kept.old originators.old lengths.old payloads.old) was.0 (floor.0 - was.0) }
 {
     let mut passed = was.0;
     while passed < floor.0 {
@@ -416,8 +416,8 @@ pub fn lay(
     count: u32,
     payload: &[u8],
 )
-    requires { (length payload.now ≤ payloadMost) × Places kept.old originators.old lengths.old payloads.old }
-    ensures { messagesIn kept.new originators.new lengths.new payloads.new ≡ set (messagesIn kept.old originators.old lengths.old payloads.old) (place_of number.0) (if number.0 ≤? top.0 then messageAt (messagesIn kept.old originators.old lengths.old payloads.old) number.0 else messageOf sender count payload.now) }
+    requires { (length payload.now ≤ payload_most) × Places kept.old originators.old lengths.old payloads.old }
+    ensures { messages_in kept.new originators.new lengths.new payloads.new ≡ set (messages_in kept.old originators.old lengths.old payloads.old) (place_of number.0) (if number.0 ≤? top.0 then message_at (messages_in kept.old originators.old lengths.old payloads.old) number.0 else message_of sender count payload.now) }
 {
     if number.0 <= top.0 {
         return;
@@ -431,7 +431,7 @@ pub fn lay(
 
 // Whether the message of a place has that originator and count.
 fn is_of(sender: MemberNumber, count: u32, kept: u32, originator: u8) -> bool
-    ensures { result ≡ is_of sender count (messageIn kept originator 0 []) }
+    ensures { result ≡ is_of sender count (message_in kept originator 0 []) }
 {
     if originator != sender.0 {
         return false;
@@ -448,8 +448,8 @@ pub fn find(
     floor: SequenceNumber,
     top: SequenceNumber,
 ) -> SequenceNumber
-    requires { (length kept.now ≡ placesMost) × (length originators.now ≡ placesMost) }
-    ensures { result.0 ≡ findOf (listed kept.now originators.now) sender count floor.0 (top.0 - floor.0) }
+    requires { (length kept.now ≡ places_most) × (length originators.now ≡ places_most) }
+    ensures { result.0 ≡ find_of (listed kept.now originators.now) sender count floor.0 (top.0 - floor.0) }
 {
     let mut number = top.0;
     while floor.0 < number {
@@ -473,7 +473,7 @@ pub fn kept(floor: SequenceNumber, top: SequenceNumber) -> usize
 }
 
 pub fn one_more(repeats: u32) -> u32
-    ensures { result ≡ oneMore repeats }
+    ensures { result ≡ one_more repeats }
 {
     if repeats < Group::LARGEST {
         repeats + 1
@@ -484,8 +484,8 @@ pub fn one_more(repeats: u32) -> u32
 
 // The repeats of all members, held at the largest number.
 pub fn repeats(repeats: &[u32]) -> u32
-    requires { length repeats.now ≡ membersMost }
-    ensures { result ≡ repeatsOf (repeatsOnly repeats.now) }
+    requires { length repeats.now ≡ members_most }
+    ensures { result ≡ repeats_of (repeats_only repeats.now) }
 {
     let mut sum: u64 = 0;
     let mut i: usize = 0;
@@ -507,7 +507,7 @@ fn ask_sender(
     sender: MemberNumber,
     a: SequenceNumber,
 ) -> Verdict
-    ensures { result ≡ senderVerdict survivors most.0 sender a }
+    ensures { result ≡ sender_verdict survivors most.0 sender a }
 {
     if group::is_in(survivors, sender) {
         if most.0 < a.0 {
@@ -520,7 +520,7 @@ fn ask_sender(
 
 // Whether a next number is left, where a count wants one.
 fn number_left(last: u32, top: SequenceNumber, count: u32) -> bool
-    ensures { result ≡ (if count ≤? last then true else top.0 <? largestNumber) }
+    ensures { result ≡ (if count ≤? last then true else top.0 <? largest_number) }
 {
     if count <= last {
         return true;
@@ -530,7 +530,7 @@ fn number_left(last: u32, top: SequenceNumber, count: u32) -> bool
 
 // Questions 11 and 16 of a request's count.
 fn ask_count(last: u32, top: SequenceNumber, count: u32) -> Verdict
-    ensures { result ≡ countVerdict last top.0 count }
+    ensures { result ≡ count_verdict last top.0 count }
 {
     if (last as u64) + 1 < (count as u64) {
         return Verdict::Refused(Refusal::CountAhead);
@@ -543,7 +543,7 @@ fn ask_count(last: u32, top: SequenceNumber, count: u32) -> Verdict
 
 // Question 12 of a gap.
 fn ask_wanted(top: SequenceNumber, last: SequenceNumber) -> Verdict
-    ensures { result ≡ wantedVerdict top.0 last }
+    ensures { result ≡ wanted_verdict top.0 last }
 {
     if top.0 < last.0 {
         return Verdict::Refused(Refusal::WantedAhead);
@@ -561,8 +561,8 @@ fn ask_request(
     taken: SequenceNumber,
     count: u32,
 ) -> Verdict
-    requires { length counts.now ≡ membersMost }
-    ensures { result ≡ requestVerdict survivors (countsOnly counts.now) accepted.0 top.0 sender taken count }
+    requires { length counts.now ≡ members_most }
+    ensures { result ≡ request_verdict survivors (counts_only counts.now) accepted.0 top.0 sender taken count }
 {
     let v = ask_sender(survivors, accepted, sender, taken);
     match v {
@@ -583,7 +583,7 @@ fn ask_gap(
     taken: SequenceNumber,
     last: SequenceNumber,
 ) -> Verdict
-    ensures { result ≡ gapVerdict survivors accepted.0 top.0 sender taken last }
+    ensures { result ≡ gap_verdict survivors accepted.0 top.0 sender taken last }
 {
     let v = ask_sender(survivors, accepted, sender, taken);
     match v {
@@ -599,7 +599,7 @@ fn may_confirm(
     sender: MemberNumber,
     number: SequenceNumber,
 ) -> bool
-    ensures { result ≡ (if number.0 ≤? accepted.0 then true else isIn (expectedOf group) sender.0) }
+    ensures { result ≡ (if number.0 ≤? accepted.0 then true else is_in (expected_of group) sender.0) }
 {
     if number.0 <= accepted.0 {
         return true;
@@ -615,7 +615,7 @@ fn ask_expected(
     sender: MemberNumber,
     number: SequenceNumber,
 ) -> Verdict
-    ensures { result ≡ expectedVerdict group accepted.0 sender number }
+    ensures { result ≡ expected_verdict group accepted.0 sender number }
 {
     if may_confirm(group, accepted, sender, number) {
         return Verdict::Accepted;
@@ -631,7 +631,7 @@ fn ask_confirm(
     sender: MemberNumber,
     number: SequenceNumber,
 ) -> Verdict
-    ensures { result ≡ confirmVerdict group accepted.0 top.0 sender number }
+    ensures { result ≡ confirm_verdict group accepted.0 top.0 sender number }
 {
     let v = ask_sender(group.survivors, top, sender, number);
     match v {
@@ -648,8 +648,8 @@ fn ask_content(
     top: SequenceNumber,
     packet: Packet,
 ) -> Verdict
-    requires { length counts.now ≡ membersMost }
-    ensures { result ≡ contentVerdict group (countsOnly counts.now) accepted.0 top.0 packet }
+    requires { length counts.now ≡ members_most }
+    ensures { result ≡ content_verdict group (counts_only counts.now) accepted.0 top.0 packet }
 {
     let survivors = group.survivors;
     match packet {
@@ -715,8 +715,8 @@ pub fn ask_packet(
     number: u32,
     packet: Packet,
 ) -> Verdict
-    requires { length counts.now ≡ membersMost }
-    ensures { result ≡ packetVerdict group (countsOnly counts.now) accepted.0 top.0 number packet }
+    requires { length counts.now ≡ members_most }
+    ensures { result ≡ packet_verdict group (counts_only counts.now) accepted.0 top.0 number packet }
 {
     if packet.from_elected(group) {
         if number != group.number {
@@ -729,7 +729,7 @@ pub fn ask_packet(
 
 // The sender of a packet for the sequencer, and the number that it acknowledges.
 pub fn sender_of(packet: Packet) -> Sender
-    ensures { result ≡ senderOf packet }
+    ensures { result ≡ sender_of packet }
 {
     match packet {
         Packet::Request {

@@ -1,15 +1,15 @@
 // What a schedule leaves at the end: a heading, and then a line a terminal; a work list, and a line a job.
 ghost use Rattle.std.specs.Prelude.{◌≡◌, [], ◌∷◌, ◌++◌, map, ◌+◌, ◌*◌, ◌≤◌, ◌<◌, length, take};
 ghost use Rattle.group.specs.Lent.{front};
-ghost use Rattle.group.specs.Limits.{membersMost, jobMost};
-ghost use Rattle.packet.specs.Packet.{read_of, payloadAt};
+ghost use Rattle.group.specs.Limits.{members_most, job_most};
+ghost use Rattle.packet.specs.Packet.{read_of, payload_at};
 ghost use Rattle.simulator.specs.Steps.{Full};
-ghost use Rattle.simulator.specs.Whole.{packetsMost, rows_of, terminalsOf, packetsOf, packetsIn};
-ghost use Rattle.terminal.specs.Left.{heardOf, heardAll, freshLeft};
+ghost use Rattle.simulator.specs.Whole.{packets_most, rows_of, terminals_of, packets_of, packets_in};
+ghost use Rattle.terminal.specs.Left.{heard_of, heard_all, fresh_left};
 ghost use Rattle.text.specs.LaidAt.{LaidAt};
-ghost use Rattle.text.specs.Written.{decimalOf, payloadText, spaced, line, numberDigits};
-ghost use Rattle.inspection.specs.Lists.{holderText, usedLine, jobLine, jobRoom};
-ghost use Rattle.inspection.specs.Table.{columns, repeatsAt, row_at, row_lines, table_of, rowRoom, tableRoom, LaysTable, LaysLeft};
+ghost use Rattle.text.specs.Written.{decimal_of, payload_text, spaced, line, number_digits};
+ghost use Rattle.inspection.specs.Lists.{holder_text, used_line, job_line, job_room};
+ghost use Rattle.inspection.specs.Table.{columns, repeats_at, row_at, row_lines, table_of, row_room, table_room, LaysTable, LaysLeft};
 
 use group::{Group, MemberNumber, SequenceNumber};
 use jobs::Job;
@@ -36,13 +36,13 @@ fn columns_most() -> usize
 }
 
 fn table_room() -> usize
-    ensures { result ≡ tableRoom }
+    ensures { result ≡ table_room }
 {
     TABLE_ROOM
 }
 
 fn job_room() -> usize
-    ensures { result ≡ jobRoom }
+    ensures { result ≡ job_room }
 {
     JOB_ROOM
 }
@@ -50,7 +50,7 @@ fn job_room() -> usize
 // The repeat count of member i at the sequencer: an entry that its table has.
 fn repeats_at(taken: &[u32], repeats: &[u32], i: usize) -> u32
     requires { i < length repeats.now }
-    ensures { result ≡ repeatsAt taken.now repeats.now i }
+    ensures { result ≡ repeats_at taken.now repeats.now i }
 {
     if i < taken.len() {
         return repeats[i];
@@ -74,8 +74,8 @@ fn row(
     repeats: &[u32],
     i: usize,
 ) -> [u32; COLUMNS - 1]
-    requires { (i < membersMost) × (length numbers.now ≡ membersMost) × Full (rows_of queued.now held.now queued_originators.now queued_lengths.now held_originators.now held_lengths.now queued_payloads.now held_payloads.now) × (length repeats.now ≡ membersMost) }
-    ensures { result ≡ row_at (terminalsOf group numbers.now (rows_of queued.now held.now queued_originators.now queued_lengths.now held_originators.now held_lengths.now queued_payloads.now held_payloads.now)) taken.now repeats.now i }
+    requires { (i < members_most) × (length numbers.now ≡ members_most) × Full (rows_of queued.now held.now queued_originators.now queued_lengths.now held_originators.now held_lengths.now queued_payloads.now held_payloads.now) × (length repeats.now ≡ members_most) }
+    ensures { result ≡ row_at (terminals_of group numbers.now (rows_of queued.now held.now queued_originators.now queued_lengths.now held_originators.now held_lengths.now queued_payloads.now held_payloads.now)) taken.now repeats.now i }
 {
     let own = numbers[i];
     let head = head_of(group, i, own);
@@ -97,9 +97,9 @@ fn row(
 
 // The line of terminal i.
 fn put_row(i: u32, numbers: &[u32], out: &mut [u8], at: usize) -> usize
-    requires { at + (1 + numberDigits) * (1 + length numbers.now) ≤ length out.old }
-    ensures laid { LaidAt at (line (decimalOf i ∷ map decimalOf numbers.now)) out.old out.new result }
-    ensures short { result ≤ at + (1 + numberDigits) * (1 + length numbers.now) }
+    requires { at + (1 + number_digits) * (1 + length numbers.now) ≤ length out.old }
+    ensures laid { LaidAt at (line (decimal_of i ∷ map decimal_of numbers.now)) out.old out.new result }
+    ensures short { result ≤ at + (1 + number_digits) * (1 + length numbers.now) }
 {
     let next = put_decimal(i as u64, out, at);
     let next = put_each(numbers, out, next);
@@ -124,8 +124,8 @@ fn put_rows(
     out: &mut [u8],
     at: usize,
 ) -> usize
-    requires { (n ≤ membersMost) × (at + rowRoom * n ≤ length out.old) }
-    ensures { LaidAt at (row_lines (row_at (terminalsOf group numbers.now (rows_of queued.now held.now queued_originators.now queued_lengths.now held_originators.now held_lengths.now queued_payloads.now held_payloads.now)) taken.now repeats.now) n) out.old out.new result }
+    requires { (n ≤ members_most) × (at + row_room * n ≤ length out.old) }
+    ensures { LaidAt at (row_lines (row_at (terminals_of group numbers.now (rows_of queued.now held.now queued_originators.now queued_lengths.now held_originators.now held_lengths.now queued_payloads.now held_payloads.now)) taken.now repeats.now) n) out.old out.new result }
 {
     let mut next = at;
     let mut i: usize = 0;
@@ -167,8 +167,8 @@ fn put_table(
     repeats: &[u32; Group::MEMBERS],
     out: &mut [u8],
 ) -> usize
-    requires { (group.n ≤ membersMost) × (tableRoom ≤ length out.old) }
-    ensures { LaysTable table_of (terminalsOf group numbers.now (rows_of queued.now held.now queued_originators.now queued_lengths.now held_originators.now held_lengths.now queued_payloads.now held_payloads.now)) taken.now repeats.now result out.old out.new }
+    requires { (group.n ≤ members_most) × (table_room ≤ length out.old) }
+    ensures { LaysTable table_of (terminals_of group numbers.now (rows_of queued.now held.now queued_originators.now queued_lengths.now held_originators.now held_lengths.now queued_payloads.now held_payloads.now)) taken.now repeats.now result out.old out.new }
 {
     let n = group.n as usize;
     let next = put_text(b"terminal taken row submitted waiting repeats\n", out, 0);
@@ -207,7 +207,7 @@ pub fn write_left(
     repeats: &[u32; Group::MEMBERS],
     out: &mut [u8; TABLE_ROOM],
 ) -> usize
-    ensures { LaysLeft player (terminalsOf player.head.sequencer.group numbers.now (rows_of queued.now held.now queued_originators.now queued_lengths.now held_originators.now held_lengths.now queued_payloads.now held_payloads.now)) taken.now repeats.now result out.old out.new }
+    ensures { LaysLeft player (terminals_of player.head.sequencer.group numbers.now (rows_of queued.now held.now queued_originators.now queued_lengths.now held_originators.now held_lengths.now queued_payloads.now held_payloads.now)) taken.now repeats.now result out.old out.new }
 {
     let head = player.head;
     let phase = player.phase;
@@ -251,7 +251,7 @@ pub fn write_left(
 
 // A packet that was written is heard; `taken` is the last number that the terminal took.
 fn hear(left: Left, taken: SequenceNumber, packet: [u8; Group::PACKET], size: usize) -> Left
-    ensures { result ≡ heardOf taken.0 left (read_of (take size packet)) (payloadAt (take size packet)) }
+    ensures { result ≡ heard_of taken.0 left (read_of (take size packet)) (payload_at (take size packet)) }
 {
     let most = fitting(size);
     left.hear(taken, &packet[..most])
@@ -264,8 +264,8 @@ pub fn list_left(
     count: usize,
     taken: SequenceNumber,
 ) -> [Job; Group::JOBS]
-    requires { count ≤ packetsMost }
-    ensures { result ≡ (heardAll taken.0 freshLeft (packetsIn (packetsOf sizes.now packets.now count))).jobs }
+    requires { count ≤ packets_most }
+    ensures { result ≡ (heard_all taken.0 fresh_left (packets_in (packets_of sizes.now packets.now count))).jobs }
 {
     let mut left = Left::fresh();
     let mut k: usize = 0;
@@ -279,9 +279,9 @@ pub fn list_left(
 
 // The member that a job is given to, or that it waits.
 fn put_holder(state: u8, member: MemberNumber, out: &mut [u8], at: usize) -> usize
-    requires { at + 1 + numberDigits ≤ length out.old }
-    ensures laid { LaidAt at (spaced (holderText state member ∷ [])) out.old out.new result }
-    ensures short { result ≤ at + 1 + numberDigits }
+    requires { at + 1 + number_digits ≤ length out.old }
+    ensures laid { LaidAt at (spaced (holder_text state member ∷ [])) out.old out.new result }
+    ensures short { result ≤ at + 1 + number_digits }
 {
     if state == Job::WAITING {
         return put_word(b"waiting", out, at);
@@ -291,9 +291,9 @@ fn put_holder(state: u8, member: MemberNumber, out: &mut [u8], at: usize) -> usi
 
 // The bytes of a job.
 fn put_bytes(bytes: [u8; Group::JOB], size: usize, out: &mut [u8], at: usize) -> usize
-    requires { at + 2 + 2 * jobMost ≤ length out.old }
-    ensures laid { LaidAt at (spaced (payloadText (take size bytes) ∷ [])) out.old out.new result }
-    ensures short { result ≤ at + 2 + 2 * jobMost }
+    requires { at + 2 + 2 * job_most ≤ length out.old }
+    ensures laid { LaidAt at (spaced (payload_text (take size bytes) ∷ [])) out.old out.new result }
+    ensures short { result ≤ at + 2 + 2 * job_most }
 {
     if size < Group::JOB {
         return put_payload(&bytes[..size], out, at);
@@ -303,8 +303,8 @@ fn put_bytes(bytes: [u8; Group::JOB], size: usize, out: &mut [u8], at: usize) ->
 
 // The line of the job at a place of terminal i's list.
 fn put_job(i: u32, place: u32, job: Job, out: &mut [u8]) -> usize
-    requires { jobRoom ≤ length out.old }
-    ensures { LaidAt 0 (usedLine i place job) out.old out.new result }
+    requires { job_room ≤ length out.old }
+    ensures { LaidAt 0 (used_line i place job) out.old out.new result }
 {
     let member = job.member;
     let bytes = job.bytes;
@@ -317,8 +317,8 @@ fn put_job(i: u32, place: u32, job: Job, out: &mut [u8]) -> usize
 
 // The same, with its length; an unused record has no line.
 pub fn write_job(i: u32, place: u32, job: Job, out: &mut [u8; JOB_ROOM]) -> usize
-    ensures size { result ≡ length (jobLine i place job) }
-    ensures lent { out.new ≡ front (jobLine i place job) out.old }
+    ensures size { result ≡ length (job_line i place job) }
+    ensures lent { out.new ≡ front (job_line i place job) out.old }
 {
     if job.state == Job::UNUSED {
         return 0;

@@ -7,22 +7,22 @@ use Prim.Native.Nat.{ℕ}
 use native.Mathlib.Omega.{arith}
 use lib.ListN.{drop, set}
 use Rattle.group.specs.Choice.{if◌then◌else◌, ask◌or◌then◌, ◌<?◌}
-use Rattle.group.specs.Limits.{jobsMost}
-use Rattle.group.specs.Question.{Question, firstNo, judged}
+use Rattle.group.specs.Limits.{jobs_most}
+use Rattle.group.specs.Question.{Question, first_no, judged}
 use Rattle.group.specs.declared.MemberNumber.{MemberNumber}
 use Rattle.group.specs.declared.Refusal.{Refusal}
 use Rattle.group.specs.declared.Verdict.{Verdict}
-use Rattle.group.proofs.Lists.{if-elim}
-use Rattle.group.proofs.Question.{judged-ask}
-use Rattle.jobs.specs.Feed.{isAdd, isFetch, forList, refused, addOf, finishOf, giveOf, form_of, feedOf}
-use Rattle.jobs.specs.Job.{unusedState, waitingState, waitingJob, place_of}
-use Rattle.jobs.specs.Laws.{feedQuestions, FirstNo, FeedFirstNo}
-use Rattle.jobs.specs.Sound.{soundOf}
+use Rattle.group.proofs.Lists.{if_elim}
+use Rattle.group.proofs.Question.{judged_ask}
+use Rattle.jobs.specs.Feed.{is_add, is_fetch, for_list, refused, add_of, finish_of, give_of, form_of, feed_of}
+use Rattle.jobs.specs.Job.{unused_state, waiting_state, waiting_job, place_of}
+use Rattle.jobs.specs.Laws.{feed_questions, FirstNo, FeedFirstNo}
+use Rattle.jobs.specs.Sound.{sound_of}
 use Rattle.jobs.specs.declared.Answer.{Answer}
 use Rattle.jobs.specs.declared.Answer.TheVariants.{Refused, Added, Given, None}
 use Rattle.jobs.specs.declared.Job.{Job}
 use Rattle.jobs.specs.declared.Outcome.{Outcome}
-use Rattle.jobs.proofs.Forms.{for-list-adds, fetch-no-add}
+use Rattle.jobs.proofs.Forms.{for_list_adds, fetch_no_add}
 
 -- whether an answer is a refusal
 abbrev refuses : Answer → Bool
@@ -34,7 +34,7 @@ refuses None = false
 record Accepts (o : Outcome) : Type 0 where
   no : refuses o.answer ≡ false
 
-asked : (jobs : List Job) (questions : List Question) (o step : Outcome) → o ≡ judged (firstNo questions) (refused jobs) step → Accepts step → FirstNo jobs questions o
+asked : (jobs : List Job) (questions : List Question) (o step : Outcome) → o ≡ judged (first_no questions) (refused jobs) step → Accepts step → FirstNo jobs questions o
 unfolding judged
 asked jobs questions o step e accepts =
     record {
@@ -46,47 +46,47 @@ asked jobs questions o step e accepts =
           omega arith;
     }
 
-ask-same : (t : Bool) (r x y : Outcome) → (t ≡ true → x ≡ y) → ask t or r then x ≡ ask t or r then y
+ask_same : (t : Bool) (r x y : Outcome) → (t ≡ true → x ≡ y) → ask t or r then x ≡ ask t or r then y
 unfolding if◌then◌else◌
-ask-same true r x y e = e refl
-ask-same false r x y e = refl
+ask_same true r x y e = e refl
+ask_same false r x y e = refl
 
 module _ (jobs : List Job) (m : MemberNumber) (payload : List ℕ) where
   -- the step behind the questions
   abbrev taken : Outcome
   taken =
-      if isFetch payload then giveOf (finishOf jobs m) m else
-      record { jobs = set jobs (place_of unusedState 0 jobs) (waitingJob (drop 1 payload)); answer = Added }
+      if is_fetch payload then give_of (finish_of jobs m) m else
+      record { jobs = set jobs (place_of unused_state 0 jobs) (waiting_job (drop 1 payload)); answer = Added }
 
   -- question 20, of an add
   abbrev full : Question
-  full = record { yes = if isAdd payload then place_of unusedState 0 jobs <? jobsMost else true; refusal = Refusal.ListFull }
+  full = record { yes = if is_add payload then place_of unused_state 0 jobs <? jobs_most else true; refusal = Refusal.ListFull }
 
-  form-asked : forList m payload ≡ true → form_of jobs m payload ≡ judged (firstNo (full ∷ [])) (refused jobs) taken
-  unfolding form_of addOf firstNo judged if◌then◌else◌
-  form-asked f = go (isFetch payload) refl
+  form_asked : for_list m payload ≡ true → form_of jobs m payload ≡ judged (first_no (full ∷ [])) (refused jobs) taken
+  unfolding form_of add_of first_no judged if◌then◌else◌
+  form_asked f = go (is_fetch payload) refl
     where
-      go : (t : Bool) → isFetch payload ≡ t → form_of jobs m payload ≡ judged (firstNo (full ∷ [])) (refused jobs) taken
-      go true e = rw (e, fetch-no-add payload e)
+      go : (t : Bool) → is_fetch payload ≡ t → form_of jobs m payload ≡ judged (first_no (full ∷ [])) (refused jobs) taken
+      go true e = rw (e, fetch_no_add payload e)
       go false e =
-          rw (e, (for-list-adds m payload f e).0)
-          (judged-ask (refused jobs) (record { jobs = set jobs (place_of unusedState 0 jobs) (waitingJob (drop 1 payload)); answer = Added })
-          (place_of unusedState 0 jobs <? jobsMost) Refusal.ListFull [])
+          rw (e, (for_list_adds m payload f e).0)
+          (judged_ask (refused jobs) (record { jobs = set jobs (place_of unused_state 0 jobs) (waiting_job (drop 1 payload)); answer = Added })
+          (place_of unused_state 0 jobs <? jobs_most) Refusal.ListFull [])
 
-  taken-accepts : Accepts taken
-  unfolding giveOf
-  taken-accepts =
-      if-elim Accepts (isFetch payload)
-      (λ _. if-elim Accepts (place_of waitingState 0 (finishOf jobs m) <? jobsMost) (λ _. record { no = refl }) (λ _. record { no = refl }))
+  taken_accepts : Accepts taken
+  unfolding give_of
+  taken_accepts =
+      if_elim Accepts (is_fetch payload)
+      (λ _. if_elim Accepts (place_of waiting_state 0 (finish_of jobs m) <? jobs_most) (λ _. record { no = refl }) (λ _. record { no = refl }))
       (λ _. record { no = refl })
 
-pub feed-first-no : FeedFirstNo
-unfolding feedOf
-feed-first-no jobs m payload =
-    let forms : Question = record { yes = forList m payload; refusal = Refusal.NotForList } in
-    asked jobs (feedQuestions jobs m payload) (feedOf jobs m payload) (taken jobs m payload)
-    (ask-same (soundOf jobs) (refused jobs Refusal.UnsoundState) _ _
-    (λ s. ask-same (forList m payload) (refused jobs Refusal.NotForList) _ _ (form-asked jobs m payload)
-    ∙ judged-ask (refused jobs) (taken jobs m payload) (forList m payload) Refusal.NotForList (full jobs m payload ∷ []))
-    ∙ judged-ask (refused jobs) (taken jobs m payload) (soundOf jobs) Refusal.UnsoundState (forms ∷ full jobs m payload ∷ []))
-    (taken-accepts jobs m payload)
+pub feed_first_no : FeedFirstNo
+unfolding feed_of
+feed_first_no jobs m payload =
+    let forms : Question = record { yes = for_list m payload; refusal = Refusal.NotForList } in
+    asked jobs (feed_questions jobs m payload) (feed_of jobs m payload) (taken jobs m payload)
+    (ask_same (sound_of jobs) (refused jobs Refusal.UnsoundState) _ _
+    (λ s. ask_same (for_list m payload) (refused jobs Refusal.NotForList) _ _ (form_asked jobs m payload)
+    ∙ judged_ask (refused jobs) (taken jobs m payload) (for_list m payload) Refusal.NotForList (full jobs m payload ∷ []))
+    ∙ judged_ask (refused jobs) (taken jobs m payload) (sound_of jobs) Refusal.UnsoundState (forms ∷ full jobs m payload ∷ []))
+    (taken_accepts jobs m payload)

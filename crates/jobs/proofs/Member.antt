@@ -18,18 +18,18 @@ Rm = T.the_row
 abbrev pub τm : Ty
 τm = T'.mir
 
-abbrev pub member-vals : MemberNumber → List Val
-member-vals = LL.vals T.the_type T'.the_laws
+abbrev pub member_vals : MemberNumber → List Val
+member_vals = LL.vals T.the_type T'.the_laws
 
-abbrev pub member-val : MemberNumber → Val
-member-val = LL.val T.the_type T'.the_laws
+abbrev pub member_val : MemberNumber → Val
+member_val = LL.val T.the_type T'.the_laws
 
-pub member-tells : Tells Rm (Is Rm) member-vals
-member-tells = LL.tells T.the_type T'.the_laws
+pub member_tells_lem : Tells Rm (Is Rm) member_vals
+member_tells_lem = LL.tells T.the_type T'.the_laws
 
 module _ {M : Type 1} {𝓤 : Ura M} (𝓛 : Logic 𝓤) where
-  pub member-makes : Makes 𝓛 Rm (Is Rm)
-  member-makes = LL.makes T.the_type T'.the_plain 𝓛
+  pub member_makes : Makes 𝓛 Rm (Is Rm)
+  member_makes = LL.makes T.the_type T'.the_plain 𝓛
 
-  pub member-lawful : Lawful 𝓛 Rm
-  member-lawful = LL.lawful T.the_type T'.the_laws 𝓛
+  pub member_lawful : Lawful 𝓛 Rm
+  member_lawful = LL.lawful T.the_type T'.the_laws 𝓛

@@ -6,17 +6,17 @@ use Prim.Native.Nat.{ℕ, ◌+◌, ◌-◌, ◌≤◌}
 use native.Mathlib.Omega.{arith}
 use lib.ListN.{length, take, drop, get_or, length-append, length-drop, drop_of_length-le}
 use lib.Seq.{length-take-le, get_or-drop, get_or-append-add}
-use Rattle.message.proofs.Laying.{over, over-all}
+use Rattle.message.proofs.Laying.{over, over_all}
 
 module _ {A : Type 0} (i : ℕ) (list below : List A) where
-  pub over-length : length list ≡ length below → i ≤ length below → length (over i list below) ≡ length below
-  over-length e h =
+  pub over_length : length list ≡ length below → i ≤ length below → length (over i list below) ≡ length below
+  over_length e h =
       let t = length-take-le i list (omega arith) in
       let d = length-drop i below in
       length-append (take i list) (drop i below) ∙ omega (arith, t, d)
 
-  pub over-behind : (j : ℕ) (d : A) → i ≤ j → i ≤ length list → get_or (over i list below) j d ≡ get_or below j d
-  over-behind j d h k =
+  pub over_behind : (j : ℕ) (d : A) → i ≤ j → i ≤ length list → get_or (over i list below) j d ≡ get_or below j d
+  over_behind j d h k =
       let t = length-take-le i list k in
       let e : j ≡ length (take i list) + (j - i) = omega (arith, t) in
       let f : i + (j - i) ≡ j = omega arith in
@@ -25,6 +25,6 @@ module _ {A : Type 0} (i : ℕ) (list below : List A) where
       ∙ get_or-drop i below (j - i) d
       ∙ ap (λ (n : ℕ). get_or below n d) f
 
-  pub over-whole : length list ≡ i → length below ≡ i → over i list below ≡ list
-  over-whole e h =
-      over-all list below i (sym e) ∙ ap (λ (l : List A). list ++ l) (drop_of_length-le below {i = length list} (omega arith)) ∙ append-nil list
+  pub over_whole : length list ≡ i → length below ≡ i → over i list below ≡ list
+  over_whole e h =
+      over_all list below i (sym e) ∙ ap (λ (l : List A). list ++ l) (drop_of_length-le below {i = length list} (omega arith)) ∙ append-nil list

@@ -20,8 +20,8 @@ R = T.the_row
 abbrev pub size : ℕ
 size = 256
 
-pub fits-at : (n i : ℕ) → n * size < 2 ^ 63 → i < n → i * size < 2 ^ 64
-fits-at n i h l = omega arith
+pub fits_at : (n i : ℕ) → n * size < 2 ^ 63 → i < n → i * size < 2 ^ 64
+fits_at n i h l = omega arith
 
 abbrev pub vals : Job → List Val
 vals = LL.vals T.the_type T'.the_laws

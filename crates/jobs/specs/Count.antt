@@ -2,7 +2,7 @@
 use Rattle.std.specs.Prelude.{Bool, List, [], ◌∷◌, ℕ, ◌+◌, length}
 use Rattle.group.specs.Choice.{if◌then◌else◌, ◌<?◌, ◌=?◌}
 use Rattle.group.specs.declared.MemberNumber.{MemberNumber}
-use Rattle.jobs.specs.Job.{waitingState, givenState, place_of}
+use Rattle.jobs.specs.Job.{waiting_state, given_state, place_of}
 use Rattle.jobs.specs.declared.Answer.{Answer}
 use Rattle.jobs.specs.declared.Answer.TheVariants.{Refused, Added, Given, None}
 use Rattle.jobs.specs.declared.Job.{Job}
@@ -12,26 +12,26 @@ unfoldable pub count_of : ℕ → List Job → ℕ
 count_of state [] = 0
 count_of state (job ∷ rest) = (if job.state =? state then 1 else 0) + count_of state rest
 
-abbrev pub waitingIn : List Job → ℕ
-waitingIn jobs = count_of waitingState jobs
+abbrev pub waiting_in : List Job → ℕ
+waiting_in jobs = count_of waiting_state jobs
 
-abbrev pub givenIn : List Job → ℕ
-givenIn jobs = count_of givenState jobs
+abbrev pub given_in : List Job → ℕ
+given_in jobs = count_of given_state jobs
 
 -- a member holds a job: a record is given to it
 unfoldable pub holds : List Job → MemberNumber → Bool
-holds jobs m = place_of givenState m.0 jobs <? length jobs
+holds jobs m = place_of given_state m.0 jobs <? length jobs
 
 -- a job is added by an add that was accepted
-unfoldable pub addedBy : Answer → ℕ
-addedBy (Refused refusal) = 0
-addedBy Added = 1
-addedBy (Given place) = 0
-addedBy None = 0
+unfoldable pub added_by : Answer → ℕ
+added_by (Refused refusal) = 0
+added_by Added = 1
+added_by (Given place) = 0
+added_by None = 0
 
 -- a job is finished by a fetch that was accepted, whose sender held one before
-unfoldable pub finishedBy : List Job → MemberNumber → Answer → ℕ
-finishedBy jobs m (Refused refusal) = 0
-finishedBy jobs m Added = 0
-finishedBy jobs m (Given place) = if holds jobs m then 1 else 0
-finishedBy jobs m None = if holds jobs m then 1 else 0
+unfoldable pub finished_by : List Job → MemberNumber → Answer → ℕ
+finished_by jobs m (Refused refusal) = 0
+finished_by jobs m Added = 0
+finished_by jobs m (Given place) = if holds jobs m then 1 else 0
+finished_by jobs m None = if holds jobs m then 1 else 0

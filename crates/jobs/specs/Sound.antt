@@ -2,33 +2,33 @@
 use Rattle.std.specs.Prelude.{Bool, true, List, ℕ, length, drop}
 use Rattle.group.specs.Choice.{if◌then◌else◌, ◌and◌, ◌<?◌, ◌≤?◌, ◌=?◌}
 use Rattle.group.specs.Fold.{all}
-use Rattle.group.specs.Limits.{membersMost, jobsMost, jobMost}
-use Rattle.message.specs.Message.{allZero}
-use Rattle.jobs.specs.Job.{unusedState, waitingState, givenState, place_of}
+use Rattle.group.specs.Limits.{members_most, jobs_most, job_most}
+use Rattle.message.specs.Message.{all_zero}
+use Rattle.jobs.specs.Job.{unused_state, waiting_state, given_state, place_of}
 use Rattle.jobs.specs.declared.Job.{Job}
 
 -- an unused record has no member and no length, a waiting one no member; a given one's member is at most 15
-unfoldable pub holderSound : Job → Bool
-holderSound job =
-    if job.state =? unusedState then job.member.0 =? 0 and job.length =? 0 else
-    if job.state =? waitingState then job.member.0 =? 0 else
-    job.state =? givenState and job.member.0 <? membersMost
+unfoldable pub holder_sound : Job → Bool
+holder_sound job =
+    if job.state =? unused_state then job.member.0 =? 0 and job.length =? 0 else
+    if job.state =? waiting_state then job.member.0 =? 0 else
+    job.state =? given_state and job.member.0 <? members_most
 
 -- the job is short of the payload limit, and the bytes behind it are zero
-unfoldable pub jobSound : Job → Bool
-jobSound job = holderSound job and job.length ≤? jobMost and allZero (drop job.length job.bytes)
+unfoldable pub job_sound : Job → Bool
+job_sound job = holder_sound job and job.length ≤? job_most and all_zero (drop job.length job.bytes)
 
 -- used ones first, and no member with two: a used record stands before the first unused one, and a given one is the first that is
 -- given to its member
-unfoldable pub placeSound : List Job → ℕ → Job → Bool
-placeSound jobs place job =
-    if job.state =? unusedState then true else
-    place <? place_of unusedState 0 jobs
-    and (if job.state =? givenState then place_of givenState job.member.0 jobs =? place else true)
+unfoldable pub place_sound : List Job → ℕ → Job → Bool
+place_sound jobs place job =
+    if job.state =? unused_state then true else
+    place <? place_of unused_state 0 jobs
+    and (if job.state =? given_state then place_of given_state job.member.0 jobs =? place else true)
 
-unfoldable pub recordSound : List Job → ℕ → Job → Bool
-recordSound jobs place job = jobSound job and placeSound jobs place job
+unfoldable pub record_sound : List Job → ℕ → Job → Bool
+record_sound jobs place job = job_sound job and place_sound jobs place job
 
 -- a list has 64 records
-unfoldable pub soundOf : List Job → Bool
-soundOf jobs = length jobs =? jobsMost and all (recordSound jobs) 0 jobs
+unfoldable pub sound_of : List Job → Bool
+sound_of jobs = length jobs =? jobs_most and all (record_sound jobs) 0 jobs

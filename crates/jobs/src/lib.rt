@@ -1,13 +1,13 @@
 // A work list: up to 64 jobs, oldest first, each waiting or given to a member. It is lent to each feed.
 ghost use Rattle.std.specs.Prelude.{◌≡◌, true, ◌≤◌, ◌<◌, length, drop, get_or};
 ghost use Rattle.group.specs.Choice.{◌=?◌};
-ghost use Rattle.group.specs.Limits.{payloadMost, jobsMost, jobMost};
-ghost use Rattle.message.specs.Message.{allZero};
-ghost use Rattle.jobs.specs.Job.{unusedState, givenState, noJob, noJobs, waitingJob, is_of, place_of};
-ghost use Rattle.jobs.specs.Sound.{holderSound, jobSound, placeSound, recordSound, soundOf};
-ghost use Rattle.jobs.specs.Feed.{isAdd, isFetch, forList, addOf, withoutPlace, finishOf, giveOf, form_of, feedOf};
+ghost use Rattle.group.specs.Limits.{payload_most, jobs_most, job_most};
+ghost use Rattle.message.specs.Message.{all_zero};
+ghost use Rattle.jobs.specs.Job.{unused_state, given_state, no_job, no_jobs, waiting_job, is_of, place_of};
+ghost use Rattle.jobs.specs.Sound.{holder_sound, job_sound, place_sound, record_sound, sound_of};
+ghost use Rattle.jobs.specs.Feed.{is_add, is_fetch, for_list, add_of, without_place, finish_of, give_of, form_of, feed_of};
 ghost use Rattle.jobs.specs.Feed.{refused as refusedOf};
-ghost use Rattle.jobs.specs.Wording.{wordingOf};
+ghost use Rattle.jobs.specs.Wording.{wording_of};
 
 use group::{Group, MemberNumber, Refusal};
 
@@ -50,7 +50,7 @@ impl Job {
 
     // A record that is not used: all of it is zero.
     pub fn empty() -> Self
-        ensures { result ≡ noJob }
+        ensures { result ≡ no_job }
     {
         Job {
             state: Job::UNUSED,
@@ -62,8 +62,8 @@ impl Job {
 
     // The job behind the first byte of a payload, waiting.
     fn waiting(payload: &[u8]) -> Self
-        requires { (1 ≤ length payload.now) × (length payload.now ≤ payloadMost) }
-        ensures { result ≡ waitingJob (drop 1 payload.now) }
+        requires { (1 ≤ length payload.now) × (length payload.now ≤ payload_most) }
+        ensures { result ≡ waiting_job (drop 1 payload.now) }
     {
         let mut bytes = [0u8; Group::JOB];
         message::copy(&payload[1..], &mut bytes);
@@ -87,7 +87,7 @@ impl Job {
 
     // Whether its state and its member are sound, and an unused one's length.
     fn holder_sound(self) -> bool
-        ensures { result ≡ holderSound self }
+        ensures { result ≡ holder_sound self }
     {
         if self.state == Job::UNUSED {
             if self.member.0 == 0 {
@@ -106,7 +106,7 @@ impl Job {
 
     // Whether it is sound by itself.
     fn sound(self) -> bool
-        ensures { result ≡ jobSound self }
+        ensures { result ≡ job_sound self }
     {
         if self.holder_sound() {
             let length = self.length;
@@ -122,8 +122,8 @@ impl Job {
 
 // Whether every byte from an index on is zero.
 fn zero_from(bytes: [u8; Group::JOB], from: usize) -> bool
-    requires { from ≤ jobMost }
-    ensures { result ≡ allZero (drop from bytes) }
+    requires { from ≤ job_most }
+    ensures { result ≡ all_zero (drop from bytes) }
 {
     let mut i = from;
     while i < Group::JOB {
@@ -154,8 +154,8 @@ fn find(jobs: [Job; Group::JOBS], state: u8, member: u8) -> usize
 
 // Whether a record is sound where it stands; `used` is the place of the first unused one.
 fn place_sound(jobs: [Job; Group::JOBS], used: usize, place: usize, job: Job) -> bool
-    requires { used ≡ place_of unusedState 0 jobs }
-    ensures { result ≡ placeSound jobs place job }
+    requires { used ≡ place_of unused_state 0 jobs }
+    ensures { result ≡ place_sound jobs place job }
 {
     if job.state == Job::UNUSED {
         return true;
@@ -170,8 +170,8 @@ fn place_sound(jobs: [Job; Group::JOBS], used: usize, place: usize, job: Job) ->
 }
 
 fn record_sound(jobs: [Job; Group::JOBS], used: usize, place: usize, job: Job) -> bool
-    requires { used ≡ place_of unusedState 0 jobs }
-    ensures { result ≡ recordSound jobs place job }
+    requires { used ≡ place_of unused_state 0 jobs }
+    ensures { result ≡ record_sound jobs place job }
 {
     if job.sound() {
         return place_sound(jobs, used, place, job);
@@ -181,7 +181,7 @@ fn record_sound(jobs: [Job; Group::JOBS], used: usize, place: usize, job: Job) -
 
 // Question 1.
 fn sound(jobs: [Job; Group::JOBS]) -> bool
-    ensures { result ≡ soundOf jobs }
+    ensures { result ≡ sound_of jobs }
 {
     let used = find(jobs, Job::UNUSED, 0);
     let mut i = 0;
@@ -198,8 +198,8 @@ fn sound(jobs: [Job; Group::JOBS]) -> bool
 
 // The list without a record: those behind it move down by one.
 fn close(jobs: [Job; Group::JOBS], place: usize) -> [Job; Group::JOBS]
-    requires { place < jobsMost }
-    ensures { result ≡ withoutPlace place jobs }
+    requires { place < jobs_most }
+    ensures { result ≡ without_place place jobs }
 {
     let mut all = jobs;
     let mut i = place;
@@ -225,8 +225,8 @@ fn refused(jobs: [Job; Group::JOBS], refusal: Refusal) -> Outcome
 
 // An add: question 20, then the job waits in the first unused record.
 fn add(jobs: [Job; Group::JOBS], payload: &[u8]) -> Outcome
-    requires { (1 ≤ length payload.now) × (length payload.now ≤ payloadMost) }
-    ensures { result ≡ addOf jobs (drop 1 payload.now) }
+    requires { (1 ≤ length payload.now) × (length payload.now ≤ payload_most) }
+    ensures { result ≡ add_of jobs (drop 1 payload.now) }
 {
     let place = find(jobs, Job::UNUSED, 0);
     if place < Group::JOBS {
@@ -243,7 +243,7 @@ fn add(jobs: [Job; Group::JOBS], payload: &[u8]) -> Outcome
 
 // The member's earlier job is finished.
 fn finish(jobs: [Job; Group::JOBS], member: MemberNumber) -> [Job; Group::JOBS]
-    ensures { result ≡ finishOf jobs member }
+    ensures { result ≡ finish_of jobs member }
 {
     let place = find(jobs, Job::GIVEN, member.0);
     if place < Group::JOBS {
@@ -254,7 +254,7 @@ fn finish(jobs: [Job; Group::JOBS], member: MemberNumber) -> [Job; Group::JOBS]
 
 // The oldest job that waits is given to the member.
 fn give(jobs: [Job; Group::JOBS], member: MemberNumber) -> Outcome
-    ensures { result ≡ giveOf jobs member }
+    ensures { result ≡ give_of jobs member }
 {
     let place = find(jobs, Job::WAITING, 0);
     if place < Group::JOBS {
@@ -281,7 +281,7 @@ fn give(jobs: [Job; Group::JOBS], member: MemberNumber) -> Outcome
 
 // Whether a payload adds a job.
 fn is_add(payload: &[u8]) -> bool
-    ensures { result ≡ isAdd payload.now }
+    ensures { result ≡ is_add payload.now }
 {
     if 1 <= payload.len() {
         return payload[0] == 1;
@@ -291,7 +291,7 @@ fn is_add(payload: &[u8]) -> bool
 
 // Whether it fetches one.
 fn is_fetch(payload: &[u8]) -> bool
-    ensures { result ≡ isFetch payload.now }
+    ensures { result ≡ is_fetch payload.now }
 {
     if payload.len() == 1 {
         return payload[0] == 2;
@@ -301,7 +301,7 @@ fn is_fetch(payload: &[u8]) -> bool
 
 // Question 19.
 fn for_list(member: MemberNumber, payload: &[u8]) -> bool
-    ensures { result ≡ forList member payload.now }
+    ensures { result ≡ for_list member payload.now }
 {
     if (member.0 as usize) < Group::MEMBERS {
         if payload.len() <= Group::PAYLOAD {
@@ -317,7 +317,7 @@ fn for_list(member: MemberNumber, payload: &[u8]) -> bool
 
 // What a payload of a form does.
 fn form(jobs: [Job; Group::JOBS], member: MemberNumber, payload: &[u8]) -> Outcome
-    requires { forList member payload.now ≡ true }
+    requires { for_list member payload.now ≡ true }
     ensures { result ≡ form_of jobs member payload.now }
 {
     if is_fetch(payload) {
@@ -329,7 +329,7 @@ fn form(jobs: [Job; Group::JOBS], member: MemberNumber, payload: &[u8]) -> Outco
 
 // The feed of a list that is held by value.
 fn step(jobs: [Job; Group::JOBS], member: MemberNumber, payload: &[u8]) -> Outcome
-    ensures { result ≡ feedOf jobs member payload.now }
+    ensures { result ≡ feed_of jobs member payload.now }
 {
     if sound(jobs) {
         if for_list(member, payload) {
@@ -342,7 +342,7 @@ fn step(jobs: [Job; Group::JOBS], member: MemberNumber, payload: &[u8]) -> Outco
 
 // An empty list.
 pub fn no_jobs() -> [Job; Group::JOBS]
-    ensures { result ≡ noJobs }
+    ensures { result ≡ no_jobs }
 {
     let job = Job::empty();
     [job; Group::JOBS]
@@ -371,7 +371,7 @@ fn outcome_of(jobs: [Job; Group::JOBS], answer: Answer) -> Outcome
 
 // The record at a place of a list that is lent; past its end an unused one.
 pub fn read(jobs: &[Job], place: usize) -> Job
-    ensures { result ≡ get_or jobs.now place noJob }
+    ensures { result ≡ get_or jobs.now place no_job }
 {
     if place < jobs.len() {
         return jobs[place];
@@ -381,7 +381,7 @@ pub fn read(jobs: &[Job], place: usize) -> Job
 
 // The list's records come out, and the array's go in.
 fn swap(jobs: &mut [Job], mut all: [Job; Group::JOBS]) -> [Job; Group::JOBS]
-    requires { length jobs.old ≡ jobsMost }
+    requires { length jobs.old ≡ jobs_most }
     ensures { (result ≡ jobs.old) × (jobs.new ≡ all) }
 {
     let mut i = 0;
@@ -396,9 +396,9 @@ fn swap(jobs: &mut [Job], mut all: [Job; Group::JOBS]) -> [Job; Group::JOBS]
 
 // Feeds a list that is lent what was taken: the message's originator and its payload.
 pub fn feed(jobs: &mut [Job], member: MemberNumber, payload: &[u8]) -> Answer
-    ensures answer { result ≡ (feedOf jobs.old member payload.now).answer }
-    ensures lent { jobs.new ≡ (feedOf jobs.old member payload.now).jobs }
-    ensures wording { wordingOf result ≡ wordingOf (feedOf jobs.old member payload.now).answer }
+    ensures answer { result ≡ (feed_of jobs.old member payload.now).answer }
+    ensures lent { jobs.new ≡ (feed_of jobs.old member payload.now).jobs }
+    ensures wording { wording_of result ≡ wording_of (feed_of jobs.old member payload.now).answer }
 {
     if jobs.len() != Group::JOBS {
         return Answer::Refused(Refusal::UnsoundState);
@@ -411,8 +411,8 @@ pub fn feed(jobs: &mut [Job], member: MemberNumber, payload: &[u8]) -> Answer
 
 // The same of a list that is held by value: it is lent to `feed`.
 pub fn feed_array(jobs: [Job; Group::JOBS], member: MemberNumber, payload: &[u8]) -> Outcome
-    ensures answer { result ≡ feedOf jobs member payload.now }
-    ensures wording { wordingOf result.answer ≡ wordingOf (feedOf jobs member payload.now).answer }
+    ensures answer { result ≡ feed_of jobs member payload.now }
+    ensures wording { wording_of result.answer ≡ wording_of (feed_of jobs member payload.now).answer }
 {
     let mut all = jobs;
     let answer = feed(&mut all, member, payload);

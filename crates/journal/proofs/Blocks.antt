@@ -10,92 +10,92 @@ use lib.ListN.{length, drop, replicate, length-append, length-replicate}
 use lib.Seq.{drop-drop, take_at, drop_at}
 use Rattle.group.specs.Choice.{if◌then◌else◌, ◌<?◌, ◌≤?◌, ◌=?◌}
 use Rattle.group.specs.Fold.{all}
-use Rattle.group.specs.Limits.{largestNumber}
-use Rattle.group.proofs.Choice.{both_hold, if-true}
+use Rattle.group.specs.Limits.{largest_number}
+use Rattle.group.proofs.Choice.{both_hold, if_true}
 use Rattle.message.specs.Order.{Ordered}
 use Rattle.big_endian.specs.Laws.{Bytes}
 use Rattle.big_endian.specs.Number.{number_at, bytes_of}
-use Rattle.big_endian.proofs.Number.{bytesOf-length, number_behind, number-of-bytes, bytes-cons, bytes-append, bytesOf-bytes}
-use Rattle.journal.specs.Limits.{blockSize, recordsAt, recordsEnd, recordHead, numberSize, mark, compactMark}
-use Rattle.journal.specs.Block.{sumFrom, recordOf, recordsOf, framedBy, framed, block_of, compactRecords, compactFramed, compactOf, first_at, recordsIn, sum_at, behind, endedAt, follows, recordRight, recordStart, behindIn, recordNumber, stepRight, recordsRight, marked, form_of, formRight, sumRight, contentRight, blockRight, messageAt, messagesFrom, lastFrom, messagesOf, tailWith, tailOf}
-use Rattle.journal.specs.Laws.{Allowed, Numbered, NextNumber, NumberedIn, recordsWith, blockWith, lastNumber, BlockBack, CompactBack}
+use Rattle.big_endian.proofs.Number.{bytes_of-length, number_behind, number_of_bytes, bytes_cons, bytes_append, bytes_of-bytes}
+use Rattle.journal.specs.Limits.{block_size, records_at, records_end, record_head, number_size, mark, compact_mark}
+use Rattle.journal.specs.Block.{sum_from, record_of, records_of, framed_by, framed, block_of, compact_records, compact_framed, compact_of, first_at, records_in, sum_at, behind, ended_at, follows, record_right, record_start, behind_in, record_number, step_right, records_right, marked, form_of, form_right, sum_right, content_right, block_right, message_at, messages_from, last_from, messages_of, tail_with, tail_of}
+use Rattle.journal.specs.Laws.{Allowed, Numbered, NextNumber, NumberedIn, records_with, block_with, last_number, BlockBack, CompactBack}
 use Rattle.journal.specs.declared.Form.{Form}
 use Rattle.journal.specs.declared.Form.TheVariants.{Log, Compact}
 use Rattle.journal.specs.declared.Tail.{Tail}
-use Rattle.journal.proofs.Lists.{number_in, drop-take, all-zeros, zeros-bytes}
-use Rattle.journal.proofs.Summing.{sum-most}
-use Rattle.journal.proofs.Records.{record-length, record-bytes, record-back}
+use Rattle.journal.proofs.Lists.{number_in, drop_take, all_zeros, zeros_bytes}
+use Rattle.journal.proofs.Summing.{sum_most}
+use Rattle.journal.proofs.Records.{record_length, record_bytes, record_back}
 
 -- the bytes of a message's record in a block of a form
-abbrev pub recordWithin : Form → Ordered → List ℕ
-recordWithin Log m = recordOf m
-recordWithin Compact m = bytes_of numberSize m.number ++ recordOf m
+abbrev pub record_within : Form → Ordered → List ℕ
+record_within Log m = record_of m
+record_within Compact m = bytes_of number_size m.number ++ record_of m
 
-pub records-cons : (form : Form) (m : Ordered) (ms : List Ordered) → recordsWith form (m ∷ ms) ≡ recordWithin form m ++ recordsWith form ms
-unfolding recordsOf compactRecords
-records-cons Log m ms = refl
-records-cons Compact m ms = sym (append_assoc (bytes_of numberSize m.number) (recordOf m) (compactRecords ms))
+pub records_cons : (form : Form) (m : Ordered) (ms : List Ordered) → records_with form (m ∷ ms) ≡ record_within form m ++ records_with form ms
+unfolding records_of compact_records
+records_cons Log m ms = refl
+records_cons Compact m ms = sym (append_assoc (bytes_of number_size m.number) (record_of m) (compact_records ms))
 
-pub records-nil : (form : Form) → recordsWith form [] ≡ []
-unfolding recordsOf compactRecords
-records-nil Log = refl
-records-nil Compact = refl
+pub records_nil : (form : Form) → records_with form [] ≡ []
+unfolding records_of compact_records
+records_nil Log = refl
+records_nil Compact = refl
 
-within-bytes : (form : Form) (m : Ordered) → Allowed m → Bytes (recordWithin form m)
-within-bytes Log m a = record-bytes m a
-within-bytes Compact m a = bytes-append (bytes_of numberSize m.number) (recordOf m) (bytesOf-bytes numberSize m.number) (record-bytes m a)
+within_bytes : (form : Form) (m : Ordered) → Allowed m → Bytes (record_within form m)
+within_bytes Log m a = record_bytes m a
+within_bytes Compact m a = bytes_append (bytes_of number_size m.number) (record_of m) (bytes_of-bytes number_size m.number) (record_bytes m a)
 
-pub records-bytes : (form : Form) (before : ℕ) (ms : List Ordered) → NumberedIn form before ms → Bytes (recordsWith form ms)
+pub records_bytes : (form : Form) (before : ℕ) (ms : List Ordered) → NumberedIn form before ms → Bytes (records_with form ms)
 unfolding NumberedIn
-records-bytes form before [] n = rw (records-nil form) (zeros-bytes 0)
-records-bytes form before (m ∷ ms) n =
-    rw (records-cons form m ms) (bytes-append (recordWithin form m) (recordsWith form ms) (within-bytes form m n.0) (records-bytes form m.number ms n.2))
+records_bytes form before [] n = rw (records_nil form) (zeros_bytes 0)
+records_bytes form before (m ∷ ms) n =
+    rw (records_cons form m ms) (bytes_append (record_within form m) (records_with form ms) (within_bytes form m n.0) (records_bytes form m.number ms n.2))
 
 -- consecutive numbers are the next each
-pub numbered-log : (before : ℕ) (ms : List Ordered) → Numbered before ms → NumberedIn Log before ms × (lastNumber before ms ≡ before + length ms)
-unfolding Numbered NumberedIn lastNumber
-numbered-log before [] n = (tt, omega arith)
-numbered-log before (m ∷ ms) n =
-    let (rest, last) = numbered-log (before + 1) ms n.2 in
+pub numbered_log : (before : ℕ) (ms : List Ordered) → Numbered before ms → NumberedIn Log before ms × (last_number before ms ≡ before + length ms)
+unfolding Numbered NumberedIn last_number
+numbered_log before [] n = (tt, omega arith)
+numbered_log before (m ∷ ms) n =
+    let (rest, last) = numbered_log (before + 1) ms n.2 in
     let e = n.1 in
     ((n.0, e, rw e rest), rw e (let l = last in omega arith))
 
 -- each record takes at least its head
-pub records-long : (ms : List Ordered) → recordHead * length ms ≤ length (recordsOf ms)
-unfolding recordsOf
-records-long [] = omega arith
-records-long (m ∷ ms) =
-    let r = records-long ms in
-    let l = record-length m in
-    let a = length-append (recordOf m) (recordsOf ms) in
+pub records_long : (ms : List Ordered) → record_head * length ms ≤ length (records_of ms)
+unfolding records_of
+records_long [] = omega arith
+records_long (m ∷ ms) =
+    let r = records_long ms in
+    let l = record_length m in
+    let a = length-append (record_of m) (records_of ms) in
     omega arith
 
-compact-long : (ms : List Ordered) → recordHead * length ms ≤ length (compactRecords ms)
-unfolding compactRecords
-compact-long [] = omega arith
-compact-long (m ∷ ms) =
-    let r = compact-long ms in
-    let l = record-length m in
-    let a = length-append (bytes_of numberSize m.number) (recordOf m ++ compactRecords ms) in
-    let b = length-append (recordOf m) (compactRecords ms) in
+compact_long : (ms : List Ordered) → record_head * length ms ≤ length (compact_records ms)
+unfolding compact_records
+compact_long [] = omega arith
+compact_long (m ∷ ms) =
+    let r = compact_long ms in
+    let l = record_length m in
+    let a = length-append (bytes_of number_size m.number) (record_of m ++ compact_records ms) in
+    let b = length-append (record_of m) (compact_records ms) in
     omega arith
 
-pub records-many : (form : Form) (ms : List Ordered) → recordHead * length ms ≤ length (recordsWith form ms)
-records-many Log ms = records-long ms
-records-many Compact ms = compact-long ms
+pub records_many : (form : Form) (ms : List Ordered) → record_head * length ms ≤ length (records_with form ms)
+records_many Log ms = records_long ms
+records_many Compact ms = compact_long ms
 
 -- one record, read back from where it stands in a block of a form
 record Back (form : Form) (block : List ℕ) (at before : ℕ) (m : Ordered) : Type 0 where
-  number : recordNumber form block at before ≡ m.number
-  right : stepRight form block at before ≡ true
-  message : messageAt block (recordStart form at) m.number ≡ m
-  ends : behindIn form block at ≡ at + length (recordWithin form m)
+  number : record_number form block at before ≡ m.number
+  right : step_right form block at before ≡ true
+  message : message_at block (record_start form at) m.number ≡ m
+  ends : behind_in form block at ≡ at + length (record_within form m)
 
 step_back : (form : Form) (block rest : List ℕ) (at before : ℕ) (m : Ordered) → Allowed m → NextNumber form before m.number
-    → drop at block ≡ recordWithin form m ++ rest → at + length (recordWithin form m) ≤ recordsEnd → Back form block at before m
-unfolding stepRight
+    → drop at block ≡ record_within form m ++ rest → at + length (record_within form m) ≤ records_end → Back form block at before m
+unfolding step_right
 step_back Log block rest at before m a n d h =
-    let b = record-back block rest at m a d h in
+    let b = record_back block rest at m a d h in
     record {
       number = sym n;
       right = both_hold (before <? before + 1) _ (lt-ltb before (before + 1) (omega arith)) (rw n at b.0);
@@ -103,15 +103,15 @@ step_back Log block rest at before m a n d h =
       ends = b.2;
     }
 step_back Compact block rest at before m a n d h =
-    let l = length-append (bytes_of numberSize m.number) (recordOf m) in
-    let k = bytesOf-length numberSize m.number in
+    let l = length-append (bytes_of number_size m.number) (record_of m) in
+    let k = bytes_of-length number_size m.number in
     let f = a.fits.number in
-    let d4 : drop at block ≡ bytes_of numberSize m.number ++ (recordOf m ++ rest) = d ∙ append_assoc (bytes_of numberSize m.number) (recordOf m) rest in
-    let d' : drop (at + numberSize) block ≡ recordOf m ++ rest =
-    sym (drop-drop numberSize at block) ∙ ap (drop numberSize) d4 ∙ drop_at (bytes_of numberSize m.number) (recordOf m ++ rest) numberSize k in
-    let b = record-back block rest (at + numberSize) m a d' (omega arith) in
-    let v : number_at numberSize block at ≡ m.number =
-    number_behind numberSize block at ∙ ap (λ (x : List ℕ). number_at numberSize x 0) d4 ∙ number-of-bytes numberSize m.number (recordOf m ++ rest) (omega arith) in
+    let d4 : drop at block ≡ bytes_of number_size m.number ++ (record_of m ++ rest) = d ∙ append_assoc (bytes_of number_size m.number) (record_of m) rest in
+    let d' : drop (at + number_size) block ≡ record_of m ++ rest =
+    sym (drop-drop number_size at block) ∙ ap (drop number_size) d4 ∙ drop_at (bytes_of number_size m.number) (record_of m ++ rest) number_size k in
+    let b = record_back block rest (at + number_size) m a d' (omega arith) in
+    let v : number_at number_size block at ≡ m.number =
+    number_behind number_size block at ∙ ap (λ (x : List ℕ). number_at number_size x 0) d4 ∙ number_of_bytes number_size m.number (record_of m ++ rest) (omega arith) in
     let e = b.2 in
     record {
       number = v;
@@ -121,177 +121,177 @@ step_back Compact block rest at before m a n d h =
     }
 
 -- the records that stand in a block from an index on, with zeros behind them
-records-back : (form : Form) (block rest : List ℕ) (zeros at before : ℕ) (ms : List Ordered) → NumberedIn form before ms
-    → drop at block ≡ recordsWith form ms ++ (replicate zeros 0 ++ rest) → at + length (recordsWith form ms) + zeros ≡ recordsEnd
-    → (recordsRight form block at before (length ms) ≡ true) × (messagesFrom form block at before (length ms) ≡ ms)
-    × (lastFrom form block at before (length ms) ≡ lastNumber before ms)
-unfolding recordsRight messagesFrom lastFrom NumberedIn lastNumber
-records-back form block rest zeros at before [] n d h =
-    let nil = records-nil form in
-    let g : at + zeros ≡ recordsEnd = let z = ap length nil in omega arith in
-    let e : recordsEnd - at ≡ zeros = omega arith in
-    (rw (drop-take at recordsEnd block, d, nil, e, take_at (replicate zeros 0) rest zeros (length-replicate zeros 0)) (all-zeros zeros), refl, refl)
-records-back form block rest zeros at before (m ∷ ms) n d h =
-    let cons = records-cons form m ms in
-    let one = recordWithin form m in
-    let more = recordsWith form ms ++ (replicate zeros 0 ++ rest) in
-    let l = ap length cons ∙ length-append one (recordsWith form ms) in
-    let d1 : drop at block ≡ one ++ more = d ∙ ap (λ (x : List ℕ). x ++ (replicate zeros 0 ++ rest)) cons ∙ append_assoc one (recordsWith form ms) (replicate zeros 0 ++ rest) in
+records_back : (form : Form) (block rest : List ℕ) (zeros at before : ℕ) (ms : List Ordered) → NumberedIn form before ms
+    → drop at block ≡ records_with form ms ++ (replicate zeros 0 ++ rest) → at + length (records_with form ms) + zeros ≡ records_end
+    → (records_right form block at before (length ms) ≡ true) × (messages_from form block at before (length ms) ≡ ms)
+    × (last_from form block at before (length ms) ≡ last_number before ms)
+unfolding records_right messages_from last_from NumberedIn last_number
+records_back form block rest zeros at before [] n d h =
+    let nil = records_nil form in
+    let g : at + zeros ≡ records_end = let z = ap length nil in omega arith in
+    let e : records_end - at ≡ zeros = omega arith in
+    (rw (drop_take at records_end block, d, nil, e, take_at (replicate zeros 0) rest zeros (length-replicate zeros 0)) (all_zeros zeros), refl, refl)
+records_back form block rest zeros at before (m ∷ ms) n d h =
+    let cons = records_cons form m ms in
+    let one = record_within form m in
+    let more = records_with form ms ++ (replicate zeros 0 ++ rest) in
+    let l = ap length cons ∙ length-append one (records_with form ms) in
+    let d1 : drop at block ≡ one ++ more = d ∙ ap (λ (x : List ℕ). x ++ (replicate zeros 0 ++ rest)) cons ∙ append_assoc one (records_with form ms) (replicate zeros 0 ++ rest) in
     let b = step_back form block more at before m n.0 n.1 d1 (omega arith) in
-    let d' : drop (behindIn form block at) block ≡ more =
+    let d' : drop (behind_in form block at) block ≡ more =
     rw b.ends (sym (drop-drop (length one) at block) ∙ ap (drop (length one)) d1 ∙ drop_at one more (length one) refl) in
     let v = b.number in
-    let (right, messages, last) = records-back form block rest zeros (behindIn form block at) m.number ms n.2 d' (rw b.ends (omega arith)) in (
-      both_hold (stepRight form block at before) _ b.right (rw v right),
+    let (right, messages, last) = records_back form block rest zeros (behind_in form block at) m.number ms n.2 d' (rw b.ends (omega arith)) in (
+      both_hold (step_right form block at before) _ b.right (rw v right),
       rw (v, b.message, messages),
-      ap (λ (x : ℕ). lastFrom form block (behindIn form block at) x (length ms)) v ∙ last,
+      ap (λ (x : ℕ). last_from form block (behind_in form block at) x (length ms)) v ∙ last,
     )
 
 -- a block part by part, whatever four bytes it begins with
-module _ (begin : List ℕ) (four : length begin ≡ 4) (first records : ℕ) (body : List ℕ) (fits : recordsAt + length body ≤ recordsEnd) where
+module _ (begin : List ℕ) (four : length begin ≡ 4) (first records : ℕ) (body : List ℕ) (fits : records_at + length body ≤ records_end) where
   abbrev filling : List ℕ
-  filling = replicate (recordsEnd - recordsAt - length body) 0
+  filling = replicate (records_end - records_at - length body) 0
 
   abbrev frame : List ℕ
-  frame = framedBy begin first records body
+  frame = framed_by begin first records body
 
   abbrev closing : List ℕ
-  closing = bytes_of 4 (sumFrom 0 (framedBy begin first records body))
+  closing = bytes_of 4 (sum_from 0 (framed_by begin first records body))
 
-  pub frame-length : length frame ≡ recordsEnd
+  pub frame_length : length frame ≡ records_end
   unfolding bytes_of
-  frame-length =
+  frame_length =
       let b = length-append begin (bytes_of 4 first ++ (bytes_of 2 records ++ (body ++ filling))) in
       let a = length-append body filling in
-      let z = length-replicate {A = ℕ} (recordsEnd - recordsAt - length body) 0 in
+      let z = length-replicate {A = ℕ} (records_end - records_at - length body) 0 in
       omega arith
 
-  whole_length : length (frame ++ closing) ≡ blockSize
+  whole_length : length (frame ++ closing) ≡ block_size
   whole_length =
-      let f = frame-length in
-      let s = bytesOf-length 4 (sumFrom 0 (framedBy begin first records body)) in
+      let f = frame_length in
+      let s = bytes_of-length 4 (sum_from 0 (framed_by begin first records body)) in
       let a = length-append frame closing in
       omega arith
 
-  first_back : first ≤ largestNumber → first_at (frame ++ closing) ≡ first
+  first_back : first ≤ largest_number → first_at (frame ++ closing) ≡ first
   first_back h =
       number_in 4 first (frame ++ closing) begin ((bytes_of 2 records ++ (body ++ filling)) ++ closing) 0 4 (simp append_assoc) four (omega arith)
 
-  records-in-back : records ≤ 65535 → recordsIn (frame ++ closing) ≡ records
-  records-in-back h =
+  records_in_back : records ≤ 65535 → records_in (frame ++ closing) ≡ records
+  records_in_back h =
       let n = length-append begin (bytes_of 4 first) in
-      let k = bytesOf-length 4 first in
+      let k = bytes_of-length 4 first in
       number_in 2 records (frame ++ closing) (begin ++ bytes_of 4 first) ((body ++ filling) ++ closing) 0 8 (simp append_assoc) (omega arith) (omega arith)
 
-  body_back : drop recordsAt (frame ++ closing) ≡ body ++ (filling ++ closing)
+  body_back : drop records_at (frame ++ closing) ≡ body ++ (filling ++ closing)
   body_back =
       let n = length-append (begin ++ bytes_of 4 first) (bytes_of 2 records) in
       let m = length-append begin (bytes_of 4 first) in
-      let k = bytesOf-length 4 first in
-      let j = bytesOf-length 2 records in
+      let k = bytes_of-length 4 first in
+      let j = bytes_of-length 2 records in
       let e : frame ++ closing ≡ ((begin ++ bytes_of 4 first) ++ bytes_of 2 records) ++ (body ++ (filling ++ closing)) = simp append_assoc in
-      ap (drop recordsAt) e ∙ drop_at ((begin ++ bytes_of 4 first) ++ bytes_of 2 records) (body ++ (filling ++ closing)) recordsAt (omega arith)
+      ap (drop records_at) e ∙ drop_at ((begin ++ bytes_of 4 first) ++ bytes_of 2 records) (body ++ (filling ++ closing)) records_at (omega arith)
 
-  frame-bytes : Bytes begin → Bytes body → Bytes frame
-  frame-bytes g b =
-      bytes-append begin _ g
-      (bytes-append (bytes_of 4 first) _ (bytesOf-bytes 4 first)
-      (bytes-append (bytes_of 2 records) _ (bytesOf-bytes 2 records)
-      (bytes-append body _ b (zeros-bytes (recordsEnd - recordsAt - length body)))))
+  frame_bytes : Bytes begin → Bytes body → Bytes frame
+  frame_bytes g b =
+      bytes_append begin _ g
+      (bytes_append (bytes_of 4 first) _ (bytes_of-bytes 4 first)
+      (bytes_append (bytes_of 2 records) _ (bytes_of-bytes 2 records)
+      (bytes_append body _ b (zeros_bytes (records_end - records_at - length body)))))
 
-  sum_back : Bytes begin → Bytes body → sumRight (frame ++ closing) ≡ true
-  unfolding sumRight
+  sum_back : Bytes begin → Bytes body → sum_right (frame ++ closing) ≡ true
+  unfolding sum_right
   sum_back g b =
-      let n = frame-length in
-      let m = sum-most 0 frame (frame-bytes g b) (omega arith) in
-      let s : sum_at (frame ++ closing) ≡ sumFrom 0 frame =
-      number_in 4 (sumFrom 0 frame) (frame ++ closing) frame [] 0 recordsEnd (rw append-nil) n (omega arith) in
-      eq-eqb _ _ (s ∙ ap (sumFrom 0) (sym (take_at frame closing recordsEnd n)))
+      let n = frame_length in
+      let m = sum_most 0 frame (frame_bytes g b) (omega arith) in
+      let s : sum_at (frame ++ closing) ≡ sum_from 0 frame =
+      number_in 4 (sum_from 0 frame) (frame ++ closing) frame [] 0 records_end (rw append-nil) n (omega arith) in
+      eq-eqb _ _ (s ∙ ap (sum_from 0) (sym (take_at frame closing records_end n)))
 
 -- the marks are bytes
-mark-bytes : (last : ℕ) → last < 256 → Bytes (75 ∷ 74 ∷ 66 ∷ last ∷ [])
-mark-bytes last h =
-    bytes-cons _ _ (omega arith) (bytes-cons _ _ (omega arith) (bytes-cons _ _ (omega arith) (bytes-cons _ _ h (zeros-bytes 0))))
+mark_bytes : (last : ℕ) → last < 256 → Bytes (75 ∷ 74 ∷ 66 ∷ last ∷ [])
+mark_bytes last h =
+    bytes_cons _ _ (omega arith) (bytes_cons _ _ (omega arith) (bytes_cons _ _ (omega arith) (bytes_cons _ _ h (zeros_bytes 0))))
 
-module _ (first records : ℕ) (body : List ℕ) (fits : recordsAt + length body ≤ recordsEnd) where
-  pub framed-length : length (framed first records body) ≡ recordsEnd
+module _ (first records : ℕ) (body : List ℕ) (fits : records_at + length body ≤ records_end) where
+  pub framed_length : length (framed first records body) ≡ records_end
   unfolding framed
-  framed-length = frame-length mark refl first records body fits
+  framed_length = frame_length mark refl first records body fits
 
-  pub block-length : length (block_of first records body) ≡ blockSize
+  pub block_length : length (block_of first records body) ≡ block_size
   unfolding framed block_of
-  block-length = whole_length mark refl first records body fits
+  block_length = whole_length mark refl first records body fits
 
-  pub compact-framed-length : length (compactFramed first records body) ≡ recordsEnd
-  unfolding compactFramed
-  compact-framed-length = frame-length compactMark refl first records body fits
+  pub compact_framed_length : length (compact_framed first records body) ≡ records_end
+  unfolding compact_framed
+  compact_framed_length = frame_length compact_mark refl first records body fits
 
-  pub compact-length : length (compactOf first records body) ≡ blockSize
-  unfolding compactFramed compactOf
-  compact-length = whole_length compactMark refl first records body fits
+  pub compact_length : length (compact_of first records body) ≡ block_size
+  unfolding compact_framed compact_of
+  compact_length = whole_length compact_mark refl first records body fits
 
 -- what stands in a block of a form
 record Parts (form : Form) (first records : ℕ) (body : List ℕ) : Type 0 where
-  long : length (blockWith form first records body) ≡ blockSize
-  form-of : form_of (blockWith form first records body) ≡ form
-  first-at : first ≤ largestNumber → first_at (blockWith form first records body) ≡ first
-  records-at : records ≤ 65535 → recordsIn (blockWith form first records body) ≡ records
-  sum : Bytes body → sumRight (blockWith form first records body) ≡ true
-  behind-head : (rest : List ℕ) × (drop recordsAt (blockWith form first records body) ≡ body ++ (replicate (recordsEnd - recordsAt - length body) 0 ++ rest))
+  long : length (block_with form first records body) ≡ block_size
+  form_of_lem : form_of (block_with form first records body) ≡ form
+  first_at_lem : first ≤ largest_number → first_at (block_with form first records body) ≡ first
+  records_at_lem : records ≤ 65535 → records_in (block_with form first records body) ≡ records
+  sum : Bytes body → sum_right (block_with form first records body) ≡ true
+  behind_head : (rest : List ℕ) × (drop records_at (block_with form first records body) ≡ body ++ (replicate (records_end - records_at - length body) 0 ++ rest))
 
-parts : (form : Form) (first records : ℕ) (body : List ℕ) → recordsAt + length body ≤ recordsEnd → Parts form first records body
-unfolding framed block_of compactFramed compactOf form_of all if◌then◌else◌
+parts : (form : Form) (first records : ℕ) (body : List ℕ) → records_at + length body ≤ records_end → Parts form first records body
+unfolding framed block_of compact_framed compact_of form_of all if◌then◌else◌
 parts Log first records body fits =
     record {
       long = whole_length mark refl first records body fits;
-      form-of = refl;
-      first-at = first_back mark refl first records body fits;
-      records-at = records-in-back mark refl first records body fits;
-      sum = sum_back mark refl first records body fits (mark-bytes 49 (omega arith));
-      behind-head = (_, body_back mark refl first records body fits);
+      form_of_lem = refl;
+      first_at_lem = first_back mark refl first records body fits;
+      records_at_lem = records_in_back mark refl first records body fits;
+      sum = sum_back mark refl first records body fits (mark_bytes 49 (omega arith));
+      behind_head = (_, body_back mark refl first records body fits);
     }
 parts Compact first records body fits =
     record {
-      long = whole_length compactMark refl first records body fits;
-      form-of = refl;
-      first-at = first_back compactMark refl first records body fits;
-      records-at = records-in-back compactMark refl first records body fits;
-      sum = sum_back compactMark refl first records body fits (mark-bytes 50 (omega arith));
-      behind-head = (_, body_back compactMark refl first records body fits);
+      long = whole_length compact_mark refl first records body fits;
+      form_of_lem = refl;
+      first_at_lem = first_back compact_mark refl first records body fits;
+      records_at_lem = records_in_back compact_mark refl first records body fits;
+      sum = sum_back compact_mark refl first records body fits (mark_bytes 50 (omega arith));
+      behind_head = (_, body_back compact_mark refl first records body fits);
     }
 
-log-marked : (first records : ℕ) (body : List ℕ) → marked mark (block_of first records body) ≡ true
+log_marked : (first records : ℕ) (body : List ℕ) → marked mark (block_of first records body) ≡ true
 unfolding framed block_of all if◌then◌else◌
-log-marked first records body = refl
+log_marked first records body = refl
 
 -- a block of a form is read back, if its mark and its first number may stand behind the tail
-back-with : (form : Form) (t : Tail) (before : ℕ) (ms : List Ordered) → 1 ≤ length ms → NumberedIn form before ms → before + 1 ≤ largestNumber
-    → recordsAt + length (recordsWith form ms) ≤ recordsEnd
-    → let block = blockWith form (before + 1) (length ms) (recordsWith form ms) in
-    formRight form t block ≡ true → follows t (before + 1) ≡ true
-    → (blockRight t block ≡ true) × (messagesOf block ≡ ms) × (tailOf block ≡ tailWith form (lastNumber before ms))
-unfolding contentRight blockRight messagesOf tailOf
-back-with form t before ms some n most fits mark-right follow =
-    let body = recordsWith form ms in
-    let block = blockWith form (before + 1) (length ms) body in
-    let long = records-many form ms in
+back_with : (form : Form) (t : Tail) (before : ℕ) (ms : List Ordered) → 1 ≤ length ms → NumberedIn form before ms → before + 1 ≤ largest_number
+    → records_at + length (records_with form ms) ≤ records_end
+    → let block = block_with form (before + 1) (length ms) (records_with form ms) in
+    form_right form t block ≡ true → follows t (before + 1) ≡ true
+    → (block_right t block ≡ true) × (messages_of block ≡ ms) × (tail_of block ≡ tail_with form (last_number before ms))
+unfolding content_right block_right messages_of tail_of
+back_with form t before ms some n most fits mark-right follow =
+    let body = records_with form ms in
+    let block = block_with form (before + 1) (length ms) body in
+    let long = records_many form ms in
     let p = parts form (before + 1) (length ms) body fits in
-    let f : first_at block ≡ before + 1 = p.first-at most in
-    let r : recordsIn block ≡ length ms = p.records-at (omega arith) in
+    let f : first_at block ≡ before + 1 = p.first_at_lem most in
+    let r : records_in block ≡ length ms = p.records_at_lem (omega arith) in
     let b : first_at block - 1 ≡ before = omega arith in
-    let (rest, d) = p.behind-head in
-    let (right, messages, last) = records-back form block rest (recordsEnd - recordsAt - length body) recordsAt before ms n d (omega arith) in (
-      both_hold (length block =? blockSize) _ (eq-eqb _ _ p.long)
-          (both_hold (formRight (form_of block) t block) _ (rw p.form-of mark-right)
-          (both_hold (sumRight block) _ (p.sum (records-bytes form before ms n))
-          (both_hold (1 ≤? recordsIn block) _ (rw r (le-leb 1 (length ms) some))
-          (both_hold (follows t (first_at block)) _ (rw f follow) (rw (p.form-of, b, r) right))))),
-      rw (p.form-of, b, r) messages,
-      rw (p.form-of, b, r) (ap (tailWith form) last),
+    let (rest, d) = p.behind_head in
+    let (right, messages, last) = records_back form block rest (records_end - records_at - length body) records_at before ms n d (omega arith) in (
+      both_hold (length block =? block_size) _ (eq-eqb _ _ p.long)
+          (both_hold (form_right (form_of block) t block) _ (rw p.form_of_lem mark-right)
+          (both_hold (sum_right block) _ (p.sum (records_bytes form before ms n))
+          (both_hold (1 ≤? records_in block) _ (rw r (le-leb 1 (length ms) some))
+          (both_hold (follows t (first_at block)) _ (rw f follow) (rw (p.form_of_lem, b, r) right))))),
+      rw (p.form_of_lem, b, r) messages,
+      rw (p.form_of_lem, b, r) (ap (tail_with form) last),
     )
 
 -- the first number fits its type
-number_fits : (before : ℕ) (ms : List Ordered) → 1 ≤ length ms → Numbered before ms → before + 1 ≤ largestNumber
+number_fits : (before : ℕ) (ms : List Ordered) → 1 ≤ length ms → Numbered before ms → before + 1 ≤ largest_number
 unfolding Numbered
 number_fits before [] some n = absurd (omega arith)
 number_fits before (m ∷ ms) some n =
@@ -300,36 +300,36 @@ number_fits before (m ∷ ms) some n =
     omega arith
 
 pub block_back : BlockBack
-unfolding formRight
+unfolding form_right
 block_back t before ms some n follow fits =
-    let (log, last) = numbered-log before ms n in
+    let (log, last) = numbered_log before ms n in
     let (right, messages, tail) =
-    back-with Log t before ms some log (number_fits before ms some n) fits (log-marked (before + 1) (length ms) (recordsOf ms)) follow in
-    (right, messages, tail ∙ ap endedAt last)
+    back_with Log t before ms some log (number_fits before ms some n) fits (log_marked (before + 1) (length ms) (records_of ms)) follow in
+    (right, messages, tail ∙ ap ended_at last)
 
 -- the number of a compacted block is its first record's
-compact-first : (m : Ordered) (ms : List Ordered) → Allowed m → recordsAt + length (compactRecords (m ∷ ms)) ≤ recordsEnd
-    → let block = compactOf m.number (length (m ∷ ms)) (compactRecords (m ∷ ms)) in
-    number_at numberSize block recordsAt ≡ m.number
-unfolding compactRecords
-compact-first m ms a fits =
-    let block = compactOf m.number (length (m ∷ ms)) (compactRecords (m ∷ ms)) in
-    let p = parts Compact m.number (length (m ∷ ms)) (compactRecords (m ∷ ms)) fits in
-    let (rest, d) = p.behind-head in
+compact_first : (m : Ordered) (ms : List Ordered) → Allowed m → records_at + length (compact_records (m ∷ ms)) ≤ records_end
+    → let block = compact_of m.number (length (m ∷ ms)) (compact_records (m ∷ ms)) in
+    number_at number_size block records_at ≡ m.number
+unfolding compact_records
+compact_first m ms a fits =
+    let block = compact_of m.number (length (m ∷ ms)) (compact_records (m ∷ ms)) in
+    let p = parts Compact m.number (length (m ∷ ms)) (compact_records (m ∷ ms)) fits in
+    let (rest, d) = p.behind_head in
     let f = a.fits.number in
-    number_behind numberSize block recordsAt ∙ ap (λ (x : List ℕ). number_at numberSize x 0) (d ∙ append_assoc (bytes_of numberSize m.number) _ _)
-    ∙ number-of-bytes numberSize m.number _ (omega arith)
+    number_behind number_size block records_at ∙ ap (λ (x : List ℕ). number_at number_size x 0) (d ∙ append_assoc (bytes_of number_size m.number) _ _)
+    ∙ number_of_bytes number_size m.number _ (omega arith)
 
-pub compact-back : CompactBack
-unfolding formRight follows NumberedIn lastNumber
-compact-back t m ms n free fits =
-    let body = compactRecords (m ∷ ms) in
+pub compact_back : CompactBack
+unfolding form_right follows NumberedIn last_number
+compact_back t m ms n free fits =
+    let body = compact_records (m ∷ ms) in
     let above = n.1 in
     let f = n.0.fits.number in
     let e : m.number - 1 + 1 ≡ m.number = omega arith in
-    let block = compactOf m.number (length (m ∷ ms)) body in
+    let block = compact_of m.number (length (m ∷ ms)) body in
     let p = parts Compact m.number (length (m ∷ ms)) body fits in
-    let same : (first_at block =? number_at numberSize block recordsAt) ≡ true = eq-eqb _ _ (p.first-at f ∙ sym (compact-first m ms n.0 fits)) in
-    let right : formRight Compact t block ≡ true = both_hold t.free _ free same in
-    let follow : follows t m.number ≡ true = sym (if-true t.free true _ _ free (sym (lt-ltb t.last.0 m.number above))) in
-    rw e at (back-with Compact t (m.number - 1) (m ∷ ms) (omega arith) (n.0, omega arith, n.2) (omega arith) fits (rw e right) (rw e follow))
+    let same : (first_at block =? number_at number_size block records_at) ≡ true = eq-eqb _ _ (p.first_at_lem f ∙ sym (compact_first m ms n.0 fits)) in
+    let right : form_right Compact t block ≡ true = both_hold t.free _ free same in
+    let follow : follows t m.number ≡ true = sym (if_true t.free true _ _ free (sym (lt-ltb t.last.0 m.number above))) in
+    rw e at (back_with Compact t (m.number - 1) (m ∷ ms) (omega arith) (n.0, omega arith, n.2) (omega arith) fits (rw e right) (rw e follow))

@@ -8,76 +8,76 @@ use native.Mathlib.Omega.{arith}
 use borrow.Author.Tests.{lt-ltb, le-ltb, eq-eqb, ne_eqb}
 use lib.ListN.{length, take, drop}
 use Rattle.group.specs.Choice.{if◌then◌else◌, ◌<?◌, ◌=?◌}
-use Rattle.group.proofs.Choice.{if-true, if-false}
-use Rattle.journal.specs.Limits.{blockSize, recordsAt, recordsEnd, recordHead}
-use Rattle.journal.specs.Block.{recordStart, behindIn, recordNumber, stepRight}
-use Rattle.journal.specs.Walk.{Passes, block_at, entered_in, cursorOf, spot_of, movedOf, given_of, walk_of}
+use Rattle.group.proofs.Choice.{if_true, if_false}
+use Rattle.journal.specs.Limits.{block_size, records_at, records_end, record_head}
+use Rattle.journal.specs.Block.{record_start, behind_in, record_number, step_right}
+use Rattle.journal.specs.Walk.{Passes, block_at, entered_in, cursor_of, spot_of, moved_of, given_of, walk_of}
 use Rattle.journal.specs.declared.Cursor.{Cursor}
 use Rattle.journal.specs.declared.Form.{Form}
 use Rattle.journal.specs.declared.Form.TheVariants.{Log, Compact}
 use Rattle.journal.specs.declared.Spot.{Spot}
 use Rattle.journal.specs.declared.Walk.{Walk}
-use Rattle.journal.proofs.Records.{step-says}
-use Rattle.journal.proofs.Walking.{given-says, given-none}
+use Rattle.journal.proofs.Records.{step_says}
+use Rattle.journal.proofs.Walking.{given_says, given_none}
 
-pub start-behind : (form : Form) (at : ℕ) → at ≤ recordStart form at
-start-behind Log at = omega arith
-start-behind Compact at = omega arith
+pub start_behind : (form : Form) (at : ℕ) → at ≤ record_start form at
+start_behind Log at = omega arith
+start_behind Compact at = omega arith
 
 -- the record before which a cursor stands: wrong, or the next
 module _ (c : Cursor) (block : List ℕ) (end number : ℕ) (p : Passes c.form block c.at c.before end number) where
-  pub given-end : end ≡ 0 → Walk.End ≡ given_of c block
+  pub given_end : end ≡ 0 → Walk.End ≡ given_of c block
   unfolding given_of
-  given-end z =
-      if-false (stepRight c.form block c.at c.before) _ _ _
-      (given-none (stepRight c.form block c.at c.before) (behindIn c.form block c.at) end p.ends z (omega arith)) refl
+  given_end z =
+      if_false (step_right c.form block c.at c.before) _ _ _
+      (given_none (step_right c.form block c.at c.before) (behind_in c.form block c.at) end p.ends z (omega arith)) refl
 
-  pub given-bounds : (end ≡ 0 → ⊥) → (c.at + recordHead ≤ recordsEnd) × (recordStart c.form c.at + recordHead ≤ recordsEnd) × (end ≤ recordsEnd)
-  given-bounds n =
-      let (right, same) = given-says (stepRight c.form block c.at c.before) (behindIn c.form block c.at) end p.ends n in
-      let s = (step-says block c.form c.at c.before right).1 in
+  pub given_bounds : (end ≡ 0 → ⊥) → (c.at + record_head ≤ records_end) × (record_start c.form c.at + record_head ≤ records_end) × (end ≤ records_end)
+  given_bounds n =
+      let (right, same) = given_says (step_right c.form block c.at c.before) (behind_in c.form block c.at) end p.ends n in
+      let s = (step_says block c.form c.at c.before right).1 in
       let b = s.begins in
       let e = s.ends in
-      let k = start-behind c.form c.at in
+      let k = start_behind c.form c.at in
       (omega arith, b, rw same e)
 
-  pub given-next : (end ≡ 0 → ⊥) → (left : ℕ) → left ≡ c.left - 1
-      → Walk.Next (record { number = record { 0 = number }; start = c.base + recordStart c.form c.at; end = c.base + end })
+  pub given_next : (end ≡ 0 → ⊥) → (left : ℕ) → left ≡ c.left - 1
+      → Walk.Next (record { number = record { 0 = number }; start = c.base + record_start c.form c.at; end = c.base + end })
       (record { base = c.base; blocks = c.blocks; form = c.form; at = end; before = number; left = left })
       ≡ given_of c block
   unfolding given_of
-  given-next n left e =
-      let (right, same) = given-says (stepRight c.form block c.at c.before) (behindIn c.form block c.at) end p.ends n in
-      if-true (stepRight c.form block c.at c.before) _ _ _ right (rw (e, p.numbered n, same))
+  given_next n left e =
+      let (right, same) = given_says (step_right c.form block c.at c.before) (behind_in c.form block c.at) end p.ends n in
+      if_true (step_right c.form block c.at c.before) _ _ _ right (rw (e, p.numbered n, same))
 
 -- what the code tests of a cursor
 module _ (c : Cursor) (journal : List ℕ) where
   pub walk_none : c.blocks < 1 → Walk.End ≡ walk_of c journal
   unfolding walk_of
-  walk_none h = if-true (c.blocks <? 1) _ _ _ (lt-ltb c.blocks 1 h) refl
+  walk_none h = if_true (c.blocks <? 1) _ _ _ (lt-ltb c.blocks 1 h) refl
 
   pub walk_here : 1 ≤ c.blocks → 0 < c.left → given_of c (block_at journal c.base) ≡ walk_of c journal
   unfolding walk_of
-  walk_here h k = if-false (c.blocks <? 1) _ _ _ (le-ltb c.blocks 1 h) (if-true (0 <? c.left) _ _ _ (lt-ltb 0 c.left k) refl)
+  walk_here h k = if_false (c.blocks <? 1) _ _ _ (le-ltb c.blocks 1 h) (if_true (0 <? c.left) _ _ _ (lt-ltb 0 c.left k) refl)
 
-  pub walk-last : 1 ≤ c.blocks → c.left ≤ 0 → c.blocks < 2 → Walk.End ≡ walk_of c journal
+  pub walk_last : 1 ≤ c.blocks → c.left ≤ 0 → c.blocks < 2 → Walk.End ≡ walk_of c journal
   unfolding walk_of
-  walk-last h k l =
-      if-false (c.blocks <? 1) _ _ _ (le-ltb c.blocks 1 h)
-      (if-false (0 <? c.left) _ _ _ (le-ltb 0 c.left k) (if-true (c.blocks <? 2) _ _ _ (lt-ltb c.blocks 2 l) refl))
+  walk_last h k l =
+      if_false (c.blocks <? 1) _ _ _ (le-ltb c.blocks 1 h)
+      (if_false (0 <? c.left) _ _ _ (le-ltb 0 c.left k) (if_true (c.blocks <? 2) _ _ _ (lt-ltb c.blocks 2 l) refl))
 
-  pub walk-on : c.left ≤ 0 → 2 ≤ c.blocks
-      → given_of (entered_in (block_at journal (c.base + blockSize)) (c.base + blockSize) (c.blocks - 1)) (block_at journal (c.base + blockSize)) ≡ walk_of c journal
+  pub walk_on : c.left ≤ 0 → 2 ≤ c.blocks
+      → given_of (entered_in (block_at journal (c.base + block_size)) (c.base + block_size) (c.blocks - 1)) (block_at journal (c.base + block_size)) ≡ walk_of c journal
   unfolding walk_of
-  walk-on k l =
-      if-false (c.blocks <? 1) _ _ _ (le-ltb c.blocks 1 (omega arith))
-      (if-false (0 <? c.left) _ _ _ (le-ltb 0 c.left k) (if-false (c.blocks <? 2) _ _ _ (le-ltb c.blocks 2 l) refl))
+  walk_on k l =
+      if_false (c.blocks <? 1) _ _ _ (le-ltb c.blocks 1 (omega arith))
+      (if_false (0 <? c.left) _ _ _ (le-ltb 0 c.left k) (if_false (c.blocks <? 2) _ _ _ (le-ltb c.blocks 2 l) refl))
 
-pub cursor-none : (journal : List ℕ) (blocks : ℕ) → blocks ≡ 0
-    → record { base = 0; blocks = 0; form = Log; at = recordsAt; before = 0; left = 0 } ≡ cursorOf journal blocks
-unfolding cursorOf
-cursor-none journal blocks e = if-true (blocks =? 0) _ _ _ (eq-eqb blocks 0 e) refl
+pub cursor_none : (journal : List ℕ) (blocks : ℕ) → blocks ≡ 0
+    → record { base = 0; blocks = 0; form = Log; at = records_at; before = 0; left = 0 } ≡ cursor_of journal blocks
+unfolding cursor_of
+cursor_none journal blocks e = if_true (blocks =? 0) _ _ _ (eq-eqb blocks 0 e) refl
 
-pub cursor-first : (journal : List ℕ) (blocks : ℕ) → (blocks ≡ 0 → ⊥) → entered_in (block_at journal 0) 0 blocks ≡ cursorOf journal blocks
-unfolding cursorOf
-cursor-first journal blocks n = if-false (blocks =? 0) _ _ _ (ne_eqb blocks 0 n) refl
+pub cursor_first : (journal : List ℕ) (blocks : ℕ) → (blocks ≡ 0 → ⊥) → entered_in (block_at journal 0) 0 blocks ≡ cursor_of journal blocks
+unfolding cursor_of
+cursor_first journal blocks n = if_false (blocks =? 0) _ _ _ (ne_eqb blocks 0 n) refl

@@ -9,26 +9,26 @@ use lib.ListN.{length}
 use Rattle.group.specs.Choice.{if◌then◌else◌, ask◌or◌then◌, ◌and◌, ◌≤?◌, ◌=?◌}
 use Rattle.group.specs.declared.Refusal.TheVariants.{UnsoundState, WrongJournal}
 use Rattle.group.specs.declared.Verdict.{Verdict}
-use Rattle.group.proofs.Choice.{if-true}
-use Rattle.group.specs.Question.{firstNo, judged}
-use Rattle.group.proofs.Lists.{if-elim}
-use Rattle.group.proofs.Question.{judged-ask}
+use Rattle.group.proofs.Choice.{if_true}
+use Rattle.group.specs.Question.{first_no, judged}
+use Rattle.group.proofs.Lists.{if_elim}
+use Rattle.group.proofs.Question.{judged_ask}
 use Rattle.message.specs.Order.{Ordered}
-use Rattle.text.specs.LaidAt.{writtenAt}
-use Rattle.journal.specs.Limits.{blockSize, recordsAt, recordsEnd}
-use Rattle.journal.specs.Block.{recordOf, recordsOf, follows}
-use Rattle.journal.specs.Read.{foundIn, counted, read_of}
-use Rattle.journal.specs.Write.{Outcome, writerAfter, writerSound, allowed, begun, inHand, refused, keptOf, writeVerdict, closedOf, writeOf, finishOf}
-use Rattle.journal.specs.Laws.{Fits, Allowed, handed, joint, messagesIn, Writes, starts, keeps, closes, RoundTrip, InOrder, ReadFirstNo, WriteFirstNo, FinishFirstNo, WriterSound}
+use Rattle.text.specs.LaidAt.{written_at}
+use Rattle.journal.specs.Limits.{block_size, records_at, records_end}
+use Rattle.journal.specs.Block.{record_of, records_of, follows}
+use Rattle.journal.specs.Read.{found_in, counted, read_of}
+use Rattle.journal.specs.Write.{Outcome, writer_after, writer_sound, allowed, begun, in_hand, refused, kept_of, write_verdict, closed_of, write_of, finish_of}
+use Rattle.journal.specs.Laws.{Fits, Allowed, handed, joint, messages_in, Writes, starts, keeps, closes, RoundTrip, InOrder, ReadFirstNo, WriteFirstNo, FinishFirstNo, WriterSound}
 use Rattle.journal.specs.declared.Reading.{Reading}
 use Rattle.journal.specs.declared.Tail.{Tail}
 use Rattle.journal.specs.declared.Writer.{Writer}
 use Rattle.journal.specs.declared.Answer.TheVariants.{Kept, Closed}
-use Rattle.journal.proofs.Records.{may, record-length}
+use Rattle.journal.proofs.Records.{may, record_length}
 use Rattle.journal.proofs.Whole.{whole_append, whole_to, to_whole}
-use Rattle.journal.proofs.Rights.{Rights, rights-whole, rights-append, messages-append}
-use Rattle.journal.proofs.Sound.{accepted-says}
-use Rattle.journal.proofs.Pending.{Pending, pending-none, pending-sound, pending-more, block_out, closed-out}
+use Rattle.journal.proofs.Rights.{Rights, rights_whole, rights_append, messages_append}
+use Rattle.journal.proofs.Sound.{accepted_says}
+use Rattle.journal.proofs.Pending.{Pending, pending_none, pending_sound, pending_more, block_out, closed_out}
 
 -- what holds after every call: the blocks handed out are right one behind the other, and the messages that do not stand in
 -- them are in hand
@@ -36,7 +36,7 @@ pub record Holds (start : Tail) (ms : List Ordered) (blocks : List (List ℕ)) (
   pub tail : Tail
   pub pending : List Ordered
   pub rights : Rights start blocks tail
-  pub order : messagesIn blocks ++ pending ≡ ms
+  pub order : messages_in blocks ++ pending ≡ ms
   pub held : Pending tail pending w hand
 
 -- a message that was kept was accepted
@@ -47,28 +47,28 @@ kept_by Verdict.Accepted x w hand e = (refl, refl)
 kept_by (Verdict.Refused r) x w hand e = absurd (let z : ◌≡◌ {A = ℕ} 0 1 = cc in omega arith)
 
 -- a shutdown is never refused
-finished : (u : Tail) (ms : List Ordered) (w : Writer) (hand : List ℕ) → Pending u ms w hand → finishOf w hand ≡ closedOf w hand
-unfolding finishOf
-finished u ms w hand p = sym (if-true (writerSound w) _ _ _ (pending-sound u ms w hand p) refl)
+finished : (u : Tail) (ms : List Ordered) (w : Writer) (hand : List ℕ) → Pending u ms w hand → finish_of w hand ≡ closed_of w hand
+unfolding finish_of
+finished u ms w hand p = sym (if_true (writer_sound w) _ _ _ (pending_sound u ms w hand p) refl)
 
 -- a record that does not fit: the block in hand is handed out, and the record begins the next
-begun-out : (u : Tail) (ms : List Ordered) (w : Writer) (hand : List ℕ) (m : Ordered) → Pending u ms w hand → Allowed m
-    → follows w.tail m.number ≡ true → recordsEnd < w.used + length (recordOf m)
-    → Rights u (handed (inHand w hand)) w.tail × (messagesIn (handed (inHand w hand)) ≡ ms)
-    × Pending w.tail (m ∷ []) (begun m) (writtenAt recordsAt (recordOf m) hand)
-unfolding recordsOf if◌then◌else◌
-begun-out u [] w hand m p a follow full =
+begun_out : (u : Tail) (ms : List Ordered) (w : Writer) (hand : List ℕ) (m : Ordered) → Pending u ms w hand → Allowed m
+    → follows w.tail m.number ≡ true → records_end < w.used + length (record_of m)
+    → Rights u (handed (in_hand w hand)) w.tail × (messages_in (handed (in_hand w hand)) ≡ ms)
+    × Pending w.tail (m ∷ []) (begun m) (written_at records_at (record_of m) hand)
+unfolding records_of if◌then◌else◌
+begun_out u [] w hand m p a follow full =
     let e = p.used in
-    let l = record-length m in
+    let l = record_length m in
     let y = (may m a.may).size in
     absurd (omega arith)
-begun-out u (x ∷ ms) w hand m p a follow full =
-    let l = record-length m in
+begun_out u (x ∷ ms) w hand m p a follow full =
+    let l = record_length m in
     let y = (may m a.may).size in
     let (rights, messages) = block_out u x ms w hand p in (
       rights,
       messages,
-      pending-more w.tail [] (writerAfter w.tail) hand m (pending-none w.tail hand p.room) a follow (omega arith),
+      pending_more w.tail [] (writer_after w.tail) hand m (pending_none w.tail hand p.room) a follow (omega arith),
     )
 
 -- what holds after a call, from what it left
@@ -77,87 +77,87 @@ Next start ms blocks o = Holds start ms (blocks ++ handed o.bytes) o.writer o.ha
 
 module _ (start : Tail) (ms : List Ordered) (blocks : List (List ℕ)) (w : Writer) (hand : List ℕ) (h : Holds start ms blocks w hand) where
   -- every message stands in a block once the block in hand is handed out
-  out-order : (more : List (List ℕ)) → messagesIn more ≡ h.pending → messagesIn (blocks ++ more) ≡ ms
-  out-order more e = messages-append blocks more ∙ rw e h.order
+  out_order : (more : List (List ℕ)) → messages_in more ≡ h.pending → messages_in (blocks ++ more) ≡ ms
+  out_order more e = messages_append blocks more ∙ rw e h.order
 
-  after-keep : (m : Ordered) → Fits m → (writeOf w m hand).answer ≡ Kept → Next start (ms ++ (m ∷ [])) blocks (writeOf w m hand)
-  unfolding writeOf keptOf handed
-  after-keep m fits e =
-      let (accepted, same) = kept_by (writeVerdict w m) (keptOf w m hand) w hand e in
-      let (_, may, f) = accepted-says w m accepted in
+  after_keep : (m : Ordered) → Fits m → (write_of w m hand).answer ≡ Kept → Next start (ms ++ (m ∷ [])) blocks (write_of w m hand)
+  unfolding write_of kept_of handed
+  after_keep m fits e =
+      let (accepted, same) = kept_by (write_verdict w m) (kept_of w m hand) w hand e in
+      let (_, may, f) = accepted_says w m accepted in
       let a : Allowed m = record { fits = fits; may = may } in
       subst (Next start (ms ++ (m ∷ [])) blocks) (sym same)
-      (if-elim (Next start (ms ++ (m ∷ [])) blocks) (w.used + length (recordOf m) ≤? recordsEnd)
+      (if_elim (Next start (ms ++ (m ∷ [])) blocks) (w.used + length (record_of m) ≤? records_end)
       (λ t.
       rw append-nil
       (record {
         tail = h.tail;
         pending = h.pending ++ (m ∷ []);
         rights = h.rights;
-        order = sym (append_assoc (messagesIn blocks) h.pending (m ∷ [])) ∙ ap (λ (x : List Ordered). x ++ (m ∷ [])) h.order;
-        held = pending-more h.tail h.pending w hand m h.held a f (leb-true _ _ t);
+        order = sym (append_assoc (messages_in blocks) h.pending (m ∷ [])) ∙ ap (λ (x : List Ordered). x ++ (m ∷ [])) h.order;
+        held = pending_more h.tail h.pending w hand m h.held a f (leb-true _ _ t);
       }))
       (λ t.
-      let (rights, messages, held) = begun-out h.tail h.pending w hand m h.held a f (leb-false _ _ t) in
+      let (rights, messages, held) = begun_out h.tail h.pending w hand m h.held a f (leb-false _ _ t) in
       record {
         tail = w.tail;
         pending = m ∷ [];
-        rights = rights-append start h.tail w.tail blocks (handed (inHand w hand)) h.rights rights;
-        order = ap (λ (x : List Ordered). x ++ (m ∷ [])) (out-order (handed (inHand w hand)) messages);
+        rights = rights_append start h.tail w.tail blocks (handed (in_hand w hand)) h.rights rights;
+        order = ap (λ (x : List Ordered). x ++ (m ∷ [])) (out_order (handed (in_hand w hand)) messages);
         held = held;
       }))
 
   -- what shutdown hands out is right behind the blocks, and with it every message stands in a block
-  after-close : Rights start (blocks ++ handed (finishOf w hand).bytes) w.tail × (messagesIn (blocks ++ handed (finishOf w hand).bytes) ≡ ms)
-  after-close =
-      let (rights, messages) = closed-out h.tail h.pending w hand h.held in
+  after_close : Rights start (blocks ++ handed (finish_of w hand).bytes) w.tail × (messages_in (blocks ++ handed (finish_of w hand).bytes) ≡ ms)
+  after_close =
+      let (rights, messages) = closed_out h.tail h.pending w hand h.held in
       rw (finished h.tail h.pending w hand h.held)
-      (rights-append start h.tail w.tail blocks _ h.rights rights, out-order _ messages)
+      (rights_append start h.tail w.tail blocks _ h.rights rights, out_order _ messages)
 
-  after-closed : Next start ms blocks (finishOf w hand)
-  after-closed =
-      let (rights, messages) = after-close in
+  after_closed : Next start ms blocks (finish_of w hand)
+  after_closed =
+      let (rights, messages) = after_close in
       let same = finished h.tail h.pending w hand h.held in
       record {
         tail = w.tail;
         pending = [];
         rights = rights;
         order = append-nil _ ∙ messages;
-        held = rw same (pending-none w.tail hand h.held.room);
+        held = rw same (pending_none w.tail hand h.held.room);
       }
 
 pub holds : (start : Tail) (ms : List Ordered) (blocks : List (List ℕ)) (w : Writer) (hand : List ℕ) → Writes start ms blocks w hand
     → Holds start ms blocks w hand
-unfolding messagesIn
-holds start ms blocks w hand (starts n) = record { tail = start; pending = []; rights = refl; order = refl; held = pending-none start _ n }
-holds start ms blocks w hand (keeps r m fits e) = after-keep start _ _ _ _ (holds start _ _ _ _ r) m fits e
-holds start ms blocks w hand (closes r e) = after-closed start _ _ _ _ (holds start _ _ _ _ r)
+unfolding messages_in
+holds start ms blocks w hand (starts n) = record { tail = start; pending = []; rights = refl; order = refl; held = pending_none start _ n }
+holds start ms blocks w hand (keeps r m fits e) = after_keep start _ _ _ _ (holds start _ _ _ _ r) m fits e
+holds start ms blocks w hand (closes r e) = after_closed start _ _ _ _ (holds start _ _ _ _ r)
 
 pub in_order : InOrder
-in_order ms start blocks w hand r = (after-close start ms blocks w hand (holds start ms blocks w hand r)).1
+in_order ms start blocks w hand r = (after_close start ms blocks w hand (holds start ms blocks w hand r)).1
 
 pub round_trip : RoundTrip
 round_trip journal old ms start blocks w hand whole r =
     let h = holds start ms blocks w hand r in
-    let (rights, messages) = after-close start ms blocks w hand h in
-    let all = blocks ++ handed (finishOf w hand).bytes in
+    let (rights, messages) = after_close start ms blocks w hand h in
+    let all = blocks ++ handed (finish_of w hand).bytes in
     let front = to_whole journal old start whole in
-    let back = rw messages at (rights-whole start w.tail all rights) in (
+    let back = rw messages at (rights_whole start w.tail all rights) in (
       ap (λ (o : Outcome). o.answer) (finished h.tail h.pending w hand h.held),
       whole_to _ _ _ _ (whole_append _ _ _ journal (joint all) _ _ old ms front back),
     )
 
-pub writer-sound : WriterSound
-writer-sound ms start blocks w hand r = let h = holds start ms blocks w hand r in pending-sound h.tail h.pending w hand h.held
+pub writer_sound_lem : WriterSound
+writer_sound_lem ms start blocks w hand r = let h = holds start ms blocks w hand r in pending_sound h.tail h.pending w hand h.held
 
-pub read-first-no : ReadFirstNo
-unfolding read_of firstNo judged
-read-first-no journal = judged-ask Reading.Refused (Reading.Read (counted (foundIn journal))) (length journal % blockSize =? 0) WrongJournal []
+pub read_first_no : ReadFirstNo
+unfolding read_of first_no judged
+read_first_no journal = judged_ask Reading.Refused (Reading.Read (counted (found_in journal))) (length journal % block_size =? 0) WrongJournal []
 
-pub write-first-no : WriteFirstNo
-unfolding writeOf writeVerdict firstNo
-write-first-no w m hand = refl
+pub write_first_no : WriteFirstNo
+unfolding write_of write_verdict first_no
+write_first_no w m hand = refl
 
-pub finish-first-no : FinishFirstNo
-unfolding finishOf firstNo judged
-finish-first-no w hand = judged-ask (refused w hand) (closedOf w hand) (writerSound w) UnsoundState []
+pub finish_first_no : FinishFirstNo
+unfolding finish_of first_no judged
+finish_first_no w hand = judged_ask (refused w hand) (closed_of w hand) (writer_sound w) UnsoundState []

@@ -10,22 +10,22 @@ use lib.ListN.{length, get_or, take, drop, replicate, length-append, length-drop
 use lib.Seq.{length-take-le, drop-cons, get_or-take, get_or-drop, drop-drop, drop-append-le, take_at}
 use Rattle.group.specs.Choice.{if◌then◌else◌, ◌<?◌, ◌≤?◌, ◌=?◌}
 use Rattle.group.specs.Fold.{all}
-use Rattle.group.specs.Limits.{membersMost, payloadMost}
-use Rattle.group.proofs.Choice.{says, both_hold, both_first, both-then}
-use Rattle.message.specs.Message.{allZero}
+use Rattle.group.specs.Limits.{members_most, payload_most}
+use Rattle.group.proofs.Choice.{says, both_hold, both_first, both_then}
+use Rattle.message.specs.Message.{all_zero}
 use Rattle.big_endian.specs.Laws.{Bytes}
 use Rattle.big_endian.specs.Number.{number_at, bytes_of}
-use Rattle.big_endian.proofs.Number.{bytesOf-length, number_fits, bytes-of-number-then}
+use Rattle.big_endian.proofs.Number.{bytes_of-length, number_fits, bytes_of_number_then}
 use Rattle.message.specs.Order.{Ordered}
-use Rattle.journal.specs.Limits.{blockSize, recordsAt, recordsEnd, recordHead, numberSize, mark, compactMark}
-use Rattle.journal.specs.Block.{sumFrom, recordOf, framedBy, framed, block_of, compactFramed, compactOf, first_at, recordsIn, sum_at, length_at, behind, follows, recordStart, behindIn, recordNumber, stepRight, recordsRight, marked, form_of, formRight, sumRight, contentRight, blockRight, messageAt, messagesFrom, messagesOf}
+use Rattle.journal.specs.Limits.{block_size, records_at, records_end, record_head, number_size, mark, compact_mark}
+use Rattle.journal.specs.Block.{sum_from, record_of, framed_by, framed, block_of, compact_framed, compact_of, first_at, records_in, sum_at, length_at, behind, follows, record_start, behind_in, record_number, step_right, records_right, marked, form_of, form_right, sum_right, content_right, block_right, message_at, messages_from, messages_of}
 use Rattle.journal.specs.Write.{allowed}
-use Rattle.journal.specs.Laws.{Allowed, NextNumber, NumberedIn, recordsWith, blockWith, BlockOnly}
+use Rattle.journal.specs.Laws.{Allowed, NextNumber, NumberedIn, records_with, block_with, BlockOnly}
 use Rattle.journal.specs.declared.Form.{Form}
 use Rattle.journal.specs.declared.Form.TheVariants.{Log, Compact}
 use Rattle.journal.specs.declared.Tail.{Tail}
-use Rattle.journal.proofs.Records.{Says, step-says, record-length}
-use Rattle.journal.proofs.Blocks.{recordWithin, records-nil, records-cons, frame-length}
+use Rattle.journal.proofs.Records.{Says, step_says, record_length}
+use Rattle.journal.proofs.Blocks.{record_within, records_nil, records_cons, frame_length}
 
 -- parts of bytes are bytes
 pub bytes_take : (n : ℕ) (l : List ℕ) → Bytes l → n ≤ length l → Bytes (take n l)
@@ -36,61 +36,61 @@ pub bytes_drop : (n : ℕ) (l : List ℕ) → Bytes l → Bytes (drop n l)
 unfolding Bytes
 bytes_drop n l b = λ i k. let e = length-drop n l in rw (get_or-drop n l i 0) (b (n + i) (omega arith))
 
-zeros-only : (l : List ℕ) → allZero l ≡ true → l ≡ replicate (length l) 0
-unfolding allZero
-zeros-only [] e = refl
-zeros-only (b ∷ l) e =
-    let z : b ≡ 0 = eqb-true b 0 (both_first (b =? 0) (allZero l) e) in
-    rw z (ap (λ (x : List ℕ). 0 ∷ x) (zeros-only l (both-then (b =? 0) (allZero l) e)))
+zeros_only : (l : List ℕ) → all_zero l ≡ true → l ≡ replicate (length l) 0
+unfolding all_zero
+zeros_only [] e = refl
+zeros_only (b ∷ l) e =
+    let z : b ≡ 0 = eqb-true b 0 (both_first (b =? 0) (all_zero l) e) in
+    rw z (ap (λ (x : List ℕ). 0 ∷ x) (zeros_only l (both_then (b =? 0) (all_zero l) e)))
 
-module _ (block : List ℕ) (bytes : Bytes block) (long : length block ≡ blockSize) where
+module _ (block : List ℕ) (bytes : Bytes block) (long : length block ≡ block_size) where
   -- a right record holds an allowed message, and its bytes are those of that message
-  payload-length : (at number : ℕ) → Says block at number → length (take (length_at block at) (drop (at + recordHead) block)) ≡ length_at block at
-  payload-length at number s =
-      let d = length-drop (at + recordHead) block in
+  payload_length : (at number : ℕ) → Says block at number → length (take (length_at block at) (drop (at + record_head) block)) ≡ length_at block at
+  payload_length at number s =
+      let d = length-drop (at + record_head) block in
       let h = s.ends in
-      length-take-le (length_at block at) (drop (at + recordHead) block) (omega arith)
+      length-take-le (length_at block at) (drop (at + record_head) block) (omega arith)
 
-  message-length : (at number : ℕ) → Says block at number → length (messageAt block at number).payload ≡ length_at block at
-  unfolding messageAt
-  message-length at number s = payload-length at number s
+  message_length : (at number : ℕ) → Says block at number → length (message_at block at number).payload ≡ length_at block at
+  unfolding message_at
+  message_length at number s = payload_length at number s
 
-  pub message-number : (at number : ℕ) → (messageAt block at number).number ≡ number
-  unfolding messageAt
-  message-number at number = refl
+  pub message_number : (at number : ℕ) → (message_at block at number).number ≡ number
+  unfolding message_at
+  message_number at number = refl
 
-  record-allowed : (at number : ℕ) → Says block at number → Allowed (messageAt block at number)
-  unfolding messageAt allowed
-  record-allowed at number s =
-      let d = length-drop (at + recordHead) block in
+  record_allowed : (at number : ℕ) → Says block at number → Allowed (message_at block at number)
+  unfolding message_at allowed
+  record_allowed at number s =
+      let d = length-drop (at + record_head) block in
       let h = s.ends in
       let c = number_fits block bytes 4 (at + 1) (omega arith) in
-      let l = payload-length at number s in
+      let l = payload_length at number s in
       record {
         fits =
             record {
               number = s.most;
               count = omega arith;
-              payload = bytes_take (length_at block at) (drop (at + recordHead) block) (bytes_drop (at + recordHead) block bytes) (omega arith);
+              payload = bytes_take (length_at block at) (drop (at + record_head) block) (bytes_drop (at + record_head) block bytes) (omega arith);
             };
         may =
-            both_hold (get_or block at 0 <? membersMost) _ (lt-ltb _ _ s.originator)
-            (both_hold (length (take (length_at block at) (drop (at + recordHead) block)) ≤? payloadMost) _ (rw l (le-leb _ _ s.size))
+            both_hold (get_or block at 0 <? members_most) _ (lt-ltb _ _ s.originator)
+            (both_hold (length (take (length_at block at) (drop (at + record_head) block)) ≤? payload_most) _ (rw l (le-leb _ _ s.size))
             (le-leb 1 (number_at 4 block (at + 1)) s.count));
       }
 
-  record-only : (at number : ℕ) → Says block at number → drop at block ≡ recordOf (messageAt block at number) ++ drop (behind block at) block
-  unfolding messageAt recordOf
-  record-only at number s =
+  record_only : (at number : ℕ) → Says block at number → drop at block ≡ record_of (message_at block at number) ++ drop (behind block at) block
+  unfolding message_at record_of
+  record_only at number s =
       let h = s.ends in
-      let payload = take (length_at block at) (drop (at + recordHead) block) in
-      let l = payload-length at number s in
+      let payload = take (length_at block at) (drop (at + record_head) block) in
+      let l = payload_length at number s in
       let e5 : at + 1 + 4 ≡ at + 5 = omega arith in
-      let e7 : at + 5 + 2 ≡ at + recordHead = omega arith in
-      let p : payload ++ drop (behind block at) block ≡ drop (at + recordHead) block =
-      rw (← (drop-drop (length_at block at) (at + recordHead) block)) (take-append-drop (length_at block at) (drop (at + recordHead) block)) in
-      let q : bytes_of 2 (length_at block at) ++ drop (at + recordHead) block ≡ drop (at + 5) block = rw e7 at (bytes-of-number-then block bytes 2 (at + 5) (omega arith)) in
-      let r : bytes_of 4 (number_at 4 block (at + 1)) ++ drop (at + 5) block ≡ drop (at + 1) block = rw e5 at (bytes-of-number-then block bytes 4 (at + 1) (omega arith)) in
+      let e7 : at + 5 + 2 ≡ at + record_head = omega arith in
+      let p : payload ++ drop (behind block at) block ≡ drop (at + record_head) block =
+      rw (← (drop-drop (length_at block at) (at + record_head) block)) (take-append-drop (length_at block at) (drop (at + record_head) block)) in
+      let q : bytes_of 2 (length_at block at) ++ drop (at + record_head) block ≡ drop (at + 5) block = rw e7 at (bytes_of_number_then block bytes 2 (at + 5) (omega arith)) in
+      let r : bytes_of 4 (number_at 4 block (at + 1)) ++ drop (at + 5) block ≡ drop (at + 1) block = rw e5 at (bytes_of_number_then block bytes 4 (at + 1) (omega arith)) in
       let o : drop at block ≡ get_or block at 0 ∷ drop (at + 1) block = rw add-one (drop-cons block at 0 (omega arith)) in
       o ∙ ap (λ (x : List ℕ). get_or block at 0 ∷ x)
       (sym (rw l
@@ -100,82 +100,82 @@ module _ (block : List ℕ) (bytes : Bytes block) (long : length block ≡ block
       ∙ r)))
 
   -- the record at an index of a block of a form, its number, and what stands behind it
-  next-number : (form : Form) (at before : ℕ) → before < recordNumber form block at before → NextNumber form before (recordNumber form block at before)
-  next-number Log at before h = refl
-  next-number Compact at before h = h
+  next_number_lem : (form : Form) (at before : ℕ) → before < record_number form block at before → NextNumber form before (record_number form block at before)
+  next_number_lem Log at before h = refl
+  next_number_lem Compact at before h = h
 
-  abbrev messageIn : Form → ℕ → ℕ → Ordered
-  messageIn form at before = messageAt block (recordStart form at) (recordNumber form block at before)
+  abbrev message_in : Form → ℕ → ℕ → Ordered
+  message_in form at before = message_at block (record_start form at) (record_number form block at before)
 
-  step-only : (form : Form) (at before : ℕ) → Says block (recordStart form at) (recordNumber form block at before)
-      → drop at block ≡ recordWithin form (messageIn form at before) ++ drop (behindIn form block at) block
-  step-only Log at before s = record-only at (before + 1) s
-  step-only Compact at before s =
+  step_only : (form : Form) (at before : ℕ) → Says block (record_start form at) (record_number form block at before)
+      → drop at block ≡ record_within form (message_in form at before) ++ drop (behind_in form block at) block
+  step_only Log at before s = record_only at (before + 1) s
+  step_only Compact at before s =
       let h = s.ends in
-      let number = number_at numberSize block at in
-      let m = messageAt block (at + numberSize) number in
-      sym (bytes-of-number-then block bytes numberSize at (omega arith))
-      ∙ ap (λ (x : List ℕ). bytes_of numberSize number ++ x) (record-only (at + numberSize) number s)
-      ∙ sym (append_assoc (bytes_of numberSize number) (recordOf m) (drop (behind block (at + numberSize)) block))
-      ∙ ap (λ (x : ℕ). (bytes_of numberSize x ++ recordOf m) ++ drop (behind block (at + numberSize)) block) (sym (message-number (at + numberSize) number))
+      let number = number_at number_size block at in
+      let m = message_at block (at + number_size) number in
+      sym (bytes_of_number_then block bytes number_size at (omega arith))
+      ∙ ap (λ (x : List ℕ). bytes_of number_size number ++ x) (record_only (at + number_size) number s)
+      ∙ sym (append_assoc (bytes_of number_size number) (record_of m) (drop (behind block (at + number_size)) block))
+      ∙ ap (λ (x : ℕ). (bytes_of number_size x ++ record_of m) ++ drop (behind block (at + number_size)) block) (sym (message_number (at + number_size) number))
 
-  step-ends : (form : Form) (at before : ℕ) → Says block (recordStart form at) (recordNumber form block at before)
-      → behindIn form block at ≡ at + length (recordWithin form (messageIn form at before))
-  step-ends Log at before s =
-      let l = record-length (messageAt block at (before + 1)) in
-      let n = message-length at (before + 1) s in
+  step_ends : (form : Form) (at before : ℕ) → Says block (record_start form at) (record_number form block at before)
+      → behind_in form block at ≡ at + length (record_within form (message_in form at before))
+  step_ends Log at before s =
+      let l = record_length (message_at block at (before + 1)) in
+      let n = message_length at (before + 1) s in
       omega arith
-  step-ends Compact at before s =
-      let m = messageAt block (at + numberSize) (number_at numberSize block at) in
-      let l = record-length m in
-      let n = message-length (at + numberSize) (number_at numberSize block at) s in
-      let a = length-append (bytes_of numberSize m.number) (recordOf m) in
-      let b = bytesOf-length numberSize m.number in
+  step_ends Compact at before s =
+      let m = message_at block (at + number_size) (number_at number_size block at) in
+      let l = record_length m in
+      let n = message_length (at + number_size) (number_at number_size block at) s in
+      let a = length-append (bytes_of number_size m.number) (record_of m) in
+      let b = bytes_of-length number_size m.number in
       omega arith
 
   -- so many right records from an index on, and the zeros behind them
-  pub records-only : (form : Form) (at before k : ℕ) → at ≤ recordsEnd → recordsRight form block at before k ≡ true
-      → let ms = messagesFrom form block at before k in
-      NumberedIn form before ms × (at + length (recordsWith form ms) ≤ recordsEnd)
-      × (drop at block ≡ recordsWith form ms ++ (replicate (recordsEnd - at - length (recordsWith form ms)) 0 ++ drop recordsEnd block))
-  unfolding recordsRight messagesFrom NumberedIn
-  records-only form at before zero h e =
-      let nil = records-nil form in
-      let front = take recordsEnd block in
-      let l : length front ≡ recordsEnd = length-take-le recordsEnd block (omega arith) in
+  pub records_only : (form : Form) (at before k : ℕ) → at ≤ records_end → records_right form block at before k ≡ true
+      → let ms = messages_from form block at before k in
+      NumberedIn form before ms × (at + length (records_with form ms) ≤ records_end)
+      × (drop at block ≡ records_with form ms ++ (replicate (records_end - at - length (records_with form ms)) 0 ++ drop records_end block))
+  unfolding records_right messages_from NumberedIn
+  records_only form at before zero h e =
+      let nil = records_nil form in
+      let front = take records_end block in
+      let l : length front ≡ records_end = length-take-le records_end block (omega arith) in
       let d = length-drop at front in
-      let n : length (drop at front) ≡ recordsEnd - at - 0 = omega arith in
-      let z : drop at front ≡ replicate (recordsEnd - at - 0) 0 = zeros-only (drop at front) e ∙ rw n in (
+      let n : length (drop at front) ≡ records_end - at - 0 = omega arith in
+      let z : drop at front ≡ replicate (records_end - at - 0) 0 = zeros_only (drop at front) e ∙ rw n in (
         tt,
         rw nil (omega arith),
         rw nil
-            (ap (drop at) (sym (take-append-drop recordsEnd block))
-            ∙ drop-append-le at front (drop recordsEnd block) (omega arith)
-            ∙ ap (λ (x : List ℕ). x ++ drop recordsEnd block) z),
+            (ap (drop at) (sym (take-append-drop records_end block))
+            ∙ drop-append-le at front (drop records_end block) (omega arith)
+            ∙ ap (λ (x : List ℕ). x ++ drop records_end block) z),
       )
-  records-only form at before (suc k) h e =
-      let (above, s) = step-says block form at before (both_first (stepRight form block at before) _ e) in
-      let number = recordNumber form block at before in
-      let m = messageIn form at before in
+  records_only form at before (suc k) h e =
+      let (above, s) = step_says block form at before (both_first (step_right form block at before) _ e) in
+      let number = record_number form block at before in
+      let m = message_in form at before in
       let b = s.ends in
-      let (numbered, fits, rest) = records-only form (behindIn form block at) number k b (both-then (stepRight form block at before) _ e) in
-      let ms = messagesFrom form block (behindIn form block at) number k in
-      let one = recordWithin form m in
-      let cons = records-cons form m ms in
-      let a = length-append one (recordsWith form ms) in
-      let l = step-ends form at before s in
-      let v = message-number (recordStart form at) number in
-      let z : recordsEnd - behindIn form block at - length (recordsWith form ms) ≡ recordsEnd - at - length (one ++ recordsWith form ms) = omega arith in (
-        (record-allowed (recordStart form at) number s, rw v (next-number form at before above), rw v numbered),
+      let (numbered, fits, rest) = records_only form (behind_in form block at) number k b (both_then (step_right form block at before) _ e) in
+      let ms = messages_from form block (behind_in form block at) number k in
+      let one = record_within form m in
+      let cons = records_cons form m ms in
+      let a = length-append one (records_with form ms) in
+      let l = step_ends form at before s in
+      let v = message_number (record_start form at) number in
+      let z : records_end - behind_in form block at - length (records_with form ms) ≡ records_end - at - length (one ++ records_with form ms) = omega arith in (
+        (record_allowed (record_start form at) number s, rw v (next_number_lem form at before above), rw v numbered),
         rw cons (omega arith),
         rw cons
-            (step-only form at before s ∙ ap (λ (x : List ℕ). one ++ x) (rw z at rest) ∙ sym (append_assoc one (recordsWith form ms) _)),
+            (step_only form at before s ∙ ap (λ (x : List ℕ). one ++ x) (rw z at rest) ∙ sym (append_assoc one (records_with form ms) _)),
       )
 
   -- the mark
-  begins-only : (last : ℕ) → marked (75 ∷ 74 ∷ 66 ∷ last ∷ []) block ≡ true → block ≡ (75 ∷ 74 ∷ 66 ∷ last ∷ []) ++ drop 4 block
+  begins_only : (last : ℕ) → marked (75 ∷ 74 ∷ 66 ∷ last ∷ []) block ≡ true → block ≡ (75 ∷ 74 ∷ 66 ∷ last ∷ []) ++ drop 4 block
   unfolding all
-  begins-only last e =
+  begins_only last e =
       let k : get_or block 0 0 ≡ 75 = search says depth 9 in
       let j : get_or block 1 0 ≡ 74 = search says depth 9 in
       let b : get_or block 2 0 ≡ 66 = search says depth 9 in
@@ -185,63 +185,63 @@ module _ (block : List ℕ) (bytes : Bytes block) (long : length block ≡ block
 
 abbrev mark_of : Form → List ℕ
 mark_of Log = mark
-mark_of Compact = compactMark
+mark_of Compact = compact_mark
 
 -- a block of a form begins with its mark
-pub compact-marked : (block : List ℕ) → form_of block ≡ Compact → marked compactMark block ≡ true
+pub compact_marked : (block : List ℕ) → form_of block ≡ Compact → marked compact_mark block ≡ true
 unfolding form_of if◌then◌else◌
-compact-marked block e = go (marked compactMark block) refl e
+compact_marked block e = go (marked compact_mark block) refl e
   where
-    go : (b : Bool) → marked compactMark block ≡ b → (if b then Compact else Log) ≡ Compact → marked compactMark block ≡ true
+    go : (b : Bool) → marked compact_mark block ≡ b → (if b then Compact else Log) ≡ Compact → marked compact_mark block ≡ true
     go true r e = r
     go false r e = let z : ◌≡◌ {A = ℕ} 0 1 = cc in absurd (omega arith)
 
-mark-only : (form : Form) (t : Tail) (block : List ℕ) → Bytes block → length block ≡ blockSize → form_of block ≡ form → formRight form t block ≡ true
+mark_only : (form : Form) (t : Tail) (block : List ℕ) → Bytes block → length block ≡ block_size → form_of block ≡ form → form_right form t block ≡ true
     → block ≡ mark_of form ++ drop 4 block
-unfolding formRight
-mark-only Log t block bytes long e r = begins-only block bytes long 49 r
-mark-only Compact t block bytes long e r = begins-only block bytes long 50 (compact-marked block e)
+unfolding form_right
+mark_only Log t block bytes long e r = begins_only block bytes long 49 r
+mark_only Compact t block bytes long e r = begins_only block bytes long 50 (compact_marked block e)
 
--- what `blockRight` says of a block's parts
+-- what `block_right` says of a block's parts
 pub record Right (t : Tail) (block : List ℕ) : Type 0 where
-  pub long : length block ≡ blockSize
-  pub marks : formRight (form_of block) t block ≡ true
-  pub sum : sumRight block ≡ true
-  pub some : 1 ≤ recordsIn block
+  pub long : length block ≡ block_size
+  pub marks : form_right (form_of block) t block ≡ true
+  pub sum : sum_right block ≡ true
+  pub some : 1 ≤ records_in block
   pub follow : follows t (first_at block) ≡ true
-  pub records : recordsRight (form_of block) block recordsAt (first_at block - 1) (recordsIn block) ≡ true
+  pub records : records_right (form_of block) block records_at (first_at block - 1) (records_in block) ≡ true
 
-pub block-says : (t : Tail) (block : List ℕ) → blockRight t block ≡ true → Right t block
-unfolding contentRight blockRight
-block-says t block e =
-    let a = both-then (length block =? blockSize) _ e in
-    let b = both-then (formRight (form_of block) t block) _ a in
-    let c = both-then (sumRight block) _ b in
-    let d = both-then (1 ≤? recordsIn block) _ c in
+pub block_says : (t : Tail) (block : List ℕ) → block_right t block ≡ true → Right t block
+unfolding content_right block_right
+block_says t block e =
+    let a = both_then (length block =? block_size) _ e in
+    let b = both_then (form_right (form_of block) t block) _ a in
+    let c = both_then (sum_right block) _ b in
+    let d = both_then (1 ≤? records_in block) _ c in
     record {
-      long = eqb-true (length block) blockSize (both_first (length block =? blockSize) _ e);
-      marks = both_first (formRight (form_of block) t block) _ a;
-      sum = both_first (sumRight block) _ b;
-      some = leb-true 1 (recordsIn block) (both_first (1 ≤? recordsIn block) _ c);
+      long = eqb-true (length block) block_size (both_first (length block =? block_size) _ e);
+      marks = both_first (form_right (form_of block) t block) _ a;
+      sum = both_first (sum_right block) _ b;
+      some = leb-true 1 (records_in block) (both_first (1 ≤? records_in block) _ c);
       follow = both_first (follows t (first_at block)) _ d;
-      records = both-then (follows t (first_at block)) _ d;
+      records = both_then (follows t (first_at block)) _ d;
     }
 
 -- the bytes of a block of which the mark, the sum and the bytes behind the head are known
-module _ (block : List ℕ) (bytes : Bytes block) (long : length block ≡ blockSize) (sum : sumRight block ≡ true) where
-  whole-only : (begin body : List ℕ) → length begin ≡ 4 → block ≡ begin ++ drop 4 block → recordsAt + length body ≤ recordsEnd
-      → drop recordsAt block ≡ body ++ (replicate (recordsEnd - recordsAt - length body) 0 ++ drop recordsEnd block)
-      → let frame = framedBy begin (first_at block) (recordsIn block) body in
-      block ≡ frame ++ bytes_of 4 (sumFrom 0 frame)
-  unfolding sumRight
-  whole-only begin body four marks fits rest =
+module _ (block : List ℕ) (bytes : Bytes block) (long : length block ≡ block_size) (sum : sum_right block ≡ true) where
+  whole_only : (begin body : List ℕ) → length begin ≡ 4 → block ≡ begin ++ drop 4 block → records_at + length body ≤ records_end
+      → drop records_at block ≡ body ++ (replicate (records_end - records_at - length body) 0 ++ drop records_end block)
+      → let frame = framed_by begin (first_at block) (records_in block) body in
+      block ≡ frame ++ bytes_of 4 (sum_from 0 frame)
+  unfolding sum_right
+  whole_only begin body four marks fits rest =
       let first = first_at block in
-      let records = recordsIn block in
-      let frame = framedBy begin first records body in
-      let zeros : List ℕ = replicate (recordsEnd - recordsAt - length body) 0 in
-      let f : bytes_of 4 first ++ drop 8 block ≡ drop 4 block = bytes-of-number-then block bytes 4 4 (omega arith) in
-      let n : bytes_of 2 records ++ drop 10 block ≡ drop 8 block = bytes-of-number-then block bytes 2 8 (omega arith) in
-      let c : bytes_of 4 (sum_at block) ++ drop 512 block ≡ drop 508 block = bytes-of-number-then block bytes 4 508 (omega arith) in
+      let records = records_in block in
+      let frame = framed_by begin first records body in
+      let zeros : List ℕ = replicate (records_end - records_at - length body) 0 in
+      let f : bytes_of 4 first ++ drop 8 block ≡ drop 4 block = bytes_of_number_then block bytes 4 4 (omega arith) in
+      let n : bytes_of 2 records ++ drop 10 block ≡ drop 8 block = bytes_of_number_then block bytes 2 8 (omega arith) in
+      let c : bytes_of 4 (sum_at block) ++ drop 512 block ≡ drop 508 block = bytes_of_number_then block bytes 4 508 (omega arith) in
       let last : bytes_of 4 (sum_at block) ≡ drop 508 block =
       sym (append-nil (bytes_of 4 (sum_at block))) ∙ ap (λ (x : List ℕ). bytes_of 4 (sum_at block) ++ x) (sym (drop_of_length-le block {i = 512} (omega arith))) ∙ c in
       let whole : block ≡ frame ++ drop 508 block =
@@ -253,24 +253,24 @@ module _ (block : List ℕ) (bytes : Bytes block) (long : length block ≡ block
       ∙ sym (append_assoc (bytes_of 4 first) (bytes_of 2 records ++ (body ++ zeros)) (drop 508 block)))
       ∙ sym (append_assoc begin (bytes_of 4 first ++ (bytes_of 2 records ++ (body ++ zeros))) (drop 508 block)) in
       let front : take 508 block ≡ frame =
-      ap (take 508) whole ∙ take_at frame (drop 508 block) 508 (frame-length begin four first records body fits) in
-      let s : sum_at block ≡ sumFrom 0 frame = eqb-true _ _ sum ∙ ap (sumFrom 0) front in
+      ap (take 508) whole ∙ take_at frame (drop 508 block) 508 (frame_length begin four first records body fits) in
+      let s : sum_at block ≡ sum_from 0 frame = eqb-true _ _ sum ∙ ap (sum_from 0) front in
       whole ∙ ap (λ (x : List ℕ). frame ++ x) (sym last ∙ ap (bytes_of 4) s)
 
-with-form : (form : Form) (t : Tail) (block : List ℕ) → Bytes block → length block ≡ blockSize → sumRight block ≡ true → form_of block ≡ form
-    → formRight form t block ≡ true → (body : List ℕ) → recordsAt + length body ≤ recordsEnd
-    → drop recordsAt block ≡ body ++ (replicate (recordsEnd - recordsAt - length body) 0 ++ drop recordsEnd block)
-    → block ≡ blockWith form (first_at block) (recordsIn block) body
-unfolding framed block_of compactFramed compactOf
-with-form Log t block bytes long sum e r body fits rest =
-    whole-only block bytes long sum mark body refl (mark-only Log t block bytes long e r) fits rest
-with-form Compact t block bytes long sum e r body fits rest =
-    whole-only block bytes long sum compactMark body refl (mark-only Compact t block bytes long e r) fits rest
+with_form : (form : Form) (t : Tail) (block : List ℕ) → Bytes block → length block ≡ block_size → sum_right block ≡ true → form_of block ≡ form
+    → form_right form t block ≡ true → (body : List ℕ) → records_at + length body ≤ records_end
+    → drop records_at block ≡ body ++ (replicate (records_end - records_at - length body) 0 ++ drop records_end block)
+    → block ≡ block_with form (first_at block) (records_in block) body
+unfolding framed block_of compact_framed compact_of
+with_form Log t block bytes long sum e r body fits rest =
+    whole_only block bytes long sum mark body refl (mark_only Log t block bytes long e r) fits rest
+with_form Compact t block bytes long sum e r body fits rest =
+    whole_only block bytes long sum compact_mark body refl (mark_only Compact t block bytes long e r) fits rest
 
-pub block-only : BlockOnly
-unfolding messagesOf
-block-only t block bytes e =
-    let r = block-says t block e in
+pub block_only : BlockOnly
+unfolding messages_of
+block_only t block bytes e =
+    let r = block_says t block e in
     let form = form_of block in
-    let (numbered, fits, rest) = records-only block bytes r.long form recordsAt (first_at block - 1) (recordsIn block) (omega arith) r.records in
-    (numbered, with-form form t block bytes r.long r.sum refl r.marks _ fits rest)
+    let (numbered, fits, rest) = records_only block bytes r.long form records_at (first_at block - 1) (records_in block) (omega arith) r.records in
+    (numbered, with_form form t block bytes r.long r.sum refl r.marks _ fits rest)

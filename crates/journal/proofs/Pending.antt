@@ -8,59 +8,59 @@ use borrow.Author.Tests.{lt-ltb, le-leb, eq-eqb, ne_eqb, ltb-true, eqb-true}
 use lib.ListN.{length, take, drop, length-append, length-drop, drop_of_length-le}
 use lib.Seq.{length-take-le, take_at, drop-append-le}
 use Rattle.group.specs.Choice.{if◌then◌else◌, ◌<?◌, ◌≤?◌, ◌=?◌}
-use Rattle.group.proofs.Choice.{if-true, if-false, both_hold}
+use Rattle.group.proofs.Choice.{if_true, if_false, both_hold}
 use Rattle.message.specs.Order.{Ordered}
-use Rattle.text.specs.LaidAt.{writtenAt}
-use Rattle.journal.specs.Limits.{blockSize, recordsAt, recordsEnd, recordHead}
-use Rattle.journal.specs.Block.{recordOf, recordsOf, framed, block_of, endedAt, follows}
-use Rattle.journal.specs.Write.{writerAfter, writerSound, grown, inHand}
-use Rattle.journal.specs.Laws.{Allowed, Numbered, handed, messagesIn}
+use Rattle.text.specs.LaidAt.{written_at}
+use Rattle.journal.specs.Limits.{block_size, records_at, records_end, record_head}
+use Rattle.journal.specs.Block.{record_of, records_of, framed, block_of, ended_at, follows}
+use Rattle.journal.specs.Write.{writer_after, writer_sound, grown, in_hand}
+use Rattle.journal.specs.Laws.{Allowed, Numbered, handed, messages_in}
 use Rattle.journal.specs.declared.Tail.{Tail}
 use Rattle.journal.specs.declared.Writer.{Writer}
-use Rattle.journal.proofs.Blocks.{records-long, block_back}
+use Rattle.journal.proofs.Blocks.{records_long, block_back}
 use Rattle.journal.proofs.Rights.{Rights}
-use Rattle.journal.proofs.Sound.{Numbers, sound-is, follows-ended, follows-positive}
+use Rattle.journal.proofs.Sound.{Numbers, sound_is, follows_ended, follows_positive}
 
 -- how the numbers of the messages in hand stand to the tail behind the last block and to the writer's own tail
 abbrev pub Ends : Tail → ℕ → List Ordered → Writer → Type 0
 Ends u before [] w = w.tail ≡ u
 Ends u before (m ∷ ms) w =
-    (w.first.0 ≡ before + 1) × (follows u (before + 1) ≡ true) × (w.tail ≡ endedAt (before + length (m ∷ ms)))
+    (w.first.0 ≡ before + 1) × (follows u (before + 1) ≡ true) × (w.tail ≡ ended_at (before + length (m ∷ ms)))
 
 pub record Pending (u : Tail) (ms : List Ordered) (w : Writer) (hand : List ℕ) : Type 0 where
   pub before : ℕ
-  pub room : length hand ≡ blockSize
+  pub room : length hand ≡ block_size
   pub records : w.records ≡ length ms
-  pub used : w.used ≡ recordsAt + length (recordsOf ms)
-  pub fits : w.used ≤ recordsEnd
-  pub bytes : drop recordsAt (take w.used hand) ≡ recordsOf ms
+  pub used : w.used ≡ records_at + length (records_of ms)
+  pub fits : w.used ≤ records_end
+  pub bytes : drop records_at (take w.used hand) ≡ records_of ms
   pub numbered : Numbered before ms
   pub ends : Ends u before ms w
 
 -- with nothing in hand
-pub pending-none : (u : Tail) (hand : List ℕ) → length hand ≡ blockSize → Pending u [] (writerAfter u) hand
-unfolding recordsOf Numbered
-pending-none u hand n =
-    let l : length (take recordsAt hand) ≡ recordsAt = length-take-le recordsAt hand (omega arith) in
+pub pending_none : (u : Tail) (hand : List ℕ) → length hand ≡ block_size → Pending u [] (writer_after u) hand
+unfolding records_of Numbered
+pending_none u hand n =
+    let l : length (take records_at hand) ≡ records_at = length-take-le records_at hand (omega arith) in
     record {
       before = 0;
       room = n;
       records = refl;
       used = refl;
       fits = omega arith;
-      bytes = drop_of_length-le (take recordsAt hand) {i = recordsAt} (omega arith);
+      bytes = drop_of_length-le (take records_at hand) {i = records_at} (omega arith);
       numbered = tt;
       ends = refl;
     }
 
 -- the writer is sound
-pub pending-sound : (u : Tail) (ms : List Ordered) (w : Writer) (hand : List ℕ) → Pending u ms w hand → writerSound w ≡ true
-unfolding recordsOf
-pending-sound u ms w hand p =
+pub pending_sound : (u : Tail) (ms : List Ordered) (w : Writer) (hand : List ℕ) → Pending u ms w hand → writer_sound w ≡ true
+unfolding records_of
+pending_sound u ms w hand p =
     let r = p.records in
     let e = p.used in
-    let l = records-long ms in
-    sound-is w
+    let l = records_long ms in
+    sound_is w
     (record {
       begins = omega arith;
       ends = p.fits;
@@ -69,7 +69,7 @@ pending-sound u ms w hand p =
       some = λ z. some ms r z p.ends;
     })
   where
-    none : (ms : List Ordered) → length ms ≡ 0 → w.used ≡ recordsAt + length (recordsOf ms) → w.used ≡ recordsAt
+    none : (ms : List Ordered) → length ms ≡ 0 → w.used ≡ records_at + length (records_of ms) → w.used ≡ records_at
     none [] n e = e
     none (m ∷ ms) n e = absurd (omega arith)
 
@@ -79,103 +79,103 @@ pending-sound u ms w hand p =
         let n = ap (λ (t : Tail). t.last.0) end in
         record { closed = ap (λ (t : Tail). t.free) end; first = omega arith; last = omega arith }
 
-handed-block : (first records : ℕ) (body : List ℕ) → handed (block_of first records body) ≡ block_of first records body ∷ []
+handed_block : (first records : ℕ) (body : List ℕ) → handed (block_of first records body) ≡ block_of first records body ∷ []
 unfolding handed block_of framed
-handed-block first records body = refl
+handed_block first records body = refl
 
 -- the block in hand is one block, right behind the tail, with the messages in hand
 pub block_out : (u : Tail) (m : Ordered) (ms : List Ordered) (w : Writer) (hand : List ℕ) → Pending u (m ∷ ms) w hand
-    → Rights u (handed (inHand w hand)) w.tail × (messagesIn (handed (inHand w hand)) ≡ m ∷ ms)
-unfolding messagesIn
+    → Rights u (handed (in_hand w hand)) w.tail × (messages_in (handed (in_hand w hand)) ≡ m ∷ ms)
+unfolding messages_in
 block_out u m ms w hand p =
     let (first, follow, end) = p.ends in
     let e = p.used in
     let f = p.fits in
     let (right, messages, tail) = block_back u p.before (m ∷ ms) (omega arith) p.numbered follow (omega arith) in
-    rw (first, p.records, p.bytes, handed-block (p.before + 1) (length (m ∷ ms)) (recordsOf (m ∷ ms)))
+    rw (first, p.records, p.bytes, handed_block (p.before + 1) (length (m ∷ ms)) (records_of (m ∷ ms)))
     ((right, tail ∙ sym end), append-nil _ ∙ messages)
 
 -- what shutdown hands out
-pub closed-out : (u : Tail) (ms : List Ordered) (w : Writer) (hand : List ℕ) → Pending u ms w hand
-    → let blocks = handed (if w.records =? 0 then [] else inHand w hand) in
-    Rights u blocks w.tail × (messagesIn blocks ≡ ms)
-unfolding handed messagesIn if◌then◌else◌
-closed-out u [] w hand p = rw p.records (sym p.ends, refl)
-closed-out u (m ∷ ms) w hand p =
+pub closed_out : (u : Tail) (ms : List Ordered) (w : Writer) (hand : List ℕ) → Pending u ms w hand
+    → let blocks = handed (if w.records =? 0 then [] else in_hand w hand) in
+    Rights u blocks w.tail × (messages_in blocks ≡ ms)
+unfolding handed messages_in if◌then◌else◌
+closed_out u [] w hand p = rw p.records (sym p.ends, refl)
+closed_out u (m ∷ ms) w hand p =
     let r = p.records in
     let z : (w.records =? 0) ≡ false = ne_eqb w.records 0 (λ e. omega arith) in
     rw z (block_out u m ms w hand p)
 
-numbered-snoc : (before : ℕ) (ms : List Ordered) (m : Ordered) → Numbered before ms → Allowed m → m.number ≡ before + length ms + 1
+numbered_snoc : (before : ℕ) (ms : List Ordered) (m : Ordered) → Numbered before ms → Allowed m → m.number ≡ before + length ms + 1
     → Numbered before (ms ++ (m ∷ []))
 unfolding Numbered
-numbered-snoc before [] m n a e = (a, omega arith, tt)
-numbered-snoc before (x ∷ ms) m n a e = (n.0, n.1, numbered-snoc (before + 1) ms m n.2 a (omega arith))
+numbered_snoc before [] m n a e = (a, omega arith, tt)
+numbered_snoc before (x ∷ ms) m n a e = (n.0, n.1, numbered_snoc (before + 1) ms m n.2 a (omega arith))
 
-pub records-snoc : (ms : List Ordered) (m : Ordered) → recordsOf (ms ++ (m ∷ [])) ≡ recordsOf ms ++ recordOf m
-unfolding recordsOf
-records-snoc [] m = append-nil (recordOf m)
-records-snoc (x ∷ ms) m = rw (records-snoc ms m) (sym (append_assoc (recordOf x) (recordsOf ms) (recordOf m)))
+pub records_snoc : (ms : List Ordered) (m : Ordered) → records_of (ms ++ (m ∷ [])) ≡ records_of ms ++ record_of m
+unfolding records_of
+records_snoc [] m = append-nil (record_of m)
+records_snoc (x ∷ ms) m = rw (records_snoc ms m) (sym (append_assoc (record_of x) (records_of ms) (record_of m)))
 
 -- the block in hand with one more record laid in it
-module _ (w : Writer) (m : Ordered) (hand : List ℕ) (room : length hand ≡ blockSize) (low : recordsAt ≤ w.used) (fits : w.used + length (recordOf m) ≤ recordsEnd) where
+module _ (w : Writer) (m : Ordered) (hand : List ℕ) (room : length hand ≡ block_size) (low : records_at ≤ w.used) (fits : w.used + length (record_of m) ≤ records_end) where
   front_length : length (take w.used hand) ≡ w.used
   front_length = length-take-le w.used hand (omega arith)
 
-  laid-length : length (writtenAt w.used (recordOf m) hand) ≡ blockSize
-  laid-length =
+  laid_length : length (written_at w.used (record_of m) hand) ≡ block_size
+  laid_length =
       let f = front_length in
-      let a = length-append (take w.used hand) (recordOf m ++ drop (w.used + length (recordOf m)) hand) in
-      let b = length-append (recordOf m) (drop (w.used + length (recordOf m)) hand) in
-      let d = length-drop (w.used + length (recordOf m)) hand in
+      let a = length-append (take w.used hand) (record_of m ++ drop (w.used + length (record_of m)) hand) in
+      let b = length-append (record_of m) (drop (w.used + length (record_of m)) hand) in
+      let d = length-drop (w.used + length (record_of m)) hand in
       omega arith
 
-  laid-bytes : drop recordsAt (take (w.used + length (recordOf m)) (writtenAt w.used (recordOf m) hand)) ≡ drop recordsAt (take w.used hand) ++ recordOf m
-  laid-bytes =
+  laid_bytes : drop records_at (take (w.used + length (record_of m)) (written_at w.used (record_of m) hand)) ≡ drop records_at (take w.used hand) ++ record_of m
+  laid_bytes =
       let f = front_length in
-      let a = length-append (take w.used hand) (recordOf m) in
-      ap (drop recordsAt)
-      (ap (take (w.used + length (recordOf m))) (sym (append_assoc (take w.used hand) (recordOf m) (drop (w.used + length (recordOf m)) hand)))
-      ∙ take_at (take w.used hand ++ recordOf m) (drop (w.used + length (recordOf m)) hand) (w.used + length (recordOf m)) (omega arith))
-      ∙ drop-append-le recordsAt (take w.used hand) (recordOf m) (omega arith)
+      let a = length-append (take w.used hand) (record_of m) in
+      ap (drop records_at)
+      (ap (take (w.used + length (record_of m))) (sym (append_assoc (take w.used hand) (record_of m) (drop (w.used + length (record_of m)) hand)))
+      ∙ take_at (take w.used hand ++ record_of m) (drop (w.used + length (record_of m)) hand) (w.used + length (record_of m)) (omega arith))
+      ∙ drop-append-le records_at (take w.used hand) (record_of m) (omega arith)
 
 -- one more message in hand, where its number is the next
-pending-grown : (u : Tail) (before : ℕ) (ms : List Ordered) (w : Writer) (hand : List ℕ) (m : Ordered) → Pending u ms w hand
-    → w.used + length (recordOf m) ≤ recordsEnd → Numbered before (ms ++ (m ∷ [])) → Ends u before (ms ++ (m ∷ [])) (grown w m)
-    → Pending u (ms ++ (m ∷ [])) (grown w m) (writtenAt w.used (recordOf m) hand)
-pending-grown u before ms w hand m p fits numbered ends =
+pending_grown : (u : Tail) (before : ℕ) (ms : List Ordered) (w : Writer) (hand : List ℕ) (m : Ordered) → Pending u ms w hand
+    → w.used + length (record_of m) ≤ records_end → Numbered before (ms ++ (m ∷ [])) → Ends u before (ms ++ (m ∷ [])) (grown w m)
+    → Pending u (ms ++ (m ∷ [])) (grown w m) (written_at w.used (record_of m) hand)
+pending_grown u before ms w hand m p fits numbered ends =
     let e = p.used in
     let r = p.records in
-    let low : recordsAt ≤ w.used = omega arith in
+    let low : records_at ≤ w.used = omega arith in
     let l = length-append ms (m ∷ []) in
-    let s = records-snoc ms m in
-    let n = length-append (recordsOf ms) (recordOf m) in
+    let s = records_snoc ms m in
+    let n = length-append (records_of ms) (record_of m) in
     record {
       before = before;
-      room = laid-length w m hand p.room low fits;
+      room = laid_length w m hand p.room low fits;
       records = omega arith;
       used = rw s (omega arith);
       fits = fits;
-      bytes = laid-bytes w m hand p.room low fits ∙ ap (λ (x : List ℕ). x ++ recordOf m) p.bytes ∙ sym s;
+      bytes = laid_bytes w m hand p.room low fits ∙ ap (λ (x : List ℕ). x ++ record_of m) p.bytes ∙ sym s;
       numbered = numbered;
       ends = ends;
     }
 
-pub pending-more : (u : Tail) (ms : List Ordered) (w : Writer) (hand : List ℕ) (m : Ordered) → Pending u ms w hand → Allowed m
-    → follows w.tail m.number ≡ true → w.used + length (recordOf m) ≤ recordsEnd
-    → Pending u (ms ++ (m ∷ [])) (grown w m) (writtenAt w.used (recordOf m) hand)
+pub pending_more : (u : Tail) (ms : List Ordered) (w : Writer) (hand : List ℕ) (m : Ordered) → Pending u ms w hand → Allowed m
+    → follows w.tail m.number ≡ true → w.used + length (record_of m) ≤ records_end
+    → Pending u (ms ++ (m ∷ [])) (grown w m) (written_at w.used (record_of m) hand)
 unfolding if◌then◌else◌ Numbered
-pending-more u [] w hand m p a follow fits =
-    let h = follows-positive w.tail m.number follow in
+pending_more u [] w hand m p a follow fits =
+    let h = follows_positive w.tail m.number follow in
     let n : m.number ≡ m.number - 1 + 1 = omega arith in
     let z : (w.records =? 0) ≡ true = eq-eqb w.records 0 p.records in
     let f : follows u m.number ≡ true = rw p.ends at follow in
-    pending-grown u (m.number - 1) [] w hand m p fits (a, n, tt) (rw z n, rw (← n) f, ap endedAt n)
-pending-more u (x ∷ ms) w hand m p a follow fits =
+    pending_grown u (m.number - 1) [] w hand m p fits (a, n, tt) (rw z n, rw (← n) f, ap ended_at n)
+pending_more u (x ∷ ms) w hand m p a follow fits =
     let (first, before, end) = p.ends in
     let r = p.records in
-    let n = follows-ended (p.before + length (x ∷ ms)) m.number (rw end at follow) in
+    let n = follows_ended (p.before + length (x ∷ ms)) m.number (rw end at follow) in
     let z : (w.records =? 0) ≡ false = ne_eqb w.records 0 (λ e. omega arith) in
     let l = length-append ms (m ∷ []) in
-    pending-grown u p.before (x ∷ ms) w hand m p fits (numbered-snoc p.before (x ∷ ms) m p.numbered a n)
-    (rw z first, before, ap endedAt (omega arith))
+    pending_grown u p.before (x ∷ ms) w hand m p fits (numbered_snoc p.before (x ∷ ms) m p.numbered a n)
+    (rw z first, before, ap ended_at (omega arith))

@@ -8,16 +8,16 @@ use borrow.Author.Tests.{lt-ltb, le-leb, eq-eqb, eqb-true, ltb-true}
 use lib.ListN.{length, get_or, take, drop}
 use lib.Seq.{get_or-drop, drop-drop, take_at}
 use Rattle.group.specs.Choice.{◌and◌, ◌<?◌, ◌≤?◌, ◌=?◌}
-use Rattle.group.specs.Limits.{membersMost, payloadMost, largestNumber}
-use Rattle.group.proofs.Choice.{says, if-true, if-was, both_hold, both_first, both-then}
+use Rattle.group.specs.Limits.{members_most, payload_most, largest_number}
+use Rattle.group.proofs.Choice.{says, if_true, if_was, both_hold, both_first, both_then}
 use Rattle.group.specs.declared.SequenceNumber.{SequenceNumber}
 use Rattle.message.specs.Order.{Ordered}
 use Rattle.big_endian.specs.Laws.{Bytes}
 use Rattle.big_endian.specs.Number.{number_at, bytes_of}
-use Rattle.big_endian.proofs.Number.{bytes-cons, bytes-append, bytesOf-bytes}
-use Rattle.journal.specs.Limits.{blockSize, recordsEnd, recordHead}
-use Rattle.journal.specs.Block.{recordOf, length_at, behind, recordRight, messageAt, recordStart, recordNumber, stepRight}
-use Rattle.journal.specs.Read.{recordAt, entry_of, heldBy}
+use Rattle.big_endian.proofs.Number.{bytes_cons, bytes_append, bytes_of-bytes}
+use Rattle.journal.specs.Limits.{block_size, records_end, record_head}
+use Rattle.journal.specs.Block.{record_of, length_at, behind, record_right, message_at, record_start, record_number, step_right}
+use Rattle.journal.specs.Read.{record_at, entry_of, held_by}
 use Rattle.journal.specs.Write.{allowed}
 use Rattle.journal.specs.Laws.{Allowed, RecordBack, EntryHolds, EntryWithin}
 use Rattle.journal.specs.declared.Entry.{Entry}
@@ -27,26 +27,26 @@ use Rattle.journal.proofs.Lists.{number_in}
 
 -- what `allowed` says
 pub record May (m : Ordered) : Type 0 where
-  pub originator : m.originator < membersMost
+  pub originator : m.originator < members_most
   pub count : 1 ≤ m.count
-  pub size : length m.payload ≤ payloadMost
+  pub size : length m.payload ≤ payload_most
 
 pub may : (m : Ordered) → allowed m ≡ true → May m
 unfolding allowed
 may m e = record { originator = search says; count = search says; size = search says }
 
--- what `recordRight` says
+-- what `record_right` says
 pub record Says (block : List ℕ) (at number : ℕ) : Type 0 where
-  pub begins : at + recordHead ≤ recordsEnd
-  pub originator : get_or block at 0 < membersMost
+  pub begins : at + record_head ≤ records_end
+  pub originator : get_or block at 0 < members_most
   pub count : 1 ≤ number_at 4 block (at + 1)
-  pub size : length_at block at ≤ payloadMost
-  pub ends : behind block at ≤ recordsEnd
-  pub most : number ≤ largestNumber
+  pub size : length_at block at ≤ payload_most
+  pub ends : behind block at ≤ records_end
+  pub most : number ≤ largest_number
 
-pub right-says : (block : List ℕ) (at number : ℕ) → recordRight block at number ≡ true → Says block at number
-unfolding recordRight
-right-says block at number e =
+pub right_says : (block : List ℕ) (at number : ℕ) → record_right block at number ≡ true → Says block at number
+unfolding record_right
+right_says block at number e =
     record {
       begins = search says depth 9;
       originator = search says depth 9;
@@ -56,117 +56,117 @@ right-says block at number e =
       most = search says depth 9;
     }
 
-pub says-right : (block : List ℕ) (at number : ℕ) → Says block at number → recordRight block at number ≡ true
-unfolding recordRight
-says-right block at number s =
-    both_hold (at + recordHead ≤? recordsEnd) _ (le-leb (at + recordHead) recordsEnd s.begins)
-    (both_hold (get_or block at 0 <? membersMost) _ (lt-ltb _ _ s.originator)
+pub says_right : (block : List ℕ) (at number : ℕ) → Says block at number → record_right block at number ≡ true
+unfolding record_right
+says_right block at number s =
+    both_hold (at + record_head ≤? records_end) _ (le-leb (at + record_head) records_end s.begins)
+    (both_hold (get_or block at 0 <? members_most) _ (lt-ltb _ _ s.originator)
     (both_hold (1 ≤? number_at 4 block (at + 1)) _ (le-leb _ _ s.count)
-    (both_hold (length_at block at ≤? payloadMost) _ (le-leb _ _ s.size)
-    (both_hold (behind block at ≤? recordsEnd) _ (le-leb (behind block at) recordsEnd s.ends) (le-leb _ _ s.most)))))
+    (both_hold (length_at block at ≤? payload_most) _ (le-leb _ _ s.size)
+    (both_hold (behind block at ≤? records_end) _ (le-leb (behind block at) records_end s.ends) (le-leb _ _ s.most)))))
 
--- what `stepRight` says: the number is above the one before, and the record is right
-pub step-says : (block : List ℕ) (form : Form) (at before : ℕ) → stepRight form block at before ≡ true
-    → (before < recordNumber form block at before) × Says block (recordStart form at) (recordNumber form block at before)
-unfolding stepRight
-step-says block form at before e =
-    let number = recordNumber form block at before in
-    (ltb-true before number (both_first (before <? number) _ e), right-says block (recordStart form at) number (both-then (before <? number) _ e))
+-- what `step_right` says: the number is above the one before, and the record is right
+pub step_says : (block : List ℕ) (form : Form) (at before : ℕ) → step_right form block at before ≡ true
+    → (before < record_number form block at before) × Says block (record_start form at) (record_number form block at before)
+unfolding step_right
+step_says block form at before e =
+    let number = record_number form block at before in
+    (ltb-true before number (both_first (before <? number) _ e), right_says block (record_start form at) number (both_then (before <? number) _ e))
 
-pub says-step : (block : List ℕ) (form : Form) (at before : ℕ) → before < recordNumber form block at before
-    → recordRight block (recordStart form at) (recordNumber form block at before) ≡ stepRight form block at before
-unfolding stepRight
-says-step block form at before h =
-    let number = recordNumber form block at before in
-    if-true (before <? number) _ _ _ (lt-ltb before number h) refl
+pub says_step : (block : List ℕ) (form : Form) (at before : ℕ) → before < record_number form block at before
+    → record_right block (record_start form at) (record_number form block at before) ≡ step_right form block at before
+unfolding step_right
+says_step block form at before h =
+    let number = record_number form block at before in
+    if_true (before <? number) _ _ _ (lt-ltb before number h) refl
 
 -- a right record of a block is its entry
-pub entry-right : (block : List ℕ) (at : ℕ) (number : SequenceNumber) → length block ≡ blockSize → Says block at number.0
-    → Entry.Right (recordAt block at number) ≡ entry_of block at number
+pub entry_right : (block : List ℕ) (at : ℕ) (number : SequenceNumber) → length block ≡ block_size → Says block at number.0
+    → Entry.Right (record_at block at number) ≡ entry_of block at number
 unfolding entry_of
-entry-right block at number n s =
-    if-true (length block =? blockSize and recordRight block at number.0) _ _ _
-    (both_hold (length block =? blockSize) _ (eq-eqb (length block) blockSize n) (says-right block at number.0 s)) refl
+entry_right block at number n s =
+    if_true (length block =? block_size and record_right block at number.0) _ _ _
+    (both_hold (length block =? block_size) _ (eq-eqb (length block) block_size n) (says_right block at number.0 s)) refl
 
 -- and an entry was a right record of a block
-pub entry-was : (block : List ℕ) (at : ℕ) (number : SequenceNumber) (r : Record) → entry_of block at number ≡ Entry.Right r
-    → (length block ≡ blockSize) × (recordRight block at number.0 ≡ true) × (recordAt block at number ≡ r)
+pub entry_was : (block : List ℕ) (at : ℕ) (number : SequenceNumber) (r : Record) → entry_of block at number ≡ Entry.Right r
+    → (length block ≡ block_size) × (record_right block at number.0 ≡ true) × (record_at block at number ≡ r)
 unfolding entry_of
-entry-was block at number r e =
-    let (right, same) = if-was (length block =? blockSize and recordRight block at number.0) (Entry.Right (recordAt block at number)) Entry.Wrong (Entry.Right r) e
+entry_was block at number r e =
+    let (right, same) = if_was (length block =? block_size and record_right block at number.0) (Entry.Right (record_at block at number)) Entry.Wrong (Entry.Right r) e
     (λ z. let y : ◌≡◌ {A = ℕ} 0 1 = cc in omega arith) in
-    (eqb-true (length block) blockSize (both_first (length block =? blockSize) _ right), both-then (length block =? blockSize) _ right, (cc))
+    (eqb-true (length block) block_size (both_first (length block =? block_size) _ right), both_then (length block =? block_size) _ right, (cc))
 
-pub entry-holds : EntryHolds
-unfolding heldBy messageAt
-entry-holds block at number r e = let (_, _, same) = entry-was block at number r e in rw (← same)
+pub entry_holds : EntryHolds
+unfolding held_by message_at
+entry_holds block at number r e = let (_, _, same) = entry_was block at number r e in rw (← same)
 
-pub entry-within : EntryWithin
-entry-within block at number r e =
-    let (long, right, same) = entry-was block at number r e in
-    let s = right-says block at number.0 right in
+pub entry_within : EntryWithin
+entry_within block at number r e =
+    let (long, right, same) = entry_was block at number r e in
+    let s = right_says block at number.0 right in
     rw (← same) (long, refl, s.size, s.ends)
 
-pub record-length : (m : Ordered) → length (recordOf m) ≡ recordHead + length m.payload
-unfolding recordOf bytes_of
-record-length m = omega arith
+pub record_length : (m : Ordered) → length (record_of m) ≡ record_head + length m.payload
+unfolding record_of bytes_of
+record_length m = omega arith
 
-pub record-bytes : (m : Ordered) → Allowed m → Bytes (recordOf m)
-unfolding recordOf
-record-bytes m a =
+pub record_bytes : (m : Ordered) → Allowed m → Bytes (record_of m)
+unfolding record_of
+record_bytes m a =
     let o = (may m a.may).originator in
-    bytes-cons m.originator _ (omega arith)
-    (bytes-append (bytes_of 4 m.count) _ (bytesOf-bytes 4 m.count)
-    (bytes-append (bytes_of 2 (length m.payload)) m.payload (bytesOf-bytes 2 (length m.payload)) a.fits.payload))
+    bytes_cons m.originator _ (omega arith)
+    (bytes_append (bytes_of 4 m.count) _ (bytes_of-bytes 4 m.count)
+    (bytes_append (bytes_of 2 (length m.payload)) m.payload (bytes_of-bytes 2 (length m.payload)) a.fits.payload))
 
-module _ (block rest : List ℕ) (at : ℕ) (m : Ordered) (a : Allowed m) (d : drop at block ≡ recordOf m ++ rest) where
-  originator-back : get_or block at 0 ≡ m.originator
-  unfolding recordOf
-  originator-back =
+module _ (block rest : List ℕ) (at : ℕ) (m : Ordered) (a : Allowed m) (d : drop at block ≡ record_of m ++ rest) where
+  originator_back : get_or block at 0 ≡ m.originator
+  unfolding record_of
+  originator_back =
       let e : at + 0 ≡ at = omega arith in
       rw e at (sym (get_or-drop at block 0 0) ∙ ap (λ (l : List ℕ). get_or l 0 0) d)
 
-  count-back : number_at 4 block (at + 1) ≡ m.count
-  unfolding recordOf
-  count-back =
+  count_back : number_at 4 block (at + 1) ≡ m.count
+  unfolding record_of
+  count_back =
       let f = a.fits.count in
       number_in 4 m.count block (m.originator ∷ []) ((bytes_of 2 (length m.payload) ++ m.payload) ++ rest) at 1
       (d ∙ simp append_assoc) refl (omega arith)
 
   length_back : length_at block at ≡ length m.payload
-  unfolding recordOf bytes_of
+  unfolding record_of bytes_of
   length_back =
       let s = (may m a.may).size in
       number_in 2 (length m.payload) block (m.originator ∷ bytes_of 4 m.count) (m.payload ++ rest) at 5 d refl (omega arith)
 
-  payload-back : take (length_at block at) (drop (at + recordHead) block) ≡ m.payload
-  unfolding recordOf bytes_of
-  payload-back =
+  payload_back : take (length_at block at) (drop (at + record_head) block) ≡ m.payload
+  unfolding record_of bytes_of
+  payload_back =
       rw length_back
-      (ap (take (length m.payload)) (sym (drop-drop recordHead at block) ∙ ap (drop recordHead) d)
+      (ap (take (length m.payload)) (sym (drop-drop record_head at block) ∙ ap (drop record_head) d)
       ∙ take_at m.payload rest (length m.payload) refl)
 
-  behind-back : behind block at ≡ at + length (recordOf m)
-  behind-back = rw (length_back, record-length m) (omega arith)
+  behind_back : behind block at ≡ at + length (record_of m)
+  behind_back = rw (length_back, record_length m) (omega arith)
 
-  right-back : at + length (recordOf m) ≤ recordsEnd → recordRight block at m.number ≡ true
-  right-back h =
+  right_back : at + length (record_of m) ≤ records_end → record_right block at m.number ≡ true
+  right_back h =
       let y = may m a.may in
-      let n = record-length m in
-      let e = behind-back in
-      says-right block at m.number
+      let n = record_length m in
+      let e = behind_back in
+      says_right block at m.number
       (record {
         begins = omega arith;
-        originator = rw originator-back y.originator;
-        count = rw count-back y.count;
+        originator = rw originator_back y.originator;
+        count = rw count_back y.count;
         size = rw length_back y.size;
         ends = omega arith;
         most = a.fits.number;
       })
 
-  message-back : messageAt block at m.number ≡ m
-  unfolding messageAt
-  message-back = rw (originator-back, count-back, payload-back)
+  message_back : message_at block at m.number ≡ m
+  unfolding message_at
+  message_back = rw (originator_back, count_back, payload_back)
 
-pub record-back : RecordBack
-record-back block rest at m a d h = (right-back block rest at m a d h, message-back block rest at m a d, behind-back block rest at m a d)
+pub record_back : RecordBack
+record_back block rest at m a d h = (right_back block rest at m a d h, message_back block rest at m a d, behind_back block rest at m a d)

@@ -8,95 +8,95 @@ use borrow.Author.Tests.{ltb-true, eqb-true}
 use lib.ListN.{length, take, drop}
 use lib.Seq.{take_all}
 use Rattle.group.specs.Choice.{if◌then◌else◌, ◌<?◌, ◌=?◌}
-use Rattle.group.proofs.Lists.{if-elim, le-or}
+use Rattle.group.proofs.Lists.{if_elim, le_or}
 use Rattle.message.specs.Order.{Ordered}
 use Rattle.big_endian.specs.Laws.{Bytes}
-use Rattle.journal.specs.Limits.{blockSize, recordsAt}
-use Rattle.journal.specs.Block.{first_at, recordsIn, follows, recordStart, behindIn, recordNumber, form_of, blockRight, messageAt, messagesFrom, lastFrom, messagesOf, tailWith, tailOf}
-use Rattle.journal.specs.Read.{Reads, found_from, foundIn, freshTail}
-use Rattle.journal.specs.Laws.{NextNumber, NumberedIn, lastNumber, RisesIn}
+use Rattle.journal.specs.Limits.{block_size, records_at}
+use Rattle.journal.specs.Block.{first_at, records_in, follows, record_start, behind_in, record_number, form_of, block_right, message_at, messages_from, last_from, messages_of, tail_with, tail_of}
+use Rattle.journal.specs.Read.{Reads, found_from, found_in, fresh_tail}
+use Rattle.journal.specs.Laws.{NextNumber, NumberedIn, last_number, RisesIn}
 use Rattle.journal.specs.declared.Form.{Form}
 use Rattle.journal.specs.declared.Form.TheVariants.{Log, Compact}
 use Rattle.journal.specs.declared.Tail.{Tail}
-use Rattle.journal.proofs.Walking.{messages-length}
-use Rattle.journal.proofs.Only.{bytes_take, bytes_drop, records-only, block-says}
+use Rattle.journal.proofs.Walking.{messages_length}
+use Rattle.journal.proofs.Only.{bytes_take, bytes_drop, records_only, block_says}
 
 -- a number that may follow is above the last
-follows-above : (t : Tail) (number : ℕ) → follows t number ≡ true → t.last.0 < number
+follows_above : (t : Tail) (number : ℕ) → follows t number ≡ true → t.last.0 < number
 unfolding follows
-follows-above t number e =
-    (if-elim (λ b. b ≡ true → t.last.0 < number) t.free (λ _ e. ltb-true _ _ e) (λ _ e. let z = eqb-true number (t.last.0 + 1) e in omega arith)) e
+follows_above t number e =
+    (if_elim (λ b. b ≡ true → t.last.0 < number) t.free (λ _ e. ltb-true _ _ e) (λ _ e. let z = eqb-true number (t.last.0 + 1) e in omega arith)) e
 
 -- numbers that rise in a block of either form rise, from any lower number on
-pub rising-from : (form : Form) (low before : ℕ) (ms : List Ordered) → low ≤ before → NumberedIn form before ms → NumberedIn Compact low ms
+pub rising_from : (form : Form) (low before : ℕ) (ms : List Ordered) → low ≤ before → NumberedIn form before ms → NumberedIn Compact low ms
 unfolding NumberedIn
-rising-from form low before [] h n = tt
-rising-from Log low before (m ∷ ms) h n = let e = n.1 in (n.0, omega arith, rising-from Log m.number m.number ms (omega arith) n.2)
-rising-from Compact low before (m ∷ ms) h n = let e = n.1 in (n.0, omega arith, n.2)
+rising_from form low before [] h n = tt
+rising_from Log low before (m ∷ ms) h n = let e = n.1 in (n.0, omega arith, rising_from Log m.number m.number ms (omega arith) n.2)
+rising_from Compact low before (m ∷ ms) h n = let e = n.1 in (n.0, omega arith, n.2)
 
 -- the last of them
-last-rising : (before : ℕ) (ms : List Ordered) → NumberedIn Compact before ms → before ≤ lastNumber before ms
-unfolding NumberedIn lastNumber
-last-rising before [] n = omega arith
-last-rising before (m ∷ ms) n = let e = n.1 in let h = last-rising m.number ms n.2 in omega arith
+last_rising : (before : ℕ) (ms : List Ordered) → NumberedIn Compact before ms → before ≤ last_number before ms
+unfolding NumberedIn last_number
+last_rising before [] n = omega arith
+last_rising before (m ∷ ms) n = let e = n.1 in let h = last_rising m.number ms n.2 in omega arith
 
-pub rising-append : (before : ℕ) (ms ns : List Ordered) → NumberedIn Compact before ms → NumberedIn Compact (lastNumber before ms) ns → NumberedIn Compact before (ms ++ ns)
-unfolding NumberedIn lastNumber
-rising-append before [] ns n r = r
-rising-append before (m ∷ ms) ns n r = (n.0, n.1, rising-append m.number ms ns n.2 r)
+pub rising_append : (before : ℕ) (ms ns : List Ordered) → NumberedIn Compact before ms → NumberedIn Compact (last_number before ms) ns → NumberedIn Compact before (ms ++ ns)
+unfolding NumberedIn last_number
+rising_append before [] ns n r = r
+rising_append before (m ∷ ms) ns n r = (n.0, n.1, rising_append m.number ms ns n.2 r)
 
-pub rising-parts : (before : ℕ) (ms ns : List Ordered) → NumberedIn Compact before (ms ++ ns) → NumberedIn Compact before ms × NumberedIn Compact (lastNumber before ms) ns
-unfolding NumberedIn lastNumber
-rising-parts before [] ns r = (tt, r)
-rising-parts before (m ∷ ms) ns r = let (a, b) = rising-parts m.number ms ns r.2 in ((r.0, r.1, a), b)
+pub rising_parts : (before : ℕ) (ms ns : List Ordered) → NumberedIn Compact before (ms ++ ns) → NumberedIn Compact before ms × NumberedIn Compact (last_number before ms) ns
+unfolding NumberedIn last_number
+rising_parts before [] ns r = (tt, r)
+rising_parts before (m ∷ ms) ns r = let (a, b) = rising_parts m.number ms ns r.2 in ((r.0, r.1, a), b)
 
 -- the last number of a block's records is that of their messages, where they have any
-last-messages : (form : Form) (block : List ℕ) (at before k : ℕ) → lastFrom form block at before k ≡ lastNumber before (messagesFrom form block at before k)
-unfolding lastFrom messagesFrom lastNumber messageAt
-last-messages form block at before zero = refl
-last-messages form block at before (suc k) = last-messages form block (behindIn form block at) (recordNumber form block at before) k
+last_messages : (form : Form) (block : List ℕ) (at before k : ℕ) → last_from form block at before k ≡ last_number before (messages_from form block at before k)
+unfolding last_from messages_from last_number message_at
+last_messages form block at before zero = refl
+last_messages form block at before (suc k) = last_messages form block (behind_in form block at) (record_number form block at before) k
 
-last_some : (low before : ℕ) (ms : List Ordered) → 1 ≤ length ms → lastNumber low ms ≡ lastNumber before ms
-unfolding lastNumber
+last_some : (low before : ℕ) (ms : List Ordered) → 1 ≤ length ms → last_number low ms ≡ last_number before ms
+unfolding last_number
 last_some low before [] h = absurd (omega arith)
 last_some low before (m ∷ ms) h = refl
 
 -- a block cut from the front is whole only if the journal has as many bytes
-block-whole : (journal : List ℕ) → length (take blockSize journal) ≡ blockSize → blockSize ≤ length journal
-block-whole journal e = le-or blockSize (length journal) (λ h. h) (λ h. let s = take_all blockSize journal (omega arith) in let l = ap length s in absurd (omega arith))
+block_whole : (journal : List ℕ) → length (take block_size journal) ≡ block_size → block_size ≤ length journal
+block_whole journal e = le_or block_size (length journal) (λ h. h) (λ h. let s = take_all block_size journal (omega arith) in let l = ap length s in absurd (omega arith))
 
-tail-last : (form : Form) (number : ℕ) → (tailWith form number).last.0 ≡ number
-tail-last Log number = refl
-tail-last Compact number = refl
+tail_last : (form : Form) (number : ℕ) → (tail_with form number).last.0 ≡ number
+tail_last Log number = refl
+tail_last Compact number = refl
 
 -- a right block, and what was found behind it
-right-rises : (t : Tail) (journal : List ℕ) (ns : List Ordered) → Bytes journal → blockRight t (take blockSize journal) ≡ true
-    → NumberedIn Compact (tailOf (take blockSize journal)).last.0 ns → NumberedIn Compact t.last.0 (messagesOf (take blockSize journal) ++ ns)
-unfolding messagesOf tailOf
-right-rises t journal ns bytes e rest =
-    let block = take blockSize journal in
-    let r = block-says t block e in
+right_rises : (t : Tail) (journal : List ℕ) (ns : List Ordered) → Bytes journal → block_right t (take block_size journal) ≡ true
+    → NumberedIn Compact (tail_of (take block_size journal)).last.0 ns → NumberedIn Compact t.last.0 (messages_of (take block_size journal) ++ ns)
+unfolding messages_of tail_of
+right_rises t journal ns bytes e rest =
+    let block = take block_size journal in
+    let r = block_says t block e in
     let form = form_of block in
     let first = first_at block - 1 in
-    let ms = messagesFrom form block recordsAt first (recordsIn block) in
-    let size : blockSize ≤ length journal = block-whole journal r.long in
-    let (numbered, _, _) = records-only block (bytes_take blockSize journal bytes size) r.long form recordsAt first (recordsIn block) (omega arith) r.records in
-    let above = follows-above t (first_at block) r.follow in
+    let ms = messages_from form block records_at first (records_in block) in
+    let size : block_size ≤ length journal = block_whole journal r.long in
+    let (numbered, _, _) = records_only block (bytes_take block_size journal bytes size) r.long form records_at first (records_in block) (omega arith) r.records in
+    let above = follows_above t (first_at block) r.follow in
     let some = r.some in
-    let many = messages-length form block recordsAt first (recordsIn block) in
-    let last : (tailWith form (lastFrom form block recordsAt first (recordsIn block))).last.0 ≡ lastNumber t.last.0 ms =
-    tail-last form _ ∙ last-messages form block recordsAt first (recordsIn block) ∙ last_some first t.last.0 ms (omega arith) in
-    rising-append t.last.0 ms ns (rising-from form t.last.0 first ms (omega arith) numbered) (rw (← last) rest)
+    let many = messages_length form block records_at first (records_in block) in
+    let last : (tail_with form (last_from form block records_at first (records_in block))).last.0 ≡ last_number t.last.0 ms =
+    tail_last form _ ∙ last_messages form block records_at first (records_in block) ∙ last_some first t.last.0 ms (omega arith) in
+    rising_append t.last.0 ms ns (rising_from form t.last.0 first ms (omega arith) numbered) (rw (← last) rest)
 
 -- what was found behind a tail
-found-rises : (t : Tail) (journal : List ℕ) (k : ℕ) → Bytes journal → NumberedIn Compact t.last.0 (found_from t journal k).messages
+found_rises : (t : Tail) (journal : List ℕ) (k : ℕ) → Bytes journal → NumberedIn Compact t.last.0 (found_from t journal k).messages
 unfolding found_from NumberedIn
-found-rises t journal zero bytes = tt
-found-rises t journal (suc k) bytes =
-    let block = take blockSize journal in
-    let rest = found-rises (tailOf block) (drop blockSize journal) k (bytes_drop blockSize journal bytes) in
-    if-elim (λ (r : Reads). NumberedIn Compact t.last.0 r.messages) (blockRight t block) (λ e. right-rises t journal _ bytes e rest) (λ e. tt)
+found_rises t journal zero bytes = tt
+found_rises t journal (suc k) bytes =
+    let block = take block_size journal in
+    let rest = found_rises (tail_of block) (drop block_size journal) k (bytes_drop block_size journal bytes) in
+    if_elim (λ (r : Reads). NumberedIn Compact t.last.0 r.messages) (block_right t block) (λ e. right_rises t journal _ bytes e rest) (λ e. tt)
 
-pub found-rising : RisesIn
-unfolding foundIn
-found-rising journal bytes = found-rises freshTail journal (length journal / blockSize) bytes
+pub found_rising : RisesIn
+unfolding found_in
+found_rising journal bytes = found_rises fresh_tail journal (length journal / block_size) bytes

@@ -5,8 +5,8 @@ use Rattle.group.specs.Choice.{if◌then◌else◌, ask◌or◌then◌, ◌and�
 use Rattle.group.specs.declared.Refusal.TheVariants.{WrongJournal}
 use Rattle.group.specs.declared.SequenceNumber.{SequenceNumber}
 use Rattle.message.specs.Order.{Ordered}
-use Rattle.journal.specs.Limits.{blockSize, recordHead}
-use Rattle.journal.specs.Block.{length_at, recordRight, blockRight, messagesOf, tailOf}
+use Rattle.journal.specs.Limits.{block_size, record_head}
+use Rattle.journal.specs.Block.{length_at, record_right, block_right, messages_of, tail_of}
 use Rattle.journal.specs.declared.Tail.{Tail}
 use Rattle.journal.specs.declared.Found.{Found}
 use Rattle.journal.specs.declared.Reading.{Reading}
@@ -21,8 +21,8 @@ pub record Reads : Type 0 where
   pub tail : Tail
 
 -- the tail of an empty journal: any number from 1 may follow
-abbrev pub freshTail : Tail
-freshTail = record { last = record { 0 = 0 }; free = true }
+abbrev pub fresh_tail : Tail
+fresh_tail = record { last = record { 0 = 0 }; free = true }
 
 -- nothing more
 abbrev pub nothing : Tail → Reads
@@ -36,13 +36,13 @@ joined k ms r = record { blocks = k + r.blocks; messages = ms ++ r.messages; tai
 unfoldable pub found_from : Tail → List ℕ → ℕ → Reads
 found_from t journal zero = nothing t
 found_from t journal (suc k) =
-    if blockRight t (take blockSize journal)
-    then joined 1 (messagesOf (take blockSize journal)) (found_from (tailOf (take blockSize journal)) (drop blockSize journal) k)
+    if block_right t (take block_size journal)
+    then joined 1 (messages_of (take block_size journal)) (found_from (tail_of (take block_size journal)) (drop block_size journal) k)
     else nothing t
 
 -- what a journal gives
-unfoldable pub foundIn : List ℕ → Reads
-foundIn journal = found_from freshTail journal (length journal / blockSize)
+unfoldable pub found_in : List ℕ → Reads
+found_in journal = found_from fresh_tail journal (length journal / block_size)
 
 -- what reading answers: of the messages their number
 abbrev pub counted : Reads → Found
@@ -51,35 +51,35 @@ counted r = record { blocks = r.blocks; messages = length r.messages; tail = r.t
 -- a journal's length that is no multiple of a block's is refused before any block is looked at; a wrong block is no refusal
 unfoldable pub read_of : List ℕ → Reading
 read_of journal =
-    ask length journal % blockSize =? 0 or Reading.Refused WrongJournal then
-    Reading.Read (counted (foundIn journal))
+    ask length journal % block_size =? 0 or Reading.Refused WrongJournal then
+    Reading.Read (counted (found_in journal))
 
 -- what reading one block behind a tail answers
 unfoldable pub next_of : Tail → List ℕ → Block
 next_of t block =
-    if blockRight t block
-    then Block.Right (counted (record { blocks = 1; messages = messagesOf block; tail = tailOf block }))
+    if block_right t block
+    then Block.Right (counted (record { blocks = 1; messages = messages_of block; tail = tail_of block }))
     else Block.Wrong
 
 -- where the record at an index of a block stands, and what it says
-abbrev pub recordAt : List ℕ → ℕ → SequenceNumber → Record
-recordAt block at number =
+abbrev pub record_at : List ℕ → ℕ → SequenceNumber → Record
+record_at block at number =
     record {
       number = number;
       originator = record { 0 = get_or block at 0 };
       count = number_at 4 block (at + 1);
-      start = at + recordHead;
+      start = at + record_head;
       length = length_at block at;
     }
 
 -- what reading one record answers
 unfoldable pub entry_of : List ℕ → ℕ → SequenceNumber → Entry
 entry_of block at number =
-    if length block =? blockSize and recordRight block at number.0 then Entry.Right (recordAt block at number) else Entry.Wrong
+    if length block =? block_size and record_right block at number.0 then Entry.Right (record_at block at number) else Entry.Wrong
 
 -- the message that such a record holds
-unfoldable pub heldBy : List ℕ → Record → Ordered
-heldBy block r =
+unfoldable pub held_by : List ℕ → Record → Ordered
+held_by block r =
     record {
       number = r.number.0;
       originator = r.originator.0;

@@ -2,7 +2,7 @@
 use Rattle.std.specs.Prelude.{◌≡◌, Bool, false, List, [], ◌++◌, ℕ, ◌+◌, ◌*◌, ◌-◌, length, take, drop}
 use Rattle.group.specs.Choice.{if◌then◌else◌, ask◌or◌then◌, ◌and◌, ◌<?◌, ◌≤?◌, ◌=?◌}
 use Rattle.group.specs.Lent.{front}
-use Rattle.group.specs.Limits.{membersMost, payloadMost}
+use Rattle.group.specs.Limits.{members_most, payload_most}
 use Rattle.group.specs.Question.{judged}
 use Rattle.group.specs.declared.MemberNumber.{MemberNumber}
 use Rattle.group.specs.declared.Refusal.{Refusal}
@@ -10,9 +10,9 @@ use Rattle.group.specs.declared.Refusal.TheVariants.{UnsoundState, WrongJournal}
 use Rattle.group.specs.declared.SequenceNumber.{SequenceNumber}
 use Rattle.group.specs.declared.Verdict.{Verdict}
 use Rattle.message.specs.Order.{Ordered}
-use Rattle.text.specs.LaidAt.{writtenAt}
-use Rattle.journal.specs.Limits.{recordsAt, recordsEnd, recordHead}
-use Rattle.journal.specs.Block.{recordOf, block_of, endedAt, follows}
+use Rattle.text.specs.LaidAt.{written_at}
+use Rattle.journal.specs.Limits.{records_at, records_end, record_head}
+use Rattle.journal.specs.Block.{record_of, block_of, ended_at, follows}
 use Rattle.journal.specs.declared.Tail.{Tail}
 use Rattle.journal.specs.declared.Writer.{Writer}
 use Rattle.journal.specs.declared.Answer.{Answer}
@@ -37,40 +37,40 @@ pub record Done (o : Outcome) (r : Step) (hand lent after : List ℕ) : Type 0 w
   pub lays : after ≡ front o.bytes lent
 
 -- the message that a call is given
-abbrev pub messageWith : SequenceNumber → MemberNumber → ℕ → List ℕ → Ordered
-messageWith number originator count payload =
+abbrev pub message_with : SequenceNumber → MemberNumber → ℕ → List ℕ → Ordered
+message_with number originator count payload =
     record { number = number.0; originator = originator.0; count = count; payload = payload }
 
 -- a writer behind a tail, with no record in hand
-abbrev pub writerAfter : Tail → Writer
-writerAfter t = record { tail = t; first = record { 0 = 0 }; records = 0; used = recordsAt }
+abbrev pub writer_after : Tail → Writer
+writer_after t = record { tail = t; first = record { 0 = 0 }; records = 0; used = records_at }
 
 -- the records in hand have the numbers up to the last, and the next alone may follow
-unfoldable pub numbersSound : Writer → Bool
-numbersSound w =
+unfoldable pub numbers_sound : Writer → Bool
+numbers_sound w =
     if w.tail.free then false else
     1 ≤? w.first.0 and w.first.0 + w.records =? w.tail.last.0 + 1
 
 -- the state is sound: the records in hand fit what is used, and with none in hand nothing is used
-unfoldable pub writerSound : Writer → Bool
-writerSound w =
-    recordsAt ≤? w.used
-    and w.used ≤? recordsEnd
-    and recordHead * w.records ≤? w.used - recordsAt
-    and (if w.records =? 0 then w.used =? recordsAt else numbersSound w)
+unfoldable pub writer_sound : Writer → Bool
+writer_sound w =
+    records_at ≤? w.used
+    and w.used ≤? records_end
+    and record_head * w.records ≤? w.used - records_at
+    and (if w.records =? 0 then w.used =? records_at else numbers_sound w)
 
 -- a message that a record may hold: its originator, its count, and the length of its payload
-abbrev pub allowedWith : ℕ → ℕ → ℕ → Bool
-allowedWith originator count size = originator <? membersMost and size ≤? payloadMost and 1 ≤? count
+abbrev pub allowed_with : ℕ → ℕ → ℕ → Bool
+allowed_with originator count size = originator <? members_most and size ≤? payload_most and 1 ≤? count
 
 unfoldable pub allowed : Ordered → Bool
-allowed m = allowedWith m.originator m.count (length m.payload)
+allowed m = allowed_with m.originator m.count (length m.payload)
 
 -- the writer with one more record in hand, which ends at that index
-abbrev pub grownTo : Writer → SequenceNumber → ℕ → Writer
-grownTo w number used =
+abbrev pub grown_to : Writer → SequenceNumber → ℕ → Writer
+grown_to w number used =
     record {
-      tail = endedAt number.0;
+      tail = ended_at number.0;
       first = if w.records =? 0 then number else w.first;
       records = w.records + 1;
       used = used;
@@ -78,53 +78,53 @@ grownTo w number used =
 
 -- the same of a message, and with its record alone
 abbrev pub grown : Writer → Ordered → Writer
-grown w m = grownTo w (record { 0 = m.number }) (w.used + length (recordOf m))
+grown w m = grown_to w (record { 0 = m.number }) (w.used + length (record_of m))
 
 abbrev pub begun : Ordered → Writer
 begun m =
     record {
-      tail = endedAt m.number;
+      tail = ended_at m.number;
       first = record { 0 = m.number };
       records = 1;
-      used = recordsAt + length (recordOf m);
+      used = records_at + length (record_of m);
     }
 
 -- the block in hand, made whole
-abbrev pub inHand : Writer → List ℕ → List ℕ
-inHand w hand = block_of w.first.0 w.records (drop recordsAt (take w.used hand))
+abbrev pub in_hand : Writer → List ℕ → List ℕ
+in_hand w hand = block_of w.first.0 w.records (drop records_at (take w.used hand))
 
 -- a refusal changes nothing
 abbrev pub refused : Writer → List ℕ → Refusal → Outcome
 refused w hand refusal = record { writer = w; answer = Refused refusal; hand = hand; bytes = [] }
 
 -- a message that may be kept: its record goes behind the others, or begins the next block
-unfoldable pub keptOf : Writer → Ordered → List ℕ → Outcome
-keptOf w m hand =
-    if w.used + length (recordOf m) ≤? recordsEnd
-    then record { writer = grown w m; answer = Kept; hand = writtenAt w.used (recordOf m) hand; bytes = [] }
-    else record { writer = begun m; answer = Kept; hand = writtenAt recordsAt (recordOf m) hand; bytes = inHand w hand }
+unfoldable pub kept_of : Writer → Ordered → List ℕ → Outcome
+kept_of w m hand =
+    if w.used + length (record_of m) ≤? records_end
+    then record { writer = grown w m; answer = Kept; hand = written_at w.used (record_of m) hand; bytes = [] }
+    else record { writer = begun m; answer = Kept; hand = written_at records_at (record_of m) hand; bytes = in_hand w hand }
 
 -- the questions of writing: 1, and 21 for a record that may not be, or a number that may not follow
-unfoldable pub writeVerdict : Writer → Ordered → Verdict
-writeVerdict w m =
-    ask writerSound w or Verdict.Refused UnsoundState then
+unfoldable pub write_verdict : Writer → Ordered → Verdict
+write_verdict w m =
+    ask writer_sound w or Verdict.Refused UnsoundState then
     ask allowed m and follows w.tail m.number or Verdict.Refused WrongJournal then
     Verdict.Accepted
 
-unfoldable pub writeOf : Writer → Ordered → List ℕ → Outcome
-writeOf w m hand = judged (writeVerdict w m) (refused w hand) (keptOf w m hand)
+unfoldable pub write_of : Writer → Ordered → List ℕ → Outcome
+write_of w m hand = judged (write_verdict w m) (refused w hand) (kept_of w m hand)
 
 -- shutdown hands out what is in hand; without a record, nothing
-abbrev pub closedOf : Writer → List ℕ → Outcome
-closedOf w hand =
+abbrev pub closed_of : Writer → List ℕ → Outcome
+closed_of w hand =
     record {
-      writer = writerAfter w.tail;
+      writer = writer_after w.tail;
       answer = Closed;
       hand = hand;
-      bytes = if w.records =? 0 then [] else inHand w hand;
+      bytes = if w.records =? 0 then [] else in_hand w hand;
     }
 
-unfoldable pub finishOf : Writer → List ℕ → Outcome
-finishOf w hand =
-    ask writerSound w or refused w hand UnsoundState then
-    closedOf w hand
+unfoldable pub finish_of : Writer → List ℕ → Outcome
+finish_of w hand =
+    ask writer_sound w or refused w hand UnsoundState then
+    closed_of w hand

@@ -4,11 +4,11 @@ use Rattle.std.proofs.Common.{◌≡◌, ℕ, ◌%◌, ◌≤◌, Bool, true, fa
 use Rattle.group.specs.Choice.{if◌then◌else◌, ask◌or◌then◌, ◌≤?◌, ◌=?◌}
 use Rattle.group.specs.declared.Refusal.{Refusal}
 use Rattle.group.specs.declared.Refusal.TheVariants.{WrongJournal, ManyUnits, NoRoom}
-use Rattle.journal.specs.Limits.{blockSize}
-use Rattle.plan.specs.Table.{unitsMost}
-use Rattle.plan.specs.Units.{latest, planBytes}
+use Rattle.journal.specs.Limits.{block_size}
+use Rattle.plan.specs.Table.{units_most}
+use Rattle.plan.specs.Units.{latest, plan_bytes}
 use Rattle.plan.specs.Kept.{rewritten}
-use Rattle.plan.specs.Calls.{Outcome, refused, written, recordedIn, laidIn, asked_of, plan_of, rewriteOf}
+use Rattle.plan.specs.Calls.{Outcome, refused, written, recorded_in, laid_in, asked_of, plan_of, rewrite_of}
 use Rattle.plan.specs.declared.Answer.{Answer}
 
 -- bytes were laid, so the question before was answered yes
@@ -17,25 +17,25 @@ unfolding if◌then◌else◌
 passed true q o n e = (refl, e)
 passed false q o n e = absurd (let f : Answer.Refused q ≡ Answer.Bytes n = e in let y : ◌≡◌ {A = ℕ} 0 1 = cc in omega arith)
 
-laid-within : (bytes : List ℕ) (room n : ℕ) → (laidIn bytes room).answer ≡ Answer.Bytes n → n ≤ room
-unfolding laidIn
-laid-within bytes room n e =
+laid_within : (bytes : List ℕ) (room n : ℕ) → (laid_in bytes room).answer ≡ Answer.Bytes n → n ≤ room
+unfolding laid_in
+laid_within bytes room n e =
     let (fits, same) = passed (length bytes ≤? room) NoRoom (written bytes) n e in
     let k : length bytes ≡ n = cc in
     let h = leb-true (length bytes) room fits in
     omega arith
 
-asked-within : (journal bytes : List ℕ) (room n : ℕ) → (asked_of journal bytes room).answer ≡ Answer.Bytes n → n ≤ room
+asked_within : (journal bytes : List ℕ) (room n : ℕ) → (asked_of journal bytes room).answer ≡ Answer.Bytes n → n ≤ room
 unfolding asked_of
-asked-within journal bytes room n e =
-    let (_, sized) = passed (length journal % blockSize =? 0) WrongJournal _ n e in
-    let (_, few) = passed (length (latest (recordedIn journal)) ≤? unitsMost) ManyUnits _ n sized in
-    laid-within bytes room n few
+asked_within journal bytes room n e =
+    let (_, sized) = passed (length journal % block_size =? 0) WrongJournal _ n e in
+    let (_, few) = passed (length (latest (recorded_in journal)) ≤? units_most) ManyUnits _ n sized in
+    laid_within bytes room n few
 
-pub plan-within : (journal : List ℕ) (room n : ℕ) → (plan_of journal room).answer ≡ Answer.Bytes n → n ≤ room
+pub plan_within : (journal : List ℕ) (room n : ℕ) → (plan_of journal room).answer ≡ Answer.Bytes n → n ≤ room
 unfolding plan_of
-plan-within journal room n e = asked-within journal (planBytes (latest (recordedIn journal))) room n e
+plan_within journal room n e = asked_within journal (plan_bytes (latest (recorded_in journal))) room n e
 
-pub rewrite-within : (journal : List ℕ) (room n : ℕ) → (rewriteOf journal room).answer ≡ Answer.Bytes n → n ≤ room
-unfolding rewriteOf
-rewrite-within journal room n e = asked-within journal (rewritten (recordedIn journal)) room n e
+pub rewrite_within : (journal : List ℕ) (room n : ℕ) → (rewrite_of journal room).answer ≡ Answer.Bytes n → n ≤ room
+unfolding rewrite_of
+rewrite_within journal room n e = asked_within journal (rewritten (recorded_in journal)) room n e

@@ -3,7 +3,7 @@
 // `-`, and the last line is `blocks B messages M`; of a plan each line is `unit description`. Input and output are C's, so nothing
 // is promised here; what is read and written is worked out by `journal`, `plan` and `text`.
 ghost use Rattle.std.specs.Prelude.{◌≡◌, ◌+◌, ◌*◌, ◌<◌, ◌≤◌, length};
-ghost use Rattle.group.specs.Limits.{payloadMost};
+ghost use Rattle.group.specs.Limits.{payload_most};
 ghost use Rattle.journal.specs.Laws.{StandsIn};
 
 use group::{Group, MemberNumber, Refusal, SequenceNumber};
@@ -54,7 +54,7 @@ fn print_totals(blocks: usize, messages: usize) {
 }
 
 fn print_message(number: u32, originator: u8, count: u32, payload: &[u8])
-    requires { length payload.now ≤ payloadMost }
+    requires { length payload.now ≤ payload_most }
 {
     let mut line = [0u8; LINE_MOST];
     let next = text::put_number(number, &mut line, 0);
@@ -603,7 +603,7 @@ fn append_named(name: &[u8]) {
 }
 
 fn print_unit(unit: u16, description: &[u8])
-    requires { length description.now ≤ payloadMost }
+    requires { length description.now ≤ payload_most }
 {
     let mut line = [0u8; LINE_MOST];
     let next = text::put_number(unit as u32, &mut line, 0);

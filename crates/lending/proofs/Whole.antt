@@ -22,7 +22,7 @@ use denote.Memory.{part_at}
 use denote.Struct.Struct.{Struct}
 use denote.Struct.Members.{Member, row_of, rows_of, parts_at}
 use denote.Struct.Parts.{shape_of, PartsBack, Struct-parts}
-use Rattle.lending.proofs.Lending.{Names, place, next, refsAt, lentsAt, lastsAt, lends-all, all_back, shrsAt, kept_at, shows-all, shown-back}
+use Rattle.lending.proofs.Lending.{Names, place, next, refs_at, lents_at, lasts_at, lends_all, all_back, shrs_at, kept_at, shows_all, shown_back}
 
 pub record Lendable : Type 2 where
   pub row : RattleType
@@ -52,7 +52,7 @@ module _ (D : Lendable) where
 
     -- what the lender keeps
     abbrev pub Kept : Lft → D.row.Denot → ℕ → ℕ → Names D.rest → Item 𝓤
-    Kept κ h b o ns = ‵ (lentsAt κ D.rest start ns b o) ⊛ (‵ (part_at (row_of D.first) full_share (D.all h).0 b (place D.first 0 o)) ⊛ raw (Back full_share b o))
+    Kept κ h b o ns = ‵ (lents_at κ D.rest start ns b o) ⊛ (‵ (part_at (row_of D.first) full_share (D.all h).0 b (place D.first 0 o)) ⊛ raw (Back full_share b o))
 
     -- what the lender keeps of the share t
     abbrev pub Held : Lft → Share → D.row.Denot → ℕ → ℕ → Item 𝓤
@@ -70,35 +70,35 @@ module _ (D : Lendable) where
 
       module _ (ℓ : Lifetime) (κ : Lft) (h : D.row.Denot) (b o : ℕ) where
         abbrev Lent : Fml → Names D.rest → SProp 𝓤
-        Lent P ns = sep 𝓤 (sem 𝓛 (refsAt ℓ κ D.rest start (D.all h).1 ns b o P)) (mean 𝓛 (Kept κ h b o ns))
+        Lent P ns = sep 𝓤 (sem 𝓛 (refs_at ℓ κ D.rest start (D.all h).1 ns b o P)) (mean 𝓛 (Kept κ h b o ns))
 
         pub lend : (P : Fml) → ent 𝓤 (sep 𝓤 (sem 𝓛 (part_at D.row full_share h b o)) (sem 𝓛 P)) (H.⇛ (ex 𝓤 (Lent P)))
         lend P =
             qed 𝓛 (‵ (part_at D.row full_share h b o) ∷ ‵ P ∷ []) ∵ updating ! $ use1 𝓛 (‵ (parts_at full_share ms 0 (D.all h) b o) ⊛ raw (Back full_share b o)) (out full_share h b o) $ split ! $ fsplit ! $
             -- [the first; the rest; the way back; P]
-            move ! (1 ∷ 3 ∷ []) $ use2 𝓛 (later (some (λ (ns : Names D.rest). ‵ (refsAt ℓ κ D.rest start (D.all h).1 ns b o P) ⊛ ‵ (lentsAt κ D.rest start ns b o)))) (lends-all 𝓛 ℓ κ b o P D.rest start (D.all h).1) $ await ! tt $ pick ! (λ ns. split ! $
+            move ! (1 ∷ 3 ∷ []) $ use2 𝓛 (later (some (λ (ns : Names D.rest). ‵ (refs_at ℓ κ D.rest start (D.all h).1 ns b o P) ⊛ ‵ (lents_at κ D.rest start ns b o)))) (lends_all 𝓛 ℓ κ b o P D.rest start (D.all h).1) $ await ! tt $ pick ! (λ ns. split ! $
             at_once ! $ show ! (Lent P) ns $ done !)
 
         pub back : (P : Fml) (ns : Names D.rest) (a : Values) (h' : D.row.Denot) → D.all h' ≡ ((D.all h).0, a)
-            → ent 𝓤 (sep 𝓤 (sem 𝓛 (fdead κ)) (sep 𝓤 (mean 𝓛 (Kept κ h b o ns)) (sem 𝓛 (lastsAt D.rest a ns P)))) (H.⇛ (sep 𝓤 (sem 𝓛 (part_at D.row full_share h' b o)) (sem 𝓛 P)))
+            → ent 𝓤 (sep 𝓤 (sem 𝓛 (fdead κ)) (sep 𝓤 (mean 𝓛 (Kept κ h b o ns)) (sem 𝓛 (lasts_at D.rest a ns P)))) (H.⇛ (sep 𝓤 (sem 𝓛 (part_at D.row full_share h' b o)) (sem 𝓛 P)))
         back P ns a h' e =
-            qed 𝓛 (‵ (fdead κ) ∷ Kept κ h b o ns ∷ ‵ (lastsAt D.rest a ns P) ∷ []) ∵ updating ! $ move ! (1 ∷ []) $ split ! $ move ! (2 ∷ 0 ∷ 3 ∷ []) $
+            qed 𝓛 (‵ (fdead κ) ∷ Kept κ h b o ns ∷ ‵ (lasts_at D.rest a ns P) ∷ []) ∵ updating ! $ move ! (1 ∷ []) $ split ! $ move ! (2 ∷ 0 ∷ 3 ∷ []) $
             use3 𝓛 (later (‵ (parts_at full_share D.rest start a b o) ⊛ ‵ P)) (all_back 𝓛 ℓ κ b o P D.rest start a ns) $ await ! tt $ split ! $
             -- [the rest; P; the first, with the way back]
             move ! (2 ∷ []) $ split ! $ move ! (0 ∷ 2 ∷ []) $ fjoin ! $ move ! (1 ∷ 0 ∷ []) $ use2 𝓛 (‵ (part_at D.row full_share h' b o)) (into full_share h' ((D.all h).0, a) e b o) $ at_once ! $ done !
 
         module _ (t : Share) where
           abbrev Shown : Fml → Names D.rest → SProp 𝓤
-          Shown P ns = sep 𝓤 (sem 𝓛 (shrsAt ℓ κ D.rest start (D.all h).1 ns b o P)) (mean 𝓛 (Held κ t h b o))
+          Shown P ns = sep 𝓤 (sem 𝓛 (shrs_at ℓ κ D.rest start (D.all h).1 ns b o P)) (mean 𝓛 (Held κ t h b o))
 
-          pub show-out : (P : Fml) → ent 𝓤 (sep 𝓤 (sem 𝓛 (part_at D.row t h b o)) (sem 𝓛 P)) (H.⇛ (ex 𝓤 (Shown P)))
-          show-out P =
+          pub show_out : (P : Fml) → ent 𝓤 (sep 𝓤 (sem 𝓛 (part_at D.row t h b o)) (sem 𝓛 P)) (H.⇛ (ex 𝓤 (Shown P)))
+          show_out P =
               qed 𝓛 (‵ (part_at D.row t h b o) ∷ ‵ P ∷ []) ∵ updating ! $ use1 𝓛 (‵ (parts_at t ms 0 (D.all h) b o) ⊛ raw (Back t b o)) (out t h b o) $ split ! $ fsplit ! $
-              move ! (1 ∷ 3 ∷ []) $ use2 𝓛 (later (some (λ (ns : Names D.rest). ‵ (shrsAt ℓ κ D.rest start (D.all h).1 ns b o P) ⊛ ‵ (kept_at κ t D.rest start (D.all h).1 b o)))) (shows-all 𝓛 ℓ κ b o P t D.rest start (D.all h).1) $ await ! tt $ pick ! (λ ns. split ! $
+              move ! (1 ∷ 3 ∷ []) $ use2 𝓛 (later (some (λ (ns : Names D.rest). ‵ (shrs_at ℓ κ D.rest start (D.all h).1 ns b o P) ⊛ ‵ (kept_at κ t D.rest start (D.all h).1 b o)))) (shows_all 𝓛 ℓ κ b o P t D.rest start (D.all h).1) $ await ! tt $ pick ! (λ ns. split ! $
               at_once ! $ show ! (Shown P) ns $ done !)
 
-          pub show-back : ent 𝓤 (sep 𝓤 (sem 𝓛 (fdead κ)) (mean 𝓛 (Held κ t h b o))) (H.⇛ (sem 𝓛 (part_at D.row t h b o)))
-          show-back =
+          pub show_back : ent 𝓤 (sep 𝓤 (sem 𝓛 (fdead κ)) (mean 𝓛 (Held κ t h b o))) (H.⇛ (sem 𝓛 (part_at D.row t h b o)))
+          show_back =
               qed 𝓛 (‵ (fdead κ) ∷ Held κ t h b o ∷ []) ∵ updating ! $ move ! (1 ∷ []) $ split ! $ move ! (2 ∷ 0 ∷ []) $
-              use2 𝓛 (later (‵ (parts_at t D.rest start (D.all h).1 b o))) (shown-back 𝓛 ℓ κ b o ftrue t D.rest start (D.all h).1) $ await ! tt $
+              use2 𝓛 (later (‵ (parts_at t D.rest start (D.all h).1 b o))) (shown_back 𝓛 ℓ κ b o ftrue t D.rest start (D.all h).1) $ await ! tt $
               move ! (1 ∷ []) $ split ! $ move ! (0 ∷ 2 ∷ []) $ fjoin ! $ move ! (1 ∷ 0 ∷ []) $ use2 𝓛 (‵ (part_at D.row t h b o)) (into t h (D.all h) refl b o) $ at_once ! $ done !

@@ -9,27 +9,27 @@ use lib.ListN.{length, take, drop}
 use lib.Seq.{length-take-le, take_at}
 use Rattle.descriptor.specs.Descriptor.{Takes}
 use Rattle.descriptor.specs.declared.Sink.{Sink}
-use Rattle.descriptor.proofs.Laws.{takes_none, takes-both, takes-as, takes-nothing}
+use Rattle.descriptor.proofs.Laws.{takes_none, takes_both, takes_as, takes_nothing}
 use Rattle.group.specs.Choice.{ask◌or◌then◌, ◌and◌, ◌<?◌, ◌≤?◌}
 use Rattle.group.specs.Lent.{front}
-use Rattle.group.specs.Limits.{membersMost}
+use Rattle.group.specs.Limits.{members_most}
 use Rattle.group.specs.Opening as group
 use Rattle.group.specs.declared.Group.{Group}
 use Rattle.group.specs.declared.Opened.{Opened}
 use Rattle.group.specs.declared.Refusal.{Refusal}
 use Rattle.group.specs.declared.Refusal.TheVariants.{Opening, Resilience}
-use Rattle.group.proofs.Choice.{if-was, both_first, both-then}
-use Rattle.group.proofs.Lists.{le-or}
+use Rattle.group.proofs.Choice.{if_was, both_first, both_then}
+use Rattle.group.proofs.Lists.{le_or}
 use Rattle.text.specs.LaidAt.{LaidAt}
 use Rattle.text.proofs.Pieces.{laid_none, laid_then}
-use Rattle.workload.specs.Calls.{step_of, loadAt, opened, openOf, next_of}
-use Rattle.workload.specs.Choice.{eventFrom, eventsFrom}
-use Rattle.workload.specs.Line.{eventLines, load_of, lineRoom}
+use Rattle.workload.specs.Calls.{step_of, load_at, opened, open_of, next_of}
+use Rattle.workload.specs.Choice.{event_from, events_from}
+use Rattle.workload.specs.Line.{event_lines, load_of, line_room}
 use Rattle.workload.specs.declared.Answer.{Answer}
 use Rattle.workload.specs.declared.Load.{Load}
 use Rattle.workload.specs.declared.Step.{Step}
-use Rattle.workload.proofs.Choosing.{laid-whole, next-line}
-use Rattle.load.specs.Printed.{printedOf, Prints}
+use Rattle.workload.proofs.Choosing.{laid_whole, next_line}
+use Rattle.load.specs.Printed.{printed_of, Prints}
 use Rattle.load.specs.Steps.{lines_from, Lays, Gathers}
 
 -- what was laid at the front is taken from there
@@ -40,13 +40,13 @@ pub laid_as : {at next : ℕ} {a b before after : List ℕ} → a ≡ b → Laid
 laid_as {at} {next} {a} {b} {before} {after} e h = subst (λ (l : List ℕ). LaidAt at l before after next) e h
 
 -- the loop that lays them: its start, and a turn
-pub lays-none : (load : Load) (events : ℕ) (before : List ℕ) → Lays load events before before load events 0
-lays-none load events before = record { lines = []; laid = laid_none 0 before (omega arith); rest = refl }
+pub lays_none : (load : Load) (events : ℕ) (before : List ℕ) → Lays load events before before load events 0
+lays_none load events before = record { lines = []; laid = laid_none 0 before (omega arith); rest = refl }
 
-pub lays-on : {load next : Load} {events left size : ℕ} {before now after : List ℕ} (behind : Load) (end : ℕ) → Lays load events before now next left size → 1 ≤ left
+pub lays_on : {load next : Load} {events left size : ℕ} {before now after : List ℕ} (behind : Load) (end : ℕ) → Lays load events before now next left size → 1 ≤ left
     → LaidAt size (next_of next).bytes now after end → behind ≡ (next_of next).load → Lays load events before after behind (left - 1) end
 unfolding lines_from
-lays-on {load} {next} {events} {left} behind end h l g e =
+lays_on {load} {next} {events} {left} behind end h l g e =
     let s : left ≡ suc (left - 1) = omega arith in
     let r : lines_from next left ≡ (next_of next).bytes ++ lines_from behind (left - 1) = ap (lines_from next) s ∙ ap (λ (x : Load). (next_of next).bytes ++ lines_from x (left - 1)) (sym e) in
     record {
@@ -57,14 +57,14 @@ lays-on {load} {next} {events} {left} behind end h l g e =
 
 -- and its end: where an event is left, there is no room
 pub gathered : (load next : Load) (events left size : ℕ) (before after : List ℕ) → Lays load events before after next left size → length after ≡ length before → left ≤ events
-    → (left ≡ events → size ≡ 0) → (1 ≤ left → length after - size < lineRoom) → Gathers load events before after (record { load = next; left = left; size = size })
+    → (left ≡ events → size ≡ 0) → (1 ≤ left → length after - size < line_room) → Gathers load events before after (record { load = next; left = left; size = size })
 gathered load next events left size before after h n l s f =
     let fits : size ≤ length after = let k = h.laid.fits in omega arith in
     record {
       lays = h;
       counts = (fits, sym (length-take-le size after fits));
       fewer = λ one room.
-          le-or events left
+          le_or events left
           (λ k. let z = s (omega arith) in
           let g = f (omega arith) in
           absurd (omega arith))
@@ -83,67 +83,67 @@ hands_none load events sink = record { lines = []; takes = takes_none sink; rest
 pub hands_on : {load next behind : Load} {events left fewer size : ℕ} {sink from to : Sink} {before after : List ℕ} → Hands load events sink next left from
     → Lays next left before after behind fewer size → Takes from (take size after) to → Hands load events sink behind fewer to
 hands_on {behind = behind} {fewer = fewer} {size = size} {before = before} {after = after} h l t =
-    let w = laid-whole l.laid in
+    let w = laid_whole l.laid in
     let e = taken l.lines before after size w.lent w.size in
     record {
       lines = h.lines ++ l.lines;
-      takes = takes-both h.takes (takes-as e t);
+      takes = takes_both h.takes (takes_as e t);
       rest = h.rest ∙ ap (λ (r : List ℕ). h.lines ++ r) l.rest ∙ sym (append_assoc h.lines l.lines (lines_from behind fewer));
     }
 
 -- a sink that failed takes nothing more; where no event is left, it took all
-pub hands-failed : {load next : Load} {events left : ℕ} {before after : Sink} → Hands load events before next left after → after.failed ≡ true → Takes before (lines_from load events) after
-hands-failed {next = next} {left = left} {after = after} h f = takes-as (sym h.rest) (takes-both h.takes (takes-nothing after (lines_from next left) f))
+pub hands_failed : {load next : Load} {events left : ℕ} {before after : Sink} → Hands load events before next left after → after.failed ≡ true → Takes before (lines_from load events) after
+hands_failed {next = next} {left = left} {after = after} h f = takes_as (sym h.rest) (takes_both h.takes (takes_nothing after (lines_from next left) f))
 
-pub hands-all : {load next : Load} {events left : ℕ} {before after : Sink} → Hands load events before next left after → left ≡ 0 → Takes before (lines_from load events) after
+pub hands_all : {load next : Load} {events left : ℕ} {before after : Sink} → Hands load events before next left after → left ≡ 0 → Takes before (lines_from load events) after
 unfolding lines_from
-hands-all {next = next} h e = takes-as (sym (h.rest ∙ ap (λ (k : ℕ). h.lines ++ lines_from next k) e ∙ append-nil h.lines)) h.takes
+hands_all {next = next} h e = takes_as (sym (h.rest ∙ ap (λ (k : ℕ). h.lines ++ lines_from next k) e ∙ append-nil h.lines)) h.takes
 
 -- the lines of a load that is open are those of its events
-pub lines-events : (n : ℕ) → 1 ≤ n → n ≤ membersMost → (state k : ℕ) → lines_from (loadAt state n) k ≡ eventLines (eventsFrom n state k)
-unfolding lines_from eventLines eventsFrom
-lines-events n h l state zero = refl
-lines-events n h l state (suc k) =
-    let e = next-line (loadAt state n) h l in
-    rw (e, lines-events n h l (eventFrom n state).state k)
+pub lines_events : (n : ℕ) → 1 ≤ n → n ≤ members_most → (state k : ℕ) → lines_from (load_at state n) k ≡ event_lines (events_from n state k)
+unfolding lines_from event_lines events_from
+lines_events n h l state zero = refl
+lines_events n h l state (suc k) =
+    let e = next_line (load_at state n) h l in
+    rw (e, lines_events n h l (event_from n state).state k)
 
-refused-not : {refusal : Refusal} → Answer.Refused refusal ≡ Answer.Written → ⊥
-refused-not e = let z : ◌≡◌ {A = ℕ} 0 1 = cc in omega arith
+refused_not : {refusal : Refusal} → Answer.Refused refusal ≡ Answer.Written → ⊥
+refused_not e = let z : ◌≡◌ {A = ℕ} 0 1 = cc in omega arith
 
 -- a group that is open has 1 to 16 members
-open-within : (n number : ℕ) (g : Group) → group.openOf n number 0 ≡ Opened.Open g → (1 ≤ g.n) × (g.n ≤ membersMost)
-unfolding group.openOf
-open-within n number g e =
-    let w = if-was (1 ≤? n and n ≤? membersMost) (ask 0 <? n or Opened.Refused Resilience then Opened.Open (group.descriptionOf n number 0)) (Opened.Refused Opening) (Opened.Open g) e (λ z. let a : ◌≡◌ {A = ℕ} 0 1 = cc in omega arith) in
-    let d = if-was (0 <? n) (Opened.Open (group.descriptionOf n number 0)) (Opened.Refused Resilience) (Opened.Open g) w.1 (λ z. let a : ◌≡◌ {A = ℕ} 0 1 = cc in omega arith) in
+open_within : (n number : ℕ) (g : Group) → group.open_of n number 0 ≡ Opened.Open g → (1 ≤ g.n) × (g.n ≤ members_most)
+unfolding group.open_of
+open_within n number g e =
+    let w = if_was (1 ≤? n and n ≤? members_most) (ask 0 <? n or Opened.Refused Resilience then Opened.Open (group.description_of n number 0)) (Opened.Refused Opening) (Opened.Open g) e (λ z. let a : ◌≡◌ {A = ℕ} 0 1 = cc in omega arith) in
+    let d = if_was (0 <? n) (Opened.Open (group.description_of n number 0)) (Opened.Refused Resilience) (Opened.Open g) w.1 (λ z. let a : ◌≡◌ {A = ℕ} 0 1 = cc in omega arith) in
     let f = d.1 in
     let m : n ≡ g.n = cc in
-    let h = leb-true 1 n (both_first (1 ≤? n) (n ≤? membersMost) w.0) in
-    let l = leb-true n membersMost (both-then (1 ≤? n) (n ≤? membersMost) w.0) in
+    let h = leb-true 1 n (both_first (1 ≤? n) (n ≤? members_most) w.0) in
+    let l = leb-true n members_most (both_then (1 ≤? n) (n ≤? members_most) w.0) in
     (omega arith, omega arith)
 
 module _ (seed n number events : ℕ) (sink : Sink) where
   -- the first line, and the lines of the events behind it
-  pub prints-whole : {step : Step} {first last : Sink} → step ≡ step_of (openOf seed n number) → step.answer ≡ Answer.Written → Takes sink (openOf seed n number).bytes first
+  pub prints_whole : {step : Step} {first last : Sink} → step ≡ step_of (open_of seed n number) → step.answer ≡ Answer.Written → Takes sink (open_of seed n number).bytes first
       → Takes first (lines_from step.load events) last → Prints seed n number events sink (record { answer = step.answer; sink = last })
-  unfolding opened printedOf load_of
-  prints-whole {step} {first} {last} s w f l =
+  unfolding opened printed_of load_of
+  prints_whole {step} {first} {last} s w f l =
       record {
         answer = ap (λ (x : Step). x.answer) s;
-        takes = go (group.openOf n number 0) refl (sym (ap (λ (x : Step). x.answer) s) ∙ w) f (takes-as (ap (λ (x : Step). lines_from x.load events) s) l);
+        takes = go (group.open_of n number 0) refl (sym (ap (λ (x : Step). x.answer) s) ∙ w) f (takes_as (ap (λ (x : Step). lines_from x.load events) s) l);
       }
     where
-      go : (o : Opened) → group.openOf n number 0 ≡ o → (opened seed o).answer ≡ Answer.Written → Takes sink (opened seed o).bytes first → Takes first (lines_from (opened seed o).load events) last
-          → Takes sink (printedOf seed events o) last
-      go (Opened.Open g) e a f l = let k = open-within n number g e in takes-both f (takes-as (lines-events g.n k.0 k.1 seed events) l)
-      go (Opened.Refused refusal) e a f l = absurd (refused-not a)
+      go : (o : Opened) → group.open_of n number 0 ≡ o → (opened seed o).answer ≡ Answer.Written → Takes sink (opened seed o).bytes first → Takes first (lines_from (opened seed o).load events) last
+          → Takes sink (printed_of seed events o) last
+      go (Opened.Open g) e a f l = let k = open_within n number g e in takes_both f (takes_as (lines_events g.n k.0 k.1 seed events) l)
+      go (Opened.Refused refusal) e a f l = absurd (refused_not a)
 
-  pub prints-nothing : {step : Step} {refusal : Refusal} → step ≡ step_of (openOf seed n number) → step.answer ≡ Answer.Refused refusal
+  pub prints_nothing : {step : Step} {refusal : Refusal} → step ≡ step_of (open_of seed n number) → step.answer ≡ Answer.Refused refusal
       → Prints seed n number events sink (record { answer = step.answer; sink = sink })
-  unfolding opened printedOf
-  prints-nothing {step} {refusal} s w =
-      record { answer = ap (λ (x : Step). x.answer) s; takes = go (group.openOf n number 0) (sym (ap (λ (x : Step). x.answer) s) ∙ w) }
+  unfolding opened printed_of
+  prints_nothing {step} {refusal} s w =
+      record { answer = ap (λ (x : Step). x.answer) s; takes = go (group.open_of n number 0) (sym (ap (λ (x : Step). x.answer) s) ∙ w) }
     where
-      go : (o : Opened) → (opened seed o).answer ≡ Answer.Refused refusal → Takes sink (printedOf seed events o) sink
-      go (Opened.Open g) a = absurd (refused-not (sym a))
+      go : (o : Opened) → (opened seed o).answer ≡ Answer.Refused refusal → Takes sink (printed_of seed events o) sink
+      go (Opened.Open g) a = absurd (refused_not (sym a))
       go (Opened.Refused refusal) a = takes_none sink

@@ -4,16 +4,16 @@ use Rattle.descriptor.specs.Descriptor.{Takes}
 use Rattle.descriptor.specs.declared.Sink.{Sink}
 use Rattle.group.specs.Opening as group
 use Rattle.group.specs.declared.Opened.{Opened}
-use Rattle.workload.specs.Calls.{openOf}
+use Rattle.workload.specs.Calls.{open_of}
 use Rattle.workload.specs.Line.{load_of}
 use Rattle.load.specs.declared.Printed.{Printed}
 
 -- a load that is opened is printed whole, of one that is refused nothing
-unfoldable pub printedOf : ℕ → ℕ → Opened → List ℕ
-printedOf seed events (Opened.Open g) = load_of seed g.n g.number events
-printedOf seed events (Opened.Refused refusal) = []
+unfoldable pub printed_of : ℕ → ℕ → Opened → List ℕ
+printed_of seed events (Opened.Open g) = load_of seed g.n g.number events
+printed_of seed events (Opened.Refused refusal) = []
 
 -- the sink took that, and the answer is the opening's
 pub record Prints (seed n number events : ℕ) (sink : Sink) (r : Printed) : Type 0 where
-  pub answer : r.answer ≡ (openOf seed n number).answer
-  pub takes : Takes sink (printedOf seed events (group.openOf n number 0)) r.sink
+  pub answer : r.answer ≡ (open_of seed n number).answer
+  pub takes : Takes sink (printed_of seed events (group.open_of n number 0)) r.sink

@@ -3,7 +3,7 @@ use Rattle.std.specs.Prelude.{◌≡◌, List, [], ◌++◌, ℕ, zero, suc, ◌
 use Rattle.io.specs.Counts.{IsPrefixLen}
 use Rattle.text.specs.LaidAt.{LaidAt}
 use Rattle.workload.specs.Calls.{next_of}
-use Rattle.workload.specs.Line.{lineRoom}
+use Rattle.workload.specs.Line.{line_room}
 use Rattle.workload.specs.declared.Load.{Load}
 use Rattle.load.specs.declared.Part.{Part}
 
@@ -22,4 +22,4 @@ pub record Lays (load : Load) (events : ℕ) (before after : List ℕ) (next : L
 pub record Gathers (load : Load) (events : ℕ) (before after : List ℕ) (r : Part) : Type 0 where
   pub lays : Lays load events before after r.load r.left r.size
   pub counts : IsPrefixLen r.size after
-  pub fewer : 1 ≤ events → lineRoom ≤ length before → r.left < events
+  pub fewer : 1 ≤ events → line_room ≤ length before → r.left < events

@@ -3,7 +3,7 @@ ghost use Rattle.std.specs.Prelude.{◌≡◌, ◌+◌, ◌≤◌, length, take}
 ghost use Rattle.descriptor.specs.Descriptor.{Takes};
 ghost use Rattle.text.specs.LaidAt.{LaidAt};
 ghost use Rattle.workload.specs.Calls.{next_of};
-ghost use Rattle.workload.specs.Line.{lineRoom};
+ghost use Rattle.workload.specs.Line.{line_room};
 ghost use Rattle.load.specs.Printed.{Prints};
 ghost use Rattle.load.specs.Steps.{lines_from, Gathers};
 
@@ -40,8 +40,8 @@ struct Printed {
 
 // Lays a line behind others.
 fn put_line(line: [u8; Load::LINE], size: usize, out: &mut [u8], at: usize) -> usize
-    requires size_le_line_room { size ≤ lineRoom }
-    requires line_room_in_bounds { at + lineRoom ≤ length out.old }
+    requires size_le_line_room { size ≤ line_room }
+    requires line_room_in_bounds { at + line_room ≤ length out.old }
     ensures { LaidAt at (take size line) out.old out.new result }
 {
     put_text(&line[..size], out, at)
@@ -49,7 +49,7 @@ fn put_line(line: [u8; Load::LINE], size: usize, out: &mut [u8], at: usize) -> u
 
 // Lays the line of the next event behind others.
 fn put_next(load: Load, out: &mut [u8], at: usize) -> Placed
-    requires { at + lineRoom ≤ length out.old }
+    requires { at + line_room ≤ length out.old }
     ensures laid { LaidAt at (next_of load).bytes out.old out.new result.next }
     ensures load { result.load ≡ (next_of load).load }
 {
@@ -99,7 +99,7 @@ fn put_events(mut load: Load, events: u32, mut sink: Sink) -> Sink
 
 // Hands on a first line.
 fn put_first(line: [u8; Load::LINE], size: usize, sink: Sink) -> Sink
-    requires { size ≤ lineRoom }
+    requires { size ≤ line_room }
     ensures { Takes sink (take size line) result }
 {
     sink.write(&line[..size])

@@ -9,62 +9,62 @@ use native.Mathlib.Omega.{arith}
 use borrow.Author.Tests.{ltb-true}
 use lib.ListN.{length, get_or, get_elem?}
 use Rattle.group.specs.Choice.{if◌then◌else◌, ◌<?◌, ◌=?◌}
-use Rattle.group.specs.Limits.{membersMost, longestPacket, largestNumber}
+use Rattle.group.specs.Limits.{members_most, longest_packet, largest_number}
 use Rattle.group.specs.Question.{judged}
 use Rattle.group.specs.declared.Group as description
 use Rattle.group.specs.declared.Verdict.{Verdict}
-use Rattle.member.proofs.Closing.{call-accepted}
+use Rattle.member.proofs.Closing.{call_accepted}
 use Rattle.member.specs.Calls as member
-use Rattle.member.specs.Sound as memberSound
+use Rattle.member.specs.Sound as member_sound
 use Rattle.member.specs.declared.Answer as memberAnswer
 use Rattle.member.specs.State.{Member}
 use Rattle.model.proofs.Invariant.{WorldInv}
-use Rattle.model.proofs.Step.{next-keeps}
-use Rattle.model.specs.World.{Event, submit, repeat, status, poll, copy, handMember, handSequencer, Group, Happened, missing, withMember, withSequencer, noMember, atMember, handToMember, handToSequencer, happen, World, step, run}
+use Rattle.model.proofs.Step.{next_keeps}
+use Rattle.model.specs.World.{Event, submit, repeat, status, poll, copy, hand_member, hand_sequencer, Group, Happened, missing, with_member, with_sequencer, no_member, at_member, hand_to_member, hand_to_sequencer, happen, World, step, run}
 use Rattle.model.specs.World as world
-use Rattle.packet.specs.Packet.{payloadAt, read_of, written}
+use Rattle.packet.specs.Packet.{payload_at, read_of, written}
 use Rattle.sequencer.specs.Calls as sequencer
-use Rattle.sequencer.specs.Sound as sequencerSound
+use Rattle.sequencer.specs.Sound as sequencer_sound
 use Rattle.sequencer.specs.State.{Sequencer}
-use Rattle.window.specs.Places.{is_held, messageAt}
+use Rattle.window.specs.Places.{is_held, message_at}
 
 -- the calls of a sound member that is lent the longest packet's room
-abbrev submitPast : Member → List ℕ → member.Outcome
-submitPast m payload =
-    judged (member.submitVerdict m (length payload)) (member.refused m)
+abbrev submit_past : Member → List ℕ → member.Outcome
+submit_past m payload =
+    judged (member.submit_verdict m (length payload)) (member.refused m)
     (if m.waiting =? 0
-    then record { member = member.withWaiting m payload; answer = memberAnswer.Answer.Sent; bytes = member.requestPacket (member.withWaiting m payload) }
-    else member.answered (member.withWaiting m payload) (memberAnswer.Answer.Queued (m.submitted + 1)))
+    then record { member = member.with_waiting m payload; answer = memberAnswer.Answer.Sent; bytes = member.request_packet (member.with_waiting m payload) }
+    else member.answered (member.with_waiting m payload) (memberAnswer.Answer.Queued (m.submitted + 1)))
 
-abbrev takePast : Member → member.Outcome
-takePast m =
-    if member.isReady m (m.taken.0 + 1) then member.tookOf m (messageAt m.held (m.taken.0 + 1)) else
+abbrev take_past : Member → member.Outcome
+take_past m =
+    if member.is_ready m (m.taken.0 + 1) then member.took_of m (message_at m.held (m.taken.0 + 1)) else
     member.answered m memberAnswer.Answer.None
 
-abbrev statusPast : Member → member.Outcome
-statusPast m = record { member = m; answer = memberAnswer.Answer.Sent; bytes = member.statusPacket m }
+abbrev status_past : Member → member.Outcome
+status_past m = record { member = m; answer = memberAnswer.Answer.Sent; bytes = member.status_packet m }
 
-abbrev receivePast : List ℕ → Member → member.Outcome
-receivePast packet m = member.read_step m (read_of packet) (payloadAt packet)
+abbrev receive_past : List ℕ → Member → member.Outcome
+receive_past packet m = member.read_step m (read_of packet) (payload_at packet)
 
 -- what an event leaves; those that a list of this crate does not have are taken as they are
-abbrev memberPast : Group → ℕ → Option (List ℕ) → Happened
-memberPast g i none = missing g
-memberPast g i (some packet) = atMember g i (receivePast packet)
+abbrev member_past : Group → ℕ → Option (List ℕ) → Happened
+member_past g i none = missing g
+member_past g i (some packet) = at_member g i (receive_past packet)
 
-abbrev sequencerPast : Group → Option (List ℕ) → Happened
-sequencerPast g none = missing g
-sequencerPast g (some packet) = withSequencer g (sequencer.read_step g.sequencer (read_of packet) (payloadAt packet))
+abbrev sequencer_past : Group → Option (List ℕ) → Happened
+sequencer_past g none = missing g
+sequencer_past g (some packet) = with_sequencer g (sequencer.read_step g.sequencer (read_of packet) (payload_at packet))
 
 unfoldable pub past : Group → Event → Happened
-past g (submit i payload) = atMember g i (λ m. submitPast m payload)
+past g (submit i payload) = at_member g i (λ m. submit_past m payload)
 past g (repeat i) = happen g (repeat i)
-past g (world.take i) = if i <? length g.members then withMember g i (takePast (get_or g.members i noMember)) [] else missing g
-past g (status i) = atMember g i statusPast
+past g (world.take i) = if i <? length g.members then with_member g i (take_past (get_or g.members i no_member)) [] else missing g
+past g (status i) = at_member g i status_past
 past g poll = happen g poll
 past g (copy number) = happen g (copy number)
-past g (handMember k i) = memberPast g i (get_elem? g.packets k)
-past g (handSequencer k) = sequencerPast g (get_elem? g.packets k)
+past g (hand_member k i) = member_past g i (get_elem? g.packets k)
+past g (hand_sequencer k) = sequencer_past g (get_elem? g.packets k)
 
 -- a list of events
 unfoldable pub leaves : Group → List Event → Group
@@ -72,72 +72,72 @@ leaves g [] = g
 leaves g (e ∷ es) = leaves (past g e).group es
 
 -- a choice whose first way is the same
-if-first : {A B : Type 0} (t : Bool) (f : A → B) (x y : A) (d : B) → (t ≡ true → x ≡ y) → (if t then f x else d) ≡ (if t then f y else d)
+if_first : {A B : Type 0} (t : Bool) (f : A → B) (x y : A) (d : B) → (t ≡ true → x ≡ y) → (if t then f x else d) ≡ (if t then f y else d)
 unfolding if◌then◌else◌
-if-first true f x y d h = ap f (h refl)
-if-first false f x y d h = refl
+if_first true f x y d h = ap f (h refl)
+if_first false f x y d h = refl
 
 -- a member's calls
-module _ (m : Member) (h : memberSound.soundOf m ≡ true) where
-  submit-past : (payload : List ℕ) → member.submitOf m payload longestPacket ≡ submitPast m payload
-  unfolding member.submitOf judged
-  submit-past payload = rw (call-accepted m h)
+module _ (m : Member) (h : member_sound.sound_of m ≡ true) where
+  submit_past_lem : (payload : List ℕ) → member.submit_of m payload longest_packet ≡ submit_past m payload
+  unfolding member.submit_of judged
+  submit_past_lem payload = rw (call_accepted m h)
 
-  take_past : member.take_of m longestPacket ≡ takePast m
+  take_past_lem : member.take_of m longest_packet ≡ take_past m
   unfolding member.take_of judged
-  take_past = rw (call-accepted m h)
+  take_past_lem = rw (call_accepted m h)
 
-  status-past : member.statusOf m longestPacket ≡ statusPast m
-  unfolding member.statusOf judged
-  status-past = rw (call-accepted m h)
+  status_past_lem : member.status_of m longest_packet ≡ status_past m
+  unfolding member.status_of judged
+  status_past_lem = rw (call_accepted m h)
 
-  receive-past : (packet : List ℕ) → member.receiveOf m packet longestPacket ≡ receivePast packet m
-  unfolding member.receiveOf judged
-  receive-past packet = rw (call-accepted m h)
+  receive_past_lem : (packet : List ℕ) → member.receive_of m packet longest_packet ≡ receive_past packet m
+  unfolding member.receive_of judged
+  receive_past_lem packet = rw (call_accepted m h)
 
 -- the sequencer's
-sequencer-past : (s : Sequencer) (packet : List ℕ) → sequencerSound.soundOf s ≡ true → sequencer.receiveOf s packet longestPacket ≡ sequencer.read_step s (read_of packet) (payloadAt packet)
-unfolding sequencer.receiveOf sequencer.callVerdict judged if◌then◌else◌
-sequencer-past s packet h = rw h
+sequencer_past_lem : (s : Sequencer) (packet : List ℕ) → sequencer_sound.sound_of s ≡ true → sequencer.receive_of s packet longest_packet ≡ sequencer.read_step s (read_of packet) (payload_at packet)
+unfolding sequencer.receive_of sequencer.call_verdict judged if◌then◌else◌
+sequencer_past_lem s packet h = rw h
 
 module _ (group : description.Group) where
   module _ (w : World) (v : WorldInv group w) where
     abbrev g : Group
     g = w.group
 
-    sound : (i : ℕ) → (i <? length g.members) ≡ true → memberSound.soundOf (get_or g.members i noMember) ≡ true
+    sound : (i : ℕ) → (i <? length g.members) ≡ true → member_sound.sound_of (get_or g.members i no_member) ≡ true
     sound i t = let z = ltb-true i (length g.members) t in let y = v.members in (v.terminal i (omega arith)).content.sound
 
-    at-past : (i : ℕ) (call call' : Member → member.Outcome) → ((m : Member) → memberSound.soundOf m ≡ true → call m ≡ call' m) → atMember g i call ≡ atMember g i call'
-    at-past i call call' h =
-        let m : Member = get_or g.members i noMember in
-        if-first (i <? length g.members) (λ (o : member.Outcome). withMember g i o (written o.bytes)) (call m) (call' m) (missing g) (λ t. h m (sound i t))
+    at_past : (i : ℕ) (call call' : Member → member.Outcome) → ((m : Member) → member_sound.sound_of m ≡ true → call m ≡ call' m) → at_member g i call ≡ at_member g i call'
+    at_past i call call' h =
+        let m : Member = get_or g.members i no_member in
+        if_first (i <? length g.members) (λ (o : member.Outcome). with_member g i o (written o.bytes)) (call m) (call' m) (missing g) (λ t. h m (sound i t))
 
-    hand-past : (i : ℕ) (packet : Option (List ℕ)) → handToMember g i packet ≡ memberPast g i packet
-    hand-past i none = refl
-    hand-past i (some packet) = at-past i (λ m. member.receiveOf m packet longestPacket) (receivePast packet) (λ m s. receive-past m s packet)
+    hand_past : (i : ℕ) (packet : Option (List ℕ)) → hand_to_member g i packet ≡ member_past g i packet
+    hand_past i none = refl
+    hand_past i (some packet) = at_past i (λ m. member.receive_of m packet longest_packet) (receive_past packet) (λ m s. receive_past_lem m s packet)
 
-    handed-past : (packet : Option (List ℕ)) → handToSequencer g packet ≡ sequencerPast g packet
-    handed-past none = refl
-    handed-past (some packet) = ap (withSequencer g) (sequencer-past g.sequencer packet v.sequencer.sound)
+    handed_past : (packet : Option (List ℕ)) → hand_to_sequencer g packet ≡ sequencer_past g packet
+    handed_past none = refl
+    handed_past (some packet) = ap (with_sequencer g) (sequencer_past_lem g.sequencer packet v.sequencer.sound)
 
-    happen-past : (e : Event) → happen g e ≡ past g e
+    happen_past : (e : Event) → happen g e ≡ past g e
     unfolding happen past
-    happen-past (submit i payload) = at-past i (λ m. member.submitOf m payload longestPacket) (λ m. submitPast m payload) (λ m s. submit-past m s payload)
-    happen-past (repeat i) = refl
-    happen-past (world.take i) =
-        let m : Member = get_or g.members i noMember in
-        if-first (i <? length g.members) (λ (o : member.Outcome). withMember g i o []) (member.take_of m longestPacket) (takePast m) (missing g) (λ t. take_past m (sound i t))
-    happen-past (status i) = at-past i (λ m. member.statusOf m longestPacket) statusPast status-past
-    happen-past poll = refl
-    happen-past (copy number) = refl
-    happen-past (handMember k i) = hand-past i (get_elem? g.packets k)
-    happen-past (handSequencer k) = handed-past (get_elem? g.packets k)
+    happen_past (submit i payload) = at_past i (λ m. member.submit_of m payload longest_packet) (λ m. submit_past m payload) (λ m s. submit_past_lem m s payload)
+    happen_past (repeat i) = refl
+    happen_past (world.take i) =
+        let m : Member = get_or g.members i no_member in
+        if_first (i <? length g.members) (λ (o : member.Outcome). with_member g i o []) (member.take_of m longest_packet) (take_past m) (missing g) (λ t. take_past_lem m (sound i t))
+    happen_past (status i) = at_past i (λ m. member.status_of m longest_packet) status_past status_past_lem
+    happen_past poll = refl
+    happen_past (copy number) = refl
+    happen_past (hand_member k i) = hand_past i (get_elem? g.packets k)
+    happen_past (hand_sequencer k) = handed_past (get_elem? g.packets k)
 
   -- what a list leaves
-  pub run-leaves : group.n ≤ membersMost → group.number ≤ largestNumber → (w : World) (es : List Event) → WorldInv group w → (run w es).group ≡ leaves w.group es
+  pub run_leaves : group.n ≤ members_most → group.number ≤ largest_number → (w : World) (es : List Event) → WorldInv group w → (run w es).group ≡ leaves w.group es
   unfolding run leaves
-  run-leaves hn hg w [] v = refl
-  run-leaves hn hg w (e ∷ es) v =
-      run-leaves hn hg (step w e) es (next-keeps group hn hg w e v)
-      ∙ ap (λ (d : Happened). leaves d.group es) (happen-past w v e)
+  run_leaves hn hg w [] v = refl
+  run_leaves hn hg w (e ∷ es) v =
+      run_leaves hn hg (step w e) es (next_keeps group hn hg w e v)
+      ∙ ap (λ (d : Happened). leaves d.group es) (happen_past w v e)

@@ -5,34 +5,34 @@ use Rattle.member.specs.declared.Answer.{Answer}
 use Rattle.member.specs.declared.Answer.TheVariants.{Refused, Sent, Queued, Old, Kept, KeptGap, Beyond, BeyondGap, Gap, Status, None, Noted, Took}
 
 -- the message that a take handed out: number, originator and count of its answer, and the payload that it wrote
-unfoldable pub tookBy : Answer → List ℕ → List Ordered
-tookBy (Refused refusal) bytes = []
-tookBy Sent bytes = []
-tookBy (Queued count) bytes = []
-tookBy Old bytes = []
-tookBy Kept bytes = []
-tookBy KeptGap bytes = []
-tookBy Beyond bytes = []
-tookBy BeyondGap bytes = []
-tookBy Gap bytes = []
-tookBy Status bytes = []
-tookBy None bytes = []
-tookBy Noted bytes = []
-tookBy (Took number originator count more) bytes =
+unfoldable pub took_by : Answer → List ℕ → List Ordered
+took_by (Refused refusal) bytes = []
+took_by Sent bytes = []
+took_by (Queued count) bytes = []
+took_by Old bytes = []
+took_by Kept bytes = []
+took_by KeptGap bytes = []
+took_by Beyond bytes = []
+took_by BeyondGap bytes = []
+took_by Gap bytes = []
+took_by Status bytes = []
+took_by None bytes = []
+took_by Noted bytes = []
+took_by (Took number originator count more) bytes =
     record { number = number.0; originator = originator.0; count = count; payload = bytes } ∷ []
 
 -- the payload given, of a submit that was not refused
-unfoldable pub acceptedBy : Answer → List ℕ → List (List ℕ)
-acceptedBy (Refused refusal) payload = []
-acceptedBy Sent payload = payload ∷ []
-acceptedBy (Queued count) payload = payload ∷ []
-acceptedBy Old payload = payload ∷ []
-acceptedBy Kept payload = payload ∷ []
-acceptedBy KeptGap payload = payload ∷ []
-acceptedBy Beyond payload = payload ∷ []
-acceptedBy BeyondGap payload = payload ∷ []
-acceptedBy Gap payload = payload ∷ []
-acceptedBy Status payload = payload ∷ []
-acceptedBy None payload = payload ∷ []
-acceptedBy Noted payload = payload ∷ []
-acceptedBy (Took number originator count more) payload = payload ∷ []
+unfoldable pub accepted_by : Answer → List ℕ → List (List ℕ)
+accepted_by (Refused refusal) payload = []
+accepted_by Sent payload = payload ∷ []
+accepted_by (Queued count) payload = payload ∷ []
+accepted_by Old payload = payload ∷ []
+accepted_by Kept payload = payload ∷ []
+accepted_by KeptGap payload = payload ∷ []
+accepted_by Beyond payload = payload ∷ []
+accepted_by BeyondGap payload = payload ∷ []
+accepted_by Gap payload = payload ∷ []
+accepted_by Status payload = payload ∷ []
+accepted_by None payload = payload ∷ []
+accepted_by Noted payload = payload ∷ []
+accepted_by (Took number originator count more) payload = payload ∷ []

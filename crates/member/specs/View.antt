@@ -1,7 +1,7 @@
 -- A member in parts, read as the state that the calls' meaning speaks of: its numbers stand in its head, and its messages in arrays, their payloads side by side.
 use Rattle.std.specs.Prelude.{◌≡◌, List, ℕ, ◌*◌, length}
-use Rattle.group.specs.Limits.{heldMost, waitingMost, payloadMost}
-use Rattle.store.specs.Places.{messagesIn}
+use Rattle.group.specs.Limits.{held_most, waiting_most, payload_most}
+use Rattle.store.specs.Places.{messages_in}
 use Rattle.member.specs.State.{Member}
 use Rattle.member.specs.declared.Head.{Head}
 
@@ -41,17 +41,17 @@ view_of s =
       accepted = s.head.accepted;
       submitted = s.head.submitted;
       waiting = s.head.waiting;
-      queue = messagesIn s.queued s.queued_originators s.queued_lengths s.queued_payloads;
-      held = messagesIn s.held s.held_originators s.held_lengths s.held_payloads;
+      queue = messages_in s.queued s.queued_originators s.queued_lengths s.queued_payloads;
+      held = messages_in s.held s.held_originators s.held_lengths s.held_payloads;
     }
 
 -- its arrays have their lengths
 pub record Sized (s : Stored) : Type 0 where
-  pub queued-size : length s.queued ≡ waitingMost
-  pub held-size : length s.held ≡ heldMost
-  pub queued-originators-size : length s.queued_originators ≡ waitingMost
-  pub queued-lengths-size : length s.queued_lengths ≡ waitingMost
-  pub held-originators-size : length s.held_originators ≡ heldMost
-  pub held-lengths-size : length s.held_lengths ≡ heldMost
-  pub queued-payloads-size : length s.queued_payloads ≡ waitingMost * payloadMost
-  pub held-payloads-size : length s.held_payloads ≡ heldMost * payloadMost
+  pub queued_size : length s.queued ≡ waiting_most
+  pub held_size : length s.held ≡ held_most
+  pub queued_originators_size : length s.queued_originators ≡ waiting_most
+  pub queued_lengths_size : length s.queued_lengths ≡ waiting_most
+  pub held_originators_size : length s.held_originators ≡ held_most
+  pub held_lengths_size : length s.held_lengths ≡ held_most
+  pub queued_payloads_size : length s.queued_payloads ≡ waiting_most * payload_most
+  pub held_payloads_size : length s.held_payloads ≡ held_most * payload_most

@@ -2,15 +2,15 @@
 // and the steps of its calls, which are lent its state in parts: the numbers of its head by value, and arrays.
 ghost use Rattle.std.specs.Prelude.{◌≡◌, [], ◌+◌, ◌-◌, ◌*◌, ◌≤◌, ◌<◌, length, take, get_or};
 ghost use Rattle.group.specs.Lent.{Laid};
-ghost use Rattle.group.specs.Limits.{heldMost, waitingMost, payloadMost, longestPacket, largestNumber};
-ghost use Rattle.packet.specs.Packet.{fieldsVerdict, fields_of, packetOf};
-ghost use Rattle.store.specs.Places.{part_of, messagesIn};
-ghost use Rattle.window.specs.Places.{place_of, queuePlace, smallerOf};
-ghost use Rattle.member.specs.Sound.{soundOf};
-ghost use Rattle.member.specs.Calls.{answered, callVerdict, submitVerdict, gapUpTo, keptOf, messageStep, broadcastOf, confirms, offerOf, pollOf};
+ghost use Rattle.group.specs.Limits.{held_most, waiting_most, payload_most, longest_packet, largest_number};
+ghost use Rattle.packet.specs.Packet.{fields_verdict, fields_of, packet_of};
+ghost use Rattle.store.specs.Places.{part_of, messages_in};
+ghost use Rattle.window.specs.Places.{place_of, queue_place, smaller_of};
+ghost use Rattle.member.specs.Sound.{sound_of};
+ghost use Rattle.member.specs.Calls.{answered, call_verdict, submit_verdict, gap_up_to, kept_of, message_step, broadcast_of, confirms, offer_of, poll_of};
 ghost use Rattle.member.specs.View.{Sized, whole, view_of};
 ghost use Rattle.member.specs.Promise.{Ended};
-ghost use Rattle.member.specs.Steps.{emptyHanded, accepting, confirmsBy, requestIn, Tells, Hears, Submits, Hands};
+ghost use Rattle.member.specs.Steps.{empty_handed, accepting, confirms_by, request_in, Tells, Hears, Submits, Hands};
 
 use group::{Group, MemberNumber, Refusal, SequenceNumber, Verdict};
 use packet::Packet;
@@ -73,8 +73,8 @@ pub struct Begun {
 
 // Lays a packet without payload at the front of the output, and gives its length.
 fn put_bare(packet: Packet, group: u32, out: &mut [u8]) -> usize
-    requires { (fieldsVerdict (fields_of group packet) 0 [] ≡ Verdict.Accepted) × (longestPacket ≤ length out.old) }
-    ensures { Laid (packetOf (fields_of group packet) []) result out.old out.new }
+    requires { (fields_verdict (fields_of group packet) 0 [] ≡ Verdict.Accepted) × (longest_packet ≤ length out.old) }
+    ensures { Laid (packet_of (fields_of group packet) []) result out.old out.new }
 {
     let none = [0u8; 0];
     packet.put(group, &none, out)
@@ -93,7 +93,7 @@ pub fn sound(
     held_payloads: &[u8],
 ) -> bool
     requires { Sized (whole head queued.now held.now queued_originators.now queued_lengths.now held_originators.now held_lengths.now queued_payloads.now held_payloads.now) }
-    ensures { result ≡ soundOf (view_of (whole head queued.now held.now queued_originators.now queued_lengths.now held_originators.now held_lengths.now queued_payloads.now held_payloads.now)) }
+    ensures { result ≡ sound_of (view_of (whole head queued.now held.now queued_originators.now queued_lengths.now held_originators.now held_lengths.now queued_payloads.now held_payloads.now)) }
 {
     let number = head.number;
     if window::frame_sound(head.group, number, head.taken, head.accepted) {
@@ -137,7 +137,7 @@ pub fn ask(
     room: usize,
 ) -> Verdict
     requires { Sized (whole head queued.now held.now queued_originators.now queued_lengths.now held_originators.now held_lengths.now queued_payloads.now held_payloads.now) }
-    ensures { result ≡ callVerdict (view_of (whole head queued.now held.now queued_originators.now queued_lengths.now held_originators.now held_lengths.now queued_payloads.now held_payloads.now)) room }
+    ensures { result ≡ call_verdict (view_of (whole head queued.now held.now queued_originators.now queued_lengths.now held_originators.now held_lengths.now queued_payloads.now held_payloads.now)) room }
 {
     if sound(
         head,
@@ -160,7 +160,7 @@ pub fn ask(
 
 // Questions 13, 14 and 16 of a submission of `size` bytes.
 pub fn ask_submission(head: Head, size: usize) -> Verdict
-    ensures { result ≡ submitVerdict (emptyHanded head) size }
+    ensures { result ≡ submit_verdict (empty_handed head) size }
 {
     if Group::PAYLOAD < size {
         return Verdict::Refused(Refusal::LongPayload);
@@ -182,8 +182,8 @@ fn put_request(
     payload: &[u8],
     out: &mut [u8],
 ) -> usize
-    requires { (1 ≤ count) × (length payload.now ≤ payloadMost) × (longestPacket ≤ length out.old) }
-    ensures { Laid (requestIn head held.now count payload.now) result out.old out.new }
+    requires { (1 ≤ count) × (length payload.now ≤ payload_most) × (longest_packet ≤ length out.old) }
+    ensures { Laid (request_in head held.now count payload.now) result out.old out.new }
 {
     let sender = head.number;
     let end = window::row_end(held, head.taken);
@@ -204,8 +204,8 @@ pub fn put_first(
     payloads: &[u8],
     out: &mut [u8],
 ) -> usize
-    requires { (1 ≤ head.waiting) × (head.waiting ≤ head.submitted) × (length lengths.now ≡ waitingMost) × (get_or lengths.now (queuePlace (head.submitted - head.waiting + 1)) 0 ≤ payloadMost) × (length payloads.now ≡ waitingMost * payloadMost) × (longestPacket ≤ length out.old) }
-    ensures { Laid (requestIn head held.now (head.submitted - head.waiting + 1) (take (get_or lengths.now (queuePlace (head.submitted - head.waiting + 1)) 0) (part_of payloads.now (queuePlace (head.submitted - head.waiting + 1))))) result out.old out.new }
+    requires { (1 ≤ head.waiting) × (head.waiting ≤ head.submitted) × (length lengths.now ≡ waiting_most) × (get_or lengths.now (queue_place (head.submitted - head.waiting + 1)) 0 ≤ payload_most) × (length payloads.now ≡ waiting_most * payload_most) × (longest_packet ≤ length out.old) }
+    ensures { Laid (request_in head held.now (head.submitted - head.waiting + 1) (take (get_or lengths.now (queue_place (head.submitted - head.waiting + 1)) 0) (part_of payloads.now (queue_place (head.submitted - head.waiting + 1))))) result out.old out.new }
 {
     let last = head.submitted;
     let count = last - head.waiting + 1;
@@ -217,8 +217,8 @@ pub fn put_first(
 
 // Lays a status packet at the front of the output, and gives its length. It acknowledges the accepted of the row that ends there.
 pub fn put_status(head: Head, end: SequenceNumber, out: &mut [u8]) -> usize
-    requires { longestPacket ≤ length out.old }
-    ensures { Laid (packetOf (fields_of head.group.number (Packet.Status head.number (record { 0 = smallerOf end.0 head.accepted.0 }))) []) result out.old out.new }
+    requires { longest_packet ≤ length out.old }
+    ensures { Laid (packet_of (fields_of head.group.number (Packet.Status head.number (record { 0 = smaller_of end.0 head.accepted.0 }))) []) result out.old out.new }
 {
     let sender = head.number;
     let taken = window::earlier(end, head.accepted);
@@ -228,8 +228,8 @@ pub fn put_status(head: Head, end: SequenceNumber, out: &mut [u8]) -> usize
 
 // Lays a gap packet from the number behind the row's end up to `last` at the front of the output, and gives its length.
 fn put_gap(head: Head, end: SequenceNumber, last: SequenceNumber, out: &mut [u8]) -> usize
-    requires { (end.0 < last.0) × (longestPacket ≤ length out.old) }
-    ensures { Laid (packetOf (fields_of head.group.number (Packet.Gap head.number (record { 0 = smallerOf end.0 head.accepted.0 }) (record { 0 = end.0 + 1 }) last)) []) result out.old out.new }
+    requires { (end.0 < last.0) × (longest_packet ≤ length out.old) }
+    ensures { Laid (packet_of (fields_of head.group.number (Packet.Gap head.number (record { 0 = smaller_of end.0 head.accepted.0 }) (record { 0 = end.0 + 1 }) last)) []) result out.old out.new }
 {
     let sender = head.number;
     let taken = window::earlier(end, head.accepted);
@@ -245,8 +245,8 @@ fn put_gap(head: Head, end: SequenceNumber, last: SequenceNumber, out: &mut [u8]
 
 // Lays the confirmation of an offered number at the front of the output, and gives its length.
 fn put_confirm(head: Head, number: SequenceNumber, out: &mut [u8]) -> usize
-    requires { (1 ≤ number.0) × (longestPacket ≤ length out.old) }
-    ensures { Laid (packetOf (fields_of head.group.number (Packet.Confirm head.number number)) []) result out.old out.new }
+    requires { (1 ≤ number.0) × (longest_packet ≤ length out.old) }
+    ensures { Laid (packet_of (fields_of head.group.number (Packet.Confirm head.number number)) []) result out.old out.new }
 {
     let sender = head.number;
     let packet = Packet::Confirm { sender, number };
@@ -262,8 +262,8 @@ fn gap_up_to(
     whole: Answer,
     out: &mut [u8],
 ) -> Reply
-    requires { (last.0 ≤ head.taken.0 + heldMost) × (longestPacket ≤ length out.old) }
-    ensures { Tells head held.now (λ m. gapUpTo m last.0 gapped (answered m whole)) result out.old out.new }
+    requires { (last.0 ≤ head.taken.0 + held_most) × (longest_packet ≤ length out.old) }
+    ensures { Tells head held.now (λ m. gap_up_to m last.0 gapped (answered m whole)) result out.old out.new }
 {
     let end = window::row_end(held, head.taken);
     if last.0 <= end.0 {
@@ -281,8 +281,8 @@ fn gap_up_to(
 
 // A poll: what is missing up to its top, or the status where nothing is.
 pub fn poll(head: Head, held: &[u32; Group::HELD], top: SequenceNumber, out: &mut [u8]) -> Reply
-    requires { longestPacket ≤ length out.old }
-    ensures { Tells head held.now (λ m. pollOf m top) result out.old out.new }
+    requires { longest_packet ≤ length out.old }
+    ensures { Tells head held.now (λ m. poll_of m top) result out.old out.new }
 {
     let last = window::reach(top, head.taken);
     let end = window::row_end(held, head.taken);
@@ -313,8 +313,8 @@ fn kept(
     payload: &[u8],
     out: &mut [u8],
 ) -> Reply
-    requires { (head.taken.0 < number.0) × (number.0 ≤ head.taken.0 + heldMost) × (length payload.now ≤ payloadMost) × (longestPacket ≤ length out.old) }
-    ensures { Hears head (messagesIn held.old held_originators.old held_lengths.old held_payloads.old) head (messagesIn held.new held_originators.new held_lengths.new held_payloads.new) (λ m. keptOf m originator number.0 count payload.now) result out.old out.new }
+    requires { (head.taken.0 < number.0) × (number.0 ≤ head.taken.0 + held_most) × (length payload.now ≤ payload_most) × (longest_packet ≤ length out.old) }
+    ensures { Hears head (messages_in held.old held_originators.old held_lengths.old held_payloads.old) head (messages_in held.new held_originators.new held_lengths.new held_payloads.new) (λ m. kept_of m originator number.0 count payload.now) result out.old out.new }
 {
     let at = window::place(number, 0);
     window::keep(
@@ -344,8 +344,8 @@ fn message_step(
     payload: &[u8],
     out: &mut [u8],
 ) -> Reply
-    requires { (length payload.now ≤ payloadMost) × (longestPacket ≤ length out.old) }
-    ensures { Hears head (messagesIn held.old held_originators.old held_lengths.old held_payloads.old) head (messagesIn held.new held_originators.new held_lengths.new held_payloads.new) (λ m. messageStep m originator number.0 count payload.now) result out.old out.new }
+    requires { (length payload.now ≤ payload_most) × (longest_packet ≤ length out.old) }
+    ensures { Hears head (messages_in held.old held_originators.old held_lengths.old held_payloads.old) head (messages_in held.new held_originators.new held_lengths.new held_payloads.new) (λ m. message_step m originator number.0 count payload.now) result out.old out.new }
 {
     let taken = head.taken;
     if number.0 <= taken.0 {
@@ -401,8 +401,8 @@ pub fn broadcast(
     payload: &[u8],
     out: &mut [u8],
 ) -> Done
-    requires { (length payload.now ≤ payloadMost) × (longestPacket ≤ length out.old) }
-    ensures { Hears head (messagesIn held.old held_originators.old held_lengths.old held_payloads.old) result.head (messagesIn held.new held_originators.new held_lengths.new held_payloads.new) (λ m. broadcastOf m originator number.0 count payload.now) result.reply out.old out.new }
+    requires { (length payload.now ≤ payload_most) × (longest_packet ≤ length out.old) }
+    ensures { Hears head (messages_in held.old held_originators.old held_lengths.old held_payloads.old) result.head (messages_in held.new held_originators.new held_lengths.new held_payloads.new) (λ m. broadcast_of m originator number.0 count payload.now) result.reply out.old out.new }
 {
     let next = accept_up_to(head, number);
     let reply = message_step(
@@ -448,7 +448,7 @@ fn has(answer: Answer) -> bool
 
 // Whether an offer with that answer is confirmed: nothing up to its number is missing, and the member is expected to confirm.
 fn confirmed(head: Head, held: &[u32; Group::HELD], number: SequenceNumber, answer: Answer) -> bool
-    ensures { result ≡ confirmsBy head held.now number.0 answer }
+    ensures { result ≡ confirms_by head held.now number.0 answer }
 {
     if has(answer) {
         let first = window::lowest_missing(held, head.taken, number);
@@ -474,8 +474,8 @@ pub fn offer(
     payload: &[u8],
     out: &mut [u8],
 ) -> Reply
-    requires { (1 ≤ number.0) × (length payload.now ≤ payloadMost) × (longestPacket ≤ length out.old) }
-    ensures { Hears head (messagesIn held.old held_originators.old held_lengths.old held_payloads.old) head (messagesIn held.new held_originators.new held_lengths.new held_payloads.new) (λ m. offerOf m originator number.0 count payload.now) result out.old out.new }
+    requires { (1 ≤ number.0) × (length payload.now ≤ payload_most) × (longest_packet ≤ length out.old) }
+    ensures { Hears head (messages_in held.old held_originators.old held_lengths.old held_payloads.old) head (messages_in held.new held_originators.new held_lengths.new held_payloads.new) (λ m. offer_of m originator number.0 count payload.now) result out.old out.new }
 {
     let reply = message_step(
         head,
@@ -518,8 +518,8 @@ pub fn submitted(
     payload: &[u8],
     out: &mut [u8],
 ) -> Done
-    requires { (length payload.now ≤ payloadMost) × (head.waiting < waitingMost) × (head.submitted < largestNumber) × (longestPacket ≤ length out.old) }
-    ensures { Submits head held.now (messagesIn queued.old queued_originators.old queued_lengths.old queued_payloads.old) (messagesIn queued.new queued_originators.new queued_lengths.new queued_payloads.new) payload.now result out.old out.new }
+    requires { (length payload.now ≤ payload_most) × (head.waiting < waiting_most) × (head.submitted < largest_number) × (longest_packet ≤ length out.old) }
+    ensures { Submits head held.now (messages_in queued.old queued_originators.old queued_lengths.old queued_payloads.old) (messages_in queued.new queued_originators.new queued_lengths.new queued_payloads.new) payload.now result out.old out.new }
 {
     let count = head.submitted + 1;
     let place = window::queue_place(count as usize);
@@ -562,8 +562,8 @@ pub fn hand_out(
     held_payloads: &mut [u8; Group::HELD_BYTES],
     out: &mut [u8],
 ) -> Done
-    requires { (get_or held_lengths.old (place_of (head.taken.0 + 1)) 0 ≤ payloadMost) × (head.taken.0 < largestNumber) × (head.waiting ≤ head.submitted) × (longestPacket ≤ length out.old) }
-    ensures { Hands head (messagesIn queued.old queued_originators.old queued_lengths.old queued_payloads.old) (messagesIn held.old held_originators.old held_lengths.old held_payloads.old) result.head (messagesIn queued.new queued_originators.new queued_lengths.new queued_payloads.new) (messagesIn held.new held_originators.new held_lengths.new held_payloads.new) result.reply out.old out.new }
+    requires { (get_or held_lengths.old (place_of (head.taken.0 + 1)) 0 ≤ payload_most) × (head.taken.0 < largest_number) × (head.waiting ≤ head.submitted) × (longest_packet ≤ length out.old) }
+    ensures { Hands head (messages_in queued.old queued_originators.old queued_lengths.old queued_payloads.old) (messages_in held.old held_originators.old held_lengths.old held_payloads.old) result.head (messages_in queued.new queued_originators.new queued_lengths.new queued_payloads.new) (messages_in held.new held_originators.new held_lengths.new held_payloads.new) result.reply out.old out.new }
 {
     let at = window::place(head.taken, 1);
     let next = window::place(head.taken, 2);

@@ -1,13 +1,13 @@
 // The calls of a member on its head and on lent arrays: each asks its questions, then takes its step.
 ghost use Rattle.std.specs.Prelude.{◌≡◌, true, ◌≤◌, length};
-ghost use Rattle.group.specs.Limits.{payloadMost, longestPacket};
-ghost use Rattle.group.specs.Opening.{descriptionOf};
+ghost use Rattle.group.specs.Limits.{payload_most, longest_packet};
+ghost use Rattle.group.specs.Opening.{description_of};
 ghost use Rattle.packet.specs.Packet.{obeys, fields_of, read_of};
-ghost use Rattle.store.specs.Places.{messagesIn};
-ghost use Rattle.member.specs.Calls.{contentStep};
+ghost use Rattle.store.specs.Places.{messages_in};
+ghost use Rattle.member.specs.Calls.{content_step};
 ghost use Rattle.member.specs.View.{whole};
 ghost use Rattle.member.specs.Promise.{Begins, Submitted, Received, Taken, Repeated, Reported};
-ghost use Rattle.member.specs.Steps.{readOurs, Hears};
+ghost use Rattle.member.specs.Steps.{read_ours, Hears};
 
 use group::{Group, MemberNumber, Opened, Refusal, Verdict};
 use member::{Answer, Begun, Done, Head, Reply};
@@ -33,7 +33,7 @@ fn declined(head: Head, refusal: Refusal) -> Done
 
 // Reads a packet at this end: questions 3 to 6, then 6 of byte 1, and 7.
 fn read_ours(group: Group, packet: &[u8]) -> Reading
-    ensures { result ≡ readOurs group (read_of packet.now) }
+    ensures { result ≡ read_ours group (read_of packet.now) }
 {
     let r = packet::read(packet);
     match r {
@@ -62,8 +62,8 @@ fn content(
     payload: &[u8],
     out: &mut [u8],
 ) -> Done
-    requires { (obeys (fields_of head.group.number packet) payload.now ≡ true) × (length payload.now ≤ payloadMost) × (longestPacket ≤ length out.old) }
-    ensures { Hears head (messagesIn held.old held_originators.old held_lengths.old held_payloads.old) result.head (messagesIn held.new held_originators.new held_lengths.new held_payloads.new) (λ m. contentStep m packet payload.now) result.reply out.old out.new }
+    requires { (obeys (fields_of head.group.number packet) payload.now ≡ true) × (length payload.now ≤ payload_most) × (longest_packet ≤ length out.old) }
+    ensures { Hears head (messages_in held.old held_originators.old held_lengths.old held_payloads.old) result.head (messages_in held.new held_originators.new held_lengths.new held_payloads.new) (λ m. content_step m packet payload.now) result.reply out.old out.new }
 {
     match packet {
         Packet::Broadcast {
@@ -159,7 +159,7 @@ fn content(
 
 // An opening that is refused.
 fn unopened(refusal: Refusal) -> Begun
-    ensures { result ≡ record { head = record { group = descriptionOf 0 0 0; number = record { 0 = 0 }; taken = record { 0 = 0 }; accepted = record { 0 = 0 }; submitted = 0; waiting = 0 }; verdict = Verdict.Refused refusal } }
+    ensures { result ≡ record { head = record { group = description_of 0 0 0; number = record { 0 = 0 }; taken = record { 0 = 0 }; accepted = record { 0 = 0 }; submitted = 0; waiting = 0 }; verdict = Verdict.Refused refusal } }
 {
     let none = Group {
         n: 0,

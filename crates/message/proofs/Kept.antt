@@ -7,29 +7,29 @@ use native.Mathlib.Omega.{arith}
 use lib.ListN.{length, take, drop, replicate, length-take}
 use lib.Seq.{drop_at, take_at}
 use Rattle.group.specs.Choice.{if◌then◌else◌}
-use Rattle.group.specs.Limits.{payloadMost}
+use Rattle.group.specs.Limits.{payload_most}
 use Rattle.group.specs.declared.MemberNumber.{MemberNumber}
-use Rattle.message.specs.Message.{Message, allZero, messageOf, emptyMessage, payloadOf, zeroBehind, is_empty}
+use Rattle.message.specs.Message.{Message, all_zero, message_of, empty_message, payload_of, zero_behind, is_empty}
 
-zeros : (k : ℕ) → allZero (replicate k 0) ≡ true
-unfolding allZero if◌then◌else◌
+zeros : (k : ℕ) → all_zero (replicate k 0) ≡ true
+unfolding all_zero if◌then◌else◌
 zeros zero = refl
 zeros (suc k) = zeros k
 
-pub kept_payload : (m : MemberNumber) (count : ℕ) (payload : List ℕ) → payloadOf (messageOf m count payload) ≡ payload
-unfolding payloadOf messageOf
-kept_payload m count payload = take_at payload (replicate (payloadMost - length payload) 0) (length payload) refl
+pub kept_payload : (m : MemberNumber) (count : ℕ) (payload : List ℕ) → payload_of (message_of m count payload) ≡ payload
+unfolding payload_of message_of
+kept_payload m count payload = take_at payload (replicate (payload_most - length payload) 0) (length payload) refl
 
 -- a message's payload is as long as it says, or shorter
-pub payload-short : (m : Message) → m.length ≤ payloadMost → length (payloadOf m) ≤ payloadMost
-unfolding payloadOf
-payload-short m h = simp length-take (omega arith)
+pub payload_short : (m : Message) → m.length ≤ payload_most → length (payload_of m) ≤ payload_most
+unfolding payload_of
+payload_short m h = simp length-take (omega arith)
 
-pub kept-zero : (m : MemberNumber) (count : ℕ) (payload : List ℕ) → zeroBehind (messageOf m count payload) ≡ true
-unfolding zeroBehind messageOf
-kept-zero m count payload =
-    ap allZero (drop_at payload (replicate (payloadMost - length payload) 0) (length payload) refl) ∙ zeros (payloadMost - length payload)
+pub kept_zero : (m : MemberNumber) (count : ℕ) (payload : List ℕ) → zero_behind (message_of m count payload) ≡ true
+unfolding zero_behind message_of
+kept_zero m count payload =
+    ap all_zero (drop_at payload (replicate (payload_most - length payload) 0) (length payload) refl) ∙ zeros (payload_most - length payload)
 
-pub empty-zero : is_empty emptyMessage ≡ true
-unfolding is_empty zeroBehind emptyMessage allZero if◌then◌else◌
-empty-zero = refl
+pub empty_zero : is_empty empty_message ≡ true
+unfolding is_empty zero_behind empty_message all_zero if◌then◌else◌
+empty_zero = refl

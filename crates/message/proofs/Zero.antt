@@ -10,23 +10,23 @@ use lib.Bits.{bit_and, bit_or, or_add_and, and_le_l, and_le_r}
 use lib.ListN.{length, get_or, drop, drop_of_length-le}
 use lib.Seq.{drop-cons}
 use Rattle.group.specs.Choice.{if◌then◌else◌, ◌and◌, ◌<?◌, ◌=?◌}
-use Rattle.group.proofs.Choice.{if-true, if-false, both_hold, first-fails, then-fails}
-use Rattle.group.proofs.Lists.{if-elim, le-or}
-use Rattle.message.specs.Message.{allZero}
+use Rattle.group.proofs.Choice.{if_true, if_false, both_hold, first_fails, then_fails}
+use Rattle.group.proofs.Lists.{if_elim, le_or}
+use Rattle.message.specs.Message.{all_zero}
 
 and_assoc : (a b c : Bool) → (a and b) and c ≡ a and (b and c)
 unfolding if◌then◌else◌
 and_assoc true b c = refl
 and_assoc false b c = refl
 
-and-true : (a : Bool) → a and true ≡ a
+and_true : (a : Bool) → a and true ≡ a
 unfolding if◌then◌else◌
-and-true true = refl
-and-true false = refl
+and_true true = refl
+and_true false = refl
 
 -- two bytes joined by `|` are zero exactly if both are
-or-zero : (a b : ℕ) → (bit_or a b =? 0) ≡ a =? 0 and b =? 0
-or-zero a b = go (a =? 0) refl (b =? 0) refl
+or_zero : (a b : ℕ) → (bit_or a b =? 0) ≡ a =? 0 and b =? 0
+or_zero a b = go (a =? 0) refl (b =? 0) refl
   where
     -- neither byte is above the two joined
     sum : bit_or a b + bit_and a b ≡ a + b
@@ -37,9 +37,9 @@ or-zero a b = go (a =? 0) refl (b =? 0) refl
         eq-eqb (bit_or a b) 0 (let x = eqb-true a 0 p in let y = eqb-true b 0 q in omega (arith, sum)) ∙ sym (both_hold (a =? 0) (b =? 0) p q)
     go true p false q =
         ne_eqb (bit_or a b) 0 (λ z. eqb-false b 0 q (let l = and_le_l a b in let x = eqb-true a 0 p in omega (arith, sum)))
-        ∙ sym (then-fails (a =? 0) (b =? 0) q)
+        ∙ sym (then_fails (a =? 0) (b =? 0) q)
     go false p u q =
-        ne_eqb (bit_or a b) 0 (λ z. eqb-false a 0 p (let l = and_le_r a b in omega (arith, sum))) ∙ sym (first-fails (a =? 0) (b =? 0) p)
+        ne_eqb (bit_or a b) 0 (λ z. eqb-false a 0 p (let l = and_le_r a b in omega (arith, sum))) ∙ sym (first_fails (a =? 0) (b =? 0) p)
 
 either_true : (t u : Bool) → u ≡ true → (if t then true else u) ≡ true
 unfolding if◌then◌else◌
@@ -53,38 +53,38 @@ either_first false u e = e
 
 -- The bytes from an index `from` on, after the loop has passed the first i: `seen` is those that count, joined by `|`, and what is
 -- left are the bytes from the larger of i and `from` on.
-module _ (bytes : List ℕ) (from seen i : ℕ) (inv : seen =? 0 and allZero (drop (i + (from - i)) bytes) ≡ allZero (drop from bytes)) where
+module _ (bytes : List ℕ) (from seen i : ℕ) (inv : seen =? 0 and all_zero (drop (i + (from - i)) bytes) ≡ all_zero (drop from bytes)) where
   -- a byte before the index counts as zero
   skipped : (s : ℕ) → i < from → (s =? 0) ≡ (if get_or bytes i 0 =? 0 then true else (i + 1 - from =? 0))
-      → bit_or seen s =? 0 and allZero (drop (i + 1 + (from - (i + 1))) bytes) ≡ allZero (drop from bytes)
+      → bit_or seen s =? 0 and all_zero (drop (i + 1 + (from - (i + 1))) bytes) ≡ all_zero (drop from bytes)
   skipped s h c =
       let o : (i + 1 - from =? 0) ≡ true = eq-eqb (i + 1 - from) 0 (omega arith) in
       let z : (s =? 0) ≡ true = c ∙ either_true (get_or bytes i 0 =? 0) (i + 1 - from =? 0) o in
       let k : i + 1 + (from - (i + 1)) ≡ i + (from - i) = omega arith in
-      rw (k, or-zero seen s, z, and-true (seen =? 0)) inv
+      rw (k, or_zero seen s, z, and_true (seen =? 0)) inv
 
   -- one behind it counts
   counted : (s : ℕ) → from ≤ i → i < length bytes → (s =? 0) ≡ (if get_or bytes i 0 =? 0 then true else (i + 1 - from =? 0))
-      → bit_or seen s =? 0 and allZero (drop (i + 1 + (from - (i + 1))) bytes) ≡ allZero (drop from bytes)
-  unfolding allZero
+      → bit_or seen s =? 0 and all_zero (drop (i + 1 + (from - (i + 1))) bytes) ≡ all_zero (drop from bytes)
+  unfolding all_zero
   counted s h b c =
       let o : (i + 1 - from =? 0) ≡ false = ne_eqb (i + 1 - from) 0 (λ z. omega arith) in
       let z : (s =? 0) ≡ (get_or bytes i 0 =? 0) = c ∙ either_first (get_or bytes i 0 =? 0) (i + 1 - from =? 0) o in
       let k : i + 1 + (from - (i + 1)) ≡ i + 1 = omega arith in
       let l : i + (from - i) ≡ i = omega arith in
-      let now : seen =? 0 and allZero (drop i bytes) ≡ allZero (drop from bytes) = rw l at inv in
-      rw (k, or-zero seen s, z)
-      (and_assoc (seen =? 0) (get_or bytes i 0 =? 0) (allZero (drop (i + 1) bytes))
-      ∙ ap (λ (b : Bool). seen =? 0 and b) (sym (ap allZero (drop-cons bytes i 0 b) ∙ rw add-one))
+      let now : seen =? 0 and all_zero (drop i bytes) ≡ all_zero (drop from bytes) = rw l at inv in
+      rw (k, or_zero seen s, z)
+      (and_assoc (seen =? 0) (get_or bytes i 0 =? 0) (all_zero (drop (i + 1) bytes))
+      ∙ ap (λ (b : Bool). seen =? 0 and b) (sym (ap all_zero (drop-cons bytes i 0 b) ∙ rw add-one))
       ∙ now)
 
-  pub zero-on : (s : ℕ) → i < length bytes → (s =? 0) ≡ (if get_or bytes i 0 =? 0 then true else (i + 1 - from =? 0))
-      → bit_or seen s =? 0 and allZero (drop (i + 1 + (from - (i + 1))) bytes) ≡ allZero (drop from bytes)
-  zero-on s b c = le-or from i (λ h. counted s h b c) (λ h. skipped s h c)
+  pub zero_on : (s : ℕ) → i < length bytes → (s =? 0) ≡ (if get_or bytes i 0 =? 0 then true else (i + 1 - from =? 0))
+      → bit_or seen s =? 0 and all_zero (drop (i + 1 + (from - (i + 1))) bytes) ≡ all_zero (drop from bytes)
+  zero_on s b c = le_or from i (λ h. counted s h b c) (λ h. skipped s h c)
 
-  pub zero-done : length bytes ≤ i → (seen =? 0) ≡ allZero (drop from bytes)
-  unfolding allZero
-  zero-done h =
-      sym (and-true (seen =? 0))
-      ∙ ap (λ (b : Bool). seen =? 0 and b) (sym (ap allZero (drop_of_length-le bytes {i = i + (from - i)} (omega arith))))
+  pub zero_done : length bytes ≤ i → (seen =? 0) ≡ all_zero (drop from bytes)
+  unfolding all_zero
+  zero_done h =
+      sym (and_true (seen =? 0))
+      ∙ ap (λ (b : Bool). seen =? 0 and b) (sym (ap all_zero (drop_of_length-le bytes {i = i + (from - i)} (omega arith))))
       ∙ inv

@@ -21,6 +21,6 @@ own_of i (m ∷ rest) =
     own_of i rest
 
 -- payloads submitted one after the other, the first with that count
-unfoldable pub countedFrom : ℕ → List (List ℕ) → List Submission
-countedFrom count [] = []
-countedFrom count (payload ∷ rest) = record { count = count; payload = payload } ∷ countedFrom (count + 1) rest
+unfoldable pub counted_from : ℕ → List (List ℕ) → List Submission
+counted_from count [] = []
+counted_from count (payload ∷ rest) = record { count = count; payload = payload } ∷ counted_from (count + 1) rest

@@ -2,7 +2,7 @@
 // specs/.
 ghost use Rattle.std.specs.Prelude.{◌≡◌, ◌≤◌, length};
 ghost use Rattle.group.specs.Lent.{front};
-ghost use Rattle.message.specs.Message.{zeroedFrom};
+ghost use Rattle.message.specs.Message.{zeroed_from};
 
 // Copies bytes to the front of the part that is lent; what lies behind them keeps its value.
 pub fn copy(bytes: &[u8], part: &mut [u8])
@@ -19,7 +19,7 @@ pub fn copy(bytes: &[u8], part: &mut [u8])
 // Fills with zeros from an index on; what lies before it keeps its value.
 pub fn fill(part: &mut [u8], from: usize)
     requires { from ≤ length part.old }
-    ensures { part.new ≡ zeroedFrom from part.old }
+    ensures { part.new ≡ zeroed_from from part.old }
 {
     let mut i = from;
     while i < part.len() {

@@ -2,112 +2,112 @@
 use mathlib.Core.Path.{refl}
 use lib.Count.{count_trailing_zeros, ones, ones_in}
 use Rattle.group.specs.Choice.{if◌then◌else◌}
-use Rattle.group.specs.Fold.{all, allAbove, leastOf}
-use Rattle.group.specs.Members.{lowestOf, othersOf, expectedOf, neededOf, groupSound}
-use Rattle.group.specs.Opening.{openOf}
+use Rattle.group.specs.Fold.{all, all_above, least_of}
+use Rattle.group.specs.Members.{lowest_of, others_of, expected_of, needed_of, group_sound}
+use Rattle.group.specs.Opening.{open_of}
 use Rattle.group.specs.Question.{judged}
 use Rattle.member.specs.Calls as member
-use Rattle.member.specs.Order.{tookBy}
-use Rattle.member.specs.Sound as memberSound
-use Rattle.member.specs.State.{reachOf, acknowledgedOf, freshMember}
-use Rattle.message.specs.Message.{allZero, messageOf, emptyMessage, payloadOf, zeroBehind, is_empty}
-use Rattle.model.specs.Closing.{take_row, closeMember, closeFrom}
-use Rattle.model.specs.Examples.{Examples, request, broadcast, statusOf, requested, holding}
+use Rattle.member.specs.Order.{took_by}
+use Rattle.member.specs.Sound as member_sound
+use Rattle.member.specs.State.{reach_of, acknowledged_of, fresh_member}
+use Rattle.message.specs.Message.{all_zero, message_of, empty_message, payload_of, zero_behind, is_empty}
+use Rattle.model.specs.Closing.{take_row, close_member, close_from}
+use Rattle.model.specs.Examples.{Examples, request, broadcast, status_of, requested, holding}
 use Rattle.model.specs.Offers.{Offers}
 use Rattle.model.specs.Resilient.{has, having}
-use Rattle.model.specs.Log.{gather, numberedIn, tookIn, tookAt, messagesAbove, lastNumber, above}
-use Rattle.model.specs.World.{happen, run, freshMembers, fresh}
+use Rattle.model.specs.Log.{gather, numbered_in, took_in, took_at, messages_above, last_number, above}
+use Rattle.model.specs.World.{happen, run, fresh_members, fresh}
 use Rattle.big_endian.specs.Number.{number_at, bytes_of}
-use Rattle.packet.specs.Packet.{headerOf, knownKind, payloadFits, obeys, fieldsVerdict, read_of, headerBytes, packetOf, writeVerdict, writeOf, contentOf, fields_of, written, fromElected}
-use Rattle.history.specs.Ask.{senderVerdict, countVerdict, wantedVerdict, expectedVerdict}
-use Rattle.history.specs.Marks.{markedOf, enoughOf, unmarkedOf, markSound}
-use Rattle.history.specs.Note.{largerOf, tableNoted, clearedOf}
-use Rattle.history.specs.Repeat.{oneMore, repeatsSum, repeatsOf, is_of, findOf}
-use Rattle.history.specs.Sound.{entrySound, keptSound, placeSound, frameSound}
-use Rattle.history.specs.State.{floorOf}
+use Rattle.packet.specs.Packet.{header_of, known_kind, payload_fits, obeys, fields_verdict, read_of, header_bytes, packet_of, write_verdict, write_of, content_of, fields_of, written, from_elected}
+use Rattle.history.specs.Ask.{sender_verdict, count_verdict, wanted_verdict, expected_verdict}
+use Rattle.history.specs.Marks.{marked_of, enough_of, unmarked_of, mark_sound}
+use Rattle.history.specs.Note.{larger_of, table_noted, cleared_of}
+use Rattle.history.specs.Repeat.{one_more, repeats_sum, repeats_of, is_of, find_of}
+use Rattle.history.specs.Sound.{entry_sound, kept_sound, place_sound, frame_sound}
+use Rattle.history.specs.State.{floor_of}
 use Rattle.sequencer.specs.Calls as sequencer
-use Rattle.sequencer.specs.Note.{withTable, note_of}
-use Rattle.sequencer.specs.Order.{numberedBy}
-use Rattle.sequencer.specs.Sound.{soundOf}
-use Rattle.sequencer.specs.State.{freshSequencer}
+use Rattle.sequencer.specs.Note.{with_table, note_of}
+use Rattle.sequencer.specs.Order.{numbered_by}
+use Rattle.sequencer.specs.Sound.{sound_of}
+use Rattle.sequencer.specs.State.{fresh_sequencer}
 use Rattle.window.specs.Places as window
 use Rattle.window.specs.Sound as windowSound
 
 computed : Examples × Offers
-unfolding if◌then◌else◌ has having all allAbove leastOf groupSound fromElected neededOf ones_in openOf judged member.answered reachOf acknowledgedOf member.requestPacket member.gapPacket member.statusPacket member.callVerdict member.submitVerdict member.withWaiting member.submitOf member.repeatOf member.statusOf member.confirmPacket member.withAccepted member.withHeld member.gapUpTo member.keptOf member.messageStep member.broadcastOf member.confirms member.confirmedOf member.offerOf window.largerOf window.smallerOf member.pollOf member.contentStep member.read_step member.receiveOf member.isOwn member.withTaken member.isReady member.tookOf member.take_of member.opened_of member.fresh_of windowSound.placeSound windowSound.queueSound windowSound.waitingSound windowSound.frameSound memberSound.soundOf window.lowestMissing window.rowEnd freshMember allZero messageOf emptyMessage payloadOf zeroBehind is_empty take_row closeMember closeFrom request broadcast statusOf requested holding gather numberedIn tookIn tookAt tookBy messagesAbove lastNumber above happen run freshMembers fresh number_at bytes_of headerOf knownKind payloadFits obeys fieldsVerdict read_of headerBytes packetOf writeVerdict writeOf contentOf fields_of written sequencer.answered sequencer.announced sequencer.broadcastOf sequencer.pollPacket sequencer.acceptPacket sequencer.withMark sequencer.withAccepted sequencer.settled_of sequencer.confirmOf oneMore repeatsSum repeatsOf sequencer.repeatedOf is_of findOf sequencer.old_of sequencer.againOf sequencer.full_of sequencer.withMessage sequencer.numberedOf sequencer.requestOf sequencer.gap_of senderVerdict countVerdict wantedVerdict expectedVerdict sequencer.contentStep sequencer.read_step sequencer.callVerdict sequencer.receiveOf sequencer.pollOf sequencer.copy_of sequencer.opened_of sequencer.fresh_of largerOf tableNoted clearedOf withTable note_of numberedBy entrySound keptSound placeSound frameSound markedOf enoughOf unmarkedOf markSound lowestOf othersOf expectedOf count_trailing_zeros ones soundOf floorOf freshSequencer
+unfolding if◌then◌else◌ has having all all_above least_of group_sound from_elected needed_of ones_in open_of judged member.answered reach_of acknowledged_of member.request_packet member.gap_packet member.status_packet member.call_verdict member.submit_verdict member.with_waiting member.submit_of member.repeat_of member.status_of member.confirm_packet member.with_accepted member.with_held member.gap_up_to member.kept_of member.message_step member.broadcast_of member.confirms member.confirmed_of member.offer_of window.larger_of window.smaller_of member.poll_of member.content_step member.read_step member.receive_of member.is_own member.with_taken member.is_ready member.took_of member.take_of member.opened_of member.fresh_of windowSound.place_sound windowSound.queue_sound windowSound.waiting_sound windowSound.frame_sound member_sound.sound_of window.lowest_missing window.row_end fresh_member all_zero message_of empty_message payload_of zero_behind is_empty take_row close_member close_from request broadcast status_of requested holding gather numbered_in took_in took_at took_by messages_above last_number above happen run fresh_members fresh number_at bytes_of header_of known_kind payload_fits obeys fields_verdict read_of header_bytes packet_of write_verdict write_of content_of fields_of written sequencer.answered sequencer.announced sequencer.broadcast_of sequencer.poll_packet sequencer.accept_packet sequencer.with_mark sequencer.with_accepted sequencer.settled_of sequencer.confirm_of one_more repeats_sum repeats_of sequencer.repeated_of is_of find_of sequencer.old_of sequencer.again_of sequencer.full_of sequencer.with_message sequencer.numbered_of sequencer.request_of sequencer.gap_of sender_verdict count_verdict wanted_verdict expected_verdict sequencer.content_step sequencer.read_step sequencer.call_verdict sequencer.receive_of sequencer.poll_of sequencer.copy_of sequencer.opened_of sequencer.fresh_of larger_of table_noted cleared_of with_table note_of numbered_by entry_sound kept_sound place_sound frame_sound marked_of enough_of unmarked_of mark_sound lowest_of others_of expected_of count_trailing_zeros ones sound_of floor_of fresh_sequencer
 computed = (
   record {
     floor = refl;
-    submit-240 = refl;
-    submit-241 = refl;
-    write-240 = refl;
-    write-241 = refl;
-    packet-19 = refl;
-    packet-261 = refl;
-    packet-20 = refl;
-    packet-20-status = refl;
-    packet-length-256 = refl;
+    submit_240 = refl;
+    submit_241 = refl;
+    write_240 = refl;
+    write_241 = refl;
+    packet_19 = refl;
+    packet_261 = refl;
+    packet_20 = refl;
+    packet_20_status = refl;
+    packet_length_256 = refl;
     eighth = refl;
     ninth = refl;
-    eighth-gap = refl;
-    eighth-packet = refl;
-    ninth-gap = refl;
-    ninth-packet = refl;
-    row-status = refl;
-    row-hole = refl;
-    thirty-second = refl;
-    next-full = refl;
-    frees-one = refl;
-    again-counted = refl;
-    old-counted = refl;
-    others-not = refl;
+    eighth_gap = refl;
+    eighth_packet = refl;
+    ninth_gap = refl;
+    ninth_packet = refl;
+    row_status = refl;
+    row_hole = refl;
+    thirty_second = refl;
+    next_full = refl;
+    frees_one = refl;
+    again_counted = refl;
+    old_counted = refl;
+    others_not = refl;
     at_top = refl;
-    over-top = refl;
-    empty-payload = refl;
-    alone-answers = refl;
-    alone-taken = refl;
-    alone-holds = refl;
-    alone-empties = refl;
-    asleep-owed = refl;
-    asleep-empties = refl;
-    asleep-still-owed = refl;
-    asleep-closing = refl;
-    asleep-given = refl;
-    ab-written = refl;
-    ab-read = refl;
-    schedule-answers = refl;
-    schedule-packets = refl;
-    schedule-owed-1 = refl;
-    schedule-owed-0 = refl;
-    schedule-closing = refl;
-    schedule-closed = refl;
+    over_top = refl;
+    empty_payload = refl;
+    alone_answers = refl;
+    alone_taken = refl;
+    alone_holds = refl;
+    alone_empties = refl;
+    asleep_owed = refl;
+    asleep_empties = refl;
+    asleep_still_owed = refl;
+    asleep_closing = refl;
+    asleep_given = refl;
+    ab_written = refl;
+    ab_read = refl;
+    schedule_answers = refl;
+    schedule_packets = refl;
+    schedule_owed_1 = refl;
+    schedule_owed_0 = refl;
+    schedule_closing = refl;
+    schedule_closed = refl;
   },
   record {
-    lost-answers = refl;
-    both-answers = refl;
-    single-answers = refl;
-    before-answers = refl;
-    early-answers = refl;
-    from-0 = refl;
-    from-2 = refl;
-    late-0 = refl;
-    late-2 = refl;
-    ahead-confirm = refl;
-    ahead-status = refl;
-    waits-answers = refl;
-    waits-have = refl;
-    enough-answers = refl;
-    enough-have = refl;
-    offered-owed = refl;
-    offered-left = refl;
-    offered-taken = refl;
-    accepted-left = refl;
-    accepted-taken = refl;
+    lost_answers = refl;
+    both_answers = refl;
+    single_answers = refl;
+    before_answers = refl;
+    early_answers = refl;
+    from_0 = refl;
+    from_2 = refl;
+    late_0 = refl;
+    late_2 = refl;
+    ahead_confirm = refl;
+    ahead_status = refl;
+    waits_answers = refl;
+    waits_have = refl;
+    enough_answers = refl;
+    enough_have = refl;
+    offered_owed = refl;
+    offered_left = refl;
+    offered_taken = refl;
+    accepted_left = refl;
+    accepted_taken = refl;
     copied = refl;
     opens = refl;
     opens_not = refl;
-    opens-member = refl;
-    opens-18-first = refl;
+    opens_member = refl;
+    opens_18_first = refl;
   },
 )
 

@@ -4,10 +4,10 @@ use Rattle.std.specs.Prelude.{List, [], ◌∷◌, ◌++◌, ℕ, zero, suc, ◌
 use Rattle.std.proofs.Math.Option.{Option, none, some}
 use Rattle.std.proofs.Math.ListN.{get_elem?}
 use Rattle.group.specs.Choice.{if◌then◌else◌, ◌<?◌}
-use Rattle.group.specs.Limits.{longestPacket}
-use Rattle.group.specs.Opening.{descriptionOf}
+use Rattle.group.specs.Limits.{longest_packet}
+use Rattle.group.specs.Opening.{description_of}
 use Rattle.member.specs.Calls as member
-use Rattle.member.specs.State.{Member, freshMember}
+use Rattle.member.specs.State.{Member, fresh_member}
 use Rattle.member.specs.declared.Answer as memberAnswer
 use Rattle.model.specs.declared.Reply.{Reply}
 use Rattle.packet.specs.Packet.{written}
@@ -24,20 +24,20 @@ pub data Event : Type 0 where
   status : (i : ℕ) → Event
   poll : Event
   copy : (number : ℕ) → Event
-  handMember : (k i : ℕ) → Event
-  handSequencer : (k : ℕ) → Event
+  hand_member : (k i : ℕ) → Event
+  hand_sequencer : (k : ℕ) → Event
 
 -- what an event is answered: it names a packet or member not there, or an end's answer and the bytes that it wrote
 pub data Answer : Type 0 where
   absent : Answer
-  bySequencer : sequencerAnswer.Answer → List ℕ → Answer
-  byMember : memberAnswer.Answer → List ℕ → Answer
+  by_sequencer : sequencerAnswer.Answer → List ℕ → Answer
+  by_member : memberAnswer.Answer → List ℕ → Answer
 
 -- the answer that a reply of the code is, with the bytes that its call laid at the front of its output
 unfoldable pub answer_of : Reply → List ℕ → Answer
 answer_of Reply.Absent bytes = absent
-answer_of (Reply.Sequencer answer) bytes = bySequencer answer bytes
-answer_of (Reply.Member answer) bytes = byMember answer bytes
+answer_of (Reply.Sequencer answer) bytes = by_sequencer answer bytes
+answer_of (Reply.Member answer) bytes = by_member answer bytes
 
 pub record Group : Type 0 where
   pub sequencer : Sequencer
@@ -54,56 +54,56 @@ abbrev pub missing : Group → Happened
 missing g = record { group = g; answer = absent }
 
 -- what a call of member i leaves, where `packets` are those that it wrote
-abbrev pub withMember : Group → ℕ → member.Outcome → List (List ℕ) → Happened
-withMember g i o packets =
+abbrev pub with_member : Group → ℕ → member.Outcome → List (List ℕ) → Happened
+with_member g i o packets =
     record {
       group = record { sequencer = g.sequencer; members = set g.members i o.member; packets = g.packets ++ packets };
-      answer = byMember o.answer o.bytes;
+      answer = by_member o.answer o.bytes;
     }
 
 -- what a call of the sequencer leaves
-abbrev pub withSequencer : Group → sequencer.Outcome → Happened
-withSequencer g o =
+abbrev pub with_sequencer : Group → sequencer.Outcome → Happened
+with_sequencer g o =
     record {
       group = record { sequencer = o.sequencer; members = g.members; packets = g.packets ++ written o.bytes };
-      answer = bySequencer o.answer o.bytes;
+      answer = by_sequencer o.answer o.bytes;
     }
 
 -- what a list of members is read as past its end
-abbrev pub noMember : Member
-noMember = freshMember (descriptionOf 0 0 0) (record { 0 = 0 })
+abbrev pub no_member : Member
+no_member = fresh_member (description_of 0 0 0) (record { 0 = 0 })
 
 -- a call of member i that writes packets, if there is such a member
-abbrev pub atMember : Group → ℕ → (Member → member.Outcome) → Happened
-atMember g i call =
-    if i <? length g.members then withMember g i (call (get_or g.members i noMember)) (written (call (get_or g.members i noMember)).bytes) else
+abbrev pub at_member : Group → ℕ → (Member → member.Outcome) → Happened
+at_member g i call =
+    if i <? length g.members then with_member g i (call (get_or g.members i no_member)) (written (call (get_or g.members i no_member)).bytes) else
     missing g
 
 -- a take writes a payload and no packet
-abbrev pub takeAt : Group → ℕ → Happened
-takeAt g i =
-    if i <? length g.members then withMember g i (member.take_of (get_or g.members i noMember) longestPacket) [] else
+abbrev pub take_at : Group → ℕ → Happened
+take_at g i =
+    if i <? length g.members then with_member g i (member.take_of (get_or g.members i no_member) longest_packet) [] else
     missing g
 
 -- a packet handed over, if there is such a packet
-abbrev pub handToMember : Group → ℕ → Option (List ℕ) → Happened
-handToMember g i none = missing g
-handToMember g i (some packet) = atMember g i (λ m. member.receiveOf m packet longestPacket)
+abbrev pub hand_to_member : Group → ℕ → Option (List ℕ) → Happened
+hand_to_member g i none = missing g
+hand_to_member g i (some packet) = at_member g i (λ m. member.receive_of m packet longest_packet)
 
-abbrev pub handToSequencer : Group → Option (List ℕ) → Happened
-handToSequencer g none = missing g
-handToSequencer g (some packet) = withSequencer g (sequencer.receiveOf g.sequencer packet longestPacket)
+abbrev pub hand_to_sequencer : Group → Option (List ℕ) → Happened
+hand_to_sequencer g none = missing g
+hand_to_sequencer g (some packet) = with_sequencer g (sequencer.receive_of g.sequencer packet longest_packet)
 
 -- an event; the group lends each call the output that question 2 asks
 unfoldable pub happen : Group → Event → Happened
-happen g (submit i payload) = atMember g i (λ m. member.submitOf m payload longestPacket)
-happen g (repeat i) = atMember g i (λ m. member.repeatOf m longestPacket)
-happen g (take i) = takeAt g i
-happen g (status i) = atMember g i (λ m. member.statusOf m longestPacket)
-happen g poll = withSequencer g (sequencer.pollOf g.sequencer longestPacket)
-happen g (copy number) = withSequencer g (sequencer.copy_of g.sequencer (record { 0 = number }) longestPacket)
-happen g (handMember k i) = handToMember g i (get_elem? g.packets k)
-happen g (handSequencer k) = handToSequencer g (get_elem? g.packets k)
+happen g (submit i payload) = at_member g i (λ m. member.submit_of m payload longest_packet)
+happen g (repeat i) = at_member g i (λ m. member.repeat_of m longest_packet)
+happen g (take i) = take_at g i
+happen g (status i) = at_member g i (λ m. member.status_of m longest_packet)
+happen g poll = with_sequencer g (sequencer.poll_of g.sequencer longest_packet)
+happen g (copy number) = with_sequencer g (sequencer.copy_of g.sequencer (record { 0 = number }) longest_packet)
+happen g (hand_member k i) = hand_to_member g i (get_elem? g.packets k)
+happen g (hand_sequencer k) = hand_to_sequencer g (get_elem? g.packets k)
 
 -- an event that happened stands in the list, with its answer
 pub record Entry : Type 0 where
@@ -128,10 +128,10 @@ run w [] = w
 run w (event ∷ rest) = run (step w event) rest
 
 -- members i to i + k - 1, fresh
-unfoldable pub freshMembers : ℕ → ℕ → ℕ → ℕ → ℕ → List Member
-freshMembers n number resilience i zero = []
-freshMembers n number resilience i (suc k) =
-    (member.fresh_of n (record { 0 = i }) number resilience).member ∷ freshMembers n number resilience (i + 1) k
+unfoldable pub fresh_members : ℕ → ℕ → ℕ → ℕ → ℕ → List Member
+fresh_members n number resilience i zero = []
+fresh_members n number resilience i (suc k) =
+    (member.fresh_of n (record { 0 = i }) number resilience).member ∷ fresh_members n number resilience (i + 1) k
 
 -- a fresh group has its sequencer and members 0 to n - 1 fresh, opened alike but for the member number, and no packet yet
 unfoldable pub fresh : ℕ → ℕ → ℕ → World
@@ -140,7 +140,7 @@ fresh n number resilience =
       group =
           record {
             sequencer = (sequencer.fresh_of n number resilience).sequencer;
-            members = freshMembers n number resilience 0 n;
+            members = fresh_members n number resilience 0 n;
             packets = [];
           };
       log = [];

@@ -8,7 +8,7 @@ use lib.ListN.{length}
 use Rattle.group.proofs.Lists.{at}
 use Rattle.message.specs.Order.{Ordered}
 use Rattle.packet.specs.Laws.{Allowed}
-use Rattle.packet.specs.Packet.{fields_of, packetOf}
+use Rattle.packet.specs.Packet.{fields_of, packet_of}
 use Rattle.packet.specs.declared.Packet.{Packet}
 use Rattle.packet.specs.declared.Packet.TheVariants.{Request, Broadcast, Gap, Status, Poll, Offer, Confirm, Accept, Invitation, Reply, Result}
 
@@ -49,7 +49,7 @@ Says f (Result sender attempt elected number) payload = ⊥
 pub record Known (g : ℕ) (f : Facts) (bytes : List ℕ) : Type 0 where
   pub content : Packet
   pub payload : List ℕ
-  pub bytes-are : bytes ≡ packetOf (fields_of g content) payload
+  pub bytes_are : bytes ≡ packet_of (fields_of g content) payload
   pub allowed : Allowed (fields_of g content) payload
   pub says : Says f content payload
 
@@ -70,7 +70,7 @@ SaysBy needed i v (Result sender attempt elected number) payload = ⊥
 pub record KnownBy (g needed i : ℕ) (v : Voice) (bytes : List ℕ) : Type 0 where
   pub content : Packet
   pub payload : List ℕ
-  pub bytes-are : bytes ≡ packetOf (fields_of g content) payload
+  pub bytes_are : bytes ≡ packet_of (fields_of g content) payload
   pub allowed : Allowed (fields_of g content) payload
   pub says : SaysBy needed i v content payload
 
@@ -89,51 +89,51 @@ pub record Grows (f f' : Facts) : Type 0 where
 
 -- what was so stays so
 module _ (f f' : Facts) (up : Grows f f') where
-  says-grows : (content : Packet) (payload : List ℕ) → Says f content payload → Says f' content payload
-  says-grows (Request sender taken count) payload h = (le_trans h.0 (up.voice sender.0).row, (up.voice sender.0).submitted count payload h.1)
-  says-grows (Broadcast originator number count floor) payload h =
+  says_grows : (content : Packet) (payload : List ℕ) → Says f content payload → Says f' content payload
+  says_grows (Request sender taken count) payload h = (le_trans h.0 (up.voice sender.0).row, (up.voice sender.0).submitted count payload h.1)
+  says_grows (Broadcast originator number count floor) payload h =
       (up.order number.0 (ordered number.0 originator.0 count payload) h.0, le_trans h.1 up.accepted)
-  says-grows (Gap sender taken first last) payload h = le_trans h (up.voice sender.0).row
-  says-grows (Status sender taken) payload h = le_trans h (up.voice sender.0).row
-  says-grows (Poll elected top floor) payload h = tt
-  says-grows (Offer originator number count floor) payload h =
+  says_grows (Gap sender taken first last) payload h = le_trans h (up.voice sender.0).row
+  says_grows (Status sender taken) payload h = le_trans h (up.voice sender.0).row
+  says_grows (Poll elected top floor) payload h = tt
+  says_grows (Offer originator number count floor) payload h =
       (up.order number.0 (ordered number.0 originator.0 count payload) h.0, le_trans h.1 up.needed)
-  says-grows (Confirm sender number) payload h = (le_trans h.0 (up.voice sender.0).reach, le_trans h.1 up.needed)
-  says-grows (Accept elected number) payload h = (le_trans h.0 up.accepted, le_trans h.1 up.needed)
-  says-grows (Invitation sender attempt) payload h = absurd h
-  says-grows (Reply sender attempt number) payload h = absurd h
-  says-grows (Result sender attempt elected number) payload h = absurd h
+  says_grows (Confirm sender number) payload h = (le_trans h.0 (up.voice sender.0).reach, le_trans h.1 up.needed)
+  says_grows (Accept elected number) payload h = (le_trans h.0 up.accepted, le_trans h.1 up.needed)
+  says_grows (Invitation sender attempt) payload h = absurd h
+  says_grows (Reply sender attempt number) payload h = absurd h
+  says_grows (Result sender attempt elected number) payload h = absurd h
 
-  pub known-grows : (g : ℕ) (bytes : List ℕ) → Known g f bytes → Known g f' bytes
-  known-grows g bytes k =
+  pub known_grows : (g : ℕ) (bytes : List ℕ) → Known g f bytes → Known g f' bytes
+  known_grows g bytes k =
       record {
         content = k.content;
         payload = k.payload;
-        bytes-are = k.bytes-are;
+        bytes_are = k.bytes_are;
         allowed = k.allowed;
-        says = says-grows k.content k.payload k.says;
+        says = says_grows k.content k.payload k.says;
       }
 
 module _ (g i : ℕ) (f : Facts) where
-  says-by : (content : Packet) (payload : List ℕ) → SaysBy f.needed i (f.voice i) content payload → Says f content payload
-  says-by (Request sender taken count) payload h = rw h.0 (h.1, h.2)
-  says-by (Broadcast originator number count floor) payload h = absurd h
-  says-by (Gap sender taken first last) payload h = rw h.0 h.1
-  says-by (Status sender taken) payload h = rw h.0 h.1
-  says-by (Poll elected top floor) payload h = absurd h
-  says-by (Offer originator number count floor) payload h = absurd h
-  says-by (Confirm sender number) payload h = rw h.0 (h.1, h.2)
-  says-by (Accept elected number) payload h = absurd h
-  says-by (Invitation sender attempt) payload h = absurd h
-  says-by (Reply sender attempt number) payload h = absurd h
-  says-by (Result sender attempt elected number) payload h = absurd h
+  says_by : (content : Packet) (payload : List ℕ) → SaysBy f.needed i (f.voice i) content payload → Says f content payload
+  says_by (Request sender taken count) payload h = rw h.0 (h.1, h.2)
+  says_by (Broadcast originator number count floor) payload h = absurd h
+  says_by (Gap sender taken first last) payload h = rw h.0 h.1
+  says_by (Status sender taken) payload h = rw h.0 h.1
+  says_by (Poll elected top floor) payload h = absurd h
+  says_by (Offer originator number count floor) payload h = absurd h
+  says_by (Confirm sender number) payload h = rw h.0 (h.1, h.2)
+  says_by (Accept elected number) payload h = absurd h
+  says_by (Invitation sender attempt) payload h = absurd h
+  says_by (Reply sender attempt number) payload h = absurd h
+  says_by (Result sender attempt elected number) payload h = absurd h
 
   pub known_by : (bytes : List ℕ) → KnownBy g f.needed i (f.voice i) bytes → Known g f bytes
   known_by bytes k =
       record {
         content = k.content;
         payload = k.payload;
-        bytes-are = k.bytes-are;
+        bytes_are = k.bytes_are;
         allowed = k.allowed;
-        says = says-by k.content k.payload k.says;
+        says = says_by k.content k.payload k.says;
       }

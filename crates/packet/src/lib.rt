@@ -1,12 +1,12 @@
 // Packets: a header of 20 bytes and the payload behind it.
 ghost use Rattle.std.specs.Prelude.{true, ◌≡◌, ◌+◌, ◌<◌, ◌≤◌, length};
 ghost use Rattle.group.specs.Choice.{if◌then◌else◌, ◌and◌, ◌≤?◌, ◌=?◌};
-ghost use Rattle.group.specs.Limits.{headerSize, payloadMost};
-ghost use Rattle.group.specs.Members.{isIn};
+ghost use Rattle.group.specs.Limits.{header_size, payload_most};
+ghost use Rattle.group.specs.Members.{is_in};
 ghost use Rattle.group.specs.Lent.{front, Laid};
-ghost use Rattle.packet.specs.Packet.{acceptKind, invitationKind, replyKind, headerOf, length_at, survivorsSize, survivorsIn, knownKind, payloadFits, messageObeys, obeys, fieldsVerdict, read_of, headerBytes, packetOf, writeVerdict, writeOf, contentOf, fields_of, fromElected, Named};
+ghost use Rattle.packet.specs.Packet.{accept_kind, invitation_kind, reply_kind, header_of, length_at, survivors_size, survivors_in, known_kind, payload_fits, message_obeys, obeys, fields_verdict, read_of, header_bytes, packet_of, write_verdict, write_of, content_of, fields_of, from_elected, Named};
 ghost use Rattle.packet.specs.declared.Packet.TheVariants.{Invitation, Reply, Result};
-ghost use Rattle.packet.specs.Wording.{readingWording, writingWording};
+ghost use Rattle.packet.specs.Wording.{reading_wording, writing_wording};
 
 use group::{Group, MemberNumber, Refusal, SequenceNumber, Verdict};
 
@@ -96,8 +96,8 @@ pub enum Packet {
 }
 
 fn header_at(packet: &[u8]) -> Header
-    requires { headerSize ≤ length packet.now }
-    ensures { result ≡ headerOf packet.now }
+    requires { header_size ≤ length packet.now }
+    ensures { result ≡ header_of packet.now }
 {
     let group = big_endian::u32_at(packet, 4);
     let a = big_endian::u32_at(packet, 8);
@@ -115,7 +115,7 @@ fn header_at(packet: &[u8]) -> Header
 
 // L, as it stands in bytes 2-3.
 pub fn payload_length(packet: &[u8]) -> usize
-    requires { headerSize ≤ length packet.now }
+    requires { header_size ≤ length packet.now }
     ensures { result ≡ length_at packet.now }
 {
     let l = big_endian::u16_at(packet, 2);
@@ -151,7 +151,7 @@ impl Header {
 
     // Of a message's packet A and B are at least 1 and C is below A.
     fn message_obeys(self) -> bool
-        ensures { result ≡ messageObeys self }
+        ensures { result ≡ message_obeys self }
     {
         if self.a < 1 {
             return false;
@@ -177,8 +177,8 @@ impl Header {
 
     // Of a result the sender and B are among the survivors that its payload names.
     fn among(self, payload: &[u8]) -> bool
-        requires { survivorsSize ≤ length payload.now }
-        ensures { result ≡ (isIn (survivorsIn payload.now) self.member.0 and isIn (survivorsIn payload.now) self.b) }
+        requires { survivors_size ≤ length payload.now }
+        ensures { result ≡ (is_in (survivors_in payload.now) self.member.0 and is_in (survivors_in payload.now) self.b) }
     {
         let survivors = big_endian::u16_at(payload, 0);
         if group::is_in(survivors, self.member) {
@@ -192,8 +192,8 @@ impl Header {
 
     // Question 6 of kinds 9 to 11: of an invitation B and C are zero, of a reply C is.
     fn reset_obeys(self, payload: &[u8]) -> bool
-        requires { (acceptKind < self.kind) × (knownKind self.kind ≡ true) × (payloadFits self.kind (length payload.now) (length payload.now) ≡ true) }
-        ensures { result ≡ (if self.kind =? invitationKind then self.b =? 0 and self.c =? 0 else if self.kind =? replyKind then self.c =? 0 else (isIn (survivorsIn payload.now) self.member.0 and isIn (survivorsIn payload.now) self.b)) }
+        requires { (accept_kind < self.kind) × (known_kind self.kind ≡ true) × (payload_fits self.kind (length payload.now) (length payload.now) ≡ true) }
+        ensures { result ≡ (if self.kind =? invitation_kind then self.b =? 0 and self.c =? 0 else if self.kind =? reply_kind then self.c =? 0 else (is_in (survivors_in payload.now) self.member.0 and is_in (survivors_in payload.now) self.b)) }
     {
         if self.kind == Header::INVITATION {
             if self.b != 0 {
@@ -209,7 +209,7 @@ impl Header {
 
     // Question 6: do A, B, C obey the kind, and are sender and B of kind 11 among its survivors?
     fn obeys(self, payload: &[u8]) -> bool
-        requires { (knownKind self.kind ≡ true) × (payloadFits self.kind (length payload.now) (length payload.now) ≡ true) }
+        requires { (known_kind self.kind ≡ true) × (payload_fits self.kind (length payload.now) (length payload.now) ≡ true) }
         ensures { result ≡ obeys self payload.now }
     {
         if self.kind == Header::REQUEST {
@@ -254,7 +254,7 @@ impl Header {
 
 // Question 4: is the kind 1 to 11?
 fn known(kind: u8) -> bool
-    ensures { result ≡ knownKind kind }
+    ensures { result ≡ known_kind kind }
 {
     if kind < Header::REQUEST {
         return false;
@@ -264,7 +264,7 @@ fn known(kind: u8) -> bool
 
 // Question 5: is the payload L bytes long, L 2 in kind 11, and zero in kinds 3, 4, 5 and 7 to 10?
 fn fits(kind: u8, l: usize, size: usize) -> bool
-    ensures { result ≡ payloadFits kind l size }
+    ensures { result ≡ payload_fits kind l size }
 {
     if size != l {
         return false;
@@ -283,7 +283,7 @@ fn fits(kind: u8, l: usize, size: usize) -> bool
 
 // Questions 4 to 6 of fields and L before a payload.
 fn ask_fields(h: Header, l: usize, payload: &[u8]) -> Verdict
-    ensures { result ≡ fieldsVerdict h l payload.now }
+    ensures { result ≡ fields_verdict h l payload.now }
 {
     if known(h.kind) {
         if fits(h.kind, l, payload.len()) {
@@ -300,7 +300,7 @@ fn ask_fields(h: Header, l: usize, payload: &[u8]) -> Verdict
 // Reads the fields of a packet: questions 3 to 6. Its payload is its part from byte 20 on.
 pub fn read(packet: &[u8]) -> Reading
     ensures answer { result ≡ read_of packet.now }
-    ensures wording { readingWording result ≡ readingWording (read_of packet.now) }
+    ensures wording { reading_wording result ≡ reading_wording (read_of packet.now) }
 {
     if packet.len() < Group::HEADER {
         return Reading::Refused(Refusal::PacketSize);
@@ -319,8 +319,8 @@ pub fn read(packet: &[u8]) -> Reading
 
 // The 20 bytes of fields and L.
 fn header_bytes(h: Header, l: usize) -> [u8; Group::HEADER]
-    requires { l ≤ payloadMost }
-    ensures { result ≡ headerBytes h l }
+    requires { l ≤ payload_most }
+    ensures { result ≡ header_bytes h l }
 {
     let l = big_endian::u16_bytes(l as u16);
     let g = big_endian::u32_bytes(h.group);
@@ -335,8 +335,8 @@ fn header_bytes(h: Header, l: usize) -> [u8; Group::HEADER]
 
 // Lays the packet of fields and a payload at the front of the output: the header, and the payload in the part behind it.
 fn lay(h: Header, payload: &[u8], out: &mut [u8])
-    requires { (length payload.now ≤ payloadMost) × (headerSize + length payload.now ≤ length out.old) }
-    ensures { out.new ≡ front (packetOf h payload.now) out.old }
+    requires { (length payload.now ≤ payload_most) × (header_size + length payload.now ≤ length out.old) }
+    ensures { out.new ≡ front (packet_of h payload.now) out.old }
 {
     let header = header_bytes(h, payload.len());
     message::copy(&header, out);
@@ -345,7 +345,7 @@ fn lay(h: Header, payload: &[u8], out: &mut [u8])
 
 // Questions 2, 4, 5, 6 and 13 of writing.
 fn ask_writing(h: Header, payload: &[u8], room: usize) -> Verdict
-    ensures { result ≡ writeVerdict h payload.now room }
+    ensures { result ≡ write_verdict h payload.now room }
 {
     if room < Group::PACKET {
         return Verdict::Refused(Refusal::ShortOutput);
@@ -364,9 +364,9 @@ fn ask_writing(h: Header, payload: &[u8], room: usize) -> Verdict
 
 // Writes the packet of fields and a payload to the front of the output.
 pub fn write(h: Header, payload: &[u8], out: &mut [u8]) -> Writing
-    ensures answer { result ≡ (writeOf h payload.now (length out.old)).answer }
-    ensures lent { out.new ≡ front (writeOf h payload.now (length out.old)).bytes out.old }
-    ensures wording { writingWording result ≡ writingWording (writeOf h payload.now (length out.old)).answer }
+    ensures answer { result ≡ (write_of h payload.now (length out.old)).answer }
+    ensures lent { out.new ≡ front (write_of h payload.now (length out.old)).bytes out.old }
+    ensures wording { writing_wording result ≡ writing_wording (write_of h payload.now (length out.old)).answer }
 {
     let v = ask_writing(h, payload, out.len());
     match v {
@@ -381,8 +381,8 @@ pub fn write(h: Header, payload: &[u8], out: &mut [u8]) -> Writing
 impl Packet {
     // What the fields of kinds 9 to 11 mean.
     fn of_reset(h: Header) -> Self
-        requires { (acceptKind < h.kind) × Named h }
-        ensures { result ≡ (if h.kind =? invitationKind then Invitation h.member h.a else if h.kind =? replyKind then Reply h.member h.a (record { 0 = h.b }) else Result h.member h.a (record { 0 = h.b }) (record { 0 = h.c })) }
+        requires { (accept_kind < h.kind) × Named h }
+        ensures { result ≡ (if h.kind =? invitation_kind then Invitation h.member h.a else if h.kind =? reply_kind then Reply h.member h.a (record { 0 = h.b }) else Result h.member h.a (record { 0 = h.b }) (record { 0 = h.c })) }
     {
         let member = h.member;
         if h.kind == Header::INVITATION {
@@ -409,7 +409,7 @@ impl Packet {
     // What the fields of each kind mean.
     pub fn of(h: Header) -> Self
         requires { Named h }
-        ensures { result ≡ contentOf h }
+        ensures { result ≡ content_of h }
     {
         let member = h.member;
         if h.kind == Header::REQUEST {
@@ -601,7 +601,7 @@ impl Packet {
 
     // Question 6 at an end: is byte 1 of a poll and of an acceptance the elected member?
     pub fn from_elected(self, group: Group) -> bool
-        ensures { result ≡ fromElected group self }
+        ensures { result ≡ from_elected group self }
     {
         match self {
             Packet::Request {
@@ -662,7 +662,7 @@ impl Packet {
     // Writes the packet to the front of the output, and gives its length. Where a question of writing says no, it writes nothing
     // and gives 0.
     pub fn put(self, group: u32, payload: &[u8], out: &mut [u8]) -> usize
-        ensures { Laid (writeOf (fields_of group self) payload.now (length out.old)).bytes result out.old out.new }
+        ensures { Laid (write_of (fields_of group self) payload.now (length out.old)).bytes result out.old out.new }
     {
         let h = self.fields(group);
         let w = write(h, payload, out);

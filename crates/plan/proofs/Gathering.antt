@@ -11,166 +11,166 @@ use borrow.Author.Tests.{le-leb, lt-leb, leb-true}
 use lib.ListN.{length, get_or, take, drop, length-drop, length-map}
 use lib.Seq.{length-take-le, get_or-take, get_or-drop}
 use Rattle.group.specs.Choice.{if◌then◌else◌, ◌≤?◌, ◌=?◌}
-use Rattle.group.proofs.Choice.{if-true, if-false, both_first, first-fails}
-use Rattle.group.proofs.Lists.{if-elim}
+use Rattle.group.proofs.Choice.{if_true, if_false, both_first, first_fails}
+use Rattle.group.proofs.Lists.{if_elim}
 use Rattle.message.specs.Order.{Ordered}
 use Rattle.big_endian.specs.Number.{number_at}
-use Rattle.journal.specs.Limits.{blockSize, recordHead}
-use Rattle.journal.specs.Block.{length_at, messageAt}
+use Rattle.journal.specs.Limits.{block_size, record_head}
+use Rattle.journal.specs.Block.{length_at, message_at}
 use Rattle.journal.specs.Laws.{StandsIn}
-use Rattle.journal.specs.Walk.{entered_in, cursorOf, walk_of, walked, givenBy, messageOn}
+use Rattle.journal.specs.Walk.{entered_in, cursor_of, walk_of, walked, given_by, message_on}
 use Rattle.journal.specs.declared.Cursor.{Cursor}
 use Rattle.journal.specs.declared.Spot.{Spot}
 use Rattle.journal.specs.declared.Walk.{Walk}
-use Rattle.journal.proofs.Given.{gives-standing}
-use Rattle.plan.specs.Units.{sets, unit_of, placed, latestFrom, latest}
+use Rattle.journal.proofs.Given.{gives_standing}
+use Rattle.plan.specs.Units.{sets, unit_of, placed, latest_from, latest}
 use Rattle.plan.specs.Laws.{◌among◌, Rises}
-use Rattle.plan.specs.Table.{unitsMost, Holds, Noted, lengthBefore, Stands, AllStand, spotted, rowsWith, NotedSpot, rowsIn, Stood, Gathered}
-use Rattle.plan.proofs.Placing.{bool-or, placed-elim, placed-from, placed-rises}
+use Rattle.plan.specs.Table.{units_most, Holds, Noted, length_before, Stands, AllStand, spotted, rows_with, NotedSpot, rows_in, Stood, Gathered}
+use Rattle.plan.proofs.Placing.{bool_or, placed_elim, placed_from, placed_rises}
 
 -- a record that stands in a journal, by where its payload does
 module _ (journal : List ℕ) (s : Spot) (stands : StandsIn journal s) where
   abbrev start : ℕ
-  start = s.start + recordHead
+  start = s.start + record_head
 
   abbrev payload : List ℕ
   payload = (spotted journal s).payload
 
-  pub length_before : lengthBefore journal start ≡ length_at journal s.start
-  length_before = let e : s.start + recordHead - 2 ≡ s.start + 5 = omega arith in ap (number_at 2 journal) e
+  pub length_before_lem : length_before journal start ≡ length_at journal s.start
+  length_before_lem = let e : s.start + record_head - 2 ≡ s.start + 5 = omega arith in ap (number_at 2 journal) e
 
-  payload-text : payload ≡ take (length_at journal s.start) (drop start journal)
-  unfolding messageAt
-  payload-text = refl
+  payload_text_lem : payload ≡ take (length_at journal s.start) (drop start journal)
+  unfolding message_at
+  payload_text_lem = refl
 
-  pub payload-length : length payload ≡ s.end - start
-  payload-length =
+  pub payload_length : length payload ≡ s.end - start
+  payload_length =
       let d = length-drop start journal in
       let e = stands.ends in
       let w = stands.within in
-      ap length payload-text ∙ length-take-le (length_at journal s.start) (drop start journal) (omega arith) ∙ omega arith
+      ap length payload_text_lem ∙ length-take-le (length_at journal s.start) (drop start journal) (omega arith) ∙ omega arith
 
-  at-payload : (i : ℕ) → i < length payload → get_or payload i 0 ≡ get_or journal (start + i) 0
-  at-payload i h =
-      let n = payload-length in
+  at_payload : (i : ℕ) → i < length payload → get_or payload i 0 ≡ get_or journal (start + i) 0
+  at_payload i h =
+      let n = payload_length in
       let e = stands.ends in
-      ap (λ (l : List ℕ). get_or l i 0) payload-text
+      ap (λ (l : List ℕ). get_or l i 0) payload_text_lem
       ∙ get_or-take (length_at journal s.start) (drop start journal) i 0 (omega arith) ∙ get_or-drop start journal i 0
 
-  number-payload : (k i : ℕ) → i + k ≤ length payload → number_at k payload i ≡ number_at k journal (start + i)
+  number_payload : (k i : ℕ) → i + k ≤ length payload → number_at k payload i ≡ number_at k journal (start + i)
   unfolding number_at
-  number-payload zero i h = refl
-  number-payload (suc k) i h =
+  number_payload zero i h = refl
+  number_payload (suc k) i h =
       let e : start + (i + k) ≡ start + i + k = omega arith in
-      rw (number-payload k i (omega arith), at-payload (i + k) (omega arith), e)
+      rw (number_payload k i (omega arith), at_payload (i + k) (omega arith), e)
 
   -- whether it sets a unit
-  pub spot-short : s.end - start < 3 → false ≡ sets (spotted journal s)
+  pub spot_short : s.end - start < 3 → false ≡ sets (spotted journal s)
   unfolding sets
-  spot-short h = let n = payload-length in sym (first-fails (3 ≤? length payload) _ (lt-leb 3 (length payload) (omega arith)))
+  spot_short h = let n = payload_length in sym (first_fails (3 ≤? length payload) _ (lt-leb 3 (length payload) (omega arith)))
 
-  pub spot-begins : 3 ≤ s.end - start → (get_or journal start 0 =? 3) ≡ sets (spotted journal s)
+  pub spot_begins : 3 ≤ s.end - start → (get_or journal start 0 =? 3) ≡ sets (spotted journal s)
   unfolding sets
-  spot-begins h =
-      let n = payload-length in
+  spot_begins h =
+      let n = payload_length in
       let z : start + 0 ≡ start = omega arith in
-      let e : get_or payload 0 0 ≡ get_or journal start 0 = at-payload 0 (omega arith) ∙ ap (λ (i : ℕ). get_or journal i 0) z in
-      if-true (3 ≤? length payload) _ _ _ (le-leb 3 (length payload) (omega arith)) (ap (λ (b : ℕ). b =? 3) (sym e))
+      let e : get_or payload 0 0 ≡ get_or journal start 0 = at_payload 0 (omega arith) ∙ ap (λ (i : ℕ). get_or journal i 0) z in
+      if_true (3 ≤? length payload) _ _ _ (le-leb 3 (length payload) (omega arith)) (ap (λ (b : ℕ). b =? 3) (sym e))
 
-  pub spot-long : sets (spotted journal s) ≡ true → 3 ≤ s.end - start
+  pub spot_long : sets (spotted journal s) ≡ true → 3 ≤ s.end - start
   unfolding sets
-  spot-long t = let n = payload-length in let h = leb-true 3 (length payload) (both_first (3 ≤? length payload) _ t) in omega arith
+  spot_long t = let n = payload_length in let h = leb-true 3 (length payload) (both_first (3 ≤? length payload) _ t) in omega arith
 
-  pub spot-unit : 3 ≤ s.end - start → unit_of (spotted journal s) ≡ number_at 2 journal (start + 1)
+  pub spot_unit : 3 ≤ s.end - start → unit_of (spotted journal s) ≡ number_at 2 journal (start + 1)
   unfolding unit_of
-  spot-unit h = let n = payload-length in number-payload 2 1 (omega arith)
+  spot_unit h = let n = payload_length in number_payload 2 1 (omega arith)
 
   -- a record that sets a unit is a row that stands in the journal
-  spot-stood : sets (spotted journal s) ≡ true → Stood journal (spotted journal s)
+  spot_stood : sets (spotted journal s) ≡ true → Stood journal (spotted journal s)
   unfolding sets
-  spot-stood t =
-      let n = payload-length in
-      let l = length_before in
+  spot_stood t =
+      let n = payload_length in
+      let l = length_before_lem in
       let e = stands.ends in
       let w = stands.within in
       let h = leb-true 3 (length payload) (both_first (3 ≤? length payload) _ t) in
       record {
         stands = record { low = omega arith; long = omega arith; ends = omega arith };
-        payload-is = payload-text ∙ ap (λ (i : ℕ). take i (drop start journal)) (sym l);
+        payload_is = payload_text_lem ∙ ap (λ (i : ℕ). take i (drop start journal)) (sym l);
       }
 
   -- noting it
-  pub spot-unnoted : (units places : List ℕ) (count : ℕ) → count ≤ unitsMost → sets (spotted journal s) ≡ false → NotedSpot journal s units places count units places count
-  spot-unnoted units places count most f =
+  pub spot_unnoted : (units places : List ℕ) (count : ℕ) → count ≤ units_most → sets (spotted journal s) ≡ false → NotedSpot journal s units places count units places count
+  spot_unnoted units places count most f =
       record {
-        units-size = refl;
-        places-size = refl;
-        held = λ rows r h k. rw (sym (if-false (sets (spotted journal s)) rows (placed (spotted journal s) rows) rows f refl)) h;
+        units_size = refl;
+        places_size = refl;
+        held = λ rows r h k. rw (sym (if_false (sets (spotted journal s)) rows (placed (spotted journal s) rows) rows f refl)) h;
         many = λ rows r h k. absurd (omega arith);
       }
 
-  pub spot-noted : (units places units' places' : List ℕ) (count count' unit : ℕ) → sets (spotted journal s) ≡ true → unit_of (spotted journal s) ≡ unit
+  pub spot_noted : (units places units' places' : List ℕ) (count count' unit : ℕ) → sets (spotted journal s) ≡ true → unit_of (spotted journal s) ≡ unit
       → Noted units places count unit start units' places' count' → NotedSpot journal s units places count units' places' count'
-  spot-noted units places units' places' count count' unit t u n =
+  spot_noted units places units' places' count count' unit t u n =
       record {
-        units-size = n.units-size;
-        places-size = n.places-size;
-        held = λ rows r h k. rw (sym (if-true (sets (spotted journal s)) (placed (spotted journal s) rows) (placed (spotted journal s) rows) rows t refl)) (n.held rows (spotted journal s) r h u refl k);
-        many = λ rows r h k. rw (sym (if-true (sets (spotted journal s)) (placed (spotted journal s) rows) (placed (spotted journal s) rows) rows t refl)) (n.many rows (spotted journal s) r h u k);
+        units_size = n.units_size;
+        places_size = n.places_size;
+        held = λ rows r h k. rw (sym (if_true (sets (spotted journal s)) (placed (spotted journal s) rows) (placed (spotted journal s) rows) rows t refl)) (n.held rows (spotted journal s) r h u refl k);
+        many = λ rows r h k. rw (sym (if_true (sets (spotted journal s)) (placed (spotted journal s) rows) (placed (spotted journal s) rows) rows t refl)) (n.many rows (spotted journal s) r h u k);
       }
 
   -- what holds of rows holds with it
-  rows-rise : (rows : List Ordered) → Rises unit_of rows → Rises unit_of (rowsWith journal s rows)
-  rows-rise rows r = if-elim (Rises unit_of) (sets (spotted journal s)) (λ t. placed-rises (spotted journal s) rows r) (λ t. r)
+  rows_rise : (rows : List Ordered) → Rises unit_of rows → Rises unit_of (rows_with journal s rows)
+  rows_rise rows r = if_elim (Rises unit_of) (sets (spotted journal s)) (λ t. placed_rises (spotted journal s) rows r) (λ t. r)
 
-  rows-stood : (rows : List Ordered) → ((y : Ordered) → y among rows → Stood journal y) → (y : Ordered) → y among rowsWith journal s rows → Stood journal y
-  rows-stood rows all =
-      if-elim (λ (l : List Ordered). (y : Ordered) → y among l → Stood journal y) (sets (spotted journal s))
-      (λ t y i. go t y (placed-from (spotted journal s) rows y i)) (λ t. all)
+  rows_stood : (rows : List Ordered) → ((y : Ordered) → y among rows → Stood journal y) → (y : Ordered) → y among rows_with journal s rows → Stood journal y
+  rows_stood rows all =
+      if_elim (λ (l : List Ordered). (y : Ordered) → y among l → Stood journal y) (sets (spotted journal s))
+      (λ t y i. go t y (placed_from (spotted journal s) rows y i)) (λ t. all)
     where
       go : sets (spotted journal s) ≡ true → (y : Ordered) → (y ≡ spotted journal s) ⊎ (y among rows) → Stood journal y
-      go t y (inl e) = rw e (spot-stood t)
+      go t y (inl e) = rw e (spot_stood t)
       go t y (inr i) = all y i
 
 -- rows never get fewer
-placed-length : (m : Ordered) (rows : List Ordered) → length rows ≤ length (placed m rows)
+placed_length : (m : Ordered) (rows : List Ordered) → length rows ≤ length (placed m rows)
 unfolding placed
-placed-length m [] = omega arith
-placed-length m (row ∷ rest) =
-    let h = placed-length m rest in
-    placed-elim m row rest (λ l. length (row ∷ rest) ≤ length l) (λ q. omega arith) (λ q. omega arith) (λ q. omega arith)
+placed_length m [] = omega arith
+placed_length m (row ∷ rest) =
+    let h = placed_length m rest in
+    placed_elim m row rest (λ l. length (row ∷ rest) ≤ length l) (λ q. omega arith) (λ q. omega arith) (λ q. omega arith)
 
-latest-length : (rows ms : List Ordered) → length rows ≤ length (latestFrom rows ms)
-unfolding latestFrom
-latest-length rows [] = omega arith
-latest-length rows (m ∷ ms) =
-    if-elim (λ (l : List Ordered). length rows ≤ length (latestFrom l ms)) (sets m)
-    (λ t. let a = placed-length m rows in let b = latest-length (placed m rows) ms in omega arith)
-    (λ t. latest-length rows ms)
+latest_length : (rows ms : List Ordered) → length rows ≤ length (latest_from rows ms)
+unfolding latest_from
+latest_length rows [] = omega arith
+latest_length rows (m ∷ ms) =
+    if_elim (λ (l : List Ordered). length rows ≤ length (latest_from l ms)) (sets m)
+    (λ t. let a = placed_length m rows in let b = latest_length (placed m rows) ms in omega arith)
+    (λ t. latest_length rows ms)
 
 -- what a loop over the records of a journal has come to
 pub record Progress (journal : List ℕ) (whole : List Ordered) (units places : List ℕ) (count : ℕ) (cursor : Cursor) (left : ℕ) : Type 0 where
-  pub units-size : length units ≡ unitsMost
-  pub places-size : length places ≡ unitsMost
-  pub most : count ≤ unitsMost
-  pub within : cursor.base + cursor.blocks * blockSize ≤ length journal
+  pub units_size : length units ≡ units_most
+  pub places_size : length places ≡ units_most
+  pub most : count ≤ units_most
+  pub within : cursor.base + cursor.blocks * block_size ≤ length journal
   pub rows : List Ordered
   pub rise : Rises unit_of rows
   pub stood : (y : Ordered) → y among rows → Stood journal y
   pub held : Holds rows units places count
-  pub rest : latestFrom rows (map (spotted journal) (givenBy left cursor journal)) ≡ whole
+  pub rest : latest_from rows (map (spotted journal) (given_by left cursor journal)) ≡ whole
 
-pub given-next : (journal : List ℕ) (c next : Cursor) (s : Spot) (left : ℕ) → 0 < left → walk_of c journal ≡ Walk.Next s next
-    → givenBy left c journal ≡ s ∷ givenBy (left - 1) next journal
-unfolding givenBy walked
-given-next journal c next s left h e =
+pub given_next : (journal : List ℕ) (c next : Cursor) (s : Spot) (left : ℕ) → 0 < left → walk_of c journal ≡ Walk.Next s next
+    → given_by left c journal ≡ s ∷ given_by (left - 1) next journal
+unfolding given_by walked
+given_next journal c next s left h e =
     let l : left ≡ suc (left - 1) = omega arith in
-    ap (λ (k : ℕ). givenBy k c journal) l ∙ ap (λ (w : Walk). walked w (λ n. givenBy (left - 1) n journal)) e
+    ap (λ (k : ℕ). given_by k c journal) l ∙ ap (λ (w : Walk). walked w (λ n. given_by (left - 1) n journal)) e
 
-pub given-end : (journal : List ℕ) (c : Cursor) (left : ℕ) → walk_of c journal ≡ Walk.End → givenBy left c journal ≡ []
-unfolding givenBy walked
-given-end journal c zero e = refl
-given-end journal c (suc k) e = ap (λ (w : Walk). walked w (λ n. givenBy k n journal)) e
+pub given_end : (journal : List ℕ) (c : Cursor) (left : ℕ) → walk_of c journal ≡ Walk.End → given_by left c journal ≡ []
+unfolding given_by walked
+given_end journal c zero e = refl
+given_end journal c (suc k) e = ap (λ (w : Walk). walked w (λ n. given_by k n journal)) e
 
 -- the rows that stand, by index
 pub each_at : (journal : List ℕ) (rows : List Ordered) → ((y : Ordered) → y among rows → Stood journal y) → AllStand journal (map (λ (m : Ordered). m.number) rows)
@@ -178,88 +178,88 @@ each_at journal [] all i h = absurd (omega arith)
 each_at journal (m ∷ rows) all zero h = (all m (Memᴰ.head refl)).stands
 each_at journal (m ∷ rows) all (suc i) h = each_at journal rows (λ y k. all y (Memᴰ.tail k)) i (omega arith)
 
-pub progress_start : (journal : List ℕ) (blocks messages : ℕ) (units places : List ℕ) (cursor : Cursor) → cursor ≡ cursorOf journal blocks
-    → cursor.base + cursor.blocks * blockSize ≤ length journal → length units ≡ unitsMost → length places ≡ unitsMost
-    → Progress journal (rowsIn journal blocks messages) units places 0 cursor messages
+pub progress_start : (journal : List ℕ) (blocks messages : ℕ) (units places : List ℕ) (cursor : Cursor) → cursor ≡ cursor_of journal blocks
+    → cursor.base + cursor.blocks * block_size ≤ length journal → length units ≡ units_most → length places ≡ units_most
+    → Progress journal (rows_in journal blocks messages) units places 0 cursor messages
 unfolding Rises
 progress_start journal blocks messages units places cursor e fits u p =
     record {
-      units-size = u;
-      places-size = p;
+      units_size = u;
+      places_size = p;
       most = omega arith;
       within = fits;
       rows = [];
       rise = tt;
       stood = λ y i. absurd (Memᴰ.not-nil i);
-      held = record { many = refl; units-held = refl; places-held = refl };
+      held = record { many = refl; units_held = refl; places_held = refl };
       rest = rw e refl;
     }
 
 module _ (journal : List ℕ) (whole : List Ordered) (units places : List ℕ) (count : ℕ) (cursor : Cursor) (left : ℕ)
     (p : Progress journal whole units places count cursor left) where
-  pub progress-stands : (s : Spot) (next : Cursor) → walk_of cursor journal ≡ Walk.Next s next → StandsIn journal s
-  progress-stands s next e = (gives-standing journal cursor next s p.within e).0
+  pub progress_stands : (s : Spot) (next : Cursor) → walk_of cursor journal ≡ Walk.Next s next → StandsIn journal s
+  progress_stands s next e = (gives_standing journal cursor next s p.within e).0
 
-  rest-with : (s : Spot) (next : Cursor) → 0 < left → walk_of cursor journal ≡ Walk.Next s next
-      → latestFrom (rowsWith journal s p.rows) (map (spotted journal) (givenBy (left - 1) next journal)) ≡ whole
-  unfolding latestFrom
-  rest-with s next h e =
-      sym (ap (λ (l : List Spot). latestFrom p.rows (map (spotted journal) l)) (given-next journal cursor next s left h e)) ∙ p.rest
+  rest_with : (s : Spot) (next : Cursor) → 0 < left → walk_of cursor journal ≡ Walk.Next s next
+      → latest_from (rows_with journal s p.rows) (map (spotted journal) (given_by (left - 1) next journal)) ≡ whole
+  unfolding latest_from
+  rest_with s next h e =
+      sym (ap (λ (l : List Spot). latest_from p.rows (map (spotted journal) l)) (given_next journal cursor next s left h e)) ∙ p.rest
 
-  pub progress-on : (s : Spot) (next : Cursor) (units' places' : List ℕ) (count' : ℕ) → 0 < left → walk_of cursor journal ≡ Walk.Next s next
-      → NotedSpot journal s units places count units' places' count' → count' ≤ unitsMost → Progress journal whole units' places' count' next (left - 1)
-  progress-on s next units' places' count' h e n k =
-      let (stands, within) = gives-standing journal cursor next s p.within e in
+  pub progress_on : (s : Spot) (next : Cursor) (units' places' : List ℕ) (count' : ℕ) → 0 < left → walk_of cursor journal ≡ Walk.Next s next
+      → NotedSpot journal s units places count units' places' count' → count' ≤ units_most → Progress journal whole units' places' count' next (left - 1)
+  progress_on s next units' places' count' h e n k =
+      let (stands, within) = gives_standing journal cursor next s p.within e in
       record {
-        units-size = n.units-size ∙ p.units-size;
-        places-size = n.places-size ∙ p.places-size;
+        units_size = n.units_size ∙ p.units_size;
+        places_size = n.places_size ∙ p.places_size;
         most = k;
         within = within;
-        rows = rowsWith journal s p.rows;
-        rise = rows-rise journal s stands p.rows p.rise;
-        stood = rows-stood journal s stands p.rows p.stood;
+        rows = rows_with journal s p.rows;
+        rise = rows_rise journal s stands p.rows p.rise;
+        stood = rows_stood journal s stands p.rows p.stood;
         held = n.held p.rows p.rise p.held k;
-        rest = rest-with s next h e;
+        rest = rest_with s next h e;
       }
 
-  pub progress-many : (s : Spot) (next : Cursor) (units' places' : List ℕ) (count' : ℕ) → 0 < left → walk_of cursor journal ≡ Walk.Next s next
-      → NotedSpot journal s units places count units' places' count' → unitsMost < count' → Gathered journal whole units' places' count'
-  progress-many s next units' places' count' h e n k =
+  pub progress_many : (s : Spot) (next : Cursor) (units' places' : List ℕ) (count' : ℕ) → 0 < left → walk_of cursor journal ≡ Walk.Next s next
+      → NotedSpot journal s units places count units' places' count' → units_most < count' → Gathered journal whole units' places' count'
+  progress_many s next units' places' count' h e n k =
       record {
-        units-size = n.units-size ∙ p.units-size;
-        places-size = n.places-size ∙ p.places-size;
+        units_size = n.units_size ∙ p.units_size;
+        places_size = n.places_size ∙ p.places_size;
         held = λ l. absurd (omega arith);
         stood = λ l. absurd (omega arith);
         many = λ l.
             let a = n.many p.rows p.rise p.held k in
-            let b = latest-length (rowsWith journal s p.rows) (map (spotted journal) (givenBy (left - 1) next journal)) in
-            let c = ap length (rest-with s next h e) in
+            let b = latest_length (rows_with journal s p.rows) (map (spotted journal) (given_by (left - 1) next journal)) in
+            let c = ap length (rest_with s next h e) in
             omega arith;
       }
 
   ended : p.rows ≡ whole → Gathered journal whole units places count
   ended e =
       record {
-        units-size = p.units-size;
-        places-size = p.places-size;
+        units_size = p.units_size;
+        places_size = p.places_size;
         held = λ l. rw (← e) p.held;
         stood = λ l. rw (← e) p.stood;
         many = λ l. let m = p.most in absurd (omega arith);
       }
 
-  pub progress-end : walk_of cursor journal ≡ Walk.End → Gathered journal whole units places count
-  unfolding latestFrom
-  progress-end e = ended (sym (ap (λ (l : List Spot). latestFrom p.rows (map (spotted journal) l)) (given-end journal cursor left e)) ∙ p.rest)
+  pub progress_end : walk_of cursor journal ≡ Walk.End → Gathered journal whole units places count
+  unfolding latest_from
+  progress_end e = ended (sym (ap (λ (l : List Spot). latest_from p.rows (map (spotted journal) l)) (given_end journal cursor left e)) ∙ p.rest)
 
-  pub progress-done : left ≤ 0 → Gathered journal whole units places count
-  unfolding latestFrom givenBy
-  progress-done h =
+  pub progress_done : left ≤ 0 → Gathered journal whole units places count
+  unfolding latest_from given_by
+  progress_done h =
       let z : left ≡ 0 = omega arith in
-      ended (sym (ap (λ (k : ℕ). latestFrom p.rows (map (spotted journal) (givenBy k cursor journal))) z) ∙ p.rest)
+      ended (sym (ap (λ (k : ℕ). latest_from p.rows (map (spotted journal) (given_by k cursor journal))) z) ∙ p.rest)
 
 -- a cursor over the right blocks of a journal stands within it
-pub cursor-within : (journal : List ℕ) (blocks : ℕ) (cursor : Cursor) → cursor ≡ cursorOf journal blocks → blocks * blockSize ≤ length journal
-    → cursor.base + cursor.blocks * blockSize ≤ length journal
-unfolding cursorOf entered_in
-cursor-within journal blocks cursor e h =
-    rw e (if-elim (λ (c : Cursor). c.base + c.blocks * blockSize ≤ length journal) (blocks =? 0) (λ t. omega arith) (λ t. omega arith))
+pub cursor_within : (journal : List ℕ) (blocks : ℕ) (cursor : Cursor) → cursor ≡ cursor_of journal blocks → blocks * block_size ≤ length journal
+    → cursor.base + cursor.blocks * block_size ≤ length journal
+unfolding cursor_of entered_in
+cursor_within journal blocks cursor e h =
+    rw e (if_elim (λ (c : Cursor). c.base + c.blocks * block_size ≤ length journal) (blocks =? 0) (λ t. omega arith) (λ t. omega arith))

@@ -6,109 +6,109 @@ use mathlib.Core.List.{List, [], ◌∷◌, ◌++◌, append-nil}
 use Prim.Native.Nat.{ℕ}
 use borrow.Author.Tests.{eq-eqb, ne_eqb}
 use Rattle.group.specs.Choice.{◌=?◌}
-use Rattle.group.proofs.Choice.{if-true, if-false, both_hold, first-fails, then-fails}
-use Rattle.group.proofs.Lists.{eq-or}
+use Rattle.group.proofs.Choice.{if_true, if_false, both_hold, first_fails, then_fails}
+use Rattle.group.proofs.Lists.{eq_or}
 use Rattle.message.specs.Order.{Ordered}
-use Rattle.plan.specs.Units.{sets, unit_of, placed, latestFrom}
-use Rattle.plan.specs.Kept.{notIn, lastOnes}
+use Rattle.plan.specs.Units.{sets, unit_of, placed, latest_from}
+use Rattle.plan.specs.Kept.{not_in, last_ones}
 use Rattle.plan.specs.Laws.{SamePlan, GoesOn, RewriteTwice}
-use Rattle.plan.proofs.Placing.{bool-or, placed-again, placed-either}
+use Rattle.plan.proofs.Placing.{bool_or, placed_again, placed_either}
 
 module _ (m : Ordered) (rest : List Ordered) where
   -- a message is placed if it sets a unit
-  pub latest-set : (rows : List Ordered) → sets m ≡ true → latestFrom rows (m ∷ rest) ≡ latestFrom (placed m rows) rest
-  unfolding latestFrom
-  latest-set rows h = ap (λ (l : List Ordered). latestFrom l rest) (sym (if-true (sets m) _ (placed m rows) rows h refl))
+  pub latest_set : (rows : List Ordered) → sets m ≡ true → latest_from rows (m ∷ rest) ≡ latest_from (placed m rows) rest
+  unfolding latest_from
+  latest_set rows h = ap (λ (l : List Ordered). latest_from l rest) (sym (if_true (sets m) _ (placed m rows) rows h refl))
 
-  pub latest-not : (rows : List Ordered) → sets m ≡ false → latestFrom rows (m ∷ rest) ≡ latestFrom rows rest
-  unfolding latestFrom
-  latest-not rows h = ap (λ (l : List Ordered). latestFrom l rest) (sym (if-false (sets m) _ (placed m rows) rows h refl))
+  pub latest_not : (rows : List Ordered) → sets m ≡ false → latest_from rows (m ∷ rest) ≡ latest_from rows rest
+  unfolding latest_from
+  latest_not rows h = ap (λ (l : List Ordered). latest_from l rest) (sym (if_false (sets m) _ (placed m rows) rows h refl))
 
   -- whether it sets unit u
-  pub in-first : (u : ℕ) → sets m ≡ true → unit_of m ≡ u → notIn u (m ∷ rest) ≡ false
-  unfolding notIn
-  in-first u h e = sym (if-true _ _ false (notIn u rest) (both_hold (sets m) (unit_of m =? u) h (eq-eqb _ _ e)) refl)
+  pub in_first : (u : ℕ) → sets m ≡ true → unit_of m ≡ u → not_in u (m ∷ rest) ≡ false
+  unfolding not_in
+  in_first u h e = sym (if_true _ _ false (not_in u rest) (both_hold (sets m) (unit_of m =? u) h (eq-eqb _ _ e)) refl)
 
-  pub in-other : (u : ℕ) → unit_of m ≢ u → notIn u (m ∷ rest) ≡ notIn u rest
-  unfolding notIn
-  in-other u d = sym (if-false _ _ false (notIn u rest) (then-fails (sets m) (unit_of m =? u) (ne_eqb _ _ d)) refl)
+  pub in_other : (u : ℕ) → unit_of m ≢ u → not_in u (m ∷ rest) ≡ not_in u rest
+  unfolding not_in
+  in_other u d = sym (if_false _ _ false (not_in u rest) (then_fails (sets m) (unit_of m =? u) (ne_eqb _ _ d)) refl)
 
-  pub in-not : (u : ℕ) → sets m ≡ false → notIn u (m ∷ rest) ≡ notIn u rest
-  unfolding notIn
-  in-not u h = sym (if-false _ _ false (notIn u rest) (first-fails (sets m) (unit_of m =? u) h) refl)
+  pub in_not : (u : ℕ) → sets m ≡ false → not_in u (m ∷ rest) ≡ not_in u rest
+  unfolding not_in
+  in_not u h = sym (if_false _ _ false (not_in u rest) (first_fails (sets m) (unit_of m =? u) h) refl)
 
   -- whether it is kept
-  pub keep-last : sets m ≡ true → notIn (unit_of m) rest ≡ true → lastOnes (m ∷ rest) ≡ m ∷ lastOnes rest
-  unfolding lastOnes
-  keep-last h k = sym (if-true _ _ (m ∷ lastOnes rest) (lastOnes rest) (both_hold (sets m) (notIn (unit_of m) rest) h k) refl)
+  pub keep_last : sets m ≡ true → not_in (unit_of m) rest ≡ true → last_ones (m ∷ rest) ≡ m ∷ last_ones rest
+  unfolding last_ones
+  keep_last h k = sym (if_true _ _ (m ∷ last_ones rest) (last_ones rest) (both_hold (sets m) (not_in (unit_of m) rest) h k) refl)
 
-  pub drop-set : notIn (unit_of m) rest ≡ false → lastOnes (m ∷ rest) ≡ lastOnes rest
-  unfolding lastOnes
-  drop-set k = sym (if-false _ _ (m ∷ lastOnes rest) (lastOnes rest) (then-fails (sets m) (notIn (unit_of m) rest) k) refl)
+  pub drop_set : not_in (unit_of m) rest ≡ false → last_ones (m ∷ rest) ≡ last_ones rest
+  unfolding last_ones
+  drop_set k = sym (if_false _ _ (m ∷ last_ones rest) (last_ones rest) (then_fails (sets m) (not_in (unit_of m) rest) k) refl)
 
-  pub drop-not : sets m ≡ false → lastOnes (m ∷ rest) ≡ lastOnes rest
-  unfolding lastOnes
-  drop-not h = sym (if-false _ _ (m ∷ lastOnes rest) (lastOnes rest) (first-fails (sets m) (notIn (unit_of m) rest) h) refl)
+  pub drop_not : sets m ≡ false → last_ones (m ∷ rest) ≡ last_ones rest
+  unfolding last_ones
+  drop_not h = sym (if_false _ _ (m ∷ last_ones rest) (last_ones rest) (first_fails (sets m) (not_in (unit_of m) rest) h) refl)
 
   -- a claim of what is kept
-  pub kept-elim : (P : List Ordered → Type 0) → (sets m ≡ true → notIn (unit_of m) rest ≡ true → P (m ∷ lastOnes rest))
-      → (sets m ≡ true → notIn (unit_of m) rest ≡ false → P (lastOnes rest)) → (sets m ≡ false → P (lastOnes rest)) → P (lastOnes (m ∷ rest))
-  kept-elim P f g h =
-      bool-or (sets m)
-      (λ s. bool-or (notIn (unit_of m) rest) (λ n. rw (keep-last s n) (f s n)) (λ n. rw (drop-set n) (g s n)))
-      (λ s. rw (drop-not s) (h s))
+  pub kept_elim : (P : List Ordered → Type 0) → (sets m ≡ true → not_in (unit_of m) rest ≡ true → P (m ∷ last_ones rest))
+      → (sets m ≡ true → not_in (unit_of m) rest ≡ false → P (last_ones rest)) → (sets m ≡ false → P (last_ones rest)) → P (last_ones (m ∷ rest))
+  kept_elim P f g h =
+      bool_or (sets m)
+      (λ s. bool_or (not_in (unit_of m) rest) (λ n. rw (keep_last s n) (f s n)) (λ n. rw (drop_set n) (g s n)))
+      (λ s. rw (drop_not s) (h s))
 
 -- a unit that is set later need not be set before
-pub covered : (m : Ordered) (rows ms : List Ordered) → notIn (unit_of m) ms ≡ false → latestFrom (placed m rows) ms ≡ latestFrom rows ms
-unfolding notIn
+pub covered : (m : Ordered) (rows ms : List Ordered) → not_in (unit_of m) ms ≡ false → latest_from (placed m rows) ms ≡ latest_from rows ms
+unfolding not_in
 covered m rows [] h = let z : true ≡ false = h in cc
 covered m rows (x ∷ ms) h =
-    bool-or (sets x)
-    (λ s. eq-or (unit_of x) (unit_of m)
-    (λ e. cc (latest-set x ms (placed m rows) s, latest-set x ms rows s, placed-again m x (sym e) rows))
-    (λ d. cc (latest-set x ms (placed m rows) s, latest-set x ms rows s, placed-either x m d rows, covered m (placed x rows) ms (sym (in-other x ms (unit_of m) d) ∙ h))))
-    (λ s. cc (latest-not x ms (placed m rows) s, latest-not x ms rows s, covered m rows ms (sym (in-not x ms (unit_of m) s) ∙ h)))
+    bool_or (sets x)
+    (λ s. eq_or (unit_of x) (unit_of m)
+    (λ e. cc (latest_set x ms (placed m rows) s, latest_set x ms rows s, placed_again m x (sym e) rows))
+    (λ d. cc (latest_set x ms (placed m rows) s, latest_set x ms rows s, placed_either x m d rows, covered m (placed x rows) ms (sym (in_other x ms (unit_of m) d) ∙ h))))
+    (λ s. cc (latest_not x ms (placed m rows) s, latest_not x ms rows s, covered m rows ms (sym (in_not x ms (unit_of m) s) ∙ h)))
 
 -- where some message sets a unit, some message of a longer list does
-in-append : (u : ℕ) (ms more : List Ordered) → notIn u ms ≡ false → notIn u (ms ++ more) ≡ false
-unfolding notIn
-in-append u [] more h = let z : true ≡ false = h in cc
-in-append u (x ∷ ms) more h =
-    bool-or (sets x)
-    (λ s. eq-or (unit_of x) u (λ e. in-first x (ms ++ more) u s e) (λ d. in-other x (ms ++ more) u d ∙ in-append u ms more (sym (in-other x ms u d) ∙ h)))
-    (λ s. in-not x (ms ++ more) u s ∙ in-append u ms more (sym (in-not x ms u s) ∙ h))
+in_append : (u : ℕ) (ms more : List Ordered) → not_in u ms ≡ false → not_in u (ms ++ more) ≡ false
+unfolding not_in
+in_append u [] more h = let z : true ≡ false = h in cc
+in_append u (x ∷ ms) more h =
+    bool_or (sets x)
+    (λ s. eq_or (unit_of x) u (λ e. in_first x (ms ++ more) u s e) (λ d. in_other x (ms ++ more) u d ∙ in_append u ms more (sym (in_other x ms u d) ∙ h)))
+    (λ s. in_not x (ms ++ more) u s ∙ in_append u ms more (sym (in_not x ms u s) ∙ h))
 
-goes-on-from : (rows ms more : List Ordered) → latestFrom rows (lastOnes ms ++ more) ≡ latestFrom rows (ms ++ more)
-unfolding lastOnes
-goes-on-from rows [] more = refl
-goes-on-from rows (m ∷ ms) more =
-    kept-elim m ms (λ l. latestFrom rows (l ++ more) ≡ latestFrom rows (m ∷ (ms ++ more)))
-    (λ s n. cc (latest-set m (lastOnes ms ++ more) rows s, latest-set m (ms ++ more) rows s, goes-on-from (placed m rows) ms more))
-    (λ s n. goes-on-from rows ms more ∙ cc (latest-set m (ms ++ more) rows s, covered m rows (ms ++ more) (in-append (unit_of m) ms more n)))
-    (λ s. goes-on-from rows ms more ∙ sym (latest-not m (ms ++ more) rows s))
+goes_on_from : (rows ms more : List Ordered) → latest_from rows (last_ones ms ++ more) ≡ latest_from rows (ms ++ more)
+unfolding last_ones
+goes_on_from rows [] more = refl
+goes_on_from rows (m ∷ ms) more =
+    kept_elim m ms (λ l. latest_from rows (l ++ more) ≡ latest_from rows (m ∷ (ms ++ more)))
+    (λ s n. cc (latest_set m (last_ones ms ++ more) rows s, latest_set m (ms ++ more) rows s, goes_on_from (placed m rows) ms more))
+    (λ s n. goes_on_from rows ms more ∙ cc (latest_set m (ms ++ more) rows s, covered m rows (ms ++ more) (in_append (unit_of m) ms more n)))
+    (λ s. goes_on_from rows ms more ∙ sym (latest_not m (ms ++ more) rows s))
 
 pub goes_on : GoesOn
-goes_on ms more = goes-on-from [] ms more
+goes_on ms more = goes_on_from [] ms more
 
-pub same-plan : SamePlan
-same-plan ms = simp append-nil at (goes_on ms [])
+pub same_plan : SamePlan
+same_plan ms = simp append-nil at (goes_on ms [])
 
 -- what is kept sets the same units
-kept-units : (u : ℕ) (ms : List Ordered) → notIn u (lastOnes ms) ≡ notIn u ms
-unfolding lastOnes
-kept-units u [] = refl
-kept-units u (m ∷ ms) =
-    kept-elim m ms (λ l. notIn u l ≡ notIn u (m ∷ ms))
-    (λ s n. eq-or (unit_of m) u (λ e. in-first m (lastOnes ms) u s e ∙ sym (in-first m ms u s e))
-    (λ d. in-other m (lastOnes ms) u d ∙ kept-units u ms ∙ sym (in-other m ms u d)))
-    (λ s n. eq-or (unit_of m) u (λ e. kept-units u ms ∙ (rw e at n) ∙ sym (in-first m ms u s e))
-    (λ d. kept-units u ms ∙ sym (in-other m ms u d)))
-    (λ s. kept-units u ms ∙ sym (in-not m ms u s))
+kept_units : (u : ℕ) (ms : List Ordered) → not_in u (last_ones ms) ≡ not_in u ms
+unfolding last_ones
+kept_units u [] = refl
+kept_units u (m ∷ ms) =
+    kept_elim m ms (λ l. not_in u l ≡ not_in u (m ∷ ms))
+    (λ s n. eq_or (unit_of m) u (λ e. in_first m (last_ones ms) u s e ∙ sym (in_first m ms u s e))
+    (λ d. in_other m (last_ones ms) u d ∙ kept_units u ms ∙ sym (in_other m ms u d)))
+    (λ s n. eq_or (unit_of m) u (λ e. kept_units u ms ∙ (rw e at n) ∙ sym (in_first m ms u s e))
+    (λ d. kept_units u ms ∙ sym (in_other m ms u d)))
+    (λ s. kept_units u ms ∙ sym (in_not m ms u s))
 
-pub rewrite-twice : RewriteTwice
-unfolding lastOnes
-rewrite-twice [] = refl
-rewrite-twice (m ∷ ms) =
-    kept-elim m ms (λ l. lastOnes l ≡ l)
-    (λ s n. keep-last m (lastOnes ms) s (kept-units (unit_of m) ms ∙ n) ∙ ap (λ (l : List Ordered). m ∷ l) (rewrite-twice ms))
-    (λ s n. rewrite-twice ms) (λ s. rewrite-twice ms)
+pub rewrite_twice : RewriteTwice
+unfolding last_ones
+rewrite_twice [] = refl
+rewrite_twice (m ∷ ms) =
+    kept_elim m ms (λ l. last_ones l ≡ l)
+    (λ s n. keep_last m (last_ones ms) s (kept_units (unit_of m) ms ∙ n) ∙ ap (λ (l : List Ordered). m ∷ l) (rewrite_twice ms))
+    (λ s n. rewrite_twice ms) (λ s. rewrite_twice ms)

@@ -7,85 +7,85 @@ use mathlib.Core.List.{List, [], ◌∷◌}
 use Prim.Native.Nat.{ℕ, suc, ◌<◌}
 use native.Mathlib.Omega.{arith}
 use lib.ListN.{length}
-use Rattle.group.proofs.Choice.{if-lt, if-nlt, if-eq, if-ne}
-use Rattle.group.proofs.Lists.{eq-or, le-or}
+use Rattle.group.proofs.Choice.{if_lt, if_nlt, if_eq, if_ne}
+use Rattle.group.proofs.Lists.{eq_or, le_or}
 use Rattle.message.specs.Order.{Ordered}
 use Rattle.plan.specs.Units.{unit_of, placed}
 use Rattle.plan.specs.Laws.{◌among◌, Rises}
 
 -- a test holds or it does not
-pub bool-or : {B : Type 0} (t : Bool) → (t ≡ true → B) → (t ≡ false → B) → B
-bool-or true f g = f refl
-bool-or false f g = g refl
+pub bool_or : {B : Type 0} (t : Bool) → (t ≡ true → B) → (t ≡ false → B) → B
+bool_or true f g = f refl
+bool_or false f g = g refl
 
 -- one number is below the other, equal to it, or above it
-pub order-or : {B : Type 0} (m n : ℕ) → (m < n → B) → (m ≡ n → B) → (n < m → B) → B
-order-or m n f g h = eq-or m n g (λ q. le-or m n (λ l. f (omega arith)) h)
+pub order_or : {B : Type 0} (m n : ℕ) → (m < n → B) → (m ≡ n → B) → (n < m → B) → B
+order_or m n f g h = eq_or m n g (λ q. le_or m n (λ l. f (omega arith)) h)
 
 module _ (m row : Ordered) (rest : List Ordered) where
   pub placed_below : unit_of row < unit_of m → placed m (row ∷ rest) ≡ row ∷ placed m rest
   unfolding placed
-  placed_below h = sym (if-lt (unit_of row) (unit_of m) _ _ _ h refl)
+  placed_below h = sym (if_lt (unit_of row) (unit_of m) _ _ _ h refl)
 
   pub placed_same : unit_of row ≡ unit_of m → placed m (row ∷ rest) ≡ m ∷ rest
   unfolding placed
-  placed_same h = sym (if-nlt (unit_of row) (unit_of m) _ _ _ (omega arith) (if-eq (unit_of row) (unit_of m) _ _ _ h refl))
+  placed_same h = sym (if_nlt (unit_of row) (unit_of m) _ _ _ (omega arith) (if_eq (unit_of row) (unit_of m) _ _ _ h refl))
 
-  pub placed-above : unit_of m < unit_of row → placed m (row ∷ rest) ≡ m ∷ row ∷ rest
+  pub placed_above : unit_of m < unit_of row → placed m (row ∷ rest) ≡ m ∷ row ∷ rest
   unfolding placed
-  placed-above h = sym (if-nlt (unit_of row) (unit_of m) _ _ _ (omega arith) (if-ne (unit_of row) (unit_of m) _ _ _ (λ q. omega arith) refl))
+  placed_above h = sym (if_nlt (unit_of row) (unit_of m) _ _ _ (omega arith) (if_ne (unit_of row) (unit_of m) _ _ _ (λ q. omega arith) refl))
 
   -- a claim of rows among which a message is placed
-  pub placed-elim : (P : List Ordered → Type 0) → (unit_of row < unit_of m → P (row ∷ placed m rest)) → (unit_of row ≡ unit_of m → P (m ∷ rest))
+  pub placed_elim : (P : List Ordered → Type 0) → (unit_of row < unit_of m → P (row ∷ placed m rest)) → (unit_of row ≡ unit_of m → P (m ∷ rest))
       → (unit_of m < unit_of row → P (m ∷ row ∷ rest)) → P (placed m (row ∷ rest))
-  placed-elim P f g h =
-      order-or (unit_of row) (unit_of m) (λ q. rw (placed_below q) (f q)) (λ q. rw (placed_same q) (g q)) (λ q. rw (placed-above q) (h q))
+  placed_elim P f g h =
+      order_or (unit_of row) (unit_of m) (λ q. rw (placed_below q) (f q)) (λ q. rw (placed_same q) (g q)) (λ q. rw (placed_above q) (h q))
 
 -- of two messages of one unit the second replaces the first
-pub placed-again : (m x : Ordered) → unit_of m ≡ unit_of x → (rows : List Ordered) → placed x (placed m rows) ≡ placed x rows
+pub placed_again : (m x : Ordered) → unit_of m ≡ unit_of x → (rows : List Ordered) → placed x (placed m rows) ≡ placed x rows
 unfolding placed
-placed-again m x e [] = placed_same x m [] e
-placed-again m x e (row ∷ rest) =
-    order-or (unit_of row) (unit_of m)
-    (λ q. cc (placed_below m row rest q, placed_below x row (placed m rest) (omega arith), placed_below x row rest (omega arith), placed-again m x e rest))
+placed_again m x e [] = placed_same x m [] e
+placed_again m x e (row ∷ rest) =
+    order_or (unit_of row) (unit_of m)
+    (λ q. cc (placed_below m row rest q, placed_below x row (placed m rest) (omega arith), placed_below x row rest (omega arith), placed_again m x e rest))
     (λ q. cc (placed_same m row rest q, placed_same x m rest e, placed_same x row rest (q ∙ e)))
-    (λ q. cc (placed-above m row rest q, placed_same x m (row ∷ rest) e, placed-above x row rest (omega arith)))
+    (λ q. cc (placed_above m row rest q, placed_same x m (row ∷ rest) e, placed_above x row rest (omega arith)))
 
 -- messages of two units can be placed in either order
-placed-swap : (m x : Ordered) → unit_of m < unit_of x → (rows : List Ordered) → placed m (placed x rows) ≡ placed x (placed m rows)
+placed_swap : (m x : Ordered) → unit_of m < unit_of x → (rows : List Ordered) → placed m (placed x rows) ≡ placed x (placed m rows)
 unfolding placed
-placed-swap m x h [] = cc (placed-above m x [] h, placed_below x m [] h)
-placed-swap m x h (row ∷ rest) =
-    order-or (unit_of row) (unit_of m)
-    (λ q. cc (placed_below x row rest (omega arith), placed_below m row (placed x rest) q, placed_below m row rest q, placed_below x row (placed m rest) (omega arith), placed-swap m x h rest))
+placed_swap m x h [] = cc (placed_above m x [] h, placed_below x m [] h)
+placed_swap m x h (row ∷ rest) =
+    order_or (unit_of row) (unit_of m)
+    (λ q. cc (placed_below x row rest (omega arith), placed_below m row (placed x rest) q, placed_below m row rest q, placed_below x row (placed m rest) (omega arith), placed_swap m x h rest))
     (λ q. cc (placed_below x row rest (omega arith), placed_same m row (placed x rest) q, placed_same m row rest q, placed_below x m rest h))
-    (λ q. first q ∙ sym (cc (placed-above m row rest q, placed_below x m (row ∷ rest) h)))
+    (λ q. first q ∙ sym (cc (placed_above m row rest q, placed_below x m (row ∷ rest) h)))
   where
     first : unit_of m < unit_of row → placed m (placed x (row ∷ rest)) ≡ m ∷ placed x (row ∷ rest)
     first q =
-        placed-elim x row rest (λ l. placed m l ≡ m ∷ l) (λ k. placed-above m row (placed x rest) q) (λ k. placed-above m x rest h)
-        (λ k. placed-above m x (row ∷ rest) h)
+        placed_elim x row rest (λ l. placed m l ≡ m ∷ l) (λ k. placed_above m row (placed x rest) q) (λ k. placed_above m x rest h)
+        (λ k. placed_above m x (row ∷ rest) h)
 
-pub placed-either : (m x : Ordered) → unit_of m ≢ unit_of x → (rows : List Ordered) → placed m (placed x rows) ≡ placed x (placed m rows)
-placed-either m x d rows =
-    order-or (unit_of m) (unit_of x) (λ h. placed-swap m x h rows) (λ h. absurd (d h)) (λ h. sym (placed-swap x m h rows))
+pub placed_either : (m x : Ordered) → unit_of m ≢ unit_of x → (rows : List Ordered) → placed m (placed x rows) ≡ placed x (placed m rows)
+placed_either m x d rows =
+    order_or (unit_of m) (unit_of x) (λ h. placed_swap m x h rows) (λ h. absurd (d h)) (λ h. sym (placed_swap x m h rows))
 
 -- which messages stand among the rows, then
-pub placed-here : (m : Ordered) (rows : List Ordered) → m among placed m rows
+pub placed_here : (m : Ordered) (rows : List Ordered) → m among placed m rows
 unfolding placed
-placed-here m [] = Memᴰ.head refl
-placed-here m (row ∷ rest) =
-    placed-elim m row rest (λ l. m among l) (λ q. Memᴰ.tail (placed-here m rest)) (λ q. Memᴰ.head refl) (λ q. Memᴰ.head refl)
+placed_here m [] = Memᴰ.head refl
+placed_here m (row ∷ rest) =
+    placed_elim m row rest (λ l. m among l) (λ q. Memᴰ.tail (placed_here m rest)) (λ q. Memᴰ.head refl) (λ q. Memᴰ.head refl)
 
-pub placed-from : (m : Ordered) (rows : List Ordered) (y : Ordered) → y among placed m rows → (y ≡ m) ⊎ (y among rows)
+pub placed_from : (m : Ordered) (rows : List Ordered) (y : Ordered) → y among placed m rows → (y ≡ m) ⊎ (y among rows)
 unfolding placed
-placed-from m [] y i = only i
+placed_from m [] y i = only i
   where
     only : y among (m ∷ []) → (y ≡ m) ⊎ (y among [])
     only (Memᴰ.head e) = inl e
     only (Memᴰ.tail i) = inr i
-placed-from m (row ∷ rest) y i =
-    (placed-elim m row rest (λ l. y among l → (y ≡ m) ⊎ (y among (row ∷ rest))) (λ q. below (placed-from m rest y)) (λ q. same) (λ q. above)) i
+placed_from m (row ∷ rest) y i =
+    (placed_elim m row rest (λ l. y among l → (y ≡ m) ⊎ (y among (row ∷ rest))) (λ q. below (placed_from m rest y)) (λ q. same) (λ q. above)) i
   where
     up : (y ≡ m) ⊎ (y among rest) → (y ≡ m) ⊎ (y among (row ∷ rest))
     up (inl e) = inl e
@@ -104,11 +104,11 @@ placed-from m (row ∷ rest) y i =
     above (Memᴰ.tail i) = inr i
 
 -- another unit's row stays, and a unit that has a row keeps one
-pub placed-stays : (m : Ordered) (rows : List Ordered) (y : Ordered) → y among rows → (row : Ordered) × (row among placed m rows) × (unit_of row ≡ unit_of y)
+pub placed_stays : (m : Ordered) (rows : List Ordered) (y : Ordered) → y among rows → (row : Ordered) × (row among placed m rows) × (unit_of row ≡ unit_of y)
 unfolding placed
-placed-stays m [] y i = absurd (Memᴰ.not-nil i)
-placed-stays m (row ∷ rest) y i =
-    (placed-elim m row rest (λ l. y among (row ∷ rest) → (r : Ordered) × (r among l) × (unit_of r ≡ unit_of y)) (λ q. below (placed-stays m rest y)) same
+placed_stays m [] y i = absurd (Memᴰ.not-nil i)
+placed_stays m (row ∷ rest) y i =
+    (placed_elim m row rest (λ l. y among (row ∷ rest) → (r : Ordered) × (r among l) × (unit_of r ≡ unit_of y)) (λ q. below (placed_stays m rest y)) same
     (λ q i. (y, Memᴰ.tail i, refl))) i
   where
     below : (y among rest → (r : Ordered) × (r among placed m rest) × (unit_of r ≡ unit_of y)) → y among (row ∷ rest)
@@ -121,12 +121,12 @@ placed-stays m (row ∷ rest) y i =
     same q (Memᴰ.tail i) = (y, Memᴰ.tail i, refl)
 
 -- rows that rise still do
-pub placed-rises : (m : Ordered) (rows : List Ordered) → Rises unit_of rows → Rises unit_of (placed m rows)
+pub placed_rises : (m : Ordered) (rows : List Ordered) → Rises unit_of rows → Rises unit_of (placed m rows)
 unfolding placed Rises
-placed-rises m [] r = (λ y i. absurd (Memᴰ.not-nil i), tt)
-placed-rises m (row ∷ rest) r =
-    placed-elim m row rest (λ l. Rises unit_of l)
-    (λ q. (λ y i. below q y (placed-from m rest y i), placed-rises m rest r.1))
+placed_rises m [] r = (λ y i. absurd (Memᴰ.not-nil i), tt)
+placed_rises m (row ∷ rest) r =
+    placed_elim m row rest (λ l. Rises unit_of l)
+    (λ q. (λ y i. below q y (placed_from m rest y i), placed_rises m rest r.1))
     (λ q. (λ y i. let z = r.0 y i in omega arith, r.1))
     (λ q. (λ y i. above q y i, r))
   where
@@ -139,18 +139,18 @@ placed-rises m (row ∷ rest) r =
     above q y (Memᴰ.tail i) = let z = r.0 y i in omega arith
 
 -- a message of a new unit is one row more
-pub placed-new : (m : Ordered) (rows : List Ordered) → ((y : Ordered) → y among rows → unit_of y ≢ unit_of m) → length (placed m rows) ≡ suc (length rows)
+pub placed_new : (m : Ordered) (rows : List Ordered) → ((y : Ordered) → y among rows → unit_of y ≢ unit_of m) → length (placed m rows) ≡ suc (length rows)
 unfolding placed
-placed-new m [] d = refl
-placed-new m (row ∷ rest) d =
-    let h = placed-new m rest (λ y i. d y (Memᴰ.tail i)) in
-    placed-elim m row rest (λ l. length l ≡ suc (length (row ∷ rest))) (λ q. ap suc h) (λ q. absurd (d row (Memᴰ.head refl) q)) (λ q. refl)
+placed_new m [] d = refl
+placed_new m (row ∷ rest) d =
+    let h = placed_new m rest (λ y i. d y (Memᴰ.tail i)) in
+    placed_elim m row rest (λ l. length l ≡ suc (length (row ∷ rest))) (λ q. ap suc h) (λ q. absurd (d row (Memᴰ.head refl) q)) (λ q. refl)
 
 -- what rises has one element for a value
-pub one-by : (f : Ordered → ℕ) (l : List Ordered) → Rises f l → (x y : Ordered) → x among l → y among l → f x ≡ f y → x ≡ y
+pub one_by : (f : Ordered → ℕ) (l : List Ordered) → Rises f l → (x y : Ordered) → x among l → y among l → f x ≡ f y → x ≡ y
 unfolding Rises
-one-by f [] r x y i j e = absurd (Memᴰ.not-nil i)
-one-by f (m ∷ rest) r x y i j e = go (one-by f rest r.1 x y) i j
+one_by f [] r x y i j e = absurd (Memᴰ.not-nil i)
+one_by f (m ∷ rest) r x y i j e = go (one_by f rest r.1 x y) i j
   where
     go : (x among rest → y among rest → f x ≡ f y → x ≡ y) → x among (m ∷ rest) → y among (m ∷ rest) → x ≡ y
     go k (Memᴰ.head a) (Memᴰ.head b) = a ∙ sym b

@@ -12,219 +12,219 @@ use Rattle.group.specs.Choice.{if◌then◌else◌, ◌≤?◌, ◌=?◌}
 use Rattle.group.specs.Lent.{front}
 use Rattle.group.specs.declared.Refusal.{Refusal}
 use Rattle.group.specs.declared.Refusal.TheVariants.{WrongJournal, ManyUnits, NoRoom}
-use Rattle.group.proofs.Choice.{if-true, if-false, if-was}
-use Rattle.group.proofs.Lists.{if-elim}
+use Rattle.group.proofs.Choice.{if_true, if_false, if_was}
+use Rattle.group.proofs.Lists.{if_elim}
 use Rattle.message.specs.Order.{Ordered}
 use Rattle.big_endian.specs.Number.{number_at, bytes_of}
-use Rattle.journal.specs.Limits.{blockSize, recordHead}
-use Rattle.journal.specs.Block.{blockRight, tailOf}
-use Rattle.journal.specs.Read.{Reads, freshTail, found_from, foundIn, counted, read_of}
-use Rattle.journal.specs.Walk.{cursorOf, givenBy, messageOn}
+use Rattle.journal.specs.Limits.{block_size, record_head}
+use Rattle.journal.specs.Block.{block_right, tail_of}
+use Rattle.journal.specs.Read.{Reads, fresh_tail, found_from, found_in, counted, read_of}
+use Rattle.journal.specs.Walk.{cursor_of, given_by, message_on}
 use Rattle.journal.specs.declared.Found.{Found}
 use Rattle.journal.specs.declared.Reading.{Reading}
 use Rattle.journal.specs.declared.Spot.{Spot}
 use Rattle.journal.specs.declared.Tail.{Tail}
-use Rattle.journal.proofs.Lists.{drop-take}
+use Rattle.journal.proofs.Lists.{drop_take}
 use Rattle.journal.proofs.Given.{gives_all}
-use Rattle.plan.specs.Units.{sets, unit_of, descriptionOf, placed, latestFrom, latest, planBytes}
+use Rattle.plan.specs.Units.{sets, unit_of, description_of, placed, latest_from, latest, plan_bytes}
 use Rattle.plan.specs.Laws.{◌among◌}
-use Rattle.plan.specs.Table.{unitsMost, Holds, lengthBefore, Stands, AllStand, row_at, plan_at, spotted, rowsIn, Stood, Gathered}
-use Rattle.plan.specs.Calls.{Outcome, refused, written, recordedIn, laidIn, asked_of, plan_of, Lays, FoundIn}
-use Rattle.plan.specs.Wording.{wordingOf}
+use Rattle.plan.specs.Table.{units_most, Holds, length_before, Stands, AllStand, row_at, plan_at, spotted, rows_in, Stood, Gathered}
+use Rattle.plan.specs.Calls.{Outcome, refused, written, recorded_in, laid_in, asked_of, plan_of, Lays, FoundIn}
+use Rattle.plan.specs.Wording.{wording_of}
 use Rattle.plan.specs.declared.Answer.{Answer}
-use Rattle.plan.proofs.Placing.{bool-or, order-or, placed_below, placed_same, placed-above}
-use Rattle.plan.proofs.Keeping.{latest-set, latest-not}
+use Rattle.plan.proofs.Placing.{bool_or, order_or, placed_below, placed_same, placed_above}
+use Rattle.plan.proofs.Keeping.{latest_set, latest_not}
 use Rattle.plan.proofs.Gathering.{each_at}
 
 -- a message by its payload alone
 abbrev bare : Ordered → Ordered
 bare m = record { number = 0; originator = 0; count = 0; payload = m.payload }
 
-bare-unit : (m : Ordered) → unit_of (bare m) ≡ unit_of m
+bare_unit : (m : Ordered) → unit_of (bare m) ≡ unit_of m
 unfolding unit_of
-bare-unit m = refl
+bare_unit m = refl
 
-bare-sets : (m : Ordered) → sets (bare m) ≡ sets m
+bare_sets : (m : Ordered) → sets (bare m) ≡ sets m
 unfolding sets
-bare-sets m = refl
+bare_sets m = refl
 
-bare-placed : (m : Ordered) (rows : List Ordered) → map bare (placed m rows) ≡ placed (bare m) (map bare rows)
+bare_placed : (m : Ordered) (rows : List Ordered) → map bare (placed m rows) ≡ placed (bare m) (map bare rows)
 unfolding placed
-bare-placed m [] = refl
-bare-placed m (row ∷ rest) =
-    let u = bare-unit m in
-    let v = bare-unit row in
-    order-or (unit_of row) (unit_of m)
-    (λ q. ap (map bare) (placed_below m row rest q) ∙ ap (λ (l : List Ordered). bare row ∷ l) (bare-placed m rest) ∙ sym (placed_below (bare m) (bare row) (map bare rest) (omega arith)))
+bare_placed m [] = refl
+bare_placed m (row ∷ rest) =
+    let u = bare_unit m in
+    let v = bare_unit row in
+    order_or (unit_of row) (unit_of m)
+    (λ q. ap (map bare) (placed_below m row rest q) ∙ ap (λ (l : List Ordered). bare row ∷ l) (bare_placed m rest) ∙ sym (placed_below (bare m) (bare row) (map bare rest) (omega arith)))
     (λ q. ap (map bare) (placed_same m row rest q) ∙ sym (placed_same (bare m) (bare row) (map bare rest) (omega arith)))
-    (λ q. ap (map bare) (placed-above m row rest q) ∙ sym (placed-above (bare m) (bare row) (map bare rest) (omega arith)))
+    (λ q. ap (map bare) (placed_above m row rest q) ∙ sym (placed_above (bare m) (bare row) (map bare rest) (omega arith)))
 
-bare-latest : (rows ms : List Ordered) → map bare (latestFrom rows ms) ≡ latestFrom (map bare rows) (map bare ms)
-unfolding latestFrom
-bare-latest rows [] = refl
-bare-latest rows (m ∷ ms) =
-    bool-or (sets m)
+bare_latest : (rows ms : List Ordered) → map bare (latest_from rows ms) ≡ latest_from (map bare rows) (map bare ms)
+unfolding latest_from
+bare_latest rows [] = refl
+bare_latest rows (m ∷ ms) =
+    bool_or (sets m)
     (λ s.
-    ap (map bare) (latest-set m ms rows s) ∙ bare-latest (placed m rows) ms ∙ ap (λ (l : List Ordered). latestFrom l (map bare ms)) (bare-placed m rows)
-    ∙ sym (latest-set (bare m) (map bare ms) (map bare rows) (bare-sets m ∙ s)))
-    (λ s. ap (map bare) (latest-not m ms rows s) ∙ bare-latest rows ms ∙ sym (latest-not (bare m) (map bare ms) (map bare rows) (bare-sets m ∙ s)))
+    ap (map bare) (latest_set m ms rows s) ∙ bare_latest (placed m rows) ms ∙ ap (λ (l : List Ordered). latest_from l (map bare ms)) (bare_placed m rows)
+    ∙ sym (latest_set (bare m) (map bare ms) (map bare rows) (bare_sets m ∙ s)))
+    (λ s. ap (map bare) (latest_not m ms rows s) ∙ bare_latest rows ms ∙ sym (latest_not (bare m) (map bare ms) (map bare rows) (bare_sets m ∙ s)))
 
-bare-plan : (rows : List Ordered) → planBytes (map bare rows) ≡ planBytes rows
-unfolding planBytes unit_of descriptionOf
-bare-plan [] = refl
-bare-plan (m ∷ rows) = rw (bare-plan rows)
+bare_plan : (rows : List Ordered) → plan_bytes (map bare rows) ≡ plan_bytes rows
+unfolding plan_bytes unit_of description_of
+bare_plan [] = refl
+bare_plan (m ∷ rows) = rw (bare_plan rows)
 
 -- messages with the same payloads have the same plan, and as many rows
-pub same-plan-by : (ms ns : List Ordered) → map bare ms ≡ map bare ns
-    → (planBytes (latest ms) ≡ planBytes (latest ns)) × (length (latest ms) ≡ length (latest ns))
-same-plan-by ms ns e =
-    let rows : map bare (latest ms) ≡ map bare (latest ns) = bare-latest [] ms ∙ ap latest e ∙ sym (bare-latest [] ns) in (
-      sym (bare-plan (latest ms)) ∙ ap planBytes rows ∙ bare-plan (latest ns),
+pub same_plan_by : (ms ns : List Ordered) → map bare ms ≡ map bare ns
+    → (plan_bytes (latest ms) ≡ plan_bytes (latest ns)) × (length (latest ms) ≡ length (latest ns))
+same_plan_by ms ns e =
+    let rows : map bare (latest ms) ≡ map bare (latest ns) = bare_latest [] ms ∙ ap latest e ∙ sym (bare_latest [] ns) in (
+      sym (bare_plan (latest ms)) ∙ ap plan_bytes rows ∙ bare_plan (latest ns),
       sym (length-map (latest ms) bare) ∙ ap length rows ∙ length-map (latest ns) bare,
     )
 
-spotted-bare : (journal : List ℕ) (spots : List Spot) → map bare (map (spotted journal) spots) ≡ map bare (map (messageOn journal) spots)
-spotted-bare journal [] = refl
-spotted-bare journal (s ∷ spots) = ap (λ (l : List Ordered). bare (messageOn journal s) ∷ l) (spotted-bare journal spots)
+spotted_bare : (journal : List ℕ) (spots : List Spot) → map bare (map (spotted journal) spots) ≡ map bare (map (message_on journal) spots)
+spotted_bare journal [] = refl
+spotted_bare journal (s ∷ spots) = ap (λ (l : List Ordered). bare (message_on journal s) ∷ l) (spotted_bare journal spots)
 
-pub rows-plan : (journal : List ℕ) (blocks messages : ℕ) → FoundIn journal blocks messages
-    → (planBytes (rowsIn journal blocks messages) ≡ planBytes (latest (recordedIn journal))) × (length (rowsIn journal blocks messages) ≡ length (latest (recordedIn journal)))
-rows-plan journal blocks messages f =
-    let spots = givenBy messages (cursorOf journal blocks) journal in
-    let all : map (messageOn journal) spots ≡ recordedIn journal = rw (f.blocks-are, f.messages-are) (gives_all journal) in
-    same-plan-by (map (spotted journal) spots) (recordedIn journal) (spotted-bare journal spots ∙ ap (map bare) all)
+pub rows_plan : (journal : List ℕ) (blocks messages : ℕ) → FoundIn journal blocks messages
+    → (plan_bytes (rows_in journal blocks messages) ≡ plan_bytes (latest (recorded_in journal))) × (length (rows_in journal blocks messages) ≡ length (latest (recorded_in journal)))
+rows_plan journal blocks messages f =
+    let spots = given_by messages (cursor_of journal blocks) journal in
+    let all : map (message_on journal) spots ≡ recorded_in journal = rw (f.blocks_are, f.messages_are) (gives_all journal) in
+    same_plan_by (map (spotted journal) spots) (recorded_in journal) (spotted_bare journal spots ∙ ap (map bare) all)
 
 -- a row that stands in the journal is laid from there
-number-part : (journal : List ℕ) (start n k i : ℕ) → i + k ≤ n → number_at k (take n (drop start journal)) i ≡ number_at k journal (start + i)
+number_part : (journal : List ℕ) (start n k i : ℕ) → i + k ≤ n → number_at k (take n (drop start journal)) i ≡ number_at k journal (start + i)
 unfolding number_at
-number-part journal start n zero i h = refl
-number-part journal start n (suc k) i h =
+number_part journal start n zero i h = refl
+number_part journal start n (suc k) i h =
     let e : start + (i + k) ≡ start + i + k = omega arith in
     let b : get_or (take n (drop start journal)) (i + k) 0 ≡ get_or journal (start + (i + k)) 0 =
     get_or-take n (drop start journal) (i + k) 0 (omega arith) ∙ get_or-drop start journal (i + k) 0 in
-    rw (number-part journal start n k i (omega arith), b, e)
+    rw (number_part journal start n k i (omega arith), b, e)
 
-stood-row : (journal : List ℕ) (m : Ordered) → Stood journal m
-    → bytes_of 2 (unit_of m) ++ (bytes_of 2 (length (descriptionOf m)) ++ descriptionOf m) ≡ row_at journal m.number
-unfolding row_at unit_of descriptionOf
-stood-row journal m s =
+stood_row : (journal : List ℕ) (m : Ordered) → Stood journal m
+    → bytes_of 2 (unit_of m) ++ (bytes_of 2 (length (description_of m)) ++ description_of m) ≡ row_at journal m.number
+unfolding row_at unit_of description_of
+stood_row journal m s =
     let start = m.number in
-    let n = lengthBefore journal start in
+    let n = length_before journal start in
     let long = s.stands.long in
     let ends = s.stands.ends in
-    let p = s.payload-is in
+    let p = s.payload_is in
     let d : drop 3 m.payload ≡ take (n - 3) (drop (start + 3) journal) =
-    ap (drop 3) p ∙ drop-take 3 n (drop start journal) ∙ ap (take (n - 3)) (drop-drop 3 start journal) in
+    ap (drop 3) p ∙ drop_take 3 n (drop start journal) ∙ ap (take (n - 3)) (drop-drop 3 start journal) in
     let k = length-drop (start + 3) journal in
     let l : length (drop 3 m.payload) ≡ n - 3 = ap length d ∙ length-take-le (n - 3) (drop (start + 3) journal) (omega arith) in
-    let u : number_at 2 m.payload 1 ≡ number_at 2 journal (start + 1) = ap (λ (x : List ℕ). number_at 2 x 1) p ∙ number-part journal start n 2 1 (omega arith) in
+    let u : number_at 2 m.payload 1 ≡ number_at 2 journal (start + 1) = ap (λ (x : List ℕ). number_at 2 x 1) p ∙ number_part journal start n 2 1 (omega arith) in
     rw (u, l, d)
 
-stood-plan : (journal : List ℕ) (rows : List Ordered) → ((m : Ordered) → m among rows → Stood journal m)
-    → plan_at journal (map (λ (m : Ordered). m.number) rows) ≡ planBytes rows
-unfolding plan_at planBytes
-stood-plan journal [] all = refl
-stood-plan journal (m ∷ rows) all =
-    ap (λ (x : List ℕ). x ++ plan_at journal (map (λ (m : Ordered). m.number) rows)) (sym (stood-row journal m (all m (Memᴰ.head refl))))
-    ∙ ap (λ (x : List ℕ). (bytes_of 2 (unit_of m) ++ (bytes_of 2 (length (descriptionOf m)) ++ descriptionOf m)) ++ x) (stood-plan journal rows (λ y i. all y (Memᴰ.tail i)))
-    ∙ append_assoc (bytes_of 2 (unit_of m)) (bytes_of 2 (length (descriptionOf m)) ++ descriptionOf m) (planBytes rows)
-    ∙ ap (λ (x : List ℕ). bytes_of 2 (unit_of m) ++ x) (append_assoc (bytes_of 2 (length (descriptionOf m))) (descriptionOf m) (planBytes rows))
+stood_plan : (journal : List ℕ) (rows : List Ordered) → ((m : Ordered) → m among rows → Stood journal m)
+    → plan_at journal (map (λ (m : Ordered). m.number) rows) ≡ plan_bytes rows
+unfolding plan_at plan_bytes
+stood_plan journal [] all = refl
+stood_plan journal (m ∷ rows) all =
+    ap (λ (x : List ℕ). x ++ plan_at journal (map (λ (m : Ordered). m.number) rows)) (sym (stood_row journal m (all m (Memᴰ.head refl))))
+    ∙ ap (λ (x : List ℕ). (bytes_of 2 (unit_of m) ++ (bytes_of 2 (length (description_of m)) ++ description_of m)) ++ x) (stood_plan journal rows (λ y i. all y (Memᴰ.tail i)))
+    ∙ append_assoc (bytes_of 2 (unit_of m)) (bytes_of 2 (length (description_of m)) ++ description_of m) (plan_bytes rows)
+    ∙ ap (λ (x : List ℕ). bytes_of 2 (unit_of m) ++ x) (append_assoc (bytes_of 2 (length (description_of m))) (description_of m) (plan_bytes rows))
 
 -- the right blocks lie within the journal
-found-most : (t : Tail) (journal : List ℕ) (k : ℕ) → (found_from t journal k).blocks ≤ k
+found_most : (t : Tail) (journal : List ℕ) (k : ℕ) → (found_from t journal k).blocks ≤ k
 unfolding found_from
-found-most t journal zero = omega arith
-found-most t journal (suc k) =
-    if-elim (λ (r : Reads). r.blocks ≤ suc k) (blockRight t (take blockSize journal))
-    (λ e. let h = found-most (tailOf (take blockSize journal)) (drop blockSize journal) k in omega arith) (λ e. omega arith)
+found_most t journal zero = omega arith
+found_most t journal (suc k) =
+    if_elim (λ (r : Reads). r.blocks ≤ suc k) (block_right t (take block_size journal))
+    (λ e. let h = found_most (tail_of (take block_size journal)) (drop block_size journal) k in omega arith) (λ e. omega arith)
 
-pub found_within : (journal : List ℕ) (blocks messages : ℕ) → FoundIn journal blocks messages → blocks * blockSize ≤ length journal
-unfolding foundIn
+pub found_within : (journal : List ℕ) (blocks messages : ℕ) → FoundIn journal blocks messages → blocks * block_size ≤ length journal
+unfolding found_in
 found_within journal blocks messages f =
-    let e = f.blocks-are in
-    let h = found-most freshTail journal (length journal / blockSize) in
+    let e = f.blocks_are in
+    let h = found_most fresh_tail journal (length journal / block_size) in
     omega arith
 
 -- the clauses of a promise
-pub lays-says : {o : Outcome} {r : Answer} {lent after : List ℕ} → Lays o r lent after
-    → (r ≡ o.answer) × ((after ≡ front o.bytes lent) × (wordingOf r ≡ wordingOf o.answer))
-lays-says l = (l.answers, (l.lent, ap wordingOf l.answers))
+pub lays_says : {o : Outcome} {r : Answer} {lent after : List ℕ} → Lays o r lent after
+    → (r ≡ o.answer) × ((after ≡ front o.bytes lent) × (wording_of r ≡ wording_of o.answer))
+lays_says l = (l.answers, (l.lent, ap wording_of l.answers))
 
 -- the last question
 module _ (bytes : List ℕ) (room : ℕ) where
-  pub lays-short : (lent : List ℕ) → room < length bytes → Lays (laidIn bytes room) (Answer.Refused NoRoom) lent lent
-  unfolding laidIn
-  lays-short lent h =
-      let e : refused NoRoom ≡ laidIn bytes room = if-false (length bytes ≤? room) _ _ _ (lt-leb (length bytes) room h) refl in
+  pub lays_short : (lent : List ℕ) → room < length bytes → Lays (laid_in bytes room) (Answer.Refused NoRoom) lent lent
+  unfolding laid_in
+  lays_short lent h =
+      let e : refused NoRoom ≡ laid_in bytes room = if_false (length bytes ≤? room) _ _ _ (lt-leb (length bytes) room h) refl in
       rw (← e) (record { answers = refl; lent = refl })
 
-  pub lays_all : (lent after : List ℕ) (size : ℕ) → length bytes ≤ room → size ≡ length bytes → after ≡ front bytes lent → Lays (laidIn bytes room) (Answer.Bytes size) lent after
-  unfolding laidIn
+  pub lays_all : (lent after : List ℕ) (size : ℕ) → length bytes ≤ room → size ≡ length bytes → after ≡ front bytes lent → Lays (laid_in bytes room) (Answer.Bytes size) lent after
+  unfolding laid_in
   lays_all lent after size h n l =
-      let e : written bytes ≡ laidIn bytes room = if-true (length bytes ≤? room) _ _ _ (le-leb (length bytes) room h) refl in
+      let e : written bytes ≡ laid_in bytes room = if_true (length bytes ≤? room) _ _ _ (le-leb (length bytes) room h) refl in
       rw (← e) (record { answers = ap Answer.Bytes n; lent = l })
 
 -- the questions before it
 module _ (journal : List ℕ) (blocks messages : ℕ) (f : FoundIn journal blocks messages) (units places : List ℕ) (count : ℕ)
-    (g : Gathered journal (rowsIn journal blocks messages) units places count) where
-  pub asked-many : (bytes : List ℕ) (room : ℕ) (lent : List ℕ) → unitsMost < count → Lays (asked_of journal bytes room) (Answer.Refused ManyUnits) lent lent
+    (g : Gathered journal (rows_in journal blocks messages) units places count) where
+  pub asked_many : (bytes : List ℕ) (room : ℕ) (lent : List ℕ) → units_most < count → Lays (asked_of journal bytes room) (Answer.Refused ManyUnits) lent lent
   unfolding asked_of
-  asked-many bytes room lent h =
-      let (_, n) = rows-plan journal blocks messages f in
+  asked_many bytes room lent h =
+      let (_, n) = rows_plan journal blocks messages f in
       let m = g.many h in
       let e : refused ManyUnits ≡ asked_of journal bytes room =
-      if-true (length journal % blockSize =? 0) _ _ _ (eq-eqb _ _ f.sized)
-      (if-false (length (latest (recordedIn journal)) ≤? unitsMost) _ _ _ (lt-leb (length (latest (recordedIn journal))) unitsMost (omega arith)) refl) in
+      if_true (length journal % block_size =? 0) _ _ _ (eq-eqb _ _ f.sized)
+      (if_false (length (latest (recorded_in journal)) ≤? units_most) _ _ _ (lt-leb (length (latest (recorded_in journal))) units_most (omega arith)) refl) in
       rw (← e) (record { answers = refl; lent = refl })
 
-  pub asked-laid : (bytes : List ℕ) (room : ℕ) (r : Answer) (lent after : List ℕ) → count ≤ unitsMost → Lays (laidIn bytes room) r lent after → Lays (asked_of journal bytes room) r lent after
+  pub asked_laid : (bytes : List ℕ) (room : ℕ) (r : Answer) (lent after : List ℕ) → count ≤ units_most → Lays (laid_in bytes room) r lent after → Lays (asked_of journal bytes room) r lent after
   unfolding asked_of
-  asked-laid bytes room r lent after h l =
-      let (_, n) = rows-plan journal blocks messages f in
+  asked_laid bytes room r lent after h l =
+      let (_, n) = rows_plan journal blocks messages f in
       let m = (g.held h).many in
-      let e : laidIn bytes room ≡ asked_of journal bytes room =
-      if-true (length journal % blockSize =? 0) _ _ _ (eq-eqb _ _ f.sized)
-      (if-true (length (latest (recordedIn journal)) ≤? unitsMost) _ _ _ (le-leb (length (latest (recordedIn journal))) unitsMost (omega arith)) refl) in
+      let e : laid_in bytes room ≡ asked_of journal bytes room =
+      if_true (length journal % block_size =? 0) _ _ _ (eq-eqb _ _ f.sized)
+      (if_true (length (latest (recorded_in journal)) ≤? units_most) _ _ _ (le-leb (length (latest (recorded_in journal))) units_most (omega arith)) refl) in
       rw (← e) l
 
-  pub plan-many : (room : ℕ) (lent : List ℕ) → unitsMost < count → Lays (plan_of journal room) (Answer.Refused ManyUnits) lent lent
+  pub plan_many : (room : ℕ) (lent : List ℕ) → units_most < count → Lays (plan_of journal room) (Answer.Refused ManyUnits) lent lent
   unfolding plan_of
-  plan-many room lent h = asked-many _ room lent h
+  plan_many room lent h = asked_many _ room lent h
 
-  pub plan-stands : count ≤ unitsMost → AllStand journal (take count places)
-  plan-stands h = rw (g.held h).places-held (each_at journal (rowsIn journal blocks messages) (g.stood h))
+  pub plan_stands : count ≤ units_most → AllStand journal (take count places)
+  plan_stands h = rw (g.held h).places_held (each_at journal (rows_in journal blocks messages) (g.stood h))
 
-  pub plan-laid : (room : ℕ) (r : Answer) (lent after : List ℕ) → count ≤ unitsMost → Lays (laidIn (plan_at journal (take count places)) room) r lent after → Lays (plan_of journal room) r lent after
+  pub plan_laid : (room : ℕ) (r : Answer) (lent after : List ℕ) → count ≤ units_most → Lays (laid_in (plan_at journal (take count places)) room) r lent after → Lays (plan_of journal room) r lent after
   unfolding plan_of
-  plan-laid room r lent after h l =
-      let (same, _) = rows-plan journal blocks messages f in
-      let p : plan_at journal (take count places) ≡ planBytes (latest (recordedIn journal)) =
-      ap (plan_at journal) (g.held h).places-held ∙ stood-plan journal (rowsIn journal blocks messages) (g.stood h) ∙ same in
-      asked-laid _ room r lent after h (rw p at l)
+  plan_laid room r lent after h l =
+      let (same, _) = rows_plan journal blocks messages f in
+      let p : plan_at journal (take count places) ≡ plan_bytes (latest (recorded_in journal)) =
+      ap (plan_at journal) (g.held h).places_held ∙ stood_plan journal (rows_in journal blocks messages) (g.stood h) ∙ same in
+      asked_laid _ room r lent after h (rw p at l)
 
 -- what reading the journal says of it
 pub read_found : (journal : List ℕ) (found : Found) → read_of journal ≡ Reading.Read found → FoundIn journal found.blocks found.messages
 unfolding read_of
 read_found journal found e =
-    let (t, same) = if-was (length journal % blockSize =? 0) (Reading.Read (counted (foundIn journal))) (Reading.Refused WrongJournal) (Reading.Read found) e
+    let (t, same) = if_was (length journal % block_size =? 0) (Reading.Read (counted (found_in journal))) (Reading.Refused WrongJournal) (Reading.Read found) e
     (λ z. let y : ◌≡◌ {A = ℕ} 0 1 = cc in omega arith) in
-    let f : counted (foundIn journal) ≡ found = cc in
+    let f : counted (found_in journal) ≡ found = cc in
     record {
       sized = eqb-true _ _ t;
-      blocks-are = ap (λ (x : Found). x.blocks) (sym f);
-      messages-are = ap (λ (x : Found). x.messages) (sym f);
+      blocks_are = ap (λ (x : Found). x.blocks) (sym f);
+      messages_are = ap (λ (x : Found). x.messages) (sym f);
     }
 
-read-wrong : (journal : List ℕ) (r : Refusal) → read_of journal ≡ Reading.Refused r → ((length journal % blockSize =? 0) ≡ false) × (r ≡ WrongJournal)
+read_wrong : (journal : List ℕ) (r : Refusal) → read_of journal ≡ Reading.Refused r → ((length journal % block_size =? 0) ≡ false) × (r ≡ WrongJournal)
 unfolding read_of
-read-wrong journal r e =
-    (if-elim (λ (x : Reading). x ≡ Reading.Refused r → ((length journal % blockSize =? 0) ≡ false) × (r ≡ WrongJournal)) (length journal % blockSize =? 0)
+read_wrong journal r e =
+    (if_elim (λ (x : Reading). x ≡ Reading.Refused r → ((length journal % block_size =? 0) ≡ false) × (r ≡ WrongJournal)) (length journal % block_size =? 0)
     (λ t e. absurd (let y : ◌≡◌ {A = ℕ} 0 1 = cc in omega arith)) (λ t e. (t, (cc)))) e
 
-pub asked-refused : (journal bytes : List ℕ) (r : Refusal) (room : ℕ) (lent : List ℕ) → read_of journal ≡ Reading.Refused r
+pub asked_refused : (journal bytes : List ℕ) (r : Refusal) (room : ℕ) (lent : List ℕ) → read_of journal ≡ Reading.Refused r
     → Lays (asked_of journal bytes room) (Answer.Refused r) lent lent
 unfolding asked_of
-asked-refused journal bytes r room lent e =
-    let (t, same) = read-wrong journal r e in
-    let f : refused r ≡ asked_of journal bytes room = if-false (length journal % blockSize =? 0) _ _ _ t (ap refused same) in
+asked_refused journal bytes r room lent e =
+    let (t, same) = read_wrong journal r e in
+    let f : refused r ≡ asked_of journal bytes room = if_false (length journal % block_size =? 0) _ _ _ t (ap refused same) in
     rw (← f) (record { answers = refl; lent = refl })

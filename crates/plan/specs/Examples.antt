@@ -1,8 +1,8 @@
 -- Five messages, their plan and what is kept of them. `proofs/Examples.antt` computes both.
 use Rattle.std.specs.Prelude.{◌≡◌, List, [], ◌∷◌, ℕ}
 use Rattle.message.specs.Order.{Ordered}
-use Rattle.plan.specs.Units.{latest, planBytes}
-use Rattle.plan.specs.Kept.{lastOnes}
+use Rattle.plan.specs.Units.{latest, plan_bytes}
+use Rattle.plan.specs.Kept.{last_ones}
 
 abbrev pub message : ℕ → List ℕ → Ordered
 message number payload = record { number = number; originator = 0; count = number; payload = payload }
@@ -18,7 +18,7 @@ five =
     ∷ []
 
 abbrev pub FivePlan : Type 0
-FivePlan = planBytes (latest five) ≡ 0 ∷ 7 ∷ 0 ∷ 0 ∷ 1 ∷ 0 ∷ 0 ∷ 1 ∷ 66 ∷ []
+FivePlan = plan_bytes (latest five) ≡ 0 ∷ 7 ∷ 0 ∷ 0 ∷ 1 ∷ 0 ∷ 0 ∷ 1 ∷ 66 ∷ []
 
 abbrev pub FiveKept : Type 0
-FiveKept = lastOnes five ≡ message 2 (3 ∷ 1 ∷ 0 ∷ 66 ∷ []) ∷ message 4 (3 ∷ 0 ∷ 7 ∷ []) ∷ []
+FiveKept = last_ones five ≡ message 2 (3 ∷ 1 ∷ 0 ∷ 66 ∷ []) ∷ message 4 (3 ∷ 0 ∷ 7 ∷ []) ∷ []

@@ -2,19 +2,19 @@
 use Rattle.std.specs.Prelude.{Bool, true, false, List, [], ◌∷◌, ◌++◌, ℕ, ◌+◌, ◌-◌, length}
 use Rattle.group.specs.Choice.{if◌then◌else◌, ◌and◌, ◌≤?◌, ◌=?◌}
 use Rattle.message.specs.Order.{Ordered}
-use Rattle.journal.specs.Limits.{recordsAt, recordsEnd, numberSize}
-use Rattle.journal.specs.Block.{recordOf, compactRecords, compactOf}
+use Rattle.journal.specs.Limits.{records_at, records_end, number_size}
+use Rattle.journal.specs.Block.{record_of, compact_records, compact_of}
 use Rattle.plan.specs.Units.{sets, unit_of}
 
 -- whether no message sets unit u
-unfoldable pub notIn : ℕ → List Ordered → Bool
-notIn u [] = true
-notIn u (m ∷ rest) = if sets m and unit_of m =? u then false else notIn u rest
+unfoldable pub not_in : ℕ → List Ordered → Bool
+not_in u [] = true
+not_in u (m ∷ rest) = if sets m and unit_of m =? u then false else not_in u rest
 
 -- the messages that set a unit which no later one sets, in their order
-unfoldable pub lastOnes : List Ordered → List Ordered
-lastOnes [] = []
-lastOnes (m ∷ rest) = if sets m and notIn (unit_of m) rest then m ∷ lastOnes rest else lastOnes rest
+unfoldable pub last_ones : List Ordered → List Ordered
+last_ones [] = []
+last_ones (m ∷ rest) = if sets m and not_in (unit_of m) rest then m ∷ last_ones rest else last_ones rest
 
 -- the bytes of records, where `size` says those of one
 unfoldable pub total : (Ordered → ℕ) → List Ordered → ℕ
@@ -31,22 +31,22 @@ packed size room held (m ∷ rest) =
     else held ∷ packed size room (m ∷ []) rest
 
 -- the bytes that a record and its number take in a compacted block, and the room that one has
-abbrev pub recordSize : Ordered → ℕ
-recordSize m = numberSize + length (recordOf m)
+abbrev pub record_size : Ordered → ℕ
+record_size m = number_size + length (record_of m)
 
-abbrev pub recordsRoom : ℕ
-recordsRoom = recordsEnd - recordsAt
+abbrev pub records_room : ℕ
+records_room = records_end - records_at
 
 -- the compacted block of some messages; its number is that of the first
-unfoldable pub compactBlock : List Ordered → List ℕ
-compactBlock [] = []
-compactBlock (m ∷ rest) = compactOf m.number (length (m ∷ rest)) (compactRecords (m ∷ rest))
+unfoldable pub compact_block : List Ordered → List ℕ
+compact_block [] = []
+compact_block (m ∷ rest) = compact_of m.number (length (m ∷ rest)) (compact_records (m ∷ rest))
 
 -- the blocks of some messages, one behind the other
-unfoldable pub blocksOf : List (List Ordered) → List ℕ
-blocksOf [] = []
-blocksOf (ms ∷ rest) = compactBlock ms ++ blocksOf rest
+unfoldable pub blocks_of : List (List Ordered) → List ℕ
+blocks_of [] = []
+blocks_of (ms ∷ rest) = compact_block ms ++ blocks_of rest
 
 -- what a journal's messages are rewritten to
 abbrev pub rewritten : List Ordered → List ℕ
-rewritten ms = blocksOf (packed recordSize recordsRoom [] (lastOnes ms))
+rewritten ms = blocks_of (packed record_size records_room [] (last_ones ms))

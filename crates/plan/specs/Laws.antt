@@ -1,11 +1,11 @@
 -- What is proved of the plan and of rewriting, as lists of messages. `proofs/` has a proof of each statement.
 use Rattle.std.specs.Prelude.{◌≡◌, true, ℕ, ◌≤◌, ◌<◌, ◌+◌, length}
 use mathlib.Core.List.{List, [], ◌∷◌, ◌++◌, Memᴰ, map, flatten}
-use Rattle.group.specs.Limits.{payloadMost}
+use Rattle.group.specs.Limits.{payload_most}
 use Rattle.message.specs.Order.{Ordered}
 use Rattle.big_endian.specs.Laws.{Bytes}
-use Rattle.plan.specs.Units.{sets, unit_of, descriptionOf, latest, planBytes}
-use Rattle.plan.specs.Kept.{lastOnes, total, packed}
+use Rattle.plan.specs.Units.{sets, unit_of, description_of, latest, plan_bytes}
+use Rattle.plan.specs.Kept.{last_ones, total, packed}
 
 infix 40 ◌among◌
 -- x is one of the list
@@ -36,30 +36,30 @@ EveryUnit = (ms : List Ordered) (m : Ordered) → m among ms → sets m ≡ true
 
 -- what is kept gives the same plan
 abbrev pub SamePlan : Type 0
-SamePlan = (ms : List Ordered) → latest (lastOnes ms) ≡ latest ms
+SamePlan = (ms : List Ordered) → latest (last_ones ms) ≡ latest ms
 
 -- and goes on to the same plan
 abbrev pub GoesOn : Type 0
-GoesOn = (ms more : List Ordered) → latest (lastOnes ms ++ more) ≡ latest (ms ++ more)
+GoesOn = (ms more : List Ordered) → latest (last_ones ms ++ more) ≡ latest (ms ++ more)
 
 -- rewriting what was rewritten changes nothing
 abbrev pub RewriteTwice : Type 0
-RewriteTwice = (ms : List Ordered) → lastOnes (lastOnes ms) ≡ lastOnes ms
+RewriteTwice = (ms : List Ordered) → last_ones (last_ones ms) ≡ last_ones ms
 
 -- what is kept goes by number as before
 abbrev pub StillRises : Type 0
-StillRises = (ms : List Ordered) → Rises (λ m. m.number) ms → Rises (λ m. m.number) (lastOnes ms)
+StillRises = (ms : List Ordered) → Rises (λ m. m.number) ms → Rises (λ m. m.number) (last_ones ms)
 
 -- a record is kept for each unit, and no more
 abbrev pub OneEach : Type 0
-OneEach = (ms : List Ordered) → length (lastOnes ms) ≡ length (latest ms)
+OneEach = (ms : List Ordered) → length (last_ones ms) ≡ length (latest ms)
 
 abbrev pub NoMore : Type 0
 NoMore = (ms : List Ordered) → length (latest ms) ≤ length ms
 
 -- payloads that a record may hold
 abbrev pub Short : List Ordered → Type 0
-Short ms = (m : Ordered) → m among ms → length m.payload ≤ payloadMost
+Short ms = (m : Ordered) → m among ms → length m.payload ≤ payload_most
 
 abbrev pub OfBytes : List Ordered → Type 0
 OfBytes ms = (m : Ordered) → m among ms → Bytes m.payload
@@ -67,14 +67,14 @@ OfBytes ms = (m : Ordered) → m among ms → Bytes m.payload
 -- the plan's bytes say what its rows are: which units, and with which descriptions
 abbrev pub SameBytesSameRows : Type 0
 SameBytesSameRows =
-    (ms ms' : List Ordered) → Short ms → Short ms' → OfBytes ms → OfBytes ms' → planBytes (latest ms) ≡ planBytes (latest ms')
-    → (map unit_of (latest ms) ≡ map unit_of (latest ms')) × (map descriptionOf (latest ms) ≡ map descriptionOf (latest ms'))
+    (ms ms' : List Ordered) → Short ms → Short ms' → OfBytes ms → OfBytes ms' → plan_bytes (latest ms) ≡ plan_bytes (latest ms')
+    → (map unit_of (latest ms) ≡ map unit_of (latest ms')) × (map description_of (latest ms) ≡ map description_of (latest ms'))
 
 -- no messages that give the same plan are fewer than those that are kept
 abbrev pub FewestRecords : Type 0
 FewestRecords =
-    (ms ms' : List Ordered) → Short ms → Short ms' → planBytes (latest ms) ≡ planBytes (latest ms')
-    → length (lastOnes ms) ≤ length ms'
+    (ms ms' : List Ordered) → Short ms → Short ms' → plan_bytes (latest ms) ≡ plan_bytes (latest ms')
+    → length (last_ones ms) ≤ length ms'
 
 -- the blocks have the records, in their order
 abbrev pub PackedWhole : Type 0

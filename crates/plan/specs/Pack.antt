@@ -4,13 +4,13 @@ use Rattle.std.specs.Prelude.{◌≡◌, ◌≢◌, List, [], ◌∷◌, ◌++�
 use Rattle.group.specs.Choice.{if◌then◌else◌, ◌<?◌, ◌≤?◌, ◌=?◌}
 use Rattle.group.specs.Lent.{front}
 use Rattle.message.specs.Order.{Ordered}
-use Rattle.text.specs.LaidAt.{writtenAt}
+use Rattle.text.specs.LaidAt.{written_at}
 use Rattle.big_endian.specs.Number.{bytes_of}
-use Rattle.journal.specs.Limits.{blockSize, numberSize}
-use Rattle.journal.specs.Block.{recordOf, compactOf}
+use Rattle.journal.specs.Limits.{block_size, number_size}
+use Rattle.journal.specs.Block.{record_of, compact_of}
 use Rattle.journal.specs.Laws.{StandsIn}
-use Rattle.journal.specs.Walk.{spotAt, messageOn}
-use Rattle.plan.specs.Kept.{packed, recordSize, recordsRoom, blocksOf}
+use Rattle.journal.specs.Walk.{spot_at, message_on}
+use Rattle.plan.specs.Kept.{packed, record_size, records_room, blocks_of}
 use Rattle.plan.specs.Laws.{◌among◌}
 use Rattle.plan.specs.Table.{place_of, inserted}
 use Rattle.plan.specs.declared.Packer.{Packer}
@@ -27,15 +27,15 @@ sorted done (x ∷ rest) = sorted (inserted (place_of x done) x done) rest
 
 -- in a block of the journal a record's payload stands at an index
 pub record Spotted (journal : List ℕ) (start : ℕ) : Type 0 where
-  pub within : start / blockSize * blockSize + blockSize ≤ length journal
-  pub stands : StandsIn journal (spotAt journal start)
+  pub within : start / block_size * block_size + block_size ≤ length journal
+  pub stands : StandsIn journal (spot_at journal start)
 
 abbrev pub AllSpotted : List ℕ → List ℕ → Type 0
 AllSpotted journal places = (i : ℕ) → i < length places → Spotted journal (get_or places i 0)
 
 -- the messages of the records whose payloads stand there
-abbrev pub messagesAt : List ℕ → List ℕ → List Ordered
-messagesAt journal places = map (λ (start : ℕ). messageOn journal (spotAt journal start)) places
+abbrev pub messages_at : List ℕ → List ℕ → List Ordered
+messages_at journal places = map (λ (start : ℕ). message_on journal (spot_at journal start)) places
 
 -- what packing has come to: its numbers, the block in hand, and the output
 pub record Packs : Type 0 where
@@ -47,16 +47,16 @@ abbrev pub packs : Packer → List ℕ → List ℕ → Packs
 packs packer hand out = record { packer = packer; hand = hand; out = out }
 
 -- no block, and no record in hand
-abbrev pub freshPacker : Packer
-freshPacker = record { first = 0; records = 0; used = 0; blocks = 0 }
+abbrev pub fresh_packer : Packer
+fresh_packer = record { first = 0; records = 0; used = 0; blocks = 0 }
 
 -- a message's record, its number before it
 abbrev pub numbered : Ordered → List ℕ
-numbered m = bytes_of numberSize m.number ++ recordOf m
+numbered m = bytes_of number_size m.number ++ record_of m
 
 -- one more record in hand, up to that index
-unfoldable pub grownTo : Packer → ℕ → ℕ → Packer
-grownTo p number used =
+unfoldable pub grown_to : Packer → ℕ → ℕ → Packer
+grown_to p number used =
     record {
       first = if p.records =? 0 then number else p.first;
       records = p.records + 1;
@@ -65,40 +65,40 @@ grownTo p number used =
     }
 
 -- a record that begins the next block
-abbrev pub begunWith : Packer → ℕ → ℕ → Packer
-begunWith p number used = record { first = number; records = 1; used = used; blocks = p.blocks + 1 }
+abbrev pub begun_with : Packer → ℕ → ℕ → Packer
+begun_with p number used = record { first = number; records = 1; used = used; blocks = p.blocks + 1 }
 
 -- the output with the block in hand behind those before it, if there is room
 unfoldable pub closed_in : Packer → List ℕ → List ℕ → List ℕ
 closed_in p hand out =
-    if p.blocks <? length out / blockSize
-    then writtenAt (p.blocks * blockSize) (compactOf p.first p.records (take p.used hand)) out
+    if p.blocks <? length out / block_size
+    then written_at (p.blocks * block_size) (compact_of p.first p.records (take p.used hand)) out
     else out
 
 -- a record is kept: it goes behind the others, or begins the next block
-unfoldable pub keptBy : Packs → Ordered → Packs
-keptBy s m =
-    if s.packer.used + recordSize m ≤? recordsRoom
-    then packs (grownTo s.packer m.number (s.packer.used + recordSize m)) (writtenAt s.packer.used (numbered m) s.hand) s.out
-    else packs (begunWith s.packer m.number (recordSize m)) (writtenAt 0 (numbered m) s.hand) (closed_in s.packer s.hand s.out)
+unfoldable pub kept_by : Packs → Ordered → Packs
+kept_by s m =
+    if s.packer.used + record_size m ≤? records_room
+    then packs (grown_to s.packer m.number (s.packer.used + record_size m)) (written_at s.packer.used (numbered m) s.hand) s.out
+    else packs (begun_with s.packer m.number (record_size m)) (written_at 0 (numbered m) s.hand) (closed_in s.packer s.hand s.out)
 
-unfoldable pub packedBy : Packs → List Ordered → Packs
-packedBy s [] = s
-packedBy s (m ∷ rest) = packedBy (keptBy s m) rest
+unfoldable pub packed_by : Packs → List Ordered → Packs
+packed_by s [] = s
+packed_by s (m ∷ rest) = packed_by (kept_by s m) rest
 
 -- the records in hand fit a block, and there are no more blocks than records were met, where so many are left of `most`
 pub record Sound (p : Packer) (left most : ℕ) : Type 0 where
-  pub room : p.used ≤ recordsRoom
+  pub room : p.used ≤ records_room
   pub few : p.records ≤ p.used
   pub some : 1 ≤ p.used → 1 ≤ p.records
   pub met : p.blocks + left ≤ most
   pub held : 1 ≤ p.records → p.blocks + 1 + left ≤ most
 
 -- the blocks of some messages
-abbrev pub blocksFor : List Ordered → List ℕ
-blocksFor ms = blocksOf (packed recordSize recordsRoom [] ms)
+abbrev pub blocks_for : List Ordered → List ℕ
+blocks_for ms = blocks_of (packed record_size records_room [] ms)
 
 -- so many blocks were packed, and laid at the front of the output if there is room for all of them
 pub record Packed (bytes : List ℕ) (blocks : ℕ) (before after : List ℕ) : Type 0 where
-  pub size : blocks * blockSize ≡ length bytes
+  pub size : blocks * block_size ≡ length bytes
   pub lays : length bytes ≤ length before → after ≡ front bytes before

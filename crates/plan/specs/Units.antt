@@ -12,8 +12,8 @@ sets m = 3 ≤? length m.payload and get_or m.payload 0 0 =? 3
 unfoldable pub unit_of : Ordered → ℕ
 unit_of m = number_at 2 m.payload 1
 
-unfoldable pub descriptionOf : Ordered → List ℕ
-descriptionOf m = drop 3 m.payload
+unfoldable pub description_of : Ordered → List ℕ
+description_of m = drop 3 m.payload
 
 -- a message in its unit's place; rows rise by unit number
 unfoldable pub placed : Ordered → List Ordered → List Ordered
@@ -24,15 +24,15 @@ placed m (row ∷ rest) =
     m ∷ row ∷ rest
 
 -- the latest message of each unit, where `rows` are those so far
-unfoldable pub latestFrom : List Ordered → List Ordered → List Ordered
-latestFrom rows [] = rows
-latestFrom rows (m ∷ rest) = latestFrom (if sets m then placed m rows else rows) rest
+unfoldable pub latest_from : List Ordered → List Ordered → List Ordered
+latest_from rows [] = rows
+latest_from rows (m ∷ rest) = latest_from (if sets m then placed m rows else rows) rest
 
 abbrev pub latest : List Ordered → List Ordered
-latest ms = latestFrom [] ms
+latest ms = latest_from [] ms
 
 -- each row: the unit's number (2 bytes), the description's length (2), the description
-unfoldable pub planBytes : List Ordered → List ℕ
-planBytes [] = []
-planBytes (m ∷ rest) =
-    bytes_of 2 (unit_of m) ++ (bytes_of 2 (length (descriptionOf m)) ++ (descriptionOf m ++ planBytes rest))
+unfoldable pub plan_bytes : List Ordered → List ℕ
+plan_bytes [] = []
+plan_bytes (m ∷ rest) =
+    bytes_of 2 (unit_of m) ++ (bytes_of 2 (length (description_of m)) ++ (description_of m ++ plan_bytes rest))

@@ -1,8 +1,8 @@
 -- How the paper words what the two calls answer: how many bytes were laid, or the refusal.
 use Rattle.std.specs.Prelude.{[], ◌∷◌}
-use Rattle.group.specs.Wording.{Wording, word, number, refusedWording}
+use Rattle.group.specs.Wording.{Wording, word, number, refused_wording}
 use Rattle.plan.specs.declared.Answer.{Answer}
 
-unfoldable pub wordingOf : Answer → Wording
-wordingOf (Answer.Bytes size) = word "bytes" (number size ∷ [])
-wordingOf (Answer.Refused r) = refusedWording r
+unfoldable pub wording_of : Answer → Wording
+wording_of (Answer.Bytes size) = word "bytes" (number size ∷ [])
+wording_of (Answer.Refused r) = refused_wording r

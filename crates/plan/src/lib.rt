@@ -3,16 +3,16 @@ ghost use Rattle.std.specs.Prelude.{◌≡◌, [], ◌+◌, ◌*◌, ◌-◌, �
 ghost use Rattle.group.specs.Choice.{if◌then◌else◌, ◌and◌, ◌<?◌, ◌=?◌};
 ghost use Rattle.group.specs.Lent.{front};
 ghost use Rattle.text.specs.LaidAt.{LaidAt};
-ghost use Rattle.journal.specs.Limits.{blockSize, numberSize};
+ghost use Rattle.journal.specs.Limits.{block_size, number_size};
 ghost use Rattle.journal.specs.Laws.{StandsIn};
-ghost use Rattle.journal.specs.Walk.{spotAt, messageOn};
-ghost use Rattle.plan.specs.Calls.{Lays, FoundIn, laidIn, plan_of, rewriteOf};
+ghost use Rattle.journal.specs.Walk.{spot_at, message_on};
+ghost use Rattle.plan.specs.Calls.{Lays, FoundIn, laid_in, plan_of, rewrite_of};
 ghost use Rattle.plan.specs.Units.{sets};
-ghost use Rattle.plan.specs.Wording.{wordingOf};
-ghost use Rattle.plan.specs.Kept.{recordsRoom};
-ghost use Rattle.plan.specs.Pack.{Apart, sorted, AllSpotted, messagesAt, packs, freshPacker, numbered, grownTo, closed_in, keptBy, packedBy, Sound, blocksFor, Packed};
-ghost use Rattle.plan.specs.Table.{NotedSpot, rowsIn, Gathered, spotted};
-ghost use Rattle.plan.specs.Table.{unitsMost, Place, inserted, Noted, lengthBefore, Stands, AllStand, row_at, plan_at};
+ghost use Rattle.plan.specs.Wording.{wording_of};
+ghost use Rattle.plan.specs.Kept.{records_room};
+ghost use Rattle.plan.specs.Pack.{Apart, sorted, AllSpotted, messages_at, packs, fresh_packer, numbered, grown_to, closed_in, kept_by, packed_by, Sound, blocks_for, Packed};
+ghost use Rattle.plan.specs.Table.{NotedSpot, rows_in, Gathered, spotted};
+ghost use Rattle.plan.specs.Table.{units_most, Place, inserted, Noted, length_before, Stands, AllStand, row_at, plan_at};
 
 use group::{Refusal, SequenceNumber};
 use journal::{Block, COMPACT_MARK, Cursor, Reading, Record, Spot, Walk};
@@ -28,7 +28,7 @@ pub enum Answer {
 pub const UNITS: usize = 512;
 
 fn units_most() -> usize
-    ensures { result ≡ unitsMost }
+    ensures { result ≡ units_most }
 {
     UNITS
 }
@@ -81,7 +81,7 @@ fn stands(table: &[usize], count: usize, at: usize, number: usize) -> bool
 // Puts a unit's latest payload into the tables, by where it stands, and gives how many units they have; one more than the most
 // if there is no room.
 fn note(units: &mut [usize], places: &mut [usize], count: usize, unit: usize, start: usize) -> usize
-    requires { (length units.old ≡ unitsMost) × (length places.old ≡ unitsMost) × (count ≤ unitsMost) }
+    requires { (length units.old ≡ units_most) × (length places.old ≡ units_most) × (count ≤ units_most) }
     ensures { Noted units.old places.old count unit start units.new places.new result }
 {
     let i = place(units, count, unit);
@@ -100,14 +100,14 @@ fn note(units: &mut [usize], places: &mut [usize], count: usize, unit: usize, st
 // The length of the payload that stands at an index of a journal.
 fn length_before(journal: &[u8], start: usize) -> usize
     requires { Stands journal.now start }
-    ensures { (result ≡ lengthBefore journal.now start) × (result < 65536) }
+    ensures { (result ≡ length_before journal.now start) × (result < 65536) }
 {
     big_endian::u16_at(journal, start - 2) as usize
 }
 
 // How many bytes the plan of a table has.
 fn plan_size(journal: &[u8], places: &[usize], count: usize) -> usize
-    requires { (count ≤ length places.now) × (count ≤ unitsMost) × AllStand journal.now (take count places.now) }
+    requires { (count ≤ length places.now) × (count ≤ units_most) × AllStand journal.now (take count places.now) }
     ensures { result ≡ length (plan_at journal.now (take count places.now)) }
 {
     let mut size: usize = 0;
@@ -121,7 +121,7 @@ fn plan_size(journal: &[u8], places: &[usize], count: usize) -> usize
 
 // Lays a row: the unit's number, the description's length, the description.
 fn put_row(journal: &[u8], start: usize, out: &mut [u8], at: usize) -> usize
-    requires { Stands journal.now start × (at + lengthBefore journal.now start + 1 ≤ length out.old) }
+    requires { Stands journal.now start × (at + length_before journal.now start + 1 ≤ length out.old) }
     ensures { LaidAt at (row_at journal.now start) out.old out.new result }
 {
     let length = length_before(journal, start);
@@ -168,7 +168,7 @@ fn note_spot(
     count: usize,
 ) -> usize
     requires stands_in { StandsIn journal.now spot }
-    requires units_len { (length units.old ≡ unitsMost) × (length places.old ≡ unitsMost) × (count ≤ unitsMost) }
+    requires units_len { (length units.old ≡ units_most) × (length places.old ≡ units_most) × (count ≤ units_most) }
     ensures { NotedSpot journal.now spot units.old places.old count units.new places.new result }
 {
     if sets_unit(journal, spot) {
@@ -188,8 +188,8 @@ fn gather(
     units: &mut [usize],
     places: &mut [usize],
 ) -> usize
-    requires { (blocks * blockSize ≤ length journal.now) × (length units.old ≡ unitsMost) × (length places.old ≡ unitsMost) }
-    ensures { Gathered journal.now (rowsIn journal.now blocks messages) units.new places.new result }
+    requires { (blocks * block_size ≤ length journal.now) × (length units.old ≡ units_most) × (length places.old ≡ units_most) }
+    ensures { Gathered journal.now (rows_in journal.now blocks messages) units.new places.new result }
 {
     let mut cursor = Cursor::of(journal, blocks);
     let mut count: usize = 0;
@@ -215,8 +215,8 @@ fn gather(
 
 // Lays the plan of a table at the front of the lent output, if there is room for it.
 fn lay_plan(journal: &[u8], places: &[usize], count: usize, out: &mut [u8]) -> Answer
-    requires { (count ≤ length places.now) × (count ≤ unitsMost) × AllStand journal.now (take count places.now) }
-    ensures { Lays (laidIn (plan_at journal.now (take count places.now)) (length out.old)) result out.old out.new }
+    requires { (count ≤ length places.now) × (count ≤ units_most) × AllStand journal.now (take count places.now) }
+    ensures { Lays (laid_in (plan_at journal.now (take count places.now)) (length out.old)) result out.old out.new }
 {
     let size = plan_size(journal, places, count);
     if out.len() < size {
@@ -241,8 +241,8 @@ fn sort(places: &[usize], count: usize, order: &mut [usize])
 
 // The record whose payload stands at an index of a journal, by walking over its block.
 fn spot_at(journal: &[u8], start: usize) -> Spot
-    requires { start / blockSize * blockSize + blockSize ≤ length journal.now }
-    ensures { result ≡ spotAt journal.now start }
+    requires { start / block_size * block_size + block_size ≤ length journal.now }
+    ensures { result ≡ spot_at journal.now start }
 {
     let none = Spot {
         number: SequenceNumber(0),
@@ -281,8 +281,8 @@ struct Packer {
 
 // Lays a record of a journal, its number before it, at an index of the block in hand, and gives the index behind it.
 fn put_numbered(journal: &[u8], spot: Spot, hand: &mut [u8], at: usize) -> usize
-    requires { StandsIn journal.now spot × (at + numberSize + (spot.end - spot.start) ≤ length hand.old) }
-    ensures { LaidAt at (numbered (messageOn journal.now spot)) hand.old hand.new result }
+    requires { StandsIn journal.now spot × (at + number_size + (spot.end - spot.start) ≤ length hand.old) }
+    ensures { LaidAt at (numbered (message_on journal.now spot)) hand.old hand.new result }
 {
     let number = spot.number;
     let numbered = big_endian::u32_bytes(number.0);
@@ -297,7 +297,7 @@ fn put_numbered(journal: &[u8], spot: Spot, hand: &mut [u8], at: usize) -> usize
 impl Packer {
     // No block, and no record in hand.
     fn fresh() -> Self
-        ensures { result ≡ freshPacker }
+        ensures { result ≡ fresh_packer }
     {
         Packer {
             first: 0,
@@ -309,8 +309,8 @@ impl Packer {
 
     // One more record in hand, with that number and up to that index.
     fn grown(self, number: u32, used: usize) -> Self
-        requires { self.records ≤ recordsRoom }
-        ensures { result ≡ grownTo self number used }
+        requires { self.records ≤ records_room }
+        ensures { result ≡ grown_to self number used }
     {
         if self.records == 0 {
             return Packer {
@@ -330,7 +330,7 @@ impl Packer {
 
     // Lays the block in hand, made whole, behind the blocks before it, if there is room.
     fn close(self, hand: &[u8], out: &mut [u8])
-        requires { (self.records ≤ self.used) × (self.used ≤ recordsRoom) × (length hand.now ≡ blockSize) }
+        requires { (self.records ≤ self.used) × (self.used ≤ records_room) × (length hand.now ≡ block_size) }
         ensures { out.new ≡ closed_in self hand.now out.old }
     {
         if self.blocks < out.len() / Block::SIZE {
@@ -349,9 +349,9 @@ impl Packer {
 
     // Keeps a record: it goes behind the others, or the block in hand is closed and the record begins the next.
     fn keep(self, journal: &[u8], spot: Spot, hand: &mut [u8], out: &mut [u8]) -> Self
-        requires stands_in { StandsIn journal.now spot × (length hand.old ≡ blockSize) }
-        requires records_le_used { (self.records ≤ self.used) × (self.used ≤ recordsRoom) × (self.blocks + 1 < 18446744073709551616) }
-        ensures { packs result hand.new out.new ≡ keptBy (packs self hand.old out.old) (messageOn journal.now spot) }
+        requires stands_in { StandsIn journal.now spot × (length hand.old ≡ block_size) }
+        requires records_le_used { (self.records ≤ self.used) × (self.used ≤ records_room) × (self.blocks + 1 < 18446744073709551616) }
+        ensures { packs result hand.new out.new ≡ kept_by (packs self hand.old out.old) (message_on journal.now spot) }
     {
         let number = spot.number;
         let used = self.used;
@@ -379,9 +379,9 @@ fn pack_all(
     hand: &mut [u8],
     out: &mut [u8],
 ) -> Packer
-    requires { (count ≤ length places.now) × AllSpotted journal.now (take count places.now) × (length hand.old ≡ blockSize) }
-    ensures packs { packs result hand.new out.new ≡ packedBy (packs freshPacker hand.old out.old) (messagesAt journal.now (take count places.now)) }
-    ensures sound { Sound result 0 count × (length hand.new ≡ blockSize) }
+    requires { (count ≤ length places.now) × AllSpotted journal.now (take count places.now) × (length hand.old ≡ block_size) }
+    ensures packs { packs result hand.new out.new ≡ packed_by (packs fresh_packer hand.old out.old) (messages_at journal.now (take count places.now)) }
+    ensures sound { Sound result 0 count × (length hand.new ≡ block_size) }
 {
     let mut packer = Packer::fresh();
     let mut i: usize = 0;
@@ -396,7 +396,7 @@ fn pack_all(
 // The same with the last block closed; gives how many blocks there are.
 fn pack(journal: &[u8], places: &[usize], count: usize, out: &mut [u8]) -> usize
     requires { (count ≤ length places.now) × AllSpotted journal.now (take count places.now) }
-    ensures { Packed (blocksFor (messagesAt journal.now (take count places.now))) result out.old out.new }
+    ensures { Packed (blocks_for (messages_at journal.now (take count places.now))) result out.old out.new }
 {
     let mut hand = [0u8; Block::SIZE];
     let packer = pack_all(journal, places, count, &mut hand, out);
@@ -410,7 +410,7 @@ fn pack(journal: &[u8], places: &[usize], count: usize, out: &mut [u8]) -> usize
 // Lays the blocks of those records at the front of the lent output, if there is room for them: they are packed once to count them.
 fn lay_blocks(journal: &[u8], places: &[usize], count: usize, out: &mut [u8]) -> Answer
     requires { (count ≤ length places.now) × AllSpotted journal.now (take count places.now) }
-    ensures { Lays (laidIn (blocksFor (messagesAt journal.now (take count places.now))) (length out.old)) result out.old out.new }
+    ensures { Lays (laid_in (blocks_for (messages_at journal.now (take count places.now))) (length out.old)) result out.old out.new }
 {
     let mut none = [0u8; 1];
     let needed = pack(journal, places, count, &mut none);
@@ -424,7 +424,7 @@ fn lay_blocks(journal: &[u8], places: &[usize], count: usize, out: &mut [u8]) ->
 // Rewrites a journal of which so many blocks are right, with so many messages. Where the units stood, the places come in order.
 fn rewrite_found(journal: &[u8], blocks: usize, messages: usize, out: &mut [u8]) -> Answer
     requires { FoundIn journal.now blocks messages }
-    ensures { Lays (rewriteOf journal.now (length out.old)) result out.old out.new }
+    ensures { Lays (rewrite_of journal.now (length out.old)) result out.old out.new }
 {
     let mut units = [0usize; UNITS];
     let mut places = [0usize; UNITS];
@@ -454,7 +454,7 @@ fn plan_found(journal: &[u8], blocks: usize, messages: usize, out: &mut [u8]) ->
 pub fn plan(journal: &[u8], out: &mut [u8]) -> Answer
     ensures answer { result ≡ (plan_of journal.now (length out.old)).answer }
     ensures lent { out.new ≡ front (plan_of journal.now (length out.old)).bytes out.old }
-    ensures wording { wordingOf result ≡ wordingOf (plan_of journal.now (length out.old)).answer }
+    ensures wording { wording_of result ≡ wording_of (plan_of journal.now (length out.old)).answer }
 {
     let reading = journal::read(journal);
     match reading {
@@ -465,9 +465,9 @@ pub fn plan(journal: &[u8], out: &mut [u8]) -> Answer
 
 // A journal rewritten to each unit's latest record, in compacted blocks.
 pub fn rewrite(journal: &[u8], out: &mut [u8]) -> Answer
-    ensures answer { result ≡ (rewriteOf journal.now (length out.old)).answer }
-    ensures lent { out.new ≡ front (rewriteOf journal.now (length out.old)).bytes out.old }
-    ensures wording { wordingOf result ≡ wordingOf (rewriteOf journal.now (length out.old)).answer }
+    ensures answer { result ≡ (rewrite_of journal.now (length out.old)).answer }
+    ensures lent { out.new ≡ front (rewrite_of journal.now (length out.old)).bytes out.old }
+    ensures wording { wording_of result ≡ wording_of (rewrite_of journal.now (length out.old)).answer }
 {
     let reading = journal::read(journal);
     match reading {

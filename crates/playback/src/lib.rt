@@ -3,10 +3,10 @@ ghost use Rattle.std.specs.Prelude.{◌≡◌, ◌++◌, ◌≤◌, length, take
 ghost use Rattle.group.specs.Choice.{if◌then◌else◌, ◌<?◌};
 ghost use Rattle.group.specs.Lent.{front};
 ghost use Rattle.player.specs.Feed.{end_of};
-ghost use Rattle.player.specs.Play.{last_of, playOf};
+ghost use Rattle.player.specs.Play.{last_of, play_of};
 ghost use Rattle.player.specs.Player.{state_of};
 ghost use Rattle.simulator.specs.Whole.{whole_of};
-ghost use Rattle.playback.specs.Shown.{shownOf, Adds};
+ghost use Rattle.playback.specs.Shown.{shown_of, Adds};
 
 use group::Group;
 use message::copy;
@@ -93,8 +93,8 @@ fn finish(
 
 // Plays the input, and gives how many bytes were laid at the front of the output: all that is printed, or as much as has room.
 pub fn play(input: &[u8], out: &mut [u8]) -> usize
-    ensures size { result ≡ length (shownOf (playOf input.now) (length out.old)) }
-    ensures lent { out.new ≡ front (shownOf (playOf input.now) (length out.old)) out.old }
+    ensures size { result ≡ length (shown_of (play_of input.now) (length out.old)) }
+    ensures lent { out.new ≡ front (shown_of (play_of input.now) (length out.old)) out.old }
 {
     let mut taken = [0u32; Group::MEMBERS];
     let mut counts = [0u32; Group::MEMBERS];

@@ -13,13 +13,13 @@ pub record Program (Stage : Type 0) : Type 0 where
   pub says : Stage → List ℕ → List ℕ
   pub last : Stage → List ℕ
 
-module _ {Stage : Type 0} (lineTold : Stage → List ℕ → Told Stage) where
+module _ {Stage : Type 0} (line_told : Stage → List ℕ → Told Stage) where
   -- all that lines print
   unfoldable pub lines_told : Program Stage → Stage → List (List ℕ) → List ℕ
   lines_told program stage [] = program.last stage
   lines_told program stage (line ∷ rest) =
-      program.says (lineTold stage line).stage (lineTold stage line).text ++ lines_told program (lineTold stage line).stage rest
+      program.says (line_told stage line).stage (line_told stage line).text ++ lines_told program (line_told stage line).stage rest
 
   -- the output of an input, from the stage in which the first line is awaited
-  abbrev pub outputFrom : Stage → Program Stage → List ℕ → List ℕ
-  outputFrom opening program input = lines_told program opening (lines_of input)
+  abbrev pub output_from : Stage → Program Stage → List ℕ → List ℕ
+  output_from opening program input = lines_told program opening (lines_of input)

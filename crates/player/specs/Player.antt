@@ -2,10 +2,10 @@
 use Rattle.std.specs.Prelude.{◌≡◌, List, [], map, ℕ, ◌+◌, ◌*◌, length, take, get_or}
 use Rattle.group.specs.Choice.{if◌then◌else◌, ◌and◌, ◌<?◌, ◌≤?◌}
 use Rattle.group.specs.Lent.{front, Laid}
-use Rattle.group.specs.Limits.{membersMost, longestPacket}
+use Rattle.group.specs.Limits.{members_most, longest_packet}
 use Rattle.model.specs.World.{Group}
-use Rattle.report.specs.Print.{lineRoom}
-use Rattle.simulator.specs.Whole.{packetsMost, list_of, group_of, Whole}
+use Rattle.report.specs.Print.{line_room}
+use Rattle.simulator.specs.Whole.{packets_most, list_of, group_of, Whole}
 use Rattle.simulator.specs.declared.Head.{Head}
 use Rattle.player.specs.Play as play
 use Rattle.player.specs.Play.{Stage, last_of}
@@ -17,31 +17,31 @@ use Rattle.player.specs.declared.Phase.TheVariants.{Opening, Running, Ended, Clo
 use Rattle.player.specs.declared.Player.{Player}
 
 -- the room of the longest line that is printed
-abbrev pub outputRoom : ℕ
-outputRoom = lineRoom + 2 * longestPacket
+abbrev pub output_room : ℕ
+output_room = line_room + 2 * longest_packet
 
-unfoldable pub stageIn : Phase → Group → ℕ → Stage
-stageIn Opening g number = play.opening
-stageIn Running g number = play.running g number
-stageIn Ended g number = play.ended g
-stageIn Closed g number = play.closed
+unfoldable pub stage_in : Phase → Group → ℕ → Stage
+stage_in Opening g number = play.opening
+stage_in Running g number = play.running g number
+stage_in Ended g number = play.ended g
+stage_in Closed g number = play.closed
 
 -- the phase of a group with n members and that many packets: one that has not the room that it says is none
-abbrev pub phaseWith : ℕ → ℕ → Phase → Phase
-phaseWith n count phase = if n ≤? membersMost and count ≤? packetsMost then phase else Closed
+abbrev pub phase_with : ℕ → ℕ → Phase → Phase
+phase_with n count phase = if n ≤? members_most and count ≤? packets_most then phase else Closed
 
-unfoldable pub phaseOf : Head → Phase → Phase
-phaseOf head phase = phaseWith head.sequencer.group.n head.count phase
+unfoldable pub phase_of : Head → Phase → Phase
+phase_of head phase = phase_with head.sequencer.group.n head.count phase
 
-abbrev pub stageOf : Player → Whole → Stage
-stageOf p w = stageIn (phaseOf p.head p.phase) (group_of w) p.number
+abbrev pub stage_of : Player → Whole → Stage
+stage_of p w = stage_in (phase_of p.head p.phase) (group_of w) p.number
 
 abbrev pub state_of : Player → Whole → List ℕ → State
-state_of p w line = record { stage = stageOf p w; line = take p.length line }
+state_of p w line = record { stage = stage_of p w; line = take p.length line }
 
 -- a resilience degree as a byte. No group has one of the most members or more: those become the most members
-unfoldable pub degreeOf : ℕ → ℕ
-degreeOf resilience = if resilience <? membersMost then resilience else membersMost
+unfoldable pub degree_of : ℕ → ℕ
+degree_of resilience = if resilience <? members_most then resilience else members_most
 
 -- a player that does what the meaning says, with the lent output before and after
 pub record Does (told : feed.Fed) (r : Fed) (w : Whole) (line : List ℕ) (lent after : List ℕ) : Type 0 where
@@ -51,14 +51,14 @@ pub record Does (told : feed.Fed) (r : Fed) (w : Whole) (line : List ℕ) (lent 
   pub output : after ≡ front told.text lent
 
 -- what member i took last, by the rows of numbers
-abbrev pub takenAt : List (List ℕ) → ℕ → ℕ
-takenAt numbers i = get_or (get_or numbers i []) 0 0
+abbrev pub taken_at : List (List ℕ) → ℕ → ℕ
+taken_at numbers i = get_or (get_or numbers i []) 0 0
 
 -- a group whose sequencer has the head's numbers, and whose members took what the rows say
 pub record Shown (head : Head) (numbers : List (List ℕ)) (g : Group) : Type 0 where
   pub top : g.sequencer.top ≡ head.sequencer.top
   pub floor : g.sequencer.floor ≡ head.sequencer.floor
-  pub members : map (λ m. m.taken.0) g.members ≡ list_of (takenAt numbers) 0 head.sequencer.group.n
+  pub members : map (λ m. m.taken.0) g.members ≡ list_of (taken_at numbers) 0 head.sequencer.group.n
 
 -- what was laid is what `text` says of every such group
 abbrev pub Lays : (Group → List ℕ) → Head → List (List ℕ) → ℕ → List ℕ → List ℕ → Type 0
@@ -66,7 +66,7 @@ Lays text head numbers size lent after = (g : Group) → Shown head numbers g �
 
 -- the last line
 abbrev pub LaysLast : Player → List (List ℕ) → ℕ → List ℕ → List ℕ → Type 0
-LaysLast p numbers size lent after = Lays (λ g. last_of (stageIn (phaseOf p.head p.phase) g p.number)) p.head numbers size lent after
+LaysLast p numbers size lent after = Lays (λ g. last_of (stage_in (phase_of p.head p.phase) g p.number)) p.head numbers size lent after
 
 -- numbers of a player that has read nothing, whatever the arrays hold
 abbrev pub Fresh : Player → Type 0

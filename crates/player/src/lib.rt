@@ -3,16 +3,16 @@
 ghost use Rattle.std.specs.Prelude.{Bool, true, false, ◌≡◌, ◌++◌, ◌≤◌, ◌<◌, length, take};
 ghost use Rattle.group.specs.Choice.{if◌then◌else◌, ◌<?◌};
 ghost use Rattle.group.specs.Lent.{front};
-ghost use Rattle.group.specs.Limits.{membersMost, longestPacket};
+ghost use Rattle.group.specs.Limits.{members_most, longest_packet};
 ghost use Rattle.model.specs.World.{answer_of};
 ghost use Rattle.report.specs.Print.{line_of};
-ghost use Rattle.schedule.specs.Laws.{meantBy};
-ghost use Rattle.schedule.specs.Line.{eventOf, openingOf, payloadRoom};
+ghost use Rattle.schedule.specs.Laws.{meant_by};
+ghost use Rattle.schedule.specs.Line.{event_of, opening_of, payload_room};
 ghost use Rattle.simulator.specs.Whole.{list_of, whole_of, group_of};
-ghost use Rattle.player.specs.Play.{nextNumber, refusedTold, openTold, eventTold, lineTold, lastTold};
-ghost use Rattle.player.specs.Feed.{keptMost, keptOf, toldAs, fedOf, end_of};
-ghost use Rattle.player.specs.Player.{outputRoom, stageIn, phaseWith, phaseOf, stageOf, state_of, degreeOf, takenAt, Does, Lays, LaysLast, Fresh};
-ghost use Rattle.player.specs.Steps.{Fits, actionOf, Sized, Performed, Tells, Refuses, PlaysLine};
+ghost use Rattle.player.specs.Play.{next_number, refused_told, open_told, event_told, line_told, last_told};
+ghost use Rattle.player.specs.Feed.{kept_most, kept_of, told_as, fed_of, end_of};
+ghost use Rattle.player.specs.Player.{output_room, stage_in, phase_with, phase_of, stage_of, state_of, degree_of, taken_at, Does, Lays, LaysLast, Fresh};
+ghost use Rattle.player.specs.Steps.{Fits, action_of, Sized, Performed, Tells, Refuses, PlaysLine};
 
 use group::{Group, MemberNumber, Refusal, SequenceNumber, Verdict};
 use message::copy;
@@ -87,20 +87,20 @@ enum Action {
 
 // The limits of specs/ are these constants.
 fn kept_most() -> usize
-    ensures { result ≡ keptMost }
+    ensures { result ≡ kept_most }
 {
     LINE
 }
 
 fn output_room() -> usize
-    ensures { result ≡ outputRoom }
+    ensures { result ≡ output_room }
 {
     OUTPUT
 }
 
 // The number of the next event.
 pub fn next_number(number: u64) -> u64
-    ensures { result ≡ nextNumber number }
+    ensures { result ≡ next_number number }
 {
     if number < u64::MAX {
         number + 1
@@ -118,7 +118,7 @@ pub fn smaller(a: usize, b: usize) -> usize
 
 // What each member took last.
 fn each_taken(numbers: &[[u32; NUMBERS]; Group::MEMBERS]) -> [u32; Group::MEMBERS]
-    ensures { result ≡ list_of (takenAt numbers.now) 0 membersMost }
+    ensures { result ≡ list_of (taken_at numbers.now) 0 members_most }
 {
     let mut taken = [0u32; Group::MEMBERS];
     let mut i: usize = 0;
@@ -142,7 +142,7 @@ fn is_event(command: Command) -> bool
 
 // What a command asks.
 fn action_of(command: Command) -> Action
-    ensures { result ≡ actionOf command }
+    ensures { result ≡ action_of command }
 {
     match command {
         Command::Other => Action::Nothing,
@@ -202,8 +202,8 @@ fn perform(
     payload: &[u8],
     out: &mut [u8; Group::PACKET],
 ) -> Happening
-    requires { Sized command × (length payload.now ≡ payloadRoom) }
-    ensures { Performed (meantBy command payload.now) head (whole_of head taken.old counts.old repeats.old kept.old marks.old originators.old lengths.old payloads.old numbers.old queued.old held.old queued_originators.old queued_lengths.old held_originators.old held_lengths.old queued_payloads.old held_payloads.old sizes.old packets.old) result (whole_of result.head taken.new counts.new repeats.new kept.new marks.new originators.new lengths.new payloads.new numbers.new queued.new held.new queued_originators.new queued_lengths.new held_originators.new held_lengths.new queued_payloads.new held_payloads.new sizes.new packets.new) out.old out.new }
+    requires { Sized command × (length payload.now ≡ payload_room) }
+    ensures { Performed (meant_by command payload.now) head (whole_of head taken.old counts.old repeats.old kept.old marks.old originators.old lengths.old payloads.old numbers.old queued.old held.old queued_originators.old queued_lengths.old held_originators.old held_lengths.old queued_payloads.old held_payloads.old sizes.old packets.old) result (whole_of result.head taken.new counts.new repeats.new kept.new marks.new originators.new lengths.new payloads.new numbers.new queued.new held.new queued_originators.new queued_lengths.new held_originators.new held_lengths.new queued_payloads.new held_payloads.new sizes.new packets.new) out.old out.new }
 {
     let asked = action_of(command);
     match asked {
@@ -290,7 +290,7 @@ pub fn write_answer(
     size: usize,
     out: &mut [u8; OUTPUT],
 ) -> usize
-    requires { size ≤ longestPacket }
+    requires { size ≤ longest_packet }
     ensures size { result ≡ length (line_of number (answer_of reply (take size bytes)) index) }
     ensures lent { out.new ≡ front (line_of number (answer_of reply (take size bytes)) index) out.old }
 {
@@ -324,7 +324,7 @@ fn tell(
     out: &mut [u8; OUTPUT],
 ) -> Told
     requires { Fits head }
-    ensures { Tells (eventTold (group_of (whole_of head taken.old counts.old repeats.old kept.old marks.old originators.old lengths.old payloads.old numbers.old queued.old held.old queued_originators.old queued_lengths.old held_originators.old held_lengths.old queued_payloads.old held_payloads.old sizes.old packets.old)) number (eventOf line.now)) result (whole_of result.head taken.new counts.new repeats.new kept.new marks.new originators.new lengths.new payloads.new numbers.new queued.new held.new queued_originators.new queued_lengths.new held_originators.new held_lengths.new queued_payloads.new held_payloads.new sizes.new packets.new) out.old out.new }
+    ensures { Tells (event_told (group_of (whole_of head taken.old counts.old repeats.old kept.old marks.old originators.old lengths.old payloads.old numbers.old queued.old held.old queued_originators.old queued_lengths.old held_originators.old held_lengths.old queued_payloads.old held_payloads.old sizes.old packets.old)) number (event_of line.now)) result (whole_of result.head taken.new counts.new repeats.new kept.new marks.new originators.new lengths.new payloads.new numbers.new queued.new held.new queued_originators.new queued_lengths.new held_originators.new held_lengths.new queued_payloads.new held_payloads.new sizes.new packets.new) out.old out.new }
 {
     let mut payload = [0u8; PAYLOAD_ROOM];
     let command = read_event(line, &mut payload);
@@ -392,7 +392,7 @@ fn write_taken(
     out: &mut [u8; OUTPUT],
 ) -> usize
     requires { Fits head }
-    ensures { Lays lastTold head numbers.now result out.old out.new }
+    ensures { Lays last_told head numbers.now result out.old out.new }
 {
     let taken = each_taken(numbers);
     let n = head.sequencer.group.n as usize;
@@ -403,7 +403,7 @@ fn write_taken(
 
 // A group that cannot be opened.
 fn refuse(head: Head, refusal: Refusal, out: &mut [u8; OUTPUT]) -> Told
-    ensures { Refuses (refusedTold refusal) result out.old out.new }
+    ensures { Refuses (refused_told refusal) result out.old out.new }
 {
     let written = write_refused_opening(refusal, out);
     Told {
@@ -416,7 +416,7 @@ fn refuse(head: Head, refusal: Refusal, out: &mut [u8; OUTPUT]) -> Told
 
 // A resilience degree as a byte. No group has one of the most members or more: those become the most members.
 pub fn degree(resilience: u32) -> u8
-    ensures { result ≡ degreeOf resilience }
+    ensures { result ≡ degree_of resilience }
 {
     if resilience < (Group::MEMBERS as u32) {
         resilience as u8
@@ -450,7 +450,7 @@ fn open(
     line: &[u8],
     out: &mut [u8; OUTPUT],
 ) -> Told
-    ensures { Tells (openTold (openingOf line.now)) result (whole_of result.head taken.new counts.new repeats.new kept.new marks.new originators.new lengths.new payloads.new numbers.new queued.new held.new queued_originators.new queued_lengths.new held_originators.new held_lengths.new queued_payloads.new held_payloads.new sizes.new packets.new) out.old out.new }
+    ensures { Tells (open_told (opening_of line.now)) result (whole_of result.head taken.new counts.new repeats.new kept.new marks.new originators.new lengths.new payloads.new numbers.new queued.new held.new queued_originators.new queued_lengths.new held_originators.new held_lengths.new queued_payloads.new held_payloads.new sizes.new packets.new) out.old out.new }
 {
     let opening = read_opening(line);
     match opening {
@@ -515,7 +515,7 @@ fn open(
 
 // The phase of a group that has the room that it says.
 pub fn phase_of(n: u8, count: usize, phase: Phase) -> Phase
-    ensures { result ≡ phaseWith n count phase }
+    ensures { result ≡ phase_with n count phase }
 {
     if Group::MEMBERS < (n as usize) {
         return Phase::Closed;
@@ -553,7 +553,7 @@ fn play(
     line: &[u8],
     out: &mut [u8; OUTPUT],
 ) -> Told
-    ensures { Tells (lineTold (stageIn (phaseOf head phase) (group_of (whole_of head taken.old counts.old repeats.old kept.old marks.old originators.old lengths.old payloads.old numbers.old queued.old held.old queued_originators.old queued_lengths.old held_originators.old held_lengths.old queued_payloads.old held_payloads.old sizes.old packets.old)) number) line.now) result (whole_of result.head taken.new counts.new repeats.new kept.new marks.new originators.new lengths.new payloads.new numbers.new queued.new held.new queued_originators.new queued_lengths.new held_originators.new held_lengths.new queued_payloads.new held_payloads.new sizes.new packets.new) out.old out.new }
+    ensures { Tells (line_told (stage_in (phase_of head phase) (group_of (whole_of head taken.old counts.old repeats.old kept.old marks.old originators.old lengths.old payloads.old numbers.old queued.old held.old queued_originators.old queued_lengths.old held_originators.old held_lengths.old queued_payloads.old held_payloads.old sizes.old packets.old)) number) line.now) result (whole_of result.head taken.new counts.new repeats.new kept.new marks.new originators.new lengths.new payloads.new numbers.new queued.new held.new queued_originators.new queued_lengths.new held_originators.new held_lengths.new queued_payloads.new held_payloads.new sizes.new packets.new) out.old out.new }
 {
     let stands = phase_of(head.sequencer.group.n, head.count, phase);
     match stands {
@@ -623,9 +623,9 @@ fn play(
 
 // Keeps a part more of a line of which `kept` bytes stand, and gives how many are.
 pub fn keep(line: &mut [u8], kept: usize, part: &[u8]) -> usize
-    requires { length line.old ≡ keptMost }
-    ensures kept { take result line.new ≡ keptOf (take kept line.old ++ part.now) }
-    ensures most { result ≤ keptMost }
+    requires { length line.old ≡ kept_most }
+    ensures kept { take result line.new ≡ kept_of (take kept line.old ++ part.now) }
+    ensures most { result ≤ kept_most }
 {
     let from = smaller(kept, LINE);
     let size = smaller(part.len(), LINE - from);
@@ -661,7 +661,7 @@ fn play_line(
     out: &mut [u8; OUTPUT],
 ) -> Fed
     requires { size ≤ length line.now }
-    ensures { PlaysLine (toldAs (lineTold (stageOf player (whole_of player.head taken.old counts.old repeats.old kept.old marks.old originators.old lengths.old payloads.old numbers.old queued.old held.old queued_originators.old queued_lengths.old held_originators.old held_lengths.old queued_payloads.old held_payloads.old sizes.old packets.old)) (take size line.now)) used) result (whole_of result.player.head taken.new counts.new repeats.new kept.new marks.new originators.new lengths.new payloads.new numbers.new queued.new held.new queued_originators.new queued_lengths.new held_originators.new held_lengths.new queued_payloads.new held_payloads.new sizes.new packets.new) out.old out.new }
+    ensures { PlaysLine (told_as (line_told (stage_of player (whole_of player.head taken.old counts.old repeats.old kept.old marks.old originators.old lengths.old payloads.old numbers.old queued.old held.old queued_originators.old queued_lengths.old held_originators.old held_lengths.old queued_payloads.old held_payloads.old sizes.old packets.old)) (take size line.now)) used) result (whole_of result.player.head taken.new counts.new repeats.new kept.new marks.new originators.new lengths.new payloads.new numbers.new queued.new held.new queued_originators.new queued_lengths.new held_originators.new held_lengths.new queued_payloads.new held_payloads.new sizes.new packets.new) out.old out.new }
 {
     let head = player.head;
     let phase = player.phase;
@@ -732,7 +732,7 @@ pub fn feed(
     part: &[u8],
     out: &mut [u8; OUTPUT],
 ) -> Fed
-    ensures { Does (fedOf (state_of player (whole_of player.head taken.old counts.old repeats.old kept.old marks.old originators.old lengths.old payloads.old numbers.old queued.old held.old queued_originators.old queued_lengths.old held_originators.old held_lengths.old queued_payloads.old held_payloads.old sizes.old packets.old) line.old) part.now) result (whole_of result.player.head taken.new counts.new repeats.new kept.new marks.new originators.new lengths.new payloads.new numbers.new queued.new held.new queued_originators.new queued_lengths.new held_originators.new held_lengths.new queued_payloads.new held_payloads.new sizes.new packets.new) line.new out.old out.new }
+    ensures { Does (fed_of (state_of player (whole_of player.head taken.old counts.old repeats.old kept.old marks.old originators.old lengths.old payloads.old numbers.old queued.old held.old queued_originators.old queued_lengths.old held_originators.old held_lengths.old queued_payloads.old held_payloads.old sizes.old packets.old) line.old) part.now) result (whole_of result.player.head taken.new counts.new repeats.new kept.new marks.new originators.new lengths.new payloads.new numbers.new queued.new held.new queued_originators.new queued_lengths.new held_originators.new held_lengths.new queued_payloads.new held_payloads.new sizes.new packets.new) line.new out.old out.new }
 {
     let end = line_end(part);
     match end {

@@ -7,23 +7,23 @@ use native.Mathlib.Omega.{arith}
 use borrow.Author.Tests.{leb-true, eqb-true, eqb-false, eq-eqb}
 use lib.ListN.{length}
 use Rattle.group.specs.Choice.{if◌then◌else◌, ◌and◌, ◌≤?◌, ◌=?◌}
-use Rattle.group.specs.Limits.{heldMost, waitingMost, placesMost}
-use Rattle.group.proofs.Choice.{both_first, both-then}
-use Rattle.group.proofs.Lists.{eq-or}
-use Rattle.store.proofs.Places.{messages-whole}
-use Rattle.history.proofs.View.{table-whole}
+use Rattle.group.specs.Limits.{held_most, waiting_most, places_most}
+use Rattle.group.proofs.Choice.{both_first, both_then}
+use Rattle.group.proofs.Lists.{eq_or}
+use Rattle.store.proofs.Places.{messages_whole}
+use Rattle.history.proofs.View.{table_whole}
 use Rattle.member.specs.View as memberView
 use Rattle.sequencer.specs.View as sequencerView
 use Rattle.recovery.specs.State.{Terminal}
-use Rattle.recovery.specs.View.{Stored, View, seen, odd, Sized, terminalOf, flagsSound, view_of, ViewWhole}
+use Rattle.recovery.specs.View.{Stored, View, seen, odd, Sized, terminal_of, flags_sound, view_of, ViewWhole}
 use Rattle.recovery.specs.declared.Head.{Head}
 
 -- two flags that are set or not alike are the same number
 flag_same : (a b : ℕ) → a ≤ 1 → b ≤ 1 → (a =? 1) ≡ (b =? 1) → a ≡ b
 flag_same a b h k e =
-    eq-or a 1
+    eq_or a 1
     (λ p. let q = eqb-true b 1 (sym e ∙ eq-eqb a 1 p) in p ∙ sym q)
-    (λ n. eq-or b 1 (λ q. absurd (n (eqb-true a 1 (e ∙ eq-eqb b 1 q)))) (λ m. omega arith))
+    (λ n. eq_or b 1 (λ q. absurd (n (eqb-true a 1 (e ∙ eq-eqb b 1 q)))) (λ m. omega arith))
 
 -- the flags of a head
 pub record Flags (head : Head) : Type 0 where
@@ -32,45 +32,45 @@ pub record Flags (head : Head) : Type 0 where
   pub sequencing : head.sequencing ≤ 1
   pub frozen : head.frozen ≤ 1
 
-pub flags_of : (head : Head) → flagsSound head ≡ true → Flags head
-unfolding flagsSound
+pub flags_of : (head : Head) → flags_sound head ≡ true → Flags head
+unfolding flags_sound
 flags_of head e =
-    let a = both-then (head.replied ≤? 1) _ e in
-    let b = both-then (head.inviting ≤? 1) _ a in
+    let a = both_then (head.replied ≤? 1) _ e in
+    let b = both_then (head.inviting ≤? 1) _ a in
     record {
       replied = leb-true head.replied 1 (both_first (head.replied ≤? 1) _ e);
       inviting = leb-true head.inviting 1 (both_first (head.inviting ≤? 1) _ a);
       sequencing = leb-true head.sequencing 1 (both_first (head.sequencing ≤? 1) _ b);
-      frozen = leb-true head.frozen 1 (both-then (head.sequencing ≤? 1) _ b);
+      frozen = leb-true head.frozen 1 (both_then (head.sequencing ≤? 1) _ b);
     }
 
-whole-seen : (s t : Stored) → Sized s → Sized t → Flags s.head → Flags t.head → terminalOf s ≡ terminalOf t → s ≡ t
-unfolding terminalOf memberView.view_of sequencerView.view_of
-whole-seen s t a b f g e =
+whole_seen : (s t : Stored) → Sized s → Sized t → Flags s.head → Flags t.head → terminal_of s ≡ terminal_of t → s ≡ t
+unfolding terminal_of memberView.view_of sequencerView.view_of
+whole_seen s t a b f g e =
     let m = a.member in
     let n = b.member in
     let x = a.sequencer.entries in
     let y = b.sequencer.entries in
     let k = a.sequencer.places in
     let l = b.sequencer.places in
-    let queue = messages-whole waitingMost s.queued s.queued_originators s.queued_lengths s.queued_payloads t.queued t.queued_originators t.queued_lengths t.queued_payloads
-    (record { counts-size = m.queued-size; originators-size = m.queued-originators-size; lengths-size = m.queued-lengths-size; bytes-size = m.queued-payloads-size })
-    (record { counts-size = n.queued-size; originators-size = n.queued-originators-size; lengths-size = n.queued-lengths-size; bytes-size = n.queued-payloads-size })
+    let queue = messages_whole waiting_most s.queued s.queued_originators s.queued_lengths s.queued_payloads t.queued t.queued_originators t.queued_lengths t.queued_payloads
+    (record { counts_size = m.queued_size; originators_size = m.queued_originators_size; lengths_size = m.queued_lengths_size; bytes_size = m.queued_payloads_size })
+    (record { counts_size = n.queued_size; originators_size = n.queued_originators_size; lengths_size = n.queued_lengths_size; bytes_size = n.queued_payloads_size })
     (ap (λ (v : Terminal). v.member.queue) e) in
-    let held = messages-whole heldMost s.held s.held_originators s.held_lengths s.held_payloads t.held t.held_originators t.held_lengths t.held_payloads
-    (record { counts-size = m.held-size; originators-size = m.held-originators-size; lengths-size = m.held-lengths-size; bytes-size = m.held-payloads-size })
-    (record { counts-size = n.held-size; originators-size = n.held-originators-size; lengths-size = n.held-lengths-size; bytes-size = n.held-payloads-size })
+    let held = messages_whole held_most s.held s.held_originators s.held_lengths s.held_payloads t.held t.held_originators t.held_lengths t.held_payloads
+    (record { counts_size = m.held_size; originators_size = m.held_originators_size; lengths_size = m.held_lengths_size; bytes_size = m.held_payloads_size })
+    (record { counts_size = n.held_size; originators_size = n.held_originators_size; lengths_size = n.held_lengths_size; bytes_size = n.held_payloads_size })
     (ap (λ (v : Terminal). v.member.held) e) in
-    let past = messages-whole placesMost s.past s.past_originators s.past_lengths s.past_payloads t.past t.past_originators t.past_lengths t.past_payloads
-    (record { counts-size = a.past.kept-size; originators-size = a.past.originators-size; lengths-size = a.past.lengths-size; bytes-size = a.past.payloads-size })
-    (record { counts-size = b.past.kept-size; originators-size = b.past.originators-size; lengths-size = b.past.lengths-size; bytes-size = b.past.payloads-size })
+    let past = messages_whole places_most s.past s.past_originators s.past_lengths s.past_payloads t.past t.past_originators t.past_lengths t.past_payloads
+    (record { counts_size = a.past.kept_size_lem; originators_size = a.past.originators_size; lengths_size = a.past.lengths_size; bytes_size = a.past.payloads_size })
+    (record { counts_size = b.past.kept_size_lem; originators_size = b.past.originators_size; lengths_size = b.past.lengths_size; bytes_size = b.past.payloads_size })
     (ap (λ (v : Terminal). v.kept.past) e) in
-    let history = messages-whole placesMost s.kept s.originators s.lengths s.payloads t.kept t.originators t.lengths t.payloads
-    (record { counts-size = k.kept-size; originators-size = k.originators-size; lengths-size = k.lengths-size; bytes-size = k.payloads-size })
-    (record { counts-size = l.kept-size; originators-size = l.originators-size; lengths-size = l.lengths-size; bytes-size = l.payloads-size })
+    let history = messages_whole places_most s.kept s.originators s.lengths s.payloads t.kept t.originators t.lengths t.payloads
+    (record { counts_size = k.kept_size_lem; originators_size = k.originators_size; lengths_size = k.lengths_size; bytes_size = k.payloads_size })
+    (record { counts_size = l.kept_size_lem; originators_size = l.originators_size; lengths_size = l.lengths_size; bytes_size = l.payloads_size })
     (ap (λ (v : Terminal). v.sequencer.history) e) in
-    let table = table-whole s.taken s.counts s.repeats t.taken t.counts t.repeats
-    (x.counts-size ∙ sym x.taken-size) (x.repeats-size ∙ sym x.taken-size) (y.counts-size ∙ sym y.taken-size) (y.repeats-size ∙ sym y.taken-size)
+    let table = table_whole s.taken s.counts s.repeats t.taken t.counts t.repeats
+    (x.counts_size ∙ sym x.taken_size) (x.repeats_size ∙ sym x.taken_size) (y.counts_size ∙ sym y.taken_size) (y.repeats_size ∙ sym y.taken_size)
     (ap (λ (v : Terminal). v.sequencer.acknowledgements) e) in
     let replied = flag_same s.head.replied t.head.replied f.replied g.replied (ap (λ (v : Terminal). v.reset.replied) e) in
     let inviting = flag_same s.head.inviting t.head.inviting f.inviting g.inviting (ap (λ (v : Terminal). v.reset.inviting) e) in
@@ -115,24 +115,24 @@ whole-seen s t a b f g e =
     }
 
 -- which of the two is seen, and what of it
-unfoldable isSeen : View → Bool
-isSeen (seen t) = true
-isSeen (odd s) = false
+unfoldable is_seen : View → Bool
+is_seen (seen t) = true
+is_seen (odd s) = false
 
-unfoldable terminalIn : Terminal → View → Terminal
-terminalIn d (seen t) = t
-terminalIn d (odd s) = d
+unfoldable terminal_in : Terminal → View → Terminal
+terminal_in d (seen t) = t
+terminal_in d (odd s) = d
 
 unfoldable parts_in : Stored → View → Stored
 parts_in d (seen t) = d
 parts_in d (odd s) = s
 
-pub view-whole : ViewWhole
-unfolding view_of if◌then◌else◌ isSeen terminalIn parts_in
-view-whole s t a b e = go (flagsSound s.head) (flagsSound t.head) refl refl e
+pub view_whole : ViewWhole
+unfolding view_of if◌then◌else◌ is_seen terminal_in parts_in
+view_whole s t a b e = go (flags_sound s.head) (flags_sound t.head) refl refl e
   where
-    go : (x y : Bool) → flagsSound s.head ≡ x → flagsSound t.head ≡ y → (if x then seen (terminalOf s) else odd s) ≡ (if y then seen (terminalOf t) else odd t) → s ≡ t
-    go true true f g h = whole-seen s t a b (flags_of s.head f) (flags_of t.head g) (ap (terminalIn (terminalOf s)) h)
-    go true false f g h = absurd (false≢true (sym (ap isSeen h)))
-    go false true f g h = absurd (false≢true (ap isSeen h))
+    go : (x y : Bool) → flags_sound s.head ≡ x → flags_sound t.head ≡ y → (if x then seen (terminal_of s) else odd s) ≡ (if y then seen (terminal_of t) else odd t) → s ≡ t
+    go true true f g h = whole_seen s t a b (flags_of s.head f) (flags_of t.head g) (ap (terminal_in (terminal_of s)) h)
+    go true false f g h = absurd (false≢true (sym (ap is_seen h)))
+    go false true f g h = absurd (false≢true (ap is_seen h))
     go false false f g h = ap (parts_in s) h

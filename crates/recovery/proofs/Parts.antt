@@ -7,48 +7,48 @@ use Prim.Native.Nat.{ℕ, ◌≤◌}
 use lib.ListN.{length}
 use Rattle.group.specs.Choice.{if◌then◌else◌, ◌and◌, ◌≤?◌}
 use Rattle.group.specs.Lent.{front}
-use Rattle.group.specs.Limits.{membersMost, longestPacket}
-use Rattle.group.specs.Members.{groupSound}
+use Rattle.group.specs.Limits.{members_most, longest_packet}
+use Rattle.group.specs.Members.{group_sound}
 use Rattle.group.specs.Question.{judged}
 use Rattle.group.specs.declared.Refusal.{Refusal}
 use Rattle.group.specs.declared.SequenceNumber.{SequenceNumber}
 use Rattle.group.specs.declared.Verdict.{Verdict}
-use Rattle.group.proofs.Choice.{if-true, if-false, both_hold, both_first, both-then}
-use Rattle.window.specs.Sound.{frameSound}
+use Rattle.group.proofs.Choice.{if_true, if_false, both_hold, both_first, both_then}
+use Rattle.window.specs.Sound.{frame_sound}
 use Rattle.member.specs.Calls as member
-use Rattle.member.proofs.Leaving.{repeat-leaves, status-leaves}
+use Rattle.member.proofs.Leaving.{repeat_leaves, status_leaves}
 use Rattle.member.specs.Promise as memberPromise
 use Rattle.member.specs.Sound as memberSoundness
-use Rattle.member.specs.Steps.{emptyHanded}
+use Rattle.member.specs.Steps.{empty_handed}
 use Rattle.member.specs.View as memberView
 use Rattle.member.specs.declared.Answer.{Answer}
 use Rattle.member.specs.declared.Head as memberHead
 use Rattle.member.specs.declared.Reply.{Reply}
 use Rattle.sequencer.specs.Calls as sequencer
-use Rattle.sequencer.proofs.Leaving.{poll-leaves, copy-leaves}
+use Rattle.sequencer.proofs.Leaving.{poll_leaves, copy_leaves}
 use Rattle.sequencer.specs.Promise as sequencerPromise
 use Rattle.sequencer.specs.View as sequencerView
 use Rattle.sequencer.specs.declared.Answer as sequencerAnswer
 use Rattle.sequencer.specs.declared.Reply as sequencerReply
-use Rattle.recovery.specs.Calls.{Outcome, SequencerOutcome, refused, carried, callVerdict, submitOf, repeatOf, statusOf, pollOf, copy_of, ordered}
+use Rattle.recovery.specs.Calls.{Outcome, SequencerOutcome, refused, carried, call_verdict, submit_of, repeat_of, status_of, poll_of, copy_of, ordered}
 use Rattle.recovery.specs.Promise as promise
 use Rattle.recovery.specs.Promise.{Seen, SequencerSeen, called, Changed, Ordered}
-use Rattle.recovery.specs.Sound.{keptSound, resetSound, memberSound}
+use Rattle.recovery.specs.Sound.{kept_sound, reset_sound, member_sound}
 use Rattle.recovery.specs.State.{Terminal}
-use Rattle.recovery.specs.Steps.{besideSound, withMemberHead, withSequencerHead}
+use Rattle.recovery.specs.Steps.{beside_sound, with_member_head, with_sequencer_head}
 use Rattle.recovery.specs.declared.Head.{Head}
-use Rattle.recovery.specs.View.{Stored, View, seen, odd, memberIn, sequencerIn, keptIn, resetIn, terminalOf, flagsSound, view_of}
+use Rattle.recovery.specs.View.{Stored, View, seen, odd, member_in, sequencer_in, kept_in, reset_in, terminal_of, flags_sound, view_of}
 
-and-true : (b x : Bool) → x ≡ true → b and x ≡ b
+and_true : (b x : Bool) → x ≡ true → b and x ≡ b
 unfolding if◌then◌else◌
-and-true true x e = e
-and-true false x e = refl
+and_true true x e = e
+and_true false x e = refl
 
 -- the parts with another member, and with another sequencer
-abbrev pub withMemberParts : Stored → memberView.Stored → Stored
-withMemberParts s m =
+abbrev pub with_member_parts : Stored → memberView.Stored → Stored
+with_member_parts s m =
     record {
-      head = withMemberHead s.head m.head;
+      head = with_member_head s.head m.head;
       queued = m.queued;
       held = m.held;
       queued_originators = m.queued_originators;
@@ -73,9 +73,9 @@ withMemberParts s m =
       payloads = s.payloads;
     }
 
-still-flags : (head : Head) (m : memberHead.Head) → flagsSound head ≡ true → flagsSound (withMemberHead head m) ≡ true
-unfolding flagsSound
-still-flags head m e = e
+still_flags : (head : Head) (m : memberHead.Head) → flags_sound head ≡ true → flags_sound (with_member_head head m) ≡ true
+unfolding flags_sound
+still_flags head m e = e
 
 -- a no that leaves all
 abbrev no : View → Seen
@@ -86,91 +86,91 @@ unsound = record { answer = Answer.Refused Refusal.UnsoundState; written = 0 }
 
 module _ (s : Stored) where
   abbrev beside : Bool
-  beside = besideSound s.head (keptIn s.head s.past s.past_originators s.past_lengths s.past_payloads s.highest) s.replies
+  beside = beside_sound s.head (kept_in s.head s.past s.past_originators s.past_lengths s.past_payloads s.highest) s.replies
 
   -- a terminal is seen where the flags are sound
-  seen_as : flagsSound s.head ≡ true → view_of s ≡ seen (terminalOf s)
+  seen_as : flags_sound s.head ≡ true → view_of s ≡ seen (terminal_of s)
   unfolding view_of
-  seen_as f = sym (if-true (flagsSound s.head) _ _ _ f refl)
+  seen_as f = sym (if_true (flags_sound s.head) _ _ _ f refl)
 
-  odd-as : flagsSound s.head ≡ false → view_of s ≡ odd s
+  odd_as : flags_sound s.head ≡ false → view_of s ≡ odd s
   unfolding view_of
-  odd-as f = sym (if-false (flagsSound s.head) _ _ _ f refl)
+  odd_as f = sym (if_false (flags_sound s.head) _ _ _ f refl)
 
-  flags_of : beside ≡ true → flagsSound s.head ≡ true
-  unfolding besideSound
+  flags_of : beside ≡ true → flags_sound s.head ≡ true
+  unfolding beside_sound
   flags_of e = both_first _ _ e
 
   -- then the member's own questions are the end's
-  same-verdict : (room : ℕ) → beside ≡ true → callVerdict (terminalOf s) room ≡ member.callVerdict (memberView.view_of (memberIn s)) room
-  unfolding besideSound callVerdict memberSound member.callVerdict terminalOf memberView.view_of resetSound
-  same-verdict room e =
-      let rest = both-then (s.head.member.group.n ≤? membersMost) _ (both-then (flagsSound s.head) _ e) in
-      ap (λ (b : Bool). if b then (if longestPacket ≤? room then Verdict.Accepted else Verdict.Refused Refusal.ShortOutput) else Verdict.Refused Refusal.UnsoundState)
-      (and-true (memberSoundness.soundOf (memberView.view_of (memberIn s))) _ rest)
+  same_verdict : (room : ℕ) → beside ≡ true → call_verdict (terminal_of s) room ≡ member.call_verdict (memberView.view_of (member_in s)) room
+  unfolding beside_sound call_verdict member_sound member.call_verdict terminal_of memberView.view_of reset_sound
+  same_verdict room e =
+      let rest = both_then (s.head.member.group.n ≤? members_most) _ (both_then (flags_sound s.head) _ e) in
+      ap (λ (b : Bool). if b then (if longest_packet ≤? room then Verdict.Accepted else Verdict.Refused Refusal.ShortOutput) else Verdict.Refused Refusal.UnsoundState)
+      (and_true (memberSoundness.sound_of (memberView.view_of (member_in s))) _ rest)
 
   -- and else the end's say no
-  beside-holds : flagsSound s.head ≡ true → memberSound (terminalOf s) ≡ true → beside ≡ true
-  unfolding besideSound memberSound terminalOf memberView.view_of memberSoundness.soundOf frameSound groupSound resetSound
-  beside-holds f e =
+  beside_holds : flags_sound s.head ≡ true → member_sound (terminal_of s) ≡ true → beside ≡ true
+  unfolding beside_sound member_sound terminal_of memberView.view_of memberSoundness.sound_of frame_sound group_sound reset_sound
+  beside_holds f e =
       let own = both_first _ _ e in
-      let small = both_first _ _ (both-then _ _ (both_first _ _ (both_first _ _ own))) in
-      both_hold (flagsSound s.head) _ f (both_hold (s.head.member.group.n ≤? membersMost) _ small (both-then _ _ e))
+      let small = both_first _ _ (both_then _ _ (both_first _ _ (both_first _ _ own))) in
+      both_hold (flags_sound s.head) _ f (both_hold (s.head.member.group.n ≤? members_most) _ small (both_then _ _ e))
 
-  beside-fails : flagsSound s.head ≡ true → beside ≡ false → memberSound (terminalOf s) ≡ false
-  beside-fails f e = go (memberSound (terminalOf s)) refl
+  beside_fails : flags_sound s.head ≡ true → beside ≡ false → member_sound (terminal_of s) ≡ false
+  beside_fails f e = go (member_sound (terminal_of s)) refl
     where
-      go : (b : Bool) → memberSound (terminalOf s) ≡ b → b ≡ false
-      go true h = absurd (false≢true (sym e ∙ beside-holds f h))
+      go : (b : Bool) → member_sound (terminal_of s) ≡ b → b ≡ false
+      go true h = absurd (false≢true (sym e ∙ beside_holds f h))
       go false h = refl
 
 -- an unsound member's end says no to each of its calls
-pub unsound-judged : (t : Terminal) (room : ℕ) (o : Outcome) → memberSound t ≡ false → judged (callVerdict t room) (refused t) o ≡ refused t Refusal.UnsoundState
-unfolding callVerdict judged
-unsound-judged t room o e =
-    ap (λ (v : Verdict). judged v (refused t) o) (sym (if-false (memberSound t) _ _ _ e refl))
+pub unsound_judged : (t : Terminal) (room : ℕ) (o : Outcome) → member_sound t ≡ false → judged (call_verdict t room) (refused t) o ≡ refused t Refusal.UnsoundState
+unfolding call_verdict judged
+unsound_judged t room o e =
+    ap (λ (v : Verdict). judged v (refused t) o) (sym (if_false (member_sound t) _ _ _ e refl))
 
-member-left : (s : Stored) (m : memberView.Stored) (o : member.Outcome) → memberView.view_of m ≡ o.member
-    → terminalOf (withMemberParts s m) ≡ (carried (terminalOf s) (terminalOf s).kept o).terminal
-unfolding terminalOf
-member-left s m o h =
+member_left : (s : Stored) (m : memberView.Stored) (o : member.Outcome) → memberView.view_of m ≡ o.member
+    → terminal_of (with_member_parts s m) ≡ (carried (terminal_of s) (terminal_of s).kept o).terminal
+unfolding terminal_of
+member_left s m o h =
     λ i. record {
       member = h i;
-      kept = (terminalOf s).kept;
-      reset = (terminalOf s).reset;
-      sequencing = (terminalOf s).sequencing;
-      frozen = (terminalOf s).frozen;
-      sequencer = (terminalOf s).sequencer;
+      kept = (terminal_of s).kept;
+      reset = (terminal_of s).reset;
+      sequencing = (terminal_of s).sequencing;
+      frozen = (terminal_of s).frozen;
+      sequencer = (terminal_of s).sequencer;
     }
 
 module _ (s : Stored) (call : Terminal → Outcome) where
-  seen-called : flagsSound s.head ≡ true → called call (view_of s) ≡ record { view = seen (call (terminalOf s)).terminal; answer = (call (terminalOf s)).answer; bytes = (call (terminalOf s)).bytes }
+  seen_called : flags_sound s.head ≡ true → called call (view_of s) ≡ record { view = seen (call (terminal_of s)).terminal; answer = (call (terminal_of s)).answer; bytes = (call (terminal_of s)).bytes }
   unfolding called
-  seen-called f = ap (called call) (seen_as s f)
+  seen_called f = ap (called call) (seen_as s f)
 
-  no-called : (memberSound (terminalOf s) ≡ false → call (terminalOf s) ≡ refused (terminalOf s) Refusal.UnsoundState) → beside s ≡ false → called call (view_of s) ≡ no (view_of s)
+  no_called : (member_sound (terminal_of s) ≡ false → call (terminal_of s) ≡ refused (terminal_of s) Refusal.UnsoundState) → beside s ≡ false → called call (view_of s) ≡ no (view_of s)
   unfolding called refused
-  no-called u e = go (flagsSound s.head) refl
+  no_called u e = go (flags_sound s.head) refl
     where
-      go : (b : Bool) → flagsSound s.head ≡ b → called call (view_of s) ≡ no (view_of s)
-      go true f = seen-called f ∙ ap (λ (o : Outcome). record { view = seen o.terminal; answer = o.answer; bytes = o.bytes }) (u (beside-fails s f e)) ∙ ap no (sym (seen_as s f))
-      go false f = ap (called call) (odd-as s f) ∙ ap no (sym (odd-as s f))
+      go : (b : Bool) → flags_sound s.head ≡ b → called call (view_of s) ≡ no (view_of s)
+      go true f = seen_called f ∙ ap (λ (o : Outcome). record { view = seen o.terminal; answer = o.answer; bytes = o.bytes }) (u (beside_fails s f e)) ∙ ap no (sym (seen_as s f))
+      go false f = ap (called call) (odd_as s f) ∙ ap no (sym (odd_as s f))
 
   -- what a no promises
-  pub beside-refused : (before : List ℕ) → (memberSound (terminalOf s) ≡ false → call (terminalOf s) ≡ refused (terminalOf s) Refusal.UnsoundState) → beside s ≡ false
+  pub beside_refused : (before : List ℕ) → (member_sound (terminal_of s) ≡ false → call (terminal_of s) ≡ refused (terminal_of s) Refusal.UnsoundState) → beside s ≡ false
       → Changed (called call (view_of s)) unsound s before before
-  beside-refused before u e =
-      subst (λ (o : Seen). Changed o unsound s before before) (sym (no-called u e)) (record { answer = refl; state = refl; lent = refl; wording = refl })
+  beside_refused before u e =
+      subst (λ (o : Seen). Changed o unsound s before before) (sym (no_called u e)) (record { answer = refl; state = refl; lent = refl; wording = refl })
 
   -- what a member's call promises of the whole
-  pub member-changed : (m : memberView.Stored) (o : member.Outcome) {reply : Reply} {before after : List ℕ} → beside s ≡ true
-      → call (terminalOf s) ≡ carried (terminalOf s) (terminalOf s).kept o → memberPromise.Changed o reply m before after
-      → Changed (called call (view_of s)) reply (withMemberParts s m) before after
-  member-changed m o {reply} {before} {after} e c p =
+  pub member_changed : (m : memberView.Stored) (o : member.Outcome) {reply : Reply} {before after : List ℕ} → beside s ≡ true
+      → call (terminal_of s) ≡ carried (terminal_of s) (terminal_of s).kept o → memberPromise.Changed o reply m before after
+      → Changed (called call (view_of s)) reply (with_member_parts s m) before after
+  member_changed m o {reply} {before} {after} e c p =
       let f = flags_of s e in
-      subst (λ (x : Seen). Changed x reply (withMemberParts s m) before after)
-      (sym (seen-called f ∙ ap (λ (x : Outcome). record { view = seen x.terminal; answer = x.answer; bytes = x.bytes }) c))
-      (record { answer = p.answer; state = seen_as (withMemberParts s m) (still-flags s.head m.head f) ∙ ap seen (member-left s m o p.state); lent = p.lent; wording = p.wording })
+      subst (λ (x : Seen). Changed x reply (with_member_parts s m) before after)
+      (sym (seen_called f ∙ ap (λ (x : Outcome). record { view = seen x.terminal; answer = x.answer; bytes = x.bytes }) c))
+      (record { answer = p.answer; state = seen_as (with_member_parts s m) (still_flags s.head m.head f) ∙ ap seen (member_left s m o p.state); lent = p.lent; wording = p.wording })
 
 -- each call is the member's where the rest of its end is sound
 carried_same : (t : Terminal) (v : Verdict) (o : member.Outcome)
@@ -181,103 +181,103 @@ carried_same t (Verdict.Refused r) o = refl
 
 module _ (s : Stored) (room : ℕ) (e : beside s ≡ true) where
   abbrev t : Terminal
-  t = terminalOf s
+  t = terminal_of s
 
   -- the member's verdict for the end's
-  own-verdict : (o : member.Outcome) → judged (callVerdict t room) (refused t) (carried t t.kept (judged (member.callVerdict t.member room) (member.refused t.member) o))
-      ≡ carried t t.kept (judged (member.callVerdict t.member room) (member.refused t.member) o)
-  unfolding terminalOf
-  own-verdict o =
-      ap (λ (v : Verdict). judged v (refused t) (carried t t.kept (judged (member.callVerdict t.member room) (member.refused t.member) o))) (same-verdict s room e)
-      ∙ carried_same t (member.callVerdict t.member room) o
+  own_verdict : (o : member.Outcome) → judged (call_verdict t room) (refused t) (carried t t.kept (judged (member.call_verdict t.member room) (member.refused t.member) o))
+      ≡ carried t t.kept (judged (member.call_verdict t.member room) (member.refused t.member) o)
+  unfolding terminal_of
+  own_verdict o =
+      ap (λ (v : Verdict). judged v (refused t) (carried t t.kept (judged (member.call_verdict t.member room) (member.refused t.member) o))) (same_verdict s room e)
+      ∙ carried_same t (member.call_verdict t.member room) o
 
-  pub submit-own : (payload : List ℕ) → submitOf t payload room ≡ carried t t.kept (member.submitOf t.member payload room)
-  unfolding submitOf member.submitOf
-  submit-own payload = own-verdict _
+  pub submit_own : (payload : List ℕ) → submit_of t payload room ≡ carried t t.kept (member.submit_of t.member payload room)
+  unfolding submit_of member.submit_of
+  submit_own payload = own_verdict _
 
-  pub repeat-own : repeatOf t room ≡ carried t t.kept (member.repeatOf t.member room)
-  unfolding repeatOf member.repeatOf
-  repeat-own = own-verdict _
+  pub repeat_own : repeat_of t room ≡ carried t t.kept (member.repeat_of t.member room)
+  unfolding repeat_of member.repeat_of
+  repeat_own = own_verdict _
 
-  pub status-own : statusOf t room ≡ carried t t.kept (member.statusOf t.member room)
-  unfolding statusOf member.statusOf
-  status-own = own-verdict _
+  pub status_own : status_of t room ≡ carried t t.kept (member.status_of t.member room)
+  unfolding status_of member.status_of
+  status_own = own_verdict _
 
 -- the calls of the member, whole
 module _ (s : Stored) (payload before after : List ℕ) (reply : Reply) where
-  pub submit-changed : (m : memberView.Stored) → beside s ≡ true → memberPromise.Submitted (memberIn s) payload before reply m after
-      → promise.Submitted s payload before reply (withMemberParts s m) after
-  unfolding terminalOf
-  submit-changed m e p = member-changed s (λ t. submitOf t payload (length before)) m _ e (submit-own s (length before) e payload) p
+  pub submit_changed : (m : memberView.Stored) → beside s ≡ true → memberPromise.Submitted (member_in s) payload before reply m after
+      → promise.Submitted s payload before reply (with_member_parts s m) after
+  unfolding terminal_of
+  submit_changed m e p = member_changed s (λ t. submit_of t payload (length before)) m _ e (submit_own s (length before) e payload) p
 
-  pub submit-refused : beside s ≡ false → promise.Submitted s payload before unsound s before
-  unfolding submitOf
-  submit-refused e = beside-refused s (λ t. submitOf t payload (length before)) before (λ u. unsound-judged (terminalOf s) (length before) _ u) e
+  pub submit_refused : beside s ≡ false → promise.Submitted s payload before unsound s before
+  unfolding submit_of
+  submit_refused e = beside_refused s (λ t. submit_of t payload (length before)) before (λ u. unsound_judged (terminal_of s) (length before) _ u) e
 
 -- a call that only reads leaves the parts
-told-left : (o : member.Outcome) (s : Stored) {reply : Reply} {before after : List ℕ} → o.member ≡ memberView.view_of (memberIn s) → memberPromise.Told o reply before after
-    → memberPromise.Changed o reply (memberIn s) before after
-told-left o s h p = record { answer = p.answer; state = sym h; lent = p.lent; wording = p.wording }
+told_left : (o : member.Outcome) (s : Stored) {reply : Reply} {before after : List ℕ} → o.member ≡ memberView.view_of (member_in s) → memberPromise.Told o reply before after
+    → memberPromise.Changed o reply (member_in s) before after
+told_left o s h p = record { answer = p.answer; state = sym h; lent = p.lent; wording = p.wording }
 
 module _ (s : Stored) (before after : List ℕ) (reply : Reply) where
-  pub repeat-changed : beside s ≡ true → memberPromise.Repeated (memberIn s) before reply after → promise.Repeated s before reply s after
-  unfolding terminalOf
-  repeat-changed e p =
-      member-changed s (λ t. repeatOf t (length before)) (memberIn s) _ e (repeat-own s (length before) e)
-      (told-left _ s (repeat-leaves (memberView.view_of (memberIn s)) before after reply).0 p)
+  pub repeat_changed : beside s ≡ true → memberPromise.Repeated (member_in s) before reply after → promise.Repeated s before reply s after
+  unfolding terminal_of
+  repeat_changed e p =
+      member_changed s (λ t. repeat_of t (length before)) (member_in s) _ e (repeat_own s (length before) e)
+      (told_left _ s (repeat_leaves (memberView.view_of (member_in s)) before after reply).0 p)
 
-  pub repeat-refused : beside s ≡ false → promise.Repeated s before unsound s before
-  unfolding repeatOf
-  repeat-refused e = beside-refused s (λ t. repeatOf t (length before)) before (λ u. unsound-judged (terminalOf s) (length before) _ u) e
+  pub repeat_refused : beside s ≡ false → promise.Repeated s before unsound s before
+  unfolding repeat_of
+  repeat_refused e = beside_refused s (λ t. repeat_of t (length before)) before (λ u. unsound_judged (terminal_of s) (length before) _ u) e
 
-  pub status-changed : beside s ≡ true → memberPromise.Reported (memberIn s) before reply after → promise.Reported s before reply s after
-  unfolding terminalOf
-  status-changed e p =
-      member-changed s (λ t. statusOf t (length before)) (memberIn s) _ e (status-own s (length before) e)
-      (told-left _ s (status-leaves (memberView.view_of (memberIn s)) before after reply).0 p)
+  pub status_changed : beside s ≡ true → memberPromise.Reported (member_in s) before reply after → promise.Reported s before reply s after
+  unfolding terminal_of
+  status_changed e p =
+      member_changed s (λ t. status_of t (length before)) (member_in s) _ e (status_own s (length before) e)
+      (told_left _ s (status_leaves (memberView.view_of (member_in s)) before after reply).0 p)
 
-  pub status-refused : beside s ≡ false → promise.Reported s before unsound s before
-  unfolding statusOf
-  status-refused e = beside-refused s (λ t. statusOf t (length before)) before (λ u. unsound-judged (terminalOf s) (length before) _ u) e
+  pub status_refused : beside s ≡ false → promise.Reported s before unsound s before
+  unfolding status_of
+  status_refused e = beside_refused s (λ t. status_of t (length before)) before (λ u. unsound_judged (terminal_of s) (length before) _ u) e
 
 -- the sequencer's calls that only read
-abbrev pub notSound : sequencerReply.Reply
-notSound = record { answer = sequencerAnswer.Answer.Refused Refusal.UnsoundState; written = 0 }
+abbrev pub not_sound : sequencerReply.Reply
+not_sound = record { answer = sequencerAnswer.Answer.Refused Refusal.UnsoundState; written = 0 }
 
-sequencer-left : (s : Stored) (o : sequencer.Outcome) → o.sequencer ≡ sequencerView.view_of (sequencerIn s) → terminalOf s ≡ (ordered (terminalOf s) o).terminal
-unfolding terminalOf
-sequencer-left s o h =
+sequencer_left : (s : Stored) (o : sequencer.Outcome) → o.sequencer ≡ sequencerView.view_of (sequencer_in s) → terminal_of s ≡ (ordered (terminal_of s) o).terminal
+unfolding terminal_of
+sequencer_left s o h =
     λ i. record {
-      member = (terminalOf s).member;
-      kept = (terminalOf s).kept;
-      reset = (terminalOf s).reset;
-      sequencing = (terminalOf s).sequencing;
-      frozen = (terminalOf s).frozen;
+      member = (terminal_of s).member;
+      kept = (terminal_of s).kept;
+      reset = (terminal_of s).reset;
+      sequencing = (terminal_of s).sequencing;
+      frozen = (terminal_of s).frozen;
       sequencer = sym h i;
     }
 
 module _ (s : Stored) (call : Terminal → SequencerOutcome) where
-  pub odd_refused : (before : List ℕ) → flagsSound s.head ≡ false → Ordered (promise.ordered call (view_of s)) notSound s before before
+  pub odd_refused : (before : List ℕ) → flags_sound s.head ≡ false → Ordered (promise.ordered call (view_of s)) not_sound s before before
   unfolding promise.ordered
   odd_refused before f =
-      let v = odd-as s f in
-      subst (λ (x : View). Ordered (promise.ordered call x) notSound s before before) (sym v) (record { answer = refl; state = v; lent = refl; wording = refl })
+      let v = odd_as s f in
+      subst (λ (x : View). Ordered (promise.ordered call x) not_sound s before before) (sym v) (record { answer = refl; state = v; lent = refl; wording = refl })
 
-  pub sequencer-told : (o : sequencer.Outcome) {reply : sequencerReply.Reply} {before after : List ℕ} → flagsSound s.head ≡ true
-      → o.sequencer ≡ sequencerView.view_of (sequencerIn s) → call (terminalOf s) ≡ ordered (terminalOf s) o → sequencerPromise.Told o reply before after
+  pub sequencer_told_lem : (o : sequencer.Outcome) {reply : sequencerReply.Reply} {before after : List ℕ} → flags_sound s.head ≡ true
+      → o.sequencer ≡ sequencerView.view_of (sequencer_in s) → call (terminal_of s) ≡ ordered (terminal_of s) o → sequencerPromise.Told o reply before after
       → Ordered (promise.ordered call (view_of s)) reply s before after
   unfolding promise.ordered
-  sequencer-told o {reply} {before} {after} f h c p =
+  sequencer_told_lem o {reply} {before} {after} f h c p =
       let v = seen_as s f in
       subst (λ (x : View). Ordered (promise.ordered call x) reply s before after) (sym v)
       (subst (λ (x : SequencerOutcome). Ordered (record { view = seen x.terminal; answer = x.answer; bytes = x.bytes }) reply s before after) (sym c)
-      (record { answer = p.answer; state = v ∙ ap seen (sequencer-left s o h); lent = p.lent; wording = p.wording }))
+      (record { answer = p.answer; state = v ∙ ap seen (sequencer_left s o h); lent = p.lent; wording = p.wording }))
 
 module _ (s : Stored) (before after : List ℕ) (reply : sequencerReply.Reply) where
-  pub poll-told : flagsSound s.head ≡ true → sequencerPromise.Polled (sequencerIn s) before reply after → promise.Polled s before reply s after
-  unfolding pollOf terminalOf
-  poll-told f p = sequencer-told s (λ t. pollOf t (length before)) _ f (poll-leaves (sequencerView.view_of (sequencerIn s)) (length before)) refl p
+  pub poll_told : flags_sound s.head ≡ true → sequencerPromise.Polled (sequencer_in s) before reply after → promise.Polled s before reply s after
+  unfolding poll_of terminal_of
+  poll_told f p = sequencer_told_lem s (λ t. poll_of t (length before)) _ f (poll_leaves (sequencerView.view_of (sequencer_in s)) (length before)) refl p
 
-  pub copy_told : (number : SequenceNumber) → flagsSound s.head ≡ true → sequencerPromise.Copied (sequencerIn s) number before reply after → promise.Copied s number before reply s after
-  unfolding copy_of terminalOf
-  copy_told number f p = sequencer-told s (λ t. copy_of t number (length before)) _ f (copy-leaves (sequencerView.view_of (sequencerIn s)) number (length before)) refl p
+  pub copy_told : (number : SequenceNumber) → flags_sound s.head ≡ true → sequencerPromise.Copied (sequencer_in s) number before reply after → promise.Copied s number before reply s after
+  unfolding copy_of terminal_of
+  copy_told number f p = sequencer_told_lem s (λ t. copy_of t number (length before)) _ f (copy_leaves (sequencerView.view_of (sequencer_in s)) number (length before)) refl p

@@ -1,63 +1,63 @@
 -- When a state of a terminal is sound: question 1, sentence by sentence.
 use Rattle.std.specs.Prelude.{Bool, true, false, List, ℕ, ◌-◌, get_or}
 use Rattle.group.specs.Choice.{if◌then◌else◌, ◌and◌, ◌<?◌, ◌≤?◌, ◌=?◌}
-use Rattle.group.specs.Fold.{all, allAbove}
-use Rattle.group.specs.Limits.{placesMost, payloadMost}
-use Rattle.group.specs.Members.{isIn, isWithin, all_of}
-use Rattle.message.specs.Message.{Message, zeroBehind, is_empty}
+use Rattle.group.specs.Fold.{all, all_above}
+use Rattle.group.specs.Limits.{places_most, payload_most}
+use Rattle.group.specs.Members.{is_in, is_within, all_of}
+use Rattle.message.specs.Message.{Message, zero_behind, is_empty}
 use Rattle.history.specs.State as history
 use Rattle.history.specs.State.{Acknowledgement}
 use Rattle.member.specs.Sound as member
 use Rattle.member.specs.State.{Member}
 use Rattle.sequencer.specs.Sound as sequencer
 use Rattle.sequencer.specs.State.{Sequencer}
-use Rattle.recovery.specs.State.{Kept, Reset, Terminal, serves, replyNumber}
+use Rattle.recovery.specs.State.{Kept, Reset, Terminal, serves, reply_number}
 
 -- a message among the last taken: originator below n, count from 1 to that originator's highest, length at most 240, and every unused
 -- byte zero
-unfoldable pub pastSound : ℕ → List ℕ → Message → Bool
-pastSound n counts m =
+unfoldable pub past_sound : ℕ → List ℕ → Message → Bool
+past_sound n counts m =
     m.originator.0 <? n
     and 1 ≤? m.count
     and m.count ≤? get_or counts m.originator.0 0
-    and m.length ≤? payloadMost
-    and zeroBehind m
+    and m.length ≤? payload_most
+    and zero_behind m
 
 -- of the 32 numbers above t - 32, or above 0: one up to t lies in its place, and the place of another is zero
-unfoldable pub pastPlaceSound : ℕ → ℕ → Kept → ℕ → Bool
-pastPlaceSound n taken kept number =
-    if number ≤? taken then pastSound n kept.counts (history.messageAt kept.past number) else
-    is_empty (history.messageAt kept.past number)
+unfoldable pub past_place_sound : ℕ → ℕ → Kept → ℕ → Bool
+past_place_sound n taken kept number =
+    if number ≤? taken then past_sound n kept.counts (history.message_at kept.past number) else
+    is_empty (history.message_at kept.past number)
 
 -- the counts from n on are zero, and the 32 places hold the last numbers up to t
-unfoldable pub keptSound : ℕ → ℕ → Kept → Bool
-keptSound n taken kept =
+unfoldable pub kept_sound : ℕ → ℕ → Kept → Bool
+kept_sound n taken kept =
     all (λ i c. if i <? n then true else c =? 0) 0 kept.counts
-    and allAbove (pastPlaceSound n taken kept) (taken - placesMost) placesMost
+    and all_above (past_place_sound n taken kept) (taken - places_most) places_most
 
 -- its part in a reset: its own invitation is open only with a reply open, itself among the repliers with that number; repliers are
 -- members; who did not reply has no number; and what is not open is zero
-unfoldable pub resetSound : Member → Reset → Bool
-resetSound m r =
+unfoldable pub reset_sound : Member → Reset → Bool
+reset_sound m r =
     (if r.replied then true else (r.attempt =? 0 and r.number.0 =? 0))
     and (if r.inviting
     then (r.replied
-    and isIn r.repliers m.number.0
+    and is_in r.repliers m.number.0
     and get_or r.replies m.number.0 0 =? r.number.0
-    and isWithin r.repliers (all_of m.group.n))
+    and is_within r.repliers (all_of m.group.n))
     else (r.invited =? 0 and r.repliers =? 0))
-    and all (λ i number. if isIn r.repliers i then true else number =? 0) 0 r.replies
+    and all (λ i number. if is_in r.repliers i then true else number =? 0) 0 r.replies
 
 -- the member's end: the member, what it keeps, and its part in a reset
-unfoldable pub memberSound : Terminal → Bool
-memberSound t =
-    member.soundOf t.member
-    and keptSound t.member.group.n t.member.taken.0 t.kept
-    and resetSound t.member t.reset
+unfoldable pub member_sound : Terminal → Bool
+member_sound t =
+    member.sound_of t.member
+    and kept_sound t.member.group.n t.member.taken.0 t.kept
+    and reset_sound t.member t.reset
 
 -- a sequencer that is not there is all zero
-unfoldable pub zeroSequencer : Sequencer → Bool
-zeroSequencer s =
+unfoldable pub zero_sequencer : Sequencer → Bool
+zero_sequencer s =
     s.group.n =? 0
     and s.group.resilience =? 0
     and s.group.survivors =? 0
@@ -71,18 +71,18 @@ zeroSequencer s =
     and all (λ i mark. mark =? 0) 0 s.marks
 
 -- the sequencer's end: sound, of a group of as many members; or not there
-unfoldable pub sequencerSound : Terminal → Bool
-sequencerSound t =
-    if t.sequencing then (sequencer.soundOf t.sequencer and t.sequencer.group.n =? t.member.group.n) else
-    (zeroSequencer t.sequencer and (if t.frozen then false else true))
+unfoldable pub sequencer_sound : Terminal → Bool
+sequencer_sound t =
+    if t.sequencing then (sequencer.sound_of t.sequencer and t.sequencer.group.n =? t.member.group.n) else
+    (zero_sequencer t.sequencer and (if t.frozen then false else true))
 
 -- with a reply open its number is what it would reply now, and its group's sequencer is frozen
-unfoldable pub replySound : Terminal → Bool
-replySound t =
+unfoldable pub reply_sound : Terminal → Bool
+reply_sound t =
     if t.reset.replied
-    then (t.reset.number.0 =? replyNumber t and (if serves t then t.frozen else true))
+    then (t.reset.number.0 =? reply_number t and (if serves t then t.frozen else true))
     else true
 
 -- both ends are, and they agree
-unfoldable pub terminalSound : Terminal → Bool
-terminalSound t = memberSound t and sequencerSound t and replySound t
+unfoldable pub terminal_sound : Terminal → Bool
+terminal_sound t = member_sound t and sequencer_sound t and reply_sound t

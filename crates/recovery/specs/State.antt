@@ -1,15 +1,15 @@
 -- What a terminal holds: its member, what it keeps to begin a group with, its part in a reset, and its sequencer, if it has one.
 use Rattle.std.specs.Prelude.{Bool, false, List, ℕ, zero, suc, ◌+◌, ◌-◌, get_or, set, replicate}
 use Rattle.group.specs.Choice.{if◌then◌else◌, ◌and◌, ◌≤?◌, ◌=?◌}
-use Rattle.group.specs.Limits.{membersMost, placesMost}
-use Rattle.group.specs.Opening.{descriptionOf}
+use Rattle.group.specs.Limits.{members_most, places_most}
+use Rattle.group.specs.Opening.{description_of}
 use Rattle.group.specs.declared.SequenceNumber.{SequenceNumber}
-use Rattle.message.specs.Message.{Message, emptyMessage}
+use Rattle.message.specs.Message.{Message, empty_message}
 use Rattle.history.specs.State as history
 use Rattle.window.specs.Places as window
-use Rattle.window.specs.Places.{largerOf, smallerOf}
-use Rattle.member.specs.State.{Member, reachOf}
-use Rattle.sequencer.specs.State.{Sequencer, freshSequencer}
+use Rattle.window.specs.Places.{larger_of, smaller_of}
+use Rattle.member.specs.State.{Member, reach_of}
+use Rattle.sequencer.specs.State.{Sequencer, fresh_sequencer}
 
 -- the highest floor that it read; the last 32 messages that it took, number s in place s modulo 32; each originator's highest count among
 -- all that it took
@@ -39,8 +39,8 @@ pub record Terminal : Type 0 where
   pub sequencer : Sequencer
 
 -- no part in a reset
-abbrev pub noReset : Reset
-noReset =
+abbrev pub no_reset : Reset
+no_reset =
     record {
       replied = false;
       attempt = 0;
@@ -48,45 +48,45 @@ noReset =
       inviting = false;
       invited = 0;
       repliers = 0;
-      replies = replicate membersMost 0;
+      replies = replicate members_most 0;
     }
 
 -- fresh: nothing read, nothing taken
-abbrev pub freshKept : Kept
-freshKept = record { read = record { 0 = 0 }; past = replicate placesMost emptyMessage; counts = replicate membersMost 0 }
+abbrev pub fresh_kept : Kept
+fresh_kept = record { read = record { 0 = 0 }; past = replicate places_most empty_message; counts = replicate members_most 0 }
 
 -- a terminal without a sequencer has one that is all zero
-abbrev pub noSequencer : Sequencer
-noSequencer =
-    freshSequencer (record { n = 0; resilience = 0; survivors = 0; elected = record { 0 = 0 }; number = 0 })
+abbrev pub no_sequencer : Sequencer
+no_sequencer =
+    fresh_sequencer (record { n = 0; resilience = 0; survivors = 0; elected = record { 0 = 0 }; number = 0 })
 
 -- its sequencer is its member's group's
 abbrev pub serves : Terminal → Bool
 serves t = t.sequencing and t.sequencer.group.number =? t.member.group.number
 
 -- what it replies to an invitation with: its group's sequencer with top, else its member with its reach
-unfoldable pub replyNumber : Terminal → ℕ
-replyNumber t = if serves t then t.sequencer.top.0 else reachOf t.member
+unfoldable pub reply_number : Terminal → ℕ
+reply_number t = if serves t then t.sequencer.top.0 else reach_of t.member
 
 -- the member's floor: the highest it read, but at least reach - 32 and at most reach
-unfoldable pub keptFloor : Terminal → ℕ
-keptFloor t = smallerOf (largerOf t.kept.read.0 (reachOf t.member - placesMost)) (reachOf t.member)
+unfoldable pub kept_floor : Terminal → ℕ
+kept_floor t = smaller_of (larger_of t.kept.read.0 (reach_of t.member - places_most)) (reach_of t.member)
 
 -- the message of a number above its floor, up to its reach: among the last 32 taken, or held
-unfoldable pub messageOfNumber : Terminal → ℕ → Message
-messageOfNumber t number =
-    if number ≤? t.member.taken.0 then history.messageAt t.kept.past number else
-    window.messageAt t.member.held number
+unfoldable pub message_of_number : Terminal → ℕ → Message
+message_of_number t number =
+    if number ≤? t.member.taken.0 then history.message_at t.kept.past number else
+    window.message_at t.member.held number
 
 -- counts with a message's: its originator's is the highest of both
 unfoldable pub counted : List ℕ → Message → List ℕ
-counted counts m = set counts m.originator.0 (largerOf (get_or counts m.originator.0 0) m.count)
+counted counts m = set counts m.originator.0 (larger_of (get_or counts m.originator.0 0) m.count)
 
 -- and with those of the k held numbers above t
-unfoldable pub countedRow : List ℕ → List Message → ℕ → ℕ → List ℕ
-countedRow counts held t zero = counts
-countedRow counts held t (suc k) = counted (countedRow counts held t k) (window.messageAt held (t + suc k))
+unfoldable pub counted_row : List ℕ → List Message → ℕ → ℕ → List ℕ
+counted_row counts held t zero = counts
+counted_row counts held t (suc k) = counted (counted_row counts held t k) (window.message_at held (t + suc k))
 
 -- each originator's highest count up to its reach
-unfoldable pub countsOf : Terminal → List ℕ
-countsOf t = countedRow t.kept.counts t.member.held t.member.taken.0 (reachOf t.member - t.member.taken.0)
+unfoldable pub counts_of : Terminal → List ℕ
+counts_of t = counted_row t.kept.counts t.member.held t.member.taken.0 (reach_of t.member - t.member.taken.0)

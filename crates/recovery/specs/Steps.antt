@@ -2,47 +2,47 @@
 use Rattle.std.specs.Prelude.{Bool, true, false, List, [], ◌∷◌, ℕ, zero, suc, ◌+◌, ◌-◌, ◌*◌, ◌≤◌, length, get_or, set, replicate, ◌≡◌}
 use Rattle.group.specs.Choice.{if◌then◌else◌, ◌and◌, ◌<?◌, ◌≤?◌, ◌=?◌}
 use Rattle.group.specs.Fold.{all}
-use Rattle.group.specs.Limits.{membersMost, placesMost, heldMost, payloadMost, largestNumber}
-use Rattle.group.specs.Members.{isIn, isWithin, all_of}
+use Rattle.group.specs.Limits.{members_most, places_most, held_most, payload_most, largest_number}
+use Rattle.group.specs.Members.{is_in, is_within, all_of}
 use Rattle.group.specs.declared.Group.{Group}
 use Rattle.message.specs.Message.{Message, blank}
-use Rattle.store.specs.Places.{messagesIn}
+use Rattle.store.specs.Places.{messages_in}
 use Rattle.history.specs.State as history
-use Rattle.window.specs.Places.{place_of, largerOf, smallerOf}
-use Rattle.window.specs.Steps.{rowCounted}
-use Rattle.sequencer.specs.Sound.{soundOf}
+use Rattle.window.specs.Places.{place_of, larger_of, smaller_of}
+use Rattle.window.specs.Steps.{row_counted}
+use Rattle.sequencer.specs.Sound.{sound_of}
 use Rattle.sequencer.specs.State.{Sequencer}
-use Rattle.member.specs.Steps.{emptyHanded}
+use Rattle.member.specs.Steps.{empty_handed}
 use Rattle.member.specs.declared.Head as member
 use Rattle.sequencer.specs.declared.Head as sequencer
-use Rattle.recovery.specs.Sound.{keptSound, resetSound, zeroSequencer}
+use Rattle.recovery.specs.Sound.{kept_sound, reset_sound, zero_sequencer}
 use Rattle.recovery.specs.State.{Kept}
-use Rattle.recovery.specs.View.{resetIn, keptIn, flagsSound}
+use Rattle.recovery.specs.View.{reset_in, kept_in, flags_sound}
 use Rattle.recovery.specs.declared.Head.{Head}
 
 -- the counts from n on are zero; who did not reply has no number
-abbrev pub highestSound : ℕ → List ℕ → Bool
-highestSound n highest = all (λ i c. if i <? n then true else c =? 0) 0 highest
+abbrev pub highest_sound : ℕ → List ℕ → Bool
+highest_sound n highest = all (λ i c. if i <? n then true else c =? 0) 0 highest
 
-abbrev pub repliesSound : ℕ → List ℕ → Bool
-repliesSound repliers replies = all (λ i number. if isIn repliers i then true else number =? 0) 0 replies
+abbrev pub replies_sound : ℕ → List ℕ → Bool
+replies_sound repliers replies = all (λ i number. if is_in repliers i then true else number =? 0) 0 replies
 
 -- what is not open of a reply is zero; its own invitation is open only with a reply open, itself among the repliers
-unfoldable pub idleSound : Head → Bool
-idleSound head = if head.replied =? 1 then true else (head.attempt =? 0 and head.number.0 =? 0)
+unfoldable pub idle_sound : Head → Bool
+idle_sound head = if head.replied =? 1 then true else (head.attempt =? 0 and head.number.0 =? 0)
 
-unfoldable pub invitationSound : Head → List ℕ → Bool
-invitationSound head replies =
+unfoldable pub invitation_sound : Head → List ℕ → Bool
+invitation_sound head replies =
     if head.inviting =? 1
     then (head.replied =? 1
-    and isIn head.repliers head.member.number.0
+    and is_in head.repliers head.member.number.0
     and get_or replies head.member.number.0 0 =? head.number.0
-    and isWithin head.repliers (all_of head.member.group.n))
+    and is_within head.repliers (all_of head.member.group.n))
     else (head.invited =? 0 and head.repliers =? 0)
 
 -- all numbers of a group's description are zero
-unfoldable pub groupZero : Group → Bool
-groupZero group =
+unfoldable pub group_zero : Group → Bool
+group_zero group =
     group.n =? 0
     and group.resilience =? 0
     and group.survivors =? 0
@@ -50,66 +50,66 @@ groupZero group =
     and group.number =? 0
 
 -- the member's end beside the member: flags, what it keeps, and its part in a reset, in a group of at most 16
-unfoldable pub besideSound : Head → Kept → List ℕ → Bool
-besideSound head kept replies =
-    flagsSound head
-    and head.member.group.n ≤? membersMost
-    and keptSound head.member.group.n head.member.taken.0 kept
-    and resetSound (emptyHanded head.member) (resetIn head replies)
+unfoldable pub beside_sound : Head → Kept → List ℕ → Bool
+beside_sound head kept replies =
+    flags_sound head
+    and head.member.group.n ≤? members_most
+    and kept_sound head.member.group.n head.member.taken.0 kept
+    and reset_sound (empty_handed head.member) (reset_in head replies)
 
 -- its reach, by the counts of the places
-abbrev pub reachIn : Head → List ℕ → ℕ
-reachIn head held = rowCounted held head.member.taken.0 (smallerOf largestNumber (head.member.taken.0 + heldMost))
+abbrev pub reach_in : Head → List ℕ → ℕ
+reach_in head held = row_counted held head.member.taken.0 (smaller_of largest_number (head.member.taken.0 + held_most))
 
 -- its sequencer is its member's group's
-abbrev pub servesIn : Head → Bool
-servesIn head = head.sequencing =? 1 and head.sequencer.group.number =? head.member.group.number
+abbrev pub serves_in : Head → Bool
+serves_in head = head.sequencing =? 1 and head.sequencer.group.number =? head.member.group.number
 
 -- what it replies with, and the member's floor
-unfoldable pub replyIn : Head → List ℕ → ℕ
-replyIn head held = if servesIn head then head.sequencer.top.0 else reachIn head held
+unfoldable pub reply_in : Head → List ℕ → ℕ
+reply_in head held = if serves_in head then head.sequencer.top.0 else reach_in head held
 
-unfoldable pub keptFloorIn : Head → List ℕ → ℕ
-keptFloorIn head held = smallerOf (largerOf head.read.0 (reachIn head held - placesMost)) (reachIn head held)
+unfoldable pub kept_floor_in : Head → List ℕ → ℕ
+kept_floor_in head held = smaller_of (larger_of head.read.0 (reach_in head held - places_most)) (reach_in head held)
 
 -- with a reply open its number is what it would reply now, and its group's sequencer is frozen
-unfoldable pub replySoundIn : Head → List ℕ → Bool
-replySoundIn head held =
+unfoldable pub reply_sound_in : Head → List ℕ → Bool
+reply_sound_in head held =
     if head.replied =? 1
-    then (head.number.0 =? replyIn head held and (if servesIn head then head.frozen =? 1 else true))
+    then (head.number.0 =? reply_in head held and (if serves_in head then head.frozen =? 1 else true))
     else true
 
 -- the first k members' acknowledgements start at floor, or at zero for who is lost
-unfoldable pub startsOf : List ℕ → ℕ → ℕ → ℕ → List ℕ
-startsOf taken survivors floor zero = taken
-startsOf taken survivors floor (suc k) = set (startsOf taken survivors floor k) k (if isIn survivors k then floor else 0)
+unfoldable pub starts_of : List ℕ → ℕ → ℕ → ℕ → List ℕ
+starts_of taken survivors floor zero = taken
+starts_of taken survivors floor (suc k) = set (starts_of taken survivors floor k) k (if is_in survivors k then floor else 0)
 
 -- the message of a number above floor: among those taken up to t, or held
-unfoldable pub messageFrom : List Message → List Message → ℕ → ℕ → Message
-messageFrom past held t number = if number ≤? t then history.messageAt past number else get_or held (place_of number) blank
+unfoldable pub message_from : List Message → List Message → ℕ → ℕ → Message
+message_from past held t number = if number ≤? t then history.message_at past number else get_or held (place_of number) blank
 
 -- a history with those of the k numbers above floor in their places
-unfoldable pub filledOf : List Message → List Message → List Message → ℕ → ℕ → ℕ → List Message
-filledOf kept past held t floor zero = kept
-filledOf kept past held t floor (suc k) =
-    set (filledOf kept past held t floor k) (history.place_of (floor + suc k)) (messageFrom past held t (floor + suc k))
+unfoldable pub filled_of : List Message → List Message → List Message → ℕ → ℕ → ℕ → List Message
+filled_of kept past held t floor zero = kept
+filled_of kept past held t floor (suc k) =
+    set (filled_of kept past held t floor k) (history.place_of (floor + suc k)) (message_from past held t (floor + suc k))
 
 -- the sequencer's end, of a head and of a sequencer
-unfoldable pub sequencerSoundIn : Head → Sequencer → Bool
-sequencerSoundIn head s =
-    if head.sequencing =? 1 then (soundOf s and s.group.n =? head.member.group.n) else
-    (zeroSequencer s and (if head.frozen =? 1 then false else true))
+unfoldable pub sequencer_sound_in : Head → Sequencer → Bool
+sequencer_sound_in head s =
+    if head.sequencing =? 1 then (sound_of s and s.group.n =? head.member.group.n) else
+    (zero_sequencer s and (if head.frozen =? 1 then false else true))
 
 -- arrays of the places of what is held
 pub record Held (held originators lengths payloads : List ℕ) : Type 0 where
-  pub held-size : length held ≡ heldMost
-  pub originators-size : length originators ≡ heldMost
-  pub lengths-size : length lengths ≡ heldMost
-  pub payloads-size : length payloads ≡ heldMost * payloadMost
+  pub held_size : length held ≡ held_most
+  pub originators_size : length originators ≡ held_most
+  pub lengths_size : length lengths ≡ held_most
+  pub payloads_size : length payloads ≡ held_most * payload_most
 
 -- a head with its member's, or its sequencer's, replaced
-abbrev pub withMemberHead : Head → member.Head → Head
-withMemberHead head m =
+abbrev pub with_member_head : Head → member.Head → Head
+with_member_head head m =
     record {
       member = m;
       sequencer = head.sequencer;
@@ -124,8 +124,8 @@ withMemberHead head m =
       frozen = head.frozen;
     }
 
-abbrev pub withSequencerHead : Head → sequencer.Head → Head
-withSequencerHead head s =
+abbrev pub with_sequencer_head : Head → sequencer.Head → Head
+with_sequencer_head head s =
     record {
       member = head.member;
       sequencer = s;

@@ -2,8 +2,8 @@
 -- heads among them, and arrays.
 use Rattle.std.specs.Prelude.{◌≡◌, Bool, List, ℕ, length}
 use Rattle.group.specs.Choice.{if◌then◌else◌, ◌and◌, ◌≤?◌, ◌=?◌}
-use Rattle.group.specs.Limits.{membersMost}
-use Rattle.store.specs.Places.{messagesIn}
+use Rattle.group.specs.Limits.{members_most}
+use Rattle.store.specs.Places.{messages_in}
 use Rattle.history.specs.View.{Places}
 use Rattle.member.specs.View as member
 use Rattle.sequencer.specs.View as sequencer
@@ -66,21 +66,21 @@ whole head queued held queued_originators queued_lengths held_originators held_l
     }
 
 -- the member's parts, and the sequencer's
-abbrev pub memberIn : Stored → member.Stored
-memberIn s =
+abbrev pub member_in : Stored → member.Stored
+member_in s =
     member.whole s.head.member s.queued s.held s.queued_originators s.queued_lengths s.held_originators s.held_lengths s.queued_payloads s.held_payloads
 
-abbrev pub sequencerIn : Stored → sequencer.Stored
-sequencerIn s =
+abbrev pub sequencer_in : Stored → sequencer.Stored
+sequencer_in s =
     sequencer.whole s.head.sequencer s.taken s.counts s.repeats s.kept s.marks s.originators s.lengths s.payloads
 
 -- what it keeps, and its part in a reset: a flag is set if it is 1
-abbrev pub keptIn : Head → List ℕ → List ℕ → List ℕ → List ℕ → List ℕ → Kept
-keptIn head past past_originators past_lengths past_payloads highest =
-    record { read = head.read; past = messagesIn past past_originators past_lengths past_payloads; counts = highest }
+abbrev pub kept_in : Head → List ℕ → List ℕ → List ℕ → List ℕ → List ℕ → Kept
+kept_in head past past_originators past_lengths past_payloads highest =
+    record { read = head.read; past = messages_in past past_originators past_lengths past_payloads; counts = highest }
 
-abbrev pub resetIn : Head → List ℕ → Reset
-resetIn head replies =
+abbrev pub reset_in : Head → List ℕ → Reset
+reset_in head replies =
     record {
       replied = head.replied =? 1;
       attempt = head.attempt;
@@ -92,20 +92,20 @@ resetIn head replies =
     }
 
 -- the terminal
-unfoldable pub terminalOf : Stored → Terminal
-terminalOf s =
+unfoldable pub terminal_of : Stored → Terminal
+terminal_of s =
     record {
-      member = member.view_of (memberIn s);
-      kept = keptIn s.head s.past s.past_originators s.past_lengths s.past_payloads s.highest;
-      reset = resetIn s.head s.replies;
+      member = member.view_of (member_in s);
+      kept = kept_in s.head s.past s.past_originators s.past_lengths s.past_payloads s.highest;
+      reset = reset_in s.head s.replies;
       sequencing = s.head.sequencing =? 1;
       frozen = s.head.frozen =? 1;
-      sequencer = sequencer.view_of (sequencerIn s);
+      sequencer = sequencer.view_of (sequencer_in s);
     }
 
 -- each flag is 0 or 1
-unfoldable pub flagsSound : Head → Bool
-flagsSound head = head.replied ≤? 1 and head.inviting ≤? 1 and head.sequencing ≤? 1 and head.frozen ≤? 1
+unfoldable pub flags_sound : Head → Bool
+flags_sound head = head.replied ≤? 1 and head.inviting ≤? 1 and head.sequencing ≤? 1 and head.frozen ≤? 1
 
 -- what is seen of the parts: a terminal; or, where a flag is neither 0 nor 1, the parts as they are, which no call changes
 pub data View : Type 0 where
@@ -113,15 +113,15 @@ pub data View : Type 0 where
   odd : Stored → View
 
 unfoldable pub view_of : Stored → View
-view_of s = if flagsSound s.head then seen (terminalOf s) else odd s
+view_of s = if flags_sound s.head then seen (terminal_of s) else odd s
 
 -- arrays of the lengths that they are declared with
 pub record Sized (s : Stored) : Type 0 where
-  pub member : member.Sized (memberIn s)
+  pub member : member.Sized (member_in s)
   pub past : Places s.past s.past_originators s.past_lengths s.past_payloads
-  pub highest-size : length s.highest ≡ membersMost
-  pub replies-size : length s.replies ≡ membersMost
-  pub sequencer : sequencer.Fits (sequencerIn s)
+  pub highest_size : length s.highest ≡ members_most
+  pub replies_size : length s.replies ≡ members_most
+  pub sequencer : sequencer.Fits (sequencer_in s)
 
 -- the view loses nothing
 abbrev pub ViewWhole : Type 0

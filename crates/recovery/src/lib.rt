@@ -2,20 +2,20 @@
 // The work of each call is lent its state in parts: the numbers of its head by value, and all arrays.
 ghost use Rattle.std.specs.Prelude.{◌≡◌, true, ◌+◌, ◌-◌, ◌*◌, ◌^◌, ◌≤◌, ◌<◌, length, get_or, set, replicate};
 ghost use Rattle.group.specs.Choice.{if◌then◌else◌, ◌and◌, ◌<?◌, ◌≤?◌, ◌=?◌};
-ghost use Rattle.group.specs.Limits.{membersMost, placesMost, heldMost, payloadMost};
-ghost use Rattle.group.specs.Members.{isIn, isWithin, all_of, lowest};
-ghost use Rattle.message.specs.Message.{emptyMessage};
-ghost use Rattle.store.specs.Places.{messagesIn, messageIn, part_of, Lies};
+ghost use Rattle.group.specs.Limits.{members_most, places_most, held_most, payload_most};
+ghost use Rattle.group.specs.Members.{is_in, is_within, all_of, lowest};
+ghost use Rattle.message.specs.Message.{empty_message};
+ghost use Rattle.store.specs.Places.{messages_in, message_in, part_of, Lies};
 ghost use Rattle.history.specs.State.{place_of};
 ghost use Rattle.history.specs.View.{Places, listed};
-ghost use Rattle.window.specs.Places.{largerOf};
-ghost use Rattle.member.specs.Steps.{emptyHanded};
+ghost use Rattle.window.specs.Places.{larger_of};
+ghost use Rattle.member.specs.Steps.{empty_handed};
 ghost use Rattle.sequencer.specs.View as sequencer;
-ghost use Rattle.recovery.specs.Begin.{highestOf, holdersOf, droppedOf};
-ghost use Rattle.recovery.specs.Sound.{keptSound, resetSound, zeroSequencer};
-ghost use Rattle.recovery.specs.State.{countedRow};
-ghost use Rattle.recovery.specs.Steps.{highestSound, repliesSound, idleSound, invitationSound, groupZero, besideSound, reachIn, servesIn, replyIn, keptFloorIn, replySoundIn, startsOf, messageFrom, filledOf, Held};
-ghost use Rattle.recovery.specs.View.{keptIn, resetIn, flagsSound};
+ghost use Rattle.recovery.specs.Begin.{highest_of, holders_of, dropped_of};
+ghost use Rattle.recovery.specs.Sound.{kept_sound, reset_sound, zero_sequencer};
+ghost use Rattle.recovery.specs.State.{counted_row};
+ghost use Rattle.recovery.specs.Steps.{highest_sound, replies_sound, idle_sound, invitation_sound, group_zero, beside_sound, reach_in, serves_in, reply_in, kept_floor_in, reply_sound_in, starts_of, message_from, filled_of, Held};
+ghost use Rattle.recovery.specs.View.{kept_in, reset_in, flags_sound};
 
 use group::{Group, MemberNumber, SequenceNumber};
 
@@ -40,7 +40,7 @@ pub struct Head {
 
 // Whether each flag is 0 or 1.
 pub fn flags_sound(head: Head) -> bool
-    ensures { result ≡ flagsSound head }
+    ensures { result ≡ flags_sound head }
 {
     if 1 < head.replied {
         return false;
@@ -65,8 +65,8 @@ fn count_sound(n: u8, i: usize, count: u32) -> bool
 }
 
 fn highest_sound(n: u8, highest: &[u32]) -> bool
-    requires { length highest.now ≡ membersMost }
-    ensures { result ≡ highestSound n highest.now }
+    requires { length highest.now ≡ members_most }
+    ensures { result ≡ highest_sound n highest.now }
 {
     let mut i: usize = 0;
     while i < Group::MEMBERS {
@@ -81,7 +81,7 @@ fn highest_sound(n: u8, highest: &[u32]) -> bool
 
 // The number 32 below one; 0 where there is none.
 fn behind(number: SequenceNumber) -> SequenceNumber
-    ensures { result.0 ≡ number.0 - placesMost }
+    ensures { result.0 ≡ number.0 - places_most }
 {
     let most = Group::PLACES as u32;
     if number.0 < most {
@@ -99,8 +99,8 @@ fn kept_sound(
     past_payloads: &[u8],
     highest: &[u32],
 ) -> bool
-    requires { (head.member.group.n ≤ membersMost) × Places past.now past_originators.now past_lengths.now past_payloads.now × (length highest.now ≡ membersMost) }
-    ensures { result ≡ keptSound head.member.group.n head.member.taken.0 (keptIn head past.now past_originators.now past_lengths.now past_payloads.now highest.now) }
+    requires { (head.member.group.n ≤ members_most) × Places past.now past_originators.now past_lengths.now past_payloads.now × (length highest.now ≡ members_most) }
+    ensures { result ≡ kept_sound head.member.group.n head.member.taken.0 (kept_in head past.now past_originators.now past_lengths.now past_payloads.now highest.now) }
 {
     let n = head.member.group.n;
     let taken = head.member.taken;
@@ -122,8 +122,8 @@ fn kept_sound(
 
 // Whether the number of who did not reply is zero.
 fn reply_silent(repliers: u16, i: usize, number: u32) -> bool
-    requires { i < membersMost }
-    ensures { result ≡ (if isIn repliers i then true else number =? 0) }
+    requires { i < members_most }
+    ensures { result ≡ (if is_in repliers i then true else number =? 0) }
 {
     if group::is_in(repliers, MemberNumber(i as u8)) {
         return true;
@@ -132,8 +132,8 @@ fn reply_silent(repliers: u16, i: usize, number: u32) -> bool
 }
 
 fn replies_sound(repliers: u16, replies: &[u32]) -> bool
-    requires { length replies.now ≡ membersMost }
-    ensures { result ≡ repliesSound repliers replies.now }
+    requires { length replies.now ≡ members_most }
+    ensures { result ≡ replies_sound repliers replies.now }
 {
     let mut i: usize = 0;
     while i < Group::MEMBERS {
@@ -148,7 +148,7 @@ fn replies_sound(repliers: u16, replies: &[u32]) -> bool
 
 // The number that a member replied with; 0 of who is none.
 fn reply_of(replies: &[u32], member: MemberNumber) -> u32
-    requires { length replies.now ≡ membersMost }
+    requires { length replies.now ≡ members_most }
     ensures { result ≡ get_or replies.now member.0 0 }
 {
     let at = member.0 as usize;
@@ -160,7 +160,7 @@ fn reply_of(replies: &[u32], member: MemberNumber) -> u32
 
 // Whether nothing is left of a reply that is not open.
 fn idle_sound(head: Head) -> bool
-    ensures { result ≡ idleSound head }
+    ensures { result ≡ idle_sound head }
 {
     if head.replied == 1 {
         return true;
@@ -173,7 +173,7 @@ fn idle_sound(head: Head) -> bool
 
 // All of n members.
 fn members(n: u8) -> u16
-    requires { n ≤ membersMost }
+    requires { n ≤ members_most }
     ensures { result ≡ all_of n }
 {
     let all = (1u32 << (n as u32)) - 1;
@@ -182,8 +182,8 @@ fn members(n: u8) -> u16
 
 // Whether all of a mask are members of a group of n.
 pub fn are_members(mask: u16, n: u8) -> bool
-    requires { n ≤ membersMost }
-    ensures { result ≡ isWithin mask (all_of n) }
+    requires { n ≤ members_most }
+    ensures { result ≡ is_within mask (all_of n) }
 {
     let all = members(n);
     group::is_within(mask, all)
@@ -191,8 +191,8 @@ pub fn are_members(mask: u16, n: u8) -> bool
 
 // Whether an open invitation has its own reply among those of members; and nothing is left of one that is not open.
 fn invitation_sound(head: Head, replies: &[u32]) -> bool
-    requires { (head.member.group.n ≤ membersMost) × (length replies.now ≡ membersMost) }
-    ensures { result ≡ invitationSound head replies.now }
+    requires { (head.member.group.n ≤ members_most) × (length replies.now ≡ members_most) }
+    ensures { result ≡ invitation_sound head replies.now }
 {
     if head.inviting == 1 {
         if head.replied != 1 {
@@ -215,8 +215,8 @@ fn invitation_sound(head: Head, replies: &[u32]) -> bool
 
 // Whether the terminal's part in a reset is sound.
 fn reset_sound(head: Head, replies: &[u32]) -> bool
-    requires { (head.member.group.n ≤ membersMost) × (length replies.now ≡ membersMost) }
-    ensures { result ≡ resetSound (emptyHanded head.member) (resetIn head replies.now) }
+    requires { (head.member.group.n ≤ members_most) × (length replies.now ≡ members_most) }
+    ensures { result ≡ reset_sound (empty_handed head.member) (reset_in head replies.now) }
 {
     if idle_sound(head) {
         if invitation_sound(head, replies) {
@@ -237,8 +237,8 @@ pub fn beside_sound(
     highest: &[u32],
     replies: &[u32],
 ) -> bool
-    requires { Places past.now past_originators.now past_lengths.now past_payloads.now × (length highest.now ≡ membersMost) × (length replies.now ≡ membersMost) }
-    ensures { result ≡ besideSound head (keptIn head past.now past_originators.now past_lengths.now past_payloads.now highest.now) replies.now }
+    requires { Places past.now past_originators.now past_lengths.now past_payloads.now × (length highest.now ≡ members_most) × (length replies.now ≡ members_most) }
+    ensures { result ≡ beside_sound head (kept_in head past.now past_originators.now past_lengths.now past_payloads.now highest.now) replies.now }
 {
     if flags_sound(head) {
         if Group::MEMBERS < (head.member.group.n as usize) {
@@ -261,7 +261,7 @@ pub fn beside_sound(
 
 // Whether all numbers of a group's description are zero.
 fn group_zero(group: Group) -> bool
-    ensures { result ≡ groupZero group }
+    ensures { result ≡ group_zero group }
 {
     if group.n != 0 {
         return false;
@@ -291,7 +291,7 @@ pub fn no_sequencer(
     payloads: &[u8],
 ) -> bool
     requires { sequencer.Placed (sequencer.whole head taken.now counts.now repeats.now kept.now marks.now originators.now lengths.now payloads.now) }
-    ensures { result ≡ zeroSequencer (sequencer.view_of (sequencer.whole head taken.now counts.now repeats.now kept.now marks.now originators.now lengths.now payloads.now)) }
+    ensures { result ≡ zero_sequencer (sequencer.view_of (sequencer.whole head taken.now counts.now repeats.now kept.now marks.now originators.now lengths.now payloads.now)) }
 {
     let zero = SequenceNumber(0);
     let none = Group {
@@ -325,7 +325,7 @@ pub fn no_sequencer(
 
 // Whether its sequencer is its member's group's.
 pub fn serves(head: Head) -> bool
-    ensures { result ≡ servesIn head }
+    ensures { result ≡ serves_in head }
 {
     if head.sequencing == 1 {
         return head.sequencer.group.number == head.member.group.number;
@@ -335,8 +335,8 @@ pub fn serves(head: Head) -> bool
 
 // What it replies to an invitation with: its group's sequencer with top, else its member with its reach.
 pub fn reply_number(head: Head, held: &[u32]) -> SequenceNumber
-    requires { length held.now ≡ heldMost }
-    ensures { result.0 ≡ replyIn head held.now }
+    requires { length held.now ≡ held_most }
+    ensures { result.0 ≡ reply_in head held.now }
 {
     let reached = window::row_end(held, head.member.taken);
     if serves(head) {
@@ -347,8 +347,8 @@ pub fn reply_number(head: Head, held: &[u32]) -> SequenceNumber
 
 // The member's floor: the highest it read, but at least its reach less 32, and at most its reach.
 pub fn kept_floor(head: Head, held: &[u32]) -> SequenceNumber
-    requires { length held.now ≡ heldMost }
-    ensures { result.0 ≡ keptFloorIn head held.now }
+    requires { length held.now ≡ held_most }
+    ensures { result.0 ≡ kept_floor_in head held.now }
 {
     let reach = window::row_end(held, head.member.taken);
     let least = behind(reach);
@@ -358,8 +358,8 @@ pub fn kept_floor(head: Head, held: &[u32]) -> SequenceNumber
 
 // Whether with a reply open its number is what it would reply now, and its group's sequencer is frozen.
 pub fn reply_sound(head: Head, held: &[u32]) -> bool
-    requires { length held.now ≡ heldMost }
-    ensures { result ≡ replySoundIn head held.now }
+    requires { length held.now ≡ held_most }
+    ensures { result ≡ reply_sound_in head held.now }
 {
     if head.replied == 1 {
         if head.number.0 != reply_number(head, held).0 {
@@ -375,8 +375,8 @@ pub fn reply_sound(head: Head, held: &[u32]) -> bool
 
 // A replier's number; of another, 0.
 fn reply_counted(repliers: u16, i: usize, number: u32) -> u32
-    requires { i < membersMost }
-    ensures { result ≡ (if isIn repliers i then number else 0) }
+    requires { i < members_most }
+    ensures { result ≡ (if is_in repliers i then number else 0) }
 {
     if group::is_in(repliers, MemberNumber(i as u8)) {
         return number;
@@ -386,8 +386,8 @@ fn reply_counted(repliers: u16, i: usize, number: u32) -> u32
 
 // The highest number of those that replied.
 pub fn highest_reply(repliers: u16, replies: &[u32]) -> SequenceNumber
-    requires { length replies.now ≡ membersMost }
-    ensures { result.0 ≡ highestOf repliers 0 replies.now }
+    requires { length replies.now ≡ members_most }
+    ensures { result.0 ≡ highest_of repliers 0 replies.now }
 {
     let mut most: u32 = 0;
     let mut i: usize = Group::MEMBERS;
@@ -401,8 +401,8 @@ pub fn highest_reply(repliers: u16, replies: &[u32]) -> SequenceNumber
 
 // The mask of member i, if it replied with that number; else none.
 fn holder(repliers: u16, highest: SequenceNumber, i: usize, number: u32) -> u16
-    requires { i < membersMost }
-    ensures { result ≡ (if isIn repliers i and number =? highest.0 then 2 ^ i else 0) }
+    requires { i < members_most }
+    ensures { result ≡ (if is_in repliers i and number =? highest.0 then 2 ^ i else 0) }
 {
     if group::is_in(repliers, MemberNumber(i as u8)) {
         if number == highest.0 {
@@ -415,8 +415,8 @@ fn holder(repliers: u16, highest: SequenceNumber, i: usize, number: u32) -> u16
 
 // Those that replied with a number.
 fn holders(repliers: u16, highest: SequenceNumber, replies: &[u32]) -> u16
-    requires { length replies.now ≡ membersMost }
-    ensures { result ≡ holdersOf repliers highest.0 0 replies.now }
+    requires { length replies.now ≡ members_most }
+    ensures { result ≡ holders_of repliers highest.0 0 replies.now }
 {
     let mut found: u16 = 0;
     let mut i: usize = Group::MEMBERS;
@@ -430,8 +430,8 @@ fn holders(repliers: u16, highest: SequenceNumber, replies: &[u32]) -> u16
 
 // The lowest member number among those that replied with a number.
 pub fn lowest_holder(repliers: u16, highest: SequenceNumber, replies: &[u32]) -> MemberNumber
-    requires { length replies.now ≡ membersMost }
-    ensures { result.0 ≡ lowest (holdersOf repliers highest.0 0 replies.now) }
+    requires { length replies.now ≡ members_most }
+    ensures { result.0 ≡ lowest (holders_of repliers highest.0 0 replies.now) }
 {
     let found = holders(repliers, highest, replies);
     MemberNumber(u16::trailing_zeros(found) as u8)
@@ -439,8 +439,8 @@ pub fn lowest_holder(repliers: u16, highest: SequenceNumber, replies: &[u32]) ->
 
 // A message's count counts for its originator, if it is higher than what counts already.
 pub fn count_one(counts: &mut [u32], originator: u8, count: u32)
-    requires { length counts.old ≡ membersMost }
-    ensures { counts.new ≡ set counts.old originator (largerOf (get_or counts.old originator 0) count) }
+    requires { length counts.old ≡ members_most }
+    ensures { counts.new ≡ set counts.old originator (larger_of (get_or counts.old originator 0) count) }
 {
     let at = originator as usize;
     if at < Group::MEMBERS {
@@ -456,8 +456,8 @@ pub fn count_row(
     taken: SequenceNumber,
     last: SequenceNumber,
 )
-    requires { (length counts.old ≡ membersMost) × (length held.now ≡ heldMost) × (length held_originators.now ≡ heldMost) }
-    ensures { counts.new ≡ countedRow counts.old (listed held.now held_originators.now) taken.0 (last.0 - taken.0) }
+    requires { (length counts.old ≡ members_most) × (length held.now ≡ held_most) × (length held_originators.now ≡ held_most) }
+    ensures { counts.new ≡ counted_row counts.old (listed held.now held_originators.now) taken.0 (last.0 - taken.0) }
 {
     let mut number = taken.0;
     while number < last.0 {
@@ -469,16 +469,16 @@ pub fn count_row(
 
 // A survivor's acknowledgement starts at floor; of one that is lost at 0.
 fn start(survivors: u16, floor: SequenceNumber, i: usize) -> u32
-    requires { i < membersMost }
-    ensures { result ≡ (if isIn survivors i then floor.0 else 0) }
+    requires { i < members_most }
+    ensures { result ≡ (if is_in survivors i then floor.0 else 0) }
 {
     reply_counted(survivors, i, floor.0)
 }
 
 // The acknowledgements that a group begins with.
 pub fn begin_taken(survivors: u16, floor: SequenceNumber, taken: &mut [u32])
-    requires { length taken.old ≡ membersMost }
-    ensures { taken.new ≡ startsOf taken.old survivors floor.0 membersMost }
+    requires { length taken.old ≡ members_most }
+    ensures { taken.new ≡ starts_of taken.old survivors floor.0 members_most }
 {
     let mut i: usize = 0;
     while i < Group::MEMBERS {
@@ -500,8 +500,8 @@ fn copy_place(
     source: &[u8],
     from: usize,
 )
-    requires { (at < placesMost) × Places kept.old originators.old lengths.old payloads.old × Lies from source.now }
-    ensures { messagesIn kept.new originators.new lengths.new payloads.new ≡ set (messagesIn kept.old originators.old lengths.old payloads.old) at (messageIn count originator size (part_of source.now from)) }
+    requires { (at < places_most) × Places kept.old originators.old lengths.old payloads.old × Lies from source.now }
+    ensures { messages_in kept.new originators.new lengths.new payloads.new ≡ set (messages_in kept.old originators.old lengths.old payloads.old) at (message_in count originator size (part_of source.now from)) }
 {
     kept[at] = count;
     originators[at] = originator;
@@ -529,7 +529,7 @@ fn fill_one(
     number: SequenceNumber,
 )
     requires { Places kept.old originators.old lengths.old payloads.old × Places past.now past_originators.now past_lengths.now past_payloads.now × Held held.now held_originators.now held_lengths.now held_payloads.now }
-    ensures { messagesIn kept.new originators.new lengths.new payloads.new ≡ set (messagesIn kept.old originators.old lengths.old payloads.old) (place_of number.0) (messageFrom (messagesIn past.now past_originators.now past_lengths.now past_payloads.now) (messagesIn held.now held_originators.now held_lengths.now held_payloads.now) taken.0 number.0) }
+    ensures { messages_in kept.new originators.new lengths.new payloads.new ≡ set (messages_in kept.old originators.old lengths.old payloads.old) (place_of number.0) (message_from (messages_in past.now past_originators.now past_lengths.now past_payloads.now) (messages_in held.now held_originators.now held_lengths.now held_payloads.now) taken.0 number.0) }
 {
     let at = history::place(number.0 as u64);
     if number.0 <= taken.0 {
@@ -581,7 +581,7 @@ pub fn fill(
     last: SequenceNumber,
 )
     requires { Places kept.old originators.old lengths.old payloads.old × Places past.now past_originators.now past_lengths.now past_payloads.now × Held held.now held_originators.now held_lengths.now held_payloads.now }
-    ensures { messagesIn kept.new originators.new lengths.new payloads.new ≡ filledOf (messagesIn kept.old originators.old lengths.old payloads.old) (messagesIn past.now past_originators.now past_lengths.now past_payloads.now) (messagesIn held.now held_originators.now held_lengths.now held_payloads.now) taken.0 floor.0 (last.0 - floor.0) }
+    ensures { messages_in kept.new originators.new lengths.new payloads.new ≡ filled_of (messages_in kept.old originators.old lengths.old payloads.old) (messages_in past.now past_originators.now past_lengths.now past_payloads.now) (messages_in held.now held_originators.now held_lengths.now held_payloads.now) taken.0 floor.0 (last.0 - floor.0) }
 {
     let mut number = floor.0;
     while number < last.0 {
@@ -624,7 +624,7 @@ pub fn begin_history(
     last: SequenceNumber,
 )
     requires { Places past.now past_originators.now past_lengths.now past_payloads.now × Held held.now held_originators.now held_lengths.now held_payloads.now }
-    ensures { messagesIn kept.new originators.new lengths.new payloads.new ≡ filledOf (replicate placesMost emptyMessage) (messagesIn past.now past_originators.now past_lengths.now past_payloads.now) (messagesIn held.now held_originators.now held_lengths.now held_payloads.now) taken.0 floor.0 (last.0 - floor.0) }
+    ensures { messages_in kept.new originators.new lengths.new payloads.new ≡ filled_of (replicate places_most empty_message) (messages_in past.now past_originators.now past_lengths.now past_payloads.now) (messages_in held.now held_originators.now held_lengths.now held_payloads.now) taken.0 floor.0 (last.0 - floor.0) }
 {
     *kept = [0u32; Group::PLACES];
     *originators = [0u8; Group::PLACES];
@@ -659,7 +659,7 @@ pub fn drop_above(
     taken: SequenceNumber,
 )
     requires { Held held.old held_originators.old held_lengths.old held_payloads.old }
-    ensures { messagesIn held.new held_originators.new held_lengths.new held_payloads.new ≡ droppedOf (messagesIn held.old held_originators.old held_lengths.old held_payloads.old) number.0 taken.0 heldMost }
+    ensures { messages_in held.new held_originators.new held_lengths.new held_payloads.new ≡ dropped_of (messages_in held.old held_originators.old held_lengths.old held_payloads.old) number.0 taken.0 held_most }
 {
     let mut k: usize = 0;
     while k < Group::HELD {

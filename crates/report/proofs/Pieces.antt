@@ -10,20 +10,20 @@ use lib.ListN.{length, get_or, take}
 use lib.Seq.{take-suc}
 use Rattle.group.specs.Choice.{if◌then◌else◌, ◌≤?◌}
 use Rattle.group.specs.Lent.{front}
-use Rattle.group.proofs.Choice.{if-le, if-nle}
-use Rattle.group.proofs.Lists.{le-or}
-use Rattle.text.specs.Text.{lineFeed}
-use Rattle.text.specs.Written.{decimalOf, spaced, line}
+use Rattle.group.proofs.Choice.{if_le, if_nle}
+use Rattle.group.proofs.Lists.{le_or}
+use Rattle.text.specs.Text.{line_feed}
+use Rattle.text.specs.Written.{decimal_of, spaced, line}
 use Rattle.text.specs.LaidAt.{LaidAt}
-use Rattle.text.proofs.Pieces.{laid_then, spaced-append}
+use Rattle.text.proofs.Pieces.{laid_then, spaced_append}
 use Rattle.report.specs.Print.{fitting}
 
 -- a line, where some of its fields are laid with the first
-pub laid-longer : {x y z : ℕ} {lent between behind after : List ℕ} (first : List ℕ) (fields rest : List (List ℕ)) → LaidAt 0 (first ++ spaced fields) lent between x → LaidAt x (spaced rest) between behind y
-    → LaidAt y (lineFeed ∷ []) behind after z → LaidAt 0 (line (first ∷ (fields ++ rest))) lent after z
-laid-longer first fields rest f g h =
-    let e : line (first ∷ (fields ++ rest)) ≡ (first ++ spaced fields) ++ (spaced rest ++ (lineFeed ∷ [])) = rw spaced-append (simp append_assoc) in
-    rw e (laid_then (first ++ spaced fields) (spaced rest ++ (lineFeed ∷ [])) f (laid_then (spaced rest) (lineFeed ∷ []) g h))
+pub laid_longer : {x y z : ℕ} {lent between behind after : List ℕ} (first : List ℕ) (fields rest : List (List ℕ)) → LaidAt 0 (first ++ spaced fields) lent between x → LaidAt x (spaced rest) between behind y
+    → LaidAt y (line_feed ∷ []) behind after z → LaidAt 0 (line (first ∷ (fields ++ rest))) lent after z
+laid_longer first fields rest f g h =
+    let e : line (first ∷ (fields ++ rest)) ≡ (first ++ spaced fields) ++ (spaced rest ++ (line_feed ∷ [])) = rw spaced_append (simp append_assoc) in
+    rw e (laid_then (first ++ spaced fields) (spaced rest ++ (line_feed ∷ [])) f (laid_then (spaced rest) (line_feed ∷ []) g h))
 
 -- a line that was laid from the front on where the room was there, and nothing where it was not
 module _ (asked : ℕ) (bytes lent : List ℕ) where
@@ -31,22 +31,22 @@ module _ (asked : ℕ) (bytes lent : List ℕ) where
       → (size ≡ length (fitting asked (length lent) bytes)) × (after ≡ front (fitting asked (length lent) bytes) lent)
   unfolding fitting
   written size after h f =
-      let e : if asked ≤? length lent then bytes else [] ≡ bytes = sym (if-le asked (length lent) bytes bytes [] h refl) in
+      let e : if asked ≤? length lent then bytes else [] ≡ bytes = sym (if_le asked (length lent) bytes bytes [] h refl) in
       let z : 0 + length bytes ≡ length bytes = omega arith in
       (rw e (f.ends ∙ z), rw e (f.lays ∙ rw z))
 
   pub unwritten : length lent < asked → (◌≡◌ {A = ℕ} 0 (length (fitting asked (length lent) bytes))) × (lent ≡ front (fitting asked (length lent) bytes) lent)
   unfolding fitting
   unwritten h =
-      let e : if asked ≤? length lent then bytes else [] ≡ [] = sym (if-nle asked (length lent) [] bytes [] h refl) in
+      let e : if asked ≤? length lent then bytes else [] ≡ [] = sym (if_nle asked (length lent) [] bytes [] h refl) in
       (rw e, rw e)
 
 -- two tests that hold together are equal
 pub same_test : (a b c d : ℕ) → (a ≤ b → c ≤ d) → (c ≤ d → a ≤ b) → (a ≤? b) ≡ (c ≤? d)
 same_test a b c d f g =
-    le-or a b (λ h. le-leb a b h ∙ sym (le-leb c d (f h)))
-    (λ h. lt-leb a b h ∙ sym (le-or c d (λ k. absurd (not-le_of_lt h (g k))) (λ k. lt-leb c d k)))
+    le_or a b (λ h. le-leb a b h ∙ sym (le-leb c d (f h)))
+    (λ h. lt-leb a b h ∙ sym (le_or c d (λ k. absurd (not-le_of_lt h (g k))) (λ k. lt-leb c d k)))
 
 -- one number more of several
-pub each_on : (l : List ℕ) (i : ℕ) → i < length l → map decimalOf (take (i + 1) l) ≡ map decimalOf (take i l) ++ (decimalOf (get_or l i 0) ∷ [])
-each_on l i h = rw (add-one i, take-suc l i 0 h) (map-append decimalOf (take i l) (get_or l i 0 ∷ []))
+pub each_on : (l : List ℕ) (i : ℕ) → i < length l → map decimal_of (take (i + 1) l) ≡ map decimal_of (take i l) ++ (decimal_of (get_or l i 0) ∷ [])
+each_on l i h = rw (add-one i, take-suc l i 0 h) (map-append decimal_of (take i l) (get_or l i 0 ∷ []))

@@ -3,20 +3,20 @@
 use mathlib.Core.Path.{◌≡◌, refl}
 use mathlib.Core.List.{List}
 use Prim.Native.Nat.{ℕ}
-use Rattle.sequencer.specs.Wording.{wordingOf}
+use Rattle.sequencer.specs.Wording.{wording_of}
 use Rattle.sequencer.specs.declared.Answer.{Answer}
 use Rattle.sequencer.specs.declared.Answer.TheVariants.{Refused, Old, Again, Full, Numbered, Noted, Wanted, Sent, Marked}
-use Rattle.report.specs.Print.{valuesText, wordingFields}
+use Rattle.report.specs.Print.{values_text, wording_fields}
 
-pub same-wording : (answer : Answer) (bytes others : List ℕ) (index : ℕ) → wordingFields (wordingOf answer) bytes index ≡ wordingFields (wordingOf answer) others index
-unfolding wordingOf wordingFields valuesText
-same-wording (Refused r) bytes others index = refl
-same-wording Old bytes others index = refl
-same-wording (Again s) bytes others index = refl
-same-wording Full bytes others index = refl
-same-wording (Numbered s) bytes others index = refl
-same-wording Noted bytes others index = refl
-same-wording (Wanted first last) bytes others index = refl
-same-wording Sent bytes others index = refl
-same-wording Marked bytes others index = refl
-same-wording Answer.Accepted bytes others index = refl
+pub same_wording : (answer : Answer) (bytes others : List ℕ) (index : ℕ) → wording_fields (wording_of answer) bytes index ≡ wording_fields (wording_of answer) others index
+unfolding wording_of wording_fields values_text
+same_wording (Refused r) bytes others index = refl
+same_wording Old bytes others index = refl
+same_wording (Again s) bytes others index = refl
+same_wording Full bytes others index = refl
+same_wording (Numbered s) bytes others index = refl
+same_wording Noted bytes others index = refl
+same_wording (Wanted first last) bytes others index = refl
+same_wording Sent bytes others index = refl
+same_wording Marked bytes others index = refl
+same_wording Answer.Accepted bytes others index = refl

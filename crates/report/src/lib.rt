@@ -2,14 +2,14 @@
 ghost use Rattle.std.specs.Prelude.{◌≡◌, [], ◌∷◌, ◌++◌, map, ◌+◌, ◌*◌, ◌≤◌, ◌<◌, length};
 ghost use Rattle.group.specs.Choice.{◌≤?◌};
 ghost use Rattle.group.specs.Lent.{front};
-ghost use Rattle.group.specs.Wording.{refusedWording};
+ghost use Rattle.group.specs.Wording.{refused_wording};
 ghost use Rattle.member.specs.Wording as memberWording;
 ghost use Rattle.model.specs.World.{answer_of};
 ghost use Rattle.sequencer.specs.Wording as sequencerWording;
 ghost use Rattle.text.specs.Text.{text_of};
-ghost use Rattle.text.specs.Written.{decimalOf, payloadText, spaced, line, numberDigits, countDigits};
+ghost use Rattle.text.specs.Written.{decimal_of, payload_text, spaced, line, number_digits, count_digits};
 ghost use Rattle.text.specs.LaidAt.{LaidAt};
-ghost use Rattle.report.specs.Print.{moreText, indexText, wordingFields, answerFields, line_of, badLine, noSpace, badOpening, refusedOpening, lastLine, answerRoom, lineRoom, eventRoom, lastRoom, fitting};
+ghost use Rattle.report.specs.Print.{more_text, index_text, wording_fields, answer_fields, line_of, bad_line, no_space, bad_opening, refused_opening, last_line, answer_room, line_room, event_room, last_room, fitting};
 
 use group::{MemberNumber, Refusal, SequenceNumber};
 use model::Reply;
@@ -27,22 +27,22 @@ pub const LINE_ROOM: usize = COUNT_DIGITS + ANSWER_ROOM + 1;
 
 // The limits of specs/ are these constants.
 fn answer_room() -> usize
-    ensures { result ≡ answerRoom }
+    ensures { result ≡ answer_room }
 {
     ANSWER_ROOM
 }
 
 fn line_room() -> usize
-    ensures { result ≡ lineRoom }
+    ensures { result ≡ line_room }
 {
     LINE_ROOM
 }
 
 // An answer and the index of its packet.
 fn put_indexed(word: &[u8], index: usize, out: &mut [u8], at: usize) -> usize
-    requires { at + 2 + length word.now + countDigits ≤ length out.old }
-    ensures laid { LaidAt at (spaced (word.now ∷ decimalOf index ∷ [])) out.old out.new result }
-    ensures short { result ≤ at + 2 + length word.now + countDigits }
+    requires { at + 2 + length word.now + count_digits ≤ length out.old }
+    ensures laid { LaidAt at (spaced (word.now ∷ decimal_of index ∷ [])) out.old out.new result }
+    ensures short { result ≤ at + 2 + length word.now + count_digits }
 {
     let next = put_word(word, out, at);
     put_index(index, out, next)
@@ -50,9 +50,9 @@ fn put_indexed(word: &[u8], index: usize, out: &mut [u8], at: usize) -> usize
 
 // An answer, and the index of its packet if one of `size` bytes was written.
 fn put_any(word: &[u8], size: usize, index: usize, out: &mut [u8], at: usize) -> usize
-    requires { at + 2 + length word.now + countDigits ≤ length out.old }
-    ensures laid { LaidAt at (spaced (word.now ∷ indexText size index [])) out.old out.new result }
-    ensures short { result ≤ at + 2 + length word.now + countDigits }
+    requires { at + 2 + length word.now + count_digits ≤ length out.old }
+    ensures laid { LaidAt at (spaced (word.now ∷ index_text size index [])) out.old out.new result }
+    ensures short { result ≤ at + 2 + length word.now + count_digits }
 {
     if size == 0 {
         put_word(word, out, at)
@@ -63,9 +63,9 @@ fn put_any(word: &[u8], size: usize, index: usize, out: &mut [u8], at: usize) ->
 
 // An answer, its number and the index of its packet.
 fn put_numbered(word: &[u8], number: u32, index: usize, out: &mut [u8], at: usize) -> usize
-    requires { at + 3 + length word.now + numberDigits + countDigits ≤ length out.old }
-    ensures laid { LaidAt at (spaced (word.now ∷ decimalOf number ∷ decimalOf index ∷ [])) out.old out.new result }
-    ensures short { result ≤ at + 3 + length word.now + numberDigits + countDigits }
+    requires { at + 3 + length word.now + number_digits + count_digits ≤ length out.old }
+    ensures laid { LaidAt at (spaced (word.now ∷ decimal_of number ∷ decimal_of index ∷ [])) out.old out.new result }
+    ensures short { result ≤ at + 3 + length word.now + number_digits + count_digits }
 {
     let next = put_word(word, out, at);
     let next = put_number(number, out, next);
@@ -74,9 +74,9 @@ fn put_numbered(word: &[u8], number: u32, index: usize, out: &mut [u8], at: usiz
 
 // What is wanted, from one number to another.
 fn put_wanted(first: u32, last: u32, out: &mut [u8], at: usize) -> usize
-    requires { at + length (text_of "wanted") + 3 + 2 * numberDigits ≤ length out.old }
-    ensures laid { LaidAt at (spaced (text_of "wanted" ∷ decimalOf first ∷ decimalOf last ∷ [])) out.old out.new result }
-    ensures short { result ≤ at + length (text_of "wanted") + 3 + 2 * numberDigits }
+    requires { at + length (text_of "wanted") + 3 + 2 * number_digits ≤ length out.old }
+    ensures laid { LaidAt at (spaced (text_of "wanted" ∷ decimal_of first ∷ decimal_of last ∷ [])) out.old out.new result }
+    ensures short { result ≤ at + length (text_of "wanted") + 3 + 2 * number_digits }
 {
     let next = put_word(b"wanted", out, at);
     let next = put_number(first, out, next);
@@ -85,9 +85,9 @@ fn put_wanted(first: u32, last: u32, out: &mut [u8], at: usize) -> usize
 
 // A refusal and its number.
 fn put_refused(refusal: Refusal, out: &mut [u8], at: usize) -> usize
-    requires { at + length (text_of "refused") + 2 + numberDigits ≤ length out.old }
-    ensures laid { LaidAt at (spaced (wordingFields (refusedWording refusal) [] 0)) out.old out.new result }
-    ensures short { result ≤ at + length (text_of "refused") + 2 + numberDigits }
+    requires { at + length (text_of "refused") + 2 + number_digits ≤ length out.old }
+    ensures laid { LaidAt at (spaced (wording_fields (refused_wording refusal) [] 0)) out.old out.new result }
+    ensures short { result ≤ at + length (text_of "refused") + 2 + number_digits }
 {
     let next = put_word(b"refused", out, at);
     let number = refusal.number();
@@ -97,7 +97,7 @@ fn put_refused(refusal: Refusal, out: &mut [u8], at: usize) -> usize
 // Whether the following number is held.
 fn put_more(more: bool, out: &mut [u8], at: usize) -> usize
     requires { at + 1 + length (text_of "more") ≤ length out.old }
-    ensures laid { LaidAt at (spaced (moreText more ∷ [])) out.old out.new result }
+    ensures laid { LaidAt at (spaced (more_text more ∷ [])) out.old out.new result }
     ensures short { result ≡ at + 1 + length (text_of "more") }
 {
     if more {
@@ -109,9 +109,9 @@ fn put_more(more: bool, out: &mut [u8], at: usize) -> usize
 
 // The number, originator and count of a message.
 fn put_message(number: u32, originator: u32, count: u32, out: &mut [u8], at: usize) -> usize
-    requires { at + 3 * (1 + numberDigits) ≤ length out.old }
-    ensures laid { LaidAt at (spaced (decimalOf number ∷ decimalOf originator ∷ decimalOf count ∷ [])) out.old out.new result }
-    ensures short { result ≤ at + 3 * (1 + numberDigits) }
+    requires { at + 3 * (1 + number_digits) ≤ length out.old }
+    ensures laid { LaidAt at (spaced (decimal_of number ∷ decimal_of originator ∷ decimal_of count ∷ [])) out.old out.new result }
+    ensures short { result ≤ at + 3 * (1 + number_digits) }
 {
     let next = put_number(number, out, at);
     let next = put_number(originator, out, next);
@@ -128,9 +128,9 @@ fn put_took(
     out: &mut [u8],
     at: usize,
 ) -> usize
-    requires { at + answerRoom + 2 * length payload.now ≤ length out.old }
-    ensures laid { LaidAt at (spaced (text_of "took" ∷ decimalOf number.0 ∷ decimalOf originator.0 ∷ decimalOf count ∷ payloadText payload.now ∷ moreText more ∷ [])) out.old out.new result }
-    ensures short { result ≤ at + answerRoom + 2 * length payload.now }
+    requires { at + answer_room + 2 * length payload.now ≤ length out.old }
+    ensures laid { LaidAt at (spaced (text_of "took" ∷ decimal_of number.0 ∷ decimal_of originator.0 ∷ decimal_of count ∷ payload_text payload.now ∷ more_text more ∷ [])) out.old out.new result }
+    ensures short { result ≤ at + answer_room + 2 * length payload.now }
 {
     let next = put_word(b"took", out, at);
     let next = put_message(number.0, originator.0 as u32, count, out, next);
@@ -140,9 +140,9 @@ fn put_took(
 
 // The sequencer's answer.
 fn put_sequencer(answer: sequencer::Answer, index: usize, out: &mut [u8], at: usize) -> usize
-    requires { at + answerRoom ≤ length out.old }
-    ensures laid { LaidAt at (spaced (wordingFields (sequencerWording.wordingOf answer) [] index)) out.old out.new result }
-    ensures short { result ≤ at + answerRoom }
+    requires { at + answer_room ≤ length out.old }
+    ensures laid { LaidAt at (spaced (wording_fields (sequencerWording.wording_of answer) [] index)) out.old out.new result }
+    ensures short { result ≤ at + answer_room }
 {
     match answer {
         sequencer::Answer::Refused(refusal) => put_refused(refusal, out, at),
@@ -166,9 +166,9 @@ fn put_member(
     out: &mut [u8],
     at: usize,
 ) -> usize
-    requires { at + answerRoom + 2 * length payload.now ≤ length out.old }
-    ensures laid { LaidAt at (spaced (wordingFields (memberWording.wordingOf answer) payload.now index)) out.old out.new result }
-    ensures short { result ≤ at + answerRoom + 2 * length payload.now }
+    requires { at + answer_room + 2 * length payload.now ≤ length out.old }
+    ensures laid { LaidAt at (spaced (wording_fields (memberWording.wording_of answer) payload.now index)) out.old out.new result }
+    ensures short { result ≤ at + answer_room + 2 * length payload.now }
 {
     match answer {
         member::Answer::Refused(refusal) => put_refused(refusal, out, at),
@@ -194,9 +194,9 @@ fn put_member(
 
 // What an event is answered.
 fn put_reply(reply: Reply, payload: &[u8], index: usize, out: &mut [u8], at: usize) -> usize
-    requires { at + answerRoom + 2 * length payload.now ≤ length out.old }
-    ensures laid { LaidAt at (spaced (answerFields (answer_of reply payload.now) index)) out.old out.new result }
-    ensures short { result ≤ at + answerRoom + 2 * length payload.now }
+    requires { at + answer_room + 2 * length payload.now ≤ length out.old }
+    ensures laid { LaidAt at (spaced (answer_fields (answer_of reply payload.now) index)) out.old out.new result }
+    ensures short { result ≤ at + answer_room + 2 * length payload.now }
 {
     match reply {
         Reply::Absent => put_word(b"absent", out, at),
@@ -207,7 +207,7 @@ fn put_reply(reply: Reply, payload: &[u8], index: usize, out: &mut [u8], at: usi
 
 // Whether an output has the room that an event's line asks for, and that the last line asks for.
 fn event_fits(size: usize, room: usize) -> bool
-    ensures { result ≡ (lineRoom + 2 * size ≤? room) }
+    ensures { result ≡ (line_room + 2 * size ≤? room) }
 {
     if room < LINE_ROOM {
         return false;
@@ -216,7 +216,7 @@ fn event_fits(size: usize, room: usize) -> bool
 }
 
 fn last_fits(count: usize, room: usize) -> bool
-    ensures { result ≡ (lineRoom + (1 + numberDigits) * count ≤? room) }
+    ensures { result ≡ (line_room + (1 + number_digits) * count ≤? room) }
 {
     if room < LINE_ROOM {
         return false;
@@ -228,8 +228,8 @@ fn last_fits(count: usize, room: usize) -> bool
 // the call wrote: what a take handed out, or a packet. Gives the line's length; 0 where the output has not the room that the line
 // asks for.
 pub fn write_event(number: u64, reply: Reply, index: usize, payload: &[u8], out: &mut [u8]) -> usize
-    ensures size { result ≡ length (fitting (eventRoom payload.now) (length out.old) (line_of number (answer_of reply payload.now) index)) }
-    ensures lent { out.new ≡ front (fitting (eventRoom payload.now) (length out.old) (line_of number (answer_of reply payload.now) index)) out.old }
+    ensures size { result ≡ length (fitting (event_room payload.now) (length out.old) (line_of number (answer_of reply payload.now) index)) }
+    ensures lent { out.new ≡ front (fitting (event_room payload.now) (length out.old) (line_of number (answer_of reply payload.now) index)) out.old }
 {
     if event_fits(payload.len(), out.len()) {
         let next = put_decimal(number, out, 0);
@@ -243,8 +243,8 @@ pub fn write_event(number: u64, reply: Reply, index: usize, payload: &[u8], out:
 // An event's number and a text of at most eight characters.
 fn write_note(number: u64, text: &[u8], out: &mut [u8]) -> usize
     requires { length text.now ≤ 8 }
-    ensures size { result ≡ length (fitting lineRoom (length out.old) (line (decimalOf number ∷ text.now ∷ []))) }
-    ensures lent { out.new ≡ front (fitting lineRoom (length out.old) (line (decimalOf number ∷ text.now ∷ []))) out.old }
+    ensures size { result ≡ length (fitting line_room (length out.old) (line (decimal_of number ∷ text.now ∷ []))) }
+    ensures lent { out.new ≡ front (fitting line_room (length out.old) (line (decimal_of number ∷ text.now ∷ []))) out.old }
 {
     if out.len() < LINE_ROOM {
         return 0;
@@ -256,24 +256,24 @@ fn write_note(number: u64, text: &[u8], out: &mut [u8]) -> usize
 
 // A line of another form.
 pub fn write_bad_line(number: u64, out: &mut [u8]) -> usize
-    ensures size { result ≡ length (fitting lineRoom (length out.old) (badLine number)) }
-    ensures lent { out.new ≡ front (fitting lineRoom (length out.old) (badLine number)) out.old }
+    ensures size { result ≡ length (fitting line_room (length out.old) (bad_line number)) }
+    ensures lent { out.new ≡ front (fitting line_room (length out.old) (bad_line number)) out.old }
 {
     write_note(number, b"bad line", out)
 }
 
 // An event that comes when as many packets are written as there is room for.
 pub fn write_no_space(number: u64, out: &mut [u8]) -> usize
-    ensures size { result ≡ length (fitting lineRoom (length out.old) (noSpace number)) }
-    ensures lent { out.new ≡ front (fitting lineRoom (length out.old) (noSpace number)) out.old }
+    ensures size { result ≡ length (fitting line_room (length out.old) (no_space number)) }
+    ensures lent { out.new ≡ front (fitting line_room (length out.old) (no_space number)) out.old }
 {
     write_note(number, b"no space", out)
 }
 
 // A first line that is missing or of another form.
 pub fn write_bad_opening(out: &mut [u8]) -> usize
-    ensures size { result ≡ length (fitting lineRoom (length out.old) badOpening) }
-    ensures lent { out.new ≡ front (fitting lineRoom (length out.old) badOpening) out.old }
+    ensures size { result ≡ length (fitting line_room (length out.old) bad_opening) }
+    ensures lent { out.new ≡ front (fitting line_room (length out.old) bad_opening) out.old }
 {
     if out.len() < LINE_ROOM {
         return 0;
@@ -284,8 +284,8 @@ pub fn write_bad_opening(out: &mut [u8]) -> usize
 
 // A first line whose group is refused.
 pub fn write_refused_opening(refusal: Refusal, out: &mut [u8]) -> usize
-    ensures size { result ≡ length (fitting lineRoom (length out.old) (refusedOpening refusal)) }
-    ensures lent { out.new ≡ front (fitting lineRoom (length out.old) (refusedOpening refusal)) out.old }
+    ensures size { result ≡ length (fitting line_room (length out.old) (refused_opening refusal)) }
+    ensures lent { out.new ≡ front (fitting line_room (length out.old) (refused_opening refusal)) out.old }
 {
     if out.len() < LINE_ROOM {
         return 0;
@@ -298,9 +298,9 @@ pub fn write_refused_opening(refusal: Refusal, out: &mut [u8]) -> usize
 
 // Top and floor, and the word before the numbers that the members took.
 fn put_tops(top: u32, floor: u32, out: &mut [u8]) -> usize
-    requires { lineRoom ≤ length out.old }
-    ensures laid { LaidAt 0 (text_of "top" ++ spaced (decimalOf top ∷ text_of "floor" ∷ decimalOf floor ∷ text_of "taken" ∷ [])) out.old out.new result }
-    ensures short { result < lineRoom }
+    requires { line_room ≤ length out.old }
+    ensures laid { LaidAt 0 (text_of "top" ++ spaced (decimal_of top ∷ text_of "floor" ∷ decimal_of floor ∷ text_of "taken" ∷ [])) out.old out.new result }
+    ensures short { result < line_room }
 {
     let next = put_text(b"top", out, 0);
     let next = put_number(top, out, next);
@@ -311,9 +311,9 @@ fn put_tops(top: u32, floor: u32, out: &mut [u8]) -> usize
 
 // Numbers, each behind one space.
 pub fn put_each(numbers: &[u32], out: &mut [u8], at: usize) -> usize
-    requires { at + (1 + numberDigits) * length numbers.now ≤ length out.old }
-    ensures laid { LaidAt at (spaced (map decimalOf numbers.now)) out.old out.new result }
-    ensures short { result ≤ at + (1 + numberDigits) * length numbers.now }
+    requires { at + (1 + number_digits) * length numbers.now ≤ length out.old }
+    ensures laid { LaidAt at (spaced (map decimal_of numbers.now)) out.old out.new result }
+    ensures short { result ≤ at + (1 + number_digits) * length numbers.now }
 {
     let mut next = at;
     let mut i: usize = 0;
@@ -332,8 +332,8 @@ pub fn write_last(
     taken: &[u32],
     out: &mut [u8],
 ) -> usize
-    ensures size { result ≡ length (fitting (lastRoom taken.now) (length out.old) (lastLine top.0 floor.0 taken.now)) }
-    ensures lent { out.new ≡ front (fitting (lastRoom taken.now) (length out.old) (lastLine top.0 floor.0 taken.now)) out.old }
+    ensures size { result ≡ length (fitting (last_room taken.now) (length out.old) (last_line top.0 floor.0 taken.now)) }
+    ensures lent { out.new ≡ front (fitting (last_room taken.now) (length out.old) (last_line top.0 floor.0 taken.now)) out.old }
 {
     if last_fits(taken.len(), out.len()) {
         let next = put_tops(top.0, floor.0, out);

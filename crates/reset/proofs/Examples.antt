@@ -3,61 +3,61 @@ use mathlib.Core.Path.{refl}
 use lib.Bits.{bit_and, bit_or}
 use lib.Count.{count_trailing_zeros, ones, ones_in}
 use Rattle.group.specs.Choice.{if◌then◌else◌}
-use Rattle.group.specs.Fold.{all, allAbove, leastOf}
-use Rattle.group.specs.Members.{lowestOf, othersOf, expectedOf, neededOf, groupSound}
-use Rattle.group.specs.Opening.{openOf}
+use Rattle.group.specs.Fold.{all, all_above, least_of}
+use Rattle.group.specs.Members.{lowest_of, others_of, expected_of, needed_of, group_sound}
+use Rattle.group.specs.Opening.{open_of}
 use Rattle.group.specs.Question.{judged}
-use Rattle.message.specs.Message.{allZero, messageOf, emptyMessage, payloadOf, zeroBehind, is_empty}
+use Rattle.message.specs.Message.{all_zero, message_of, empty_message, payload_of, zero_behind, is_empty}
 use Rattle.big_endian.specs.Number.{number_at, bytes_of}
-use Rattle.packet.specs.Packet.{headerOf, knownKind, payloadFits, obeys, fieldsVerdict, read_of, headerBytes, packetOf, contentOf, fields_of, written, fromElected}
-use Rattle.history.specs.Ask.{senderVerdict, countVerdict, wantedVerdict, expectedVerdict}
-use Rattle.history.specs.Marks.{markedOf, enoughOf, unmarkedOf, markSound}
-use Rattle.history.specs.Note.{largerOf, tableNoted, clearedOf}
-use Rattle.history.specs.Repeat.{oneMore, is_of, findOf}
-use Rattle.history.specs.Sound.{entrySound, keptSound, placeSound, frameSound}
-use Rattle.history.specs.State.{floorOf}
+use Rattle.packet.specs.Packet.{header_of, known_kind, payload_fits, obeys, fields_verdict, read_of, header_bytes, packet_of, content_of, fields_of, written, from_elected}
+use Rattle.history.specs.Ask.{sender_verdict, count_verdict, wanted_verdict, expected_verdict}
+use Rattle.history.specs.Marks.{marked_of, enough_of, unmarked_of, mark_sound}
+use Rattle.history.specs.Note.{larger_of, table_noted, cleared_of}
+use Rattle.history.specs.Repeat.{one_more, is_of, find_of}
+use Rattle.history.specs.Sound.{entry_sound, kept_sound, place_sound, frame_sound}
+use Rattle.history.specs.State.{floor_of}
 use Rattle.member.specs.Calls as member
-use Rattle.member.specs.Order.{tookBy}
-use Rattle.member.specs.Sound as memberSound
-use Rattle.member.specs.State.{reachOf, acknowledgedOf, freshMember}
+use Rattle.member.specs.Order.{took_by}
+use Rattle.member.specs.Sound as member_sound
+use Rattle.member.specs.State.{reach_of, acknowledged_of, fresh_member}
 use Rattle.sequencer.specs.Calls as sequencer
-use Rattle.sequencer.specs.Note.{withTable, note_of}
-use Rattle.sequencer.specs.Order.{numberedBy}
-use Rattle.sequencer.specs.Sound.{soundOf}
-use Rattle.sequencer.specs.State.{freshSequencer}
+use Rattle.sequencer.specs.Note.{with_table, note_of}
+use Rattle.sequencer.specs.Order.{numbered_by}
+use Rattle.sequencer.specs.Sound.{sound_of}
+use Rattle.sequencer.specs.State.{fresh_sequencer}
 use Rattle.window.specs.Places as window
 use Rattle.window.specs.Sound as windowSound
-use Rattle.model.specs.Log.{gather, numberedIn, tookIn, messagesAbove, lastNumber, above}
-use Rattle.recovery.specs.Begin.{highestOf, holdersOf, tableFrom, countsIn, historyFrom, electedSequencer, droppedOf, result_of}
+use Rattle.model.specs.Log.{gather, numbered_in, took_in, messages_above, last_number, above}
+use Rattle.recovery.specs.Begin.{highest_of, holders_of, table_from, counts_in, history_from, elected_sequencer, dropped_of, result_of}
 use Rattle.recovery.specs.Calls as terminal
-use Rattle.recovery.specs.Sound as terminalSound
-use Rattle.recovery.specs.State.{replyNumber, keptFloor, messageOfNumber, counted, countedRow, countsOf}
-use Rattle.reset.specs.Closing.{take_row, closeMember, closeFrom}
-use Rattle.reset.specs.Course.{isSent, bytesIn, courseOf, courseFrom, tookAt}
-use Rattle.reset.specs.Examples.{Examples, bare, answersOf}
-use Rattle.reset.specs.World.{happen, run, freshTerminals, fresh}
+use Rattle.recovery.specs.Sound as terminal_sound
+use Rattle.recovery.specs.State.{reply_number, kept_floor, message_of_number, counted, counted_row, counts_of}
+use Rattle.reset.specs.Closing.{take_row, close_member, close_from}
+use Rattle.reset.specs.Course.{is_sent, bytes_in, course_of, course_from, took_at}
+use Rattle.reset.specs.Examples.{Examples, bare, answers_of}
+use Rattle.reset.specs.World.{happen, run, fresh_terminals, fresh}
 
 pub examples : Examples
-unfolding if◌then◌else◌ all allAbove leastOf groupSound fromElected neededOf ones_in ones openOf judged member.answered reachOf acknowledgedOf member.requestPacket member.gapPacket member.statusPacket member.callVerdict member.submitVerdict member.withWaiting member.submitOf member.repeatOf member.statusOf member.confirmPacket member.withAccepted member.withHeld member.gapUpTo member.keptOf member.messageStep member.broadcastOf member.confirms member.confirmedOf member.offerOf window.largerOf window.smallerOf member.pollOf member.contentStep member.read_step member.receiveOf member.isOwn member.withTaken member.isReady member.tookOf member.take_of member.opened_of member.fresh_of windowSound.placeSound windowSound.queueSound windowSound.waitingSound windowSound.frameSound memberSound.soundOf window.lowestMissing window.rowEnd freshMember allZero messageOf emptyMessage payloadOf zeroBehind is_empty take_row closeMember closeFrom gather numberedIn tookIn tookAt tookBy messagesAbove lastNumber above happen run freshTerminals fresh number_at bytes_of headerOf knownKind payloadFits obeys fieldsVerdict read_of headerBytes packetOf contentOf fields_of written sequencer.answered sequencer.announced sequencer.broadcastOf sequencer.pollPacket sequencer.acceptPacket sequencer.withMark sequencer.withAccepted sequencer.settled_of sequencer.confirmOf oneMore sequencer.repeatedOf is_of findOf sequencer.old_of sequencer.againOf sequencer.full_of sequencer.withMessage sequencer.numberedOf sequencer.requestOf sequencer.gap_of senderVerdict countVerdict wantedVerdict expectedVerdict sequencer.contentStep sequencer.read_step sequencer.callVerdict sequencer.receiveOf sequencer.pollOf sequencer.copy_of sequencer.opened_of sequencer.fresh_of largerOf tableNoted clearedOf withTable note_of numberedBy entrySound keptSound placeSound frameSound markedOf enoughOf unmarkedOf markSound lowestOf othersOf expectedOf count_trailing_zeros soundOf floorOf freshSequencer highestOf holdersOf tableFrom countsIn historyFrom electedSequencer droppedOf result_of terminal.refused terminal.callVerdict terminal.wholeVerdict terminal.submitOf terminal.repeatOf terminal.statusOf terminal.keptTook terminal.take_of terminal.floorIn terminal.ofReset terminal.isRefusal terminal.keptRead terminal.heardOf terminal.withReply terminal.invitedOf terminal.resultFits terminal.resetStep terminal.read_step terminal.receiveOf terminal.inviteOf terminal.makeOf terminal.orderedStep terminal.order_of terminal.pollOf terminal.copy_of terminalSound.pastSound terminalSound.pastPlaceSound terminalSound.keptSound terminalSound.resetSound terminalSound.memberSound terminalSound.zeroSequencer terminalSound.sequencerSound terminalSound.replySound terminalSound.terminalSound replyNumber keptFloor messageOfNumber counted countedRow countsOf isSent bytesIn courseOf courseFrom bare answersOf
+unfolding if◌then◌else◌ all all_above least_of group_sound from_elected needed_of ones_in ones open_of judged member.answered reach_of acknowledged_of member.request_packet member.gap_packet member.status_packet member.call_verdict member.submit_verdict member.with_waiting member.submit_of member.repeat_of member.status_of member.confirm_packet member.with_accepted member.with_held member.gap_up_to member.kept_of member.message_step member.broadcast_of member.confirms member.confirmed_of member.offer_of window.larger_of window.smaller_of member.poll_of member.content_step member.read_step member.receive_of member.is_own member.with_taken member.is_ready member.took_of member.take_of member.opened_of member.fresh_of windowSound.place_sound windowSound.queue_sound windowSound.waiting_sound windowSound.frame_sound member_sound.sound_of window.lowest_missing window.row_end fresh_member all_zero message_of empty_message payload_of zero_behind is_empty take_row close_member close_from gather numbered_in took_in took_at took_by messages_above last_number above happen run fresh_terminals fresh number_at bytes_of header_of known_kind payload_fits obeys fields_verdict read_of header_bytes packet_of content_of fields_of written sequencer.answered sequencer.announced sequencer.broadcast_of sequencer.poll_packet sequencer.accept_packet sequencer.with_mark sequencer.with_accepted sequencer.settled_of sequencer.confirm_of one_more sequencer.repeated_of is_of find_of sequencer.old_of sequencer.again_of sequencer.full_of sequencer.with_message sequencer.numbered_of sequencer.request_of sequencer.gap_of sender_verdict count_verdict wanted_verdict expected_verdict sequencer.content_step sequencer.read_step sequencer.call_verdict sequencer.receive_of sequencer.poll_of sequencer.copy_of sequencer.opened_of sequencer.fresh_of larger_of table_noted cleared_of with_table note_of numbered_by entry_sound kept_sound place_sound frame_sound marked_of enough_of unmarked_of mark_sound lowest_of others_of expected_of count_trailing_zeros sound_of floor_of fresh_sequencer highest_of holders_of table_from counts_in history_from elected_sequencer dropped_of result_of terminal.refused terminal.call_verdict terminal.whole_verdict terminal.submit_of terminal.repeat_of terminal.status_of terminal.kept_took terminal.take_of terminal.floor_in terminal.of_reset terminal.is_refusal terminal.kept_read terminal.heard_of terminal.with_reply terminal.invited_of terminal.result_fits terminal.reset_step terminal.read_step terminal.receive_of terminal.invite_of terminal.make_of terminal.ordered_step terminal.order_of terminal.poll_of terminal.copy_of terminal_sound.past_sound terminal_sound.past_place_sound terminal_sound.kept_sound terminal_sound.reset_sound terminal_sound.member_sound terminal_sound.zero_sequencer terminal_sound.sequencer_sound terminal_sound.reply_sound terminal_sound.terminal_sound reply_number kept_floor message_of_number counted counted_row counts_of is_sent bytes_in course_of course_from bare answers_of
 examples =
     record {
-      burnt-answers = refl;
-      burnt-order = refl;
-      burnt-survivors = refl;
-      burnt-elected = refl;
-      burnt-accepted = refl;
-      goes-answers = refl;
+      burnt_answers = refl;
+      burnt_order = refl;
+      burnt_survivors = refl;
+      burnt_elected = refl;
+      burnt_accepted = refl;
+      goes_answers = refl;
       goes_order = refl;
-      goes-taken = refl;
-      goes-closes = refl;
-      two-order = refl;
-      two-owed = refl;
-      late-taken = refl;
-      late-order = refl;
-      unclosed-accepted = refl;
-      unclosed-survivors = refl;
-      again-survivors = refl;
-      again-order = refl;
-      frozen-elected = refl;
-      frozen-answer = refl;
+      goes_taken = refl;
+      goes_closes = refl;
+      two_order = refl;
+      two_owed = refl;
+      late_taken = refl;
+      late_order = refl;
+      unclosed_accepted = refl;
+      unclosed_survivors = refl;
+      again_survivors = refl;
+      again_order = refl;
+      frozen_elected = refl;
+      frozen_answer = refl;
     }

@@ -11,14 +11,14 @@ use borrow.Author.Tests.{eq-eqb, ne_eqb}
 use lib.ListN.{length, get_or, take, get_elem?}
 use Rattle.group.proofs.Lists.{All}
 use Rattle.group.specs.Choice.{◌=?◌}
-use Rattle.group.specs.Limits.{largestNumber}
-use Rattle.group.specs.Members.{isIn}
+use Rattle.group.specs.Limits.{largest_number}
+use Rattle.group.specs.Members.{is_in}
 use Rattle.group.specs.declared.Group as description
 use Rattle.group.specs.declared.MemberNumber.{MemberNumber}
 use Rattle.message.specs.Order.{Ordered}
-use Rattle.member.specs.State.{Member, reachOf}
+use Rattle.member.specs.State.{Member, reach_of}
 use Rattle.packet.specs.Laws.{Allowed}
-use Rattle.packet.specs.Packet.{read_of, contentOf, fields_of, packetOf, survivorsIn}
+use Rattle.packet.specs.Packet.{read_of, content_of, fields_of, packet_of, survivors_in}
 use Rattle.packet.specs.declared.Header.{Header}
 use Rattle.packet.specs.declared.Packet.{Packet}
 use Rattle.packet.specs.declared.Reading.{Reading}
@@ -26,22 +26,22 @@ use Rattle.sequencer.proofs.Invariant.{SequencerInv}
 use Rattle.sequencer.specs.State.{Sequencer}
 use Rattle.recovery.specs.Calls as terminal
 use Rattle.recovery.specs.Laws as terminalLaws
-use Rattle.recovery.specs.Sound.{terminalSound}
-use Rattle.recovery.specs.State.{Reset, Terminal, serves, replyNumber}
+use Rattle.recovery.specs.Sound.{terminal_sound}
+use Rattle.recovery.specs.State.{Reset, Terminal, serves, reply_number}
 use Rattle.reset.specs.Course.{Course, Fresh, unused, other}
 use Rattle.reset.proofs.Remembering.{Remembers}
 use Rattle.reset.proofs.Seen.{Seen}
-use Rattle.reset.proofs.View.{memberOf, sequencerOf}
+use Rattle.reset.proofs.View.{member_of, sequencer_of}
 
 -- a number is in a list
 abbrev pub Has : ℕ → List ℕ → Type 0
 Has x [] = ⊥
 Has x (y ∷ l) = (x ≡ y) ⊎ Has x l
 
-pub has-fresh : (x : ℕ) (l : List ℕ) → Has x l → Fresh x l → ⊥
-has-fresh x [] h f = h
-has-fresh x (y ∷ l) (inl e) (other q f) = false≢true (sym q ∙ eq-eqb x y e)
-has-fresh x (y ∷ l) (inr h) (other q f) = has-fresh x l h f
+pub has_fresh : (x : ℕ) (l : List ℕ) → Has x l → Fresh x l → ⊥
+has_fresh x [] h f = h
+has_fresh x (y ∷ l) (inl e) (other q f) = false≢true (sym q ∙ eq-eqb x y e)
+has_fresh x (y ∷ l) (inr h) (other q f) = has_fresh x l h f
 
 pub has_all : (P : ℕ → Type 0) (x : ℕ) (l : List ℕ) → All P l → Has x l → P x
 has_all P x [] a h = absurd h
@@ -59,68 +59,68 @@ pub record Foreign (c : Course) (x : ℕ) : Type 0 where
   pub unmade : x ≢ c.attempt
 
 -- the description of the group made last
-abbrev pub groupIn : ℕ → ℕ → Course → description.Group
-groupIn n resilience c =
+abbrev pub group_in : ℕ → ℕ → Course → description.Group
+group_in n resilience c =
     record { n = n; resilience = resilience; survivors = c.survivors; elected = record { 0 = c.elected }; number = c.number }
 
 -- a floor that no survivor's reach is below
 abbrev pub Low : ℕ → ℕ → Course → ℕ → (ℕ → Terminal) → ℕ → Type 0
-Low n resilience c cut at x = (j : ℕ) → isIn c.survivors j ≡ true → x ≤ reachOf (memberOf (groupIn n resilience c) cut (at j))
+Low n resilience c cut at x = (j : ℕ) → is_in c.survivors j ≡ true → x ≤ reach_of (member_of (group_in n resilience c) cut (at j))
 
 -- a survivor's terminal, where the group was made under a number and began with the first `cut` of the order
 pub record Survivor (n resilience : ℕ) (c : Course) (under cut : ℕ) (low : ℕ → Type 0) (i : ℕ) (t : Terminal) : Type 0 where
-  pub sound : terminalSound t ≡ true
+  pub sound : terminal_sound t ≡ true
   pub typed : terminalLaws.Typed t
-  pub invited : t.reset.invited ≤ largestNumber
+  pub invited : t.reset.invited ≤ largest_number
   pub size : t.member.group.n ≡ n
   pub resilient : t.member.group.resilience ≡ resilience
   pub itself : t.member.number.0 ≡ i
   -- what it can begin a group with
   pub remembers : Remembers t.member.taken.0 t.kept c.order
   pub serving : serves t ≡ true → SequencerInv t.sequencer.group t.sequencer (take t.sequencer.top.0 c.order)
-  pub reach-le : reachOf t.member ≤ replyNumber t
-  pub floor-low : serves t ≡ true → low t.sequencer.floor.0
+  pub reach_le : reach_of t.member ≤ reply_number t
+  pub floor_low : serves t ≡ true → low t.sequencer.floor.0
   pub read_low : low t.kept.read.0
   -- with the result
   pub calm : t.member.group.number ≡ c.number → c.attempt ≡ c.number → t.reset.replied ≡ false
   -- without it
-  pub under-is : t.member.group.number ≢ c.number → t.member.group.number ≡ under
+  pub under_is : t.member.group.number ≢ c.number → t.member.group.number ≡ under
   pub foreign : t.member.group.number ≢ c.number → Foreign c t.member.group.number
   pub waits : t.member.group.number ≢ c.number → t.reset.replied ≡ true
-  pub reply-le : t.member.group.number ≢ c.number → replyNumber t ≤ cut
+  pub reply_le : t.member.group.number ≢ c.number → reply_number t ≤ cut
   -- only the elected one's numbers
   pub awake : t.sequencing ≡ true → t.frozen ≡ false → (i ≡ c.elected) × (t.sequencer.group.number ≡ c.number)
   pub present : i ≡ c.elected → t.member.group.number ≡ c.number → t.sequencing ≡ true
   pub wakes : i ≡ c.elected → t.member.group.number ≡ c.number → c.attempt ≡ c.number → t.frozen ≡ false
-  pub cut-is : i ≡ c.elected → t.member.group.number ≢ c.number → replyNumber t ≡ cut
+  pub cut_is : i ≡ c.elected → t.member.group.number ≢ c.number → reply_number t ≡ cut
 
 -- any terminal
 pub record Sits (n resilience : ℕ) (c : Course) (under cut : ℕ) (low : ℕ → Type 0) (i : ℕ) (t : Terminal) : Type 0 where
-  pub lost : isIn c.survivors i ≡ false → Foreign c t.member.group.number
+  pub lost : is_in c.survivors i ≡ false → Foreign c t.member.group.number
   pub old : t.sequencing ≡ true → t.sequencer.group.number ≢ c.number → Foreign c t.sequencer.group.number
   pub only : t.sequencing ≡ true → t.sequencer.group.number ≡ c.number → (i ≡ c.elected) × (t.member.group.number ≡ c.number)
-  pub survivor : isIn c.survivors i ≡ true → Survivor n resilience c under cut low i t
+  pub survivor : is_in c.survivors i ≡ true → Survivor n resilience c under cut low i t
 
 -- terminal j replied to the open attempt, and still does
 pub record Answered (c : Course) (at : ℕ → Terminal) (j number : ℕ) : Type 0 where
-  pub survives : isIn c.survivors j ≡ true
-  pub group-is : (at j).member.group.number ≡ (at c.initiator).member.group.number
+  pub survives : is_in c.survivors j ≡ true
+  pub group_is : (at j).member.group.number ≡ (at c.initiator).member.group.number
   pub replied : (at j).reset.replied ≡ true
-  pub attempt-is : (at j).reset.attempt ≡ c.attempt
-  pub number_is : replyNumber (at j) ≡ number
+  pub attempt_is : (at j).reset.attempt ≡ c.attempt
+  pub number_is : reply_number (at j) ≡ number
 
 -- the initiator's part in the open attempt
 pub record Open (c : Course) (at : ℕ → Terminal) (r : Reset) : Type 0 where
   pub inviting : r.inviting ≡ true
-  pub invited-is : r.invited ≡ c.attempt
-  pub itself : isIn r.repliers c.initiator ≡ true
-  pub answered : (j : ℕ) → isIn r.repliers j ≡ true → Answered c at j (get_or r.replies j 0)
+  pub invited_is : r.invited ≡ c.attempt
+  pub itself : is_in r.repliers c.initiator ≡ true
+  pub answered : (j : ℕ) → is_in r.repliers j ≡ true → Answered c at j (get_or r.replies j 0)
 
 -- the packets of a reset, under a number
 pub record GoodInvitation (c : Course) (at : ℕ → Terminal) (number sender attempt : ℕ) : Type 0 where
   pub used : Has attempt c.used
-  pub group-is : attempt ≡ c.attempt → Busy c → number ≡ (at c.initiator).member.group.number
-  pub sender-is : attempt ≡ c.attempt → Busy c → sender ≡ c.initiator
+  pub group_is : attempt ≡ c.attempt → Busy c → number ≡ (at c.initiator).member.group.number
+  pub sender_is : attempt ≡ c.attempt → Busy c → sender ≡ c.initiator
   pub over : attempt ≡ c.attempt → c.attempt ≡ c.number → number ≢ c.number
 
 pub record GoodReply (c : Course) (at : ℕ → Terminal) (sender attempt number : ℕ) : Type 0 where
@@ -130,11 +130,11 @@ pub record GoodReply (c : Course) (at : ℕ → Terminal) (sender attempt number
 pub record GoodResult (c : Course) (under cut number attempt elected last survivors : ℕ) : Type 0 where
   pub used : Has attempt c.used
   pub made : attempt ≡ c.attempt → c.attempt ≡ c.number
-  pub group-is : attempt ≡ c.attempt → number ≡ under
+  pub group_is : attempt ≡ c.attempt → number ≡ under
   pub unlike : attempt ≡ c.attempt → number ≢ c.number
-  pub elected-is : attempt ≡ c.attempt → elected ≡ c.elected
-  pub cut-is : attempt ≡ c.attempt → last ≡ cut
-  pub survivors-are : attempt ≡ c.attempt → survivors ≡ c.survivors
+  pub elected_is : attempt ≡ c.attempt → elected ≡ c.elected
+  pub cut_is : attempt ≡ c.attempt → last ≡ cut
+  pub survivors_are : attempt ≡ c.attempt → survivors ≡ c.survivors
 
 abbrev pub SaysReset : Course → (ℕ → Terminal) → ℕ → ℕ → ℕ → Packet → List ℕ → Type 0
 SaysReset c at under cut number (Packet.Request sender taken count) payload = ⊥
@@ -147,19 +147,19 @@ SaysReset c at under cut number (Packet.Confirm sender k) payload = ⊥
 SaysReset c at under cut number (Packet.Accept elected k) payload = ⊥
 SaysReset c at under cut number (Packet.Invitation sender attempt) payload = GoodInvitation c at number sender.0 attempt
 SaysReset c at under cut number (Packet.Reply sender attempt k) payload = GoodReply c at sender.0 attempt k.0
-SaysReset c at under cut number (Packet.Result sender attempt elected k) payload = GoodResult c under cut number attempt elected.0 k.0 (survivorsIn payload)
+SaysReset c at under cut number (Packet.Result sender attempt elected k) payload = GoodResult c under cut number attempt elected.0 k.0 (survivors_in payload)
 
 pub record Resets (c : Course) (at : ℕ → Terminal) (under cut : ℕ) (p : List ℕ) : Type 0 where
   pub number : ℕ
   pub content : Packet
   pub payload : List ℕ
-  pub bytes-are : p ≡ packetOf (fields_of number content) payload
+  pub bytes_are : p ≡ packet_of (fields_of number content) payload
   pub allowed : Allowed (fields_of number content) payload
   pub says : SaysReset c at under cut number content payload
 
 -- a packet of another number, and not of a reset
 abbrev pub Elsewhere : Course → List ℕ → Type 0
-Elsewhere c p = (h : Header) → read_of p ≡ Reading.Fields h → (terminal.ofReset (contentOf h) ≡ false) × Foreign c h.group
+Elsewhere c p = (h : Header) → read_of p ≡ Reading.Fields h → (terminal.of_reset (content_of h) ≡ false) × Foreign c h.group
 
 -- a packet that was written: one of the group made last, one of another, or one of a reset
 pub data Covered (c : Course) (at : ℕ → Terminal) (under cut : ℕ) (known : List (List ℕ)) (p : List ℕ) : Type 0 where
@@ -169,7 +169,7 @@ pub data Covered (c : Course) (at : ℕ → Terminal) (under cut : ℕ) (known :
 
 -- what a packet says of the floor
 abbrev pub FloorLow : (ℕ → Type 0) → List ℕ → Type 0
-FloorLow low p = (h : Header) → read_of p ≡ Reading.Fields h → low (terminal.floorIn (contentOf h))
+FloorLow low p = (h : Header) → read_of p ≡ Reading.Fields h → low (terminal.floor_in (content_of h))
 
 -- the world under a course, what each terminal took and submitted
 pub record Inv (n resilience line : ℕ) (c : Course) (at : ℕ → Terminal) (packets : List (List ℕ)) (tk : ℕ → List Ordered) (sb : ℕ → List (List ℕ)) : Type 0 where
@@ -177,22 +177,22 @@ pub record Inv (n resilience line : ℕ) (c : Course) (at : ℕ → Terminal) (p
   pub under : ℕ
   pub lost : ℕ → List (List ℕ)
   pub known : List (List ℕ)
-  pub seen : Seen (groupIn n resilience c) line (sequencerOf (groupIn n resilience c) cut (at c.elected)) (λ j. memberOf (groupIn n resilience c) cut (at j)) c.order tk sb lost known
-  pub line-le : line ≤ (sequencerOf (groupIn n resilience c) cut (at c.elected)).accepted.0
-  pub cut-le : cut ≤ (sequencerOf (groupIn n resilience c) cut (at c.elected)).accepted.0
-  pub number-used : Has c.number c.used
-  pub attempt-used : Has c.attempt c.used
-  pub used-fit : All (λ x. x ≤ largestNumber) c.used
+  pub seen : Seen (group_in n resilience c) line (sequencer_of (group_in n resilience c) cut (at c.elected)) (λ j. member_of (group_in n resilience c) cut (at j)) c.order tk sb lost known
+  pub line_le : line ≤ (sequencer_of (group_in n resilience c) cut (at c.elected)).accepted.0
+  pub cut_le : cut ≤ (sequencer_of (group_in n resilience c) cut (at c.elected)).accepted.0
+  pub number_used : Has c.number c.used
+  pub attempt_used : Has c.attempt c.used
+  pub used_fit : All (λ x. x ≤ largest_number) c.used
   pub sits : (i : ℕ) → i < n → Sits n resilience c under cut (Low n resilience c cut at) i (at i)
-  pub initiates : Busy c → isIn c.survivors c.initiator ≡ true
+  pub initiates : Busy c → is_in c.survivors c.initiator ≡ true
   pub opened : Busy c → Open c at (at c.initiator).reset
   pub shut : c.attempt ≡ c.number → (at c.initiator).reset.inviting ≡ false
   pub floors : All (FloorLow (Low n resilience c cut at)) known
   pub covered : All (Covered c at under cut known) packets
 
 -- the course with another order
-abbrev pub withOrder : Course → List Ordered → Course
-withOrder c order =
+abbrev pub with_order : Course → List Ordered → Course
+with_order c order =
     record {
       order = order;
       survivors = c.survivors;
@@ -206,8 +206,8 @@ withOrder c order =
 -- what an event leaves of a terminal, as far as an open attempt counts on it
 pub record Goes (c : Course) (i : ℕ) (t t' : Terminal) : Type 0 where
   pub group : Busy c → t'.member.group.number ≡ t.member.group.number
-  pub answers : isIn c.survivors i ≡ true → Busy c → t.reset.replied ≡ true → t.reset.attempt ≡ c.attempt
-      → (t'.reset.replied ≡ true) × (t'.reset.attempt ≡ c.attempt) × (replyNumber t' ≡ replyNumber t)
+  pub answers : is_in c.survivors i ≡ true → Busy c → t.reset.replied ≡ true → t.reset.attempt ≡ c.attempt
+      → (t'.reset.replied ≡ true) × (t'.reset.attempt ≡ c.attempt) × (reply_number t' ≡ reply_number t)
 
-pub same-goes : (c : Course) (i : ℕ) (t : Terminal) → Goes c i t t
-same-goes c i t = record { group = λ _. refl; answers = λ _ _ r a. (r, a, refl) }
+pub same_goes : (c : Course) (i : ℕ) (t : Terminal) → Goes c i t t
+same_goes c i t = record { group = λ _. refl; answers = λ _ _ r a. (r, a, refl) }

@@ -8,44 +8,44 @@ use native.Mathlib.Omega.{arith}
 use borrow.Author.Tests.{eqb-true, eqb-false}
 use lib.Bits.{bit_and, bit_or, and_step, and_self, or_comm}
 use lib.Count.{ones, count_trailing_zeros, under}
-use Rattle.group.proofs.Counting.{one, count, one-mono, one-false, one-true, count-mono, half_lt, ones-count}
-use Rattle.group.proofs.Lists.{if-elim, eq-or}
-use Rattle.group.proofs.Members.{in-or, in-zero, in-only, in-less, less-in, lowest-in, lowest-lt, lowest-within, lowest-lt-all, without-lt, Standing, others-lt}
+use Rattle.group.proofs.Counting.{one, count, one_mono, one_false, one_true, count_mono, half_lt, ones_count}
+use Rattle.group.proofs.Lists.{if_elim, eq_or}
+use Rattle.group.proofs.Members.{in_or, in_zero, in_only, in_less, less_in, lowest_in, lowest_lt, lowest_within, lowest_lt_all, without_lt, Standing, others_lt}
 use Rattle.group.specs.Choice.{if◌then◌else◌, ◌=?◌}
-use Rattle.group.specs.Limits.{membersMost}
-use Rattle.group.specs.Members.{isIn, lowest, withoutLowest, lowestOf, othersOf, expectedOf, neededOf}
+use Rattle.group.specs.Limits.{members_most}
+use Rattle.group.specs.Members.{is_in, lowest, without_lowest, lowest_of, others_of, expected_of, needed_of}
 use Rattle.group.specs.declared.Group.{Group}
-use Rattle.recovery.proofs.Masks.{only-in, or-in}
+use Rattle.recovery.proofs.Masks.{only_in, or_in}
 
 -- a part without one is smaller, and by one at most
 pub count_less : (n l : ℕ) (p q : ℕ → Bool) → ((i : ℕ) → q i ≡ true → p i ≡ true) → p l ≡ true → (q l ≡ true → ⊥) → l < n → count n q < count n p
 unfolding count
 count_less zero l p q h e f b = absurd (omega arith)
 count_less (suc n) zero p q h e f b =
-    let x = one-true (p 0) e in
-    let y = one-false (q 0) f in
-    let z = count-mono n (λ i. q (suc i)) (λ i. p (suc i)) (λ i _. h (suc i)) in
+    let x = one_true (p 0) e in
+    let y = one_false (q 0) f in
+    let z = count_mono n (λ i. q (suc i)) (λ i. p (suc i)) (λ i _. h (suc i)) in
     omega arith
 count_less (suc n) (suc l) p q h e f b =
-    let x = one-mono (q 0) (p 0) (h 0) in
+    let x = one_mono (q 0) (p 0) (h 0) in
     let z = count_less n l (λ i. p (suc i)) (λ i. q (suc i)) (λ i. h (suc i)) e f (omega arith) in
     omega arith
 
-one-most : (b : Bool) → one b ≤ 1
+one_most : (b : Bool) → one b ≤ 1
 unfolding one
-one-most true = omega arith
-one-most false = omega arith
+one_most true = omega arith
+one_most false = omega arith
 
-pub count-plus : (n l : ℕ) (p q : ℕ → Bool) → ((i : ℕ) → p i ≡ true → i ≢ l → q i ≡ true) → count n p ≤ count n q + 1
+pub count_plus : (n l : ℕ) (p q : ℕ → Bool) → ((i : ℕ) → p i ≡ true → i ≢ l → q i ≡ true) → count n p ≤ count n q + 1
 unfolding count
-count-plus zero l p q h = omega arith
-count-plus (suc n) zero p q h =
-    let x = one-most (p 0) in
-    let z = count-mono n (λ i. p (suc i)) (λ i. q (suc i)) (λ i _ e. h (suc i) e (suc-ne-zero i)) in
+count_plus zero l p q h = omega arith
+count_plus (suc n) zero p q h =
+    let x = one_most (p 0) in
+    let z = count_mono n (λ i. p (suc i)) (λ i. q (suc i)) (λ i _ e. h (suc i) e (suc-ne-zero i)) in
     omega arith
-count-plus (suc n) (suc l) p q h =
-    let x = one-mono (p 0) (q 0) (λ e. h 0 e (λ z. suc-ne-zero l (sym z))) in
-    let z = count-plus n l (λ i. p (suc i)) (λ i. q (suc i)) (λ i e f. h (suc i) e (λ z. f (let y : suc i ≡ suc l = z in omega arith))) in
+count_plus (suc n) (suc l) p q h =
+    let x = one_mono (p 0) (q 0) (λ e. h 0 e (λ z. suc-ne-zero l (sym z))) in
+    let z = count_plus n l (λ i. p (suc i)) (λ i. q (suc i)) (λ i e f. h (suc i) e (λ z. f (let y : suc i ≡ suc l = z in omega arith))) in
     omega arith
 
 -- a mask without its lowest member
@@ -72,33 +72,33 @@ without_is zero mask lo h = absurd (omega arith)
 without_is (suc k) mask lo h = without_from k mask (mask % 2) refl lo (λ e. without_is k (mask / 2) (omega arith) (half_lt k h))
 
 -- the k lowest members are k, or all
-lowest-count : (k mask j : ℕ) → mask < 2 ^ membersMost → j ≤ k → j ≤ count membersMost (isIn mask) → j ≤ count membersMost (isIn (lowestOf k mask))
-unfolding lowestOf
-lowest-count zero mask j h a b = omega arith
-lowest-count (suc k) mask j h a b =
-    if-elim (λ (x : ℕ). j ≤ count membersMost (isIn x)) (mask =? 0) (λ z. subst (λ (x : ℕ). j ≤ count membersMost (isIn x)) (eqb-true mask 0 z) b) (λ z. more (λ le. lowest-count k (withoutLowest mask) (j - 1) (without-lt mask h) (omega arith) le) (eqb-false mask 0 z))
+lowest_count : (k mask j : ℕ) → mask < 2 ^ members_most → j ≤ k → j ≤ count members_most (is_in mask) → j ≤ count members_most (is_in (lowest_of k mask))
+unfolding lowest_of
+lowest_count zero mask j h a b = omega arith
+lowest_count (suc k) mask j h a b =
+    if_elim (λ (x : ℕ). j ≤ count members_most (is_in x)) (mask =? 0) (λ z. subst (λ (x : ℕ). j ≤ count members_most (is_in x)) (eqb-true mask 0 z) b) (λ z. more (λ le. lowest_count k (without_lowest mask) (j - 1) (without_lt mask h) (omega arith) le) (eqb-false mask 0 z))
   where
-    more : (j - 1 ≤ count membersMost (isIn (withoutLowest mask)) → j - 1 ≤ count membersMost (isIn (lowestOf k (withoutLowest mask)))) → mask ≢ 0
-        → j ≤ count membersMost (isIn (bit_or (2 ^ lowest mask) (lowestOf k (withoutLowest mask))))
+    more : (j - 1 ≤ count members_most (is_in (without_lowest mask)) → j - 1 ≤ count members_most (is_in (lowest_of k (without_lowest mask)))) → mask ≢ 0
+        → j ≤ count members_most (is_in (bit_or (2 ^ lowest mask) (lowest_of k (without_lowest mask))))
     more again q =
         let l : ℕ = lowest mask in
-        let rest : ℕ = lowestOf k (withoutLowest mask) in
+        let rest : ℕ = lowest_of k (without_lowest mask) in
         let lo : 0 < mask = omega arith in
-        let is : withoutLowest mask ≡ mask - 2 ^ l = without_is membersMost mask lo h in
-        let there = lowest-in mask lo h in
-        let down = count-plus membersMost l (isIn mask) (isIn (withoutLowest mask)) (λ i e f. subst (λ (x : ℕ). isIn x i ≡ true) (sym is) (less-in l mask i there e f)) in
+        let is : without_lowest mask ≡ mask - 2 ^ l = without_is members_most mask lo h in
+        let there = lowest_in mask lo h in
+        let down = count_plus members_most l (is_in mask) (is_in (without_lowest mask)) (λ i e f. subst (λ (x : ℕ). is_in x i ≡ true) (sym is) (less_in l mask i there e f)) in
         let up = again (omega arith) in
-        let grows = count_less membersMost l (isIn (bit_or (2 ^ l) rest)) (isIn rest)
-        (λ i e. subst (λ (x : ℕ). isIn x i ≡ true) (or_comm rest (2 ^ l)) (or-in rest (2 ^ l) i e))
-        (or-in (2 ^ l) rest l (only-in l))
-        (λ e. (in-less l mask l there (subst (λ (x : ℕ). isIn x l ≡ true) is (lowest-within k (withoutLowest mask) l (without-lt mask h) e))).1 refl)
-        (lowest-lt mask lo h) in
+        let grows = count_less members_most l (is_in (bit_or (2 ^ l) rest)) (is_in rest)
+        (λ i e. subst (λ (x : ℕ). is_in x i ≡ true) (or_comm rest (2 ^ l)) (or_in rest (2 ^ l) i e))
+        (or_in (2 ^ l) rest l (only_in l))
+        (λ e. (in_less l mask l there (subst (λ (x : ℕ). is_in x l ≡ true) is (lowest_within k (without_lowest mask) l (without_lt mask h) e))).1 refl)
+        (lowest_lt mask lo h) in
         omega arith
 
-pub needed-least : (group : Group) → Standing group → (j : ℕ) → j ≤ group.resilience → j ≤ count membersMost (isIn (othersOf group)) → j ≤ neededOf group
-unfolding neededOf expectedOf
-needed-least group standing j a b =
-    let lt = others-lt group standing in
-    let size = ones-count membersMost (lowestOf group.resilience (othersOf group)) (lowest-lt-all group.resilience (othersOf group) lt) in
-    let z = lowest-count group.resilience (othersOf group) j lt a b in
+pub needed_least : (group : Group) → Standing group → (j : ℕ) → j ≤ group.resilience → j ≤ count members_most (is_in (others_of group)) → j ≤ needed_of group
+unfolding needed_of expected_of
+needed_least group standing j a b =
+    let lt = others_lt group standing in
+    let size = ones_count members_most (lowest_of group.resilience (others_of group)) (lowest_lt_all group.resilience (others_of group) lt) in
+    let z = lowest_count group.resilience (others_of group) j lt a b in
     omega arith

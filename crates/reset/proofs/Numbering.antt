@@ -10,67 +10,67 @@ use native.Mathlib.Omega.{arith}
 use borrow.Author.Tests.{eqb-true, eq-eqb}
 use lib.ListN.{length, get_or, take, get_elem?, length-append}
 use lib.Seq.{take_all}
-use Rattle.group.proofs.Choice.{if-true, both_hold, both_first, both-then}
-use Rattle.group.proofs.Lists.{if-elim, judged-elim, eq-or, All, all_map, all-get}
+use Rattle.group.proofs.Choice.{if_true, both_hold, both_first, both_then}
+use Rattle.group.proofs.Lists.{if_elim, judged_elim, eq_or, All, all_map, all_get}
 use Rattle.group.specs.Choice.{if◌then◌else◌, ◌and◌, ◌<?◌, ◌≤?◌, ◌=?◌}
-use Rattle.group.specs.Limits.{longestPacket, largestNumber}
-use Rattle.group.specs.Members.{isIn}
+use Rattle.group.specs.Limits.{longest_packet, largest_number}
+use Rattle.group.specs.Members.{is_in}
 use Rattle.group.specs.declared.Group as description
 use Rattle.group.specs.declared.SequenceNumber.{SequenceNumber}
-use Rattle.history.proofs.Soundness.{takenIn}
+use Rattle.history.proofs.Soundness.{taken_in}
 use Rattle.message.specs.Order.{Ordered}
-use Rattle.member.proofs.Acknowledged.{acknowledged-reach, reach-most}
-use Rattle.member.specs.State.{Member, reachOf, acknowledgedOf}
+use Rattle.member.proofs.Acknowledged.{acknowledged_reach, reach_most}
+use Rattle.member.specs.State.{Member, reach_of, acknowledged_of}
 use Rattle.packet.proofs.Facts.{Voice, Known}
-use Rattle.packet.proofs.RoundTrip.{header-back}
-use Rattle.packet.specs.Packet.{headerOf, read_of, fields_of, written}
+use Rattle.packet.proofs.RoundTrip.{header_back}
+use Rattle.packet.specs.Packet.{header_of, read_of, fields_of, written}
 use Rattle.packet.specs.declared.Header.{Header}
 use Rattle.sequencer.proofs.Invariant.{SequencerInv, facts_of}
-use Rattle.sequencer.proofs.Ordering.{floor-below}
+use Rattle.sequencer.proofs.Ordering.{floor_below}
 use Rattle.sequencer.proofs.Soundness as sequencerSoundness
 use Rattle.sequencer.specs.Calls as sequencer
-use Rattle.sequencer.specs.Order.{numberedBy}
+use Rattle.sequencer.specs.Order.{numbered_by}
 use Rattle.sequencer.specs.State.{Sequencer}
-use Rattle.recovery.proofs.Holding.{poll-leaves, copy-leaves}
-use Rattle.recovery.proofs.Keeping.{Sound, sound-of}
-use Rattle.recovery.proofs.Ordering.{order-keeps}
+use Rattle.recovery.proofs.Holding.{poll_leaves, copy_leaves}
+use Rattle.recovery.proofs.Keeping.{Sound, sound_of_lem}
+use Rattle.recovery.proofs.Ordering.{order_keeps}
 use Rattle.recovery.specs.Calls as terminal
 use Rattle.recovery.specs.Laws as terminalLaws
-use Rattle.recovery.specs.Sound.{terminalSound}
-use Rattle.recovery.specs.State.{Reset, Terminal, serves, replyNumber}
+use Rattle.recovery.specs.Sound.{terminal_sound}
+use Rattle.recovery.specs.State.{Reset, Terminal, serves, reply_number}
 use Rattle.reset.specs.Course.{Course}
-use Rattle.reset.proofs.Called.{news-covered}
-use Rattle.reset.proofs.Invariant.{Has, Busy, Foreign, groupIn, Low, Survivor, Sits, Open, Covered, FloorLow, Inv, withOrder, Goes, same-goes}
-use Rattle.reset.proofs.Keep.{keep, low_goes, longer-survivor, taken-same}
-use Rattle.reset.proofs.Remembering.{Remembers, longer-remembers}
-use Rattle.reset.proofs.Same.{order-calls}
-use Rattle.reset.proofs.Seen.{Seen, voices, same_seen, poll-seen, copy_seen, order-seen, order-up}
-use Rattle.reset.proofs.View.{memberOf, sequencerOf, member-here, sequencer-here}
-use Rattle.reset.proofs.Writing.{SequencerWrote, FloorAt, poll-sends-own, copy-sends-own, order-sends}
+use Rattle.reset.proofs.Called.{news_covered}
+use Rattle.reset.proofs.Invariant.{Has, Busy, Foreign, group_in, Low, Survivor, Sits, Open, Covered, FloorLow, Inv, with_order, Goes, same_goes}
+use Rattle.reset.proofs.Keep.{keep, low_goes, longer_survivor, taken_same}
+use Rattle.reset.proofs.Remembering.{Remembers, longer_remembers}
+use Rattle.reset.proofs.Same.{order_calls}
+use Rattle.reset.proofs.Seen.{Seen, voices, same_seen, poll_seen, copy_seen, order_seen, order_up}
+use Rattle.reset.proofs.View.{member_of, sequencer_of, member_here, sequencer_here}
+use Rattle.reset.proofs.Writing.{SequencerWrote, FloorAt, poll_sends_own, copy_sends_own, order_sends}
 
-pub poll-adds : (s : Sequencer) (room : ℕ) → numberedBy (sequencer.pollOf s room).answer (sequencer.pollOf s room).bytes ≡ []
-unfolding sequencer.pollOf sequencer.answered numberedBy
-poll-adds s room = judged-elim (λ (x : sequencer.Outcome). numberedBy x.answer x.bytes ≡ []) (sequencer.callVerdict s room) (λ _ _. refl) (λ _. refl)
+pub poll_adds : (s : Sequencer) (room : ℕ) → numbered_by (sequencer.poll_of s room).answer (sequencer.poll_of s room).bytes ≡ []
+unfolding sequencer.poll_of sequencer.answered numbered_by
+poll_adds s room = judged_elim (λ (x : sequencer.Outcome). numbered_by x.answer x.bytes ≡ []) (sequencer.call_verdict s room) (λ _ _. refl) (λ _. refl)
 
-pub copy-adds : (s : Sequencer) (k : SequenceNumber) (room : ℕ) → numberedBy (sequencer.copy_of s k room).answer (sequencer.copy_of s k room).bytes ≡ []
-unfolding sequencer.copy_of sequencer.answered numberedBy
-copy-adds s k room =
-    let P : sequencer.Outcome → Type 0 = λ x. numberedBy x.answer x.bytes ≡ [] in
-    judged-elim P (sequencer.callVerdict s room) (λ _ _. refl) (λ _. if-elim P (s.floor.0 <? k.0 and k.0 ≤? s.top.0) (λ _. refl) (λ _. refl))
+pub copy_adds : (s : Sequencer) (k : SequenceNumber) (room : ℕ) → numbered_by (sequencer.copy_of s k room).answer (sequencer.copy_of s k room).bytes ≡ []
+unfolding sequencer.copy_of sequencer.answered numbered_by
+copy_adds s k room =
+    let P : sequencer.Outcome → Type 0 = λ x. numbered_by x.answer x.bytes ≡ [] in
+    judged_elim P (sequencer.call_verdict s room) (λ _ _. refl) (λ _. if_elim P (s.floor.0 <? k.0 and k.0 ≤? s.top.0) (λ _. refl) (λ _. refl))
 
 -- no floor of the elected one's sequencer is above a survivor's reach
-pub seen-floor : (group : description.Group) (line : ℕ) (s : Sequencer) (members : ℕ → Member) (order : List Ordered) (tk : ℕ → List Ordered) (sb lost : ℕ → List (List ℕ)) (packets : List (List ℕ))
-    → Seen group line s members order tk sb lost packets → (j : ℕ) → isIn group.survivors j ≡ true → s.floor.0 ≤ reachOf (members j)
-seen-floor group line s members order tk sb lost packets v j e =
-    let a = floor-below group order s v.sequencer j e in
-    let b = (v.terminal j e).seat.acknowledged-le in
-    let c = acknowledged-reach (members j) in
+pub seen_floor : (group : description.Group) (line : ℕ) (s : Sequencer) (members : ℕ → Member) (order : List Ordered) (tk : ℕ → List Ordered) (sb lost : ℕ → List (List ℕ)) (packets : List (List ℕ))
+    → Seen group line s members order tk sb lost packets → (j : ℕ) → is_in group.survivors j ≡ true → s.floor.0 ≤ reach_of (members j)
+seen_floor group line s members order tk sb lost packets v j e =
+    let a = floor_below group order s v.sequencer j e in
+    let b = (v.terminal j e).seat.acknowledged_le in
+    let c = acknowledged_reach (members j) in
     omega arith
 
 module _ (n resilience line : ℕ) (c : Course) (at : ℕ → Terminal) (packets : List (List ℕ)) (tk : ℕ → List Ordered) (sb : ℕ → List (List ℕ)) (v : Inv n resilience line c at packets tk sb)
     (b : c.elected < n) (e : (at c.elected).member.group.number ≡ c.number) where
   abbrev group : description.Group
-  group = groupIn n resilience c
+  group = group_in n resilience c
 
   abbrev cut : ℕ
   cut = v.cut
@@ -84,138 +84,138 @@ module _ (n resilience line : ℕ) (c : Course) (at : ℕ → Terminal) (packets
   abbrev s : Sequencer
   s = t.sequencer
 
-  inside : isIn c.survivors i ≡ true
-  inside = v.seen.standing.elected-in
+  inside : is_in c.survivors i ≡ true
+  inside = v.seen.standing.elected_in
 
   abbrev h : Survivor n resilience c v.under cut (Low n resilience c cut at) i t
   h = (v.sits i b).survivor inside
 
-  pub view-is : sequencerOf group cut t ≡ s
-  view-is = sequencer-here group cut t e
+  pub view_is : sequencer_of group cut t ≡ s
+  view_is = sequencer_here group cut t e
 
-  pub own-seen : Seen group line s (λ j. memberOf group cut (at j)) c.order tk sb v.lost v.known
-  own-seen = subst (λ (x : Sequencer). Seen group line x (λ j. memberOf group cut (at j)) c.order tk sb v.lost v.known) view-is v.seen
+  pub own_seen : Seen group line s (λ j. member_of group cut (at j)) c.order tk sb v.lost v.known
+  own_seen = subst (λ (x : Sequencer). Seen group line x (λ j. member_of group cut (at j)) c.order tk sb v.lost v.known) view_is v.seen
 
-  pub serves-here : serves t ≡ true
-  serves-here = both_hold t.sequencing _ (h.present refl e) (eq-eqb _ _ (ap (λ (x : description.Group). x.number) own-seen.sequencer.group-is ∙ sym e))
+  pub serves_here : serves t ≡ true
+  serves_here = both_hold t.sequencing _ (h.present refl e) (eq-eqb _ _ (ap (λ (x : description.Group). x.number) own_seen.sequencer.group_is ∙ sym e))
 
-  floor-fits : (x : Sequencer) (order : List Ordered) → SequencerInv group x order → x.floor.0 ≤ largestNumber
-  floor-fits x order q =
-      let sound = sequencerSoundness.sound-of x q.sound in
-      let a = sound.floor-le in
-      let d = sound.accepted-le in
+  floor_fits : (x : Sequencer) (order : List Ordered) → SequencerInv group x order → x.floor.0 ≤ largest_number
+  floor_fits x order q =
+      let sound = sequencerSoundness.sound_of_lem x q.sound in
+      let a = sound.floor_le in
+      let d = sound.accepted_le in
       let y = q.typed.top in
       omega arith
 
   -- a call that only reads
-  reads-next : (o : sequencer.Outcome) → o.sequencer ≡ s → numberedBy o.answer o.bytes ≡ [] → All (SequencerWrote s.group.number o.sequencer.floor.0) (written o.bytes)
-      → Seen group line o.sequencer (λ j. memberOf group cut (at j)) (c.order ++ numberedBy o.answer o.bytes) tk sb v.lost (v.known ++ written o.bytes)
+  reads_next : (o : sequencer.Outcome) → o.sequencer ≡ s → numbered_by o.answer o.bytes ≡ [] → All (SequencerWrote s.group.number o.sequencer.floor.0) (written o.bytes)
+      → Seen group line o.sequencer (λ j. member_of group cut (at j)) (c.order ++ numbered_by o.answer o.bytes) tk sb v.lost (v.known ++ written o.bytes)
       → Inv n resilience line c at (packets ++ written o.bytes) tk sb
-  reads-next o same adds wrote seen' =
+  reads_next o same adds wrote seen' =
       let news = written o.bytes in
-      let order_is : c.order ++ numberedBy o.answer o.bytes ≡ c.order = ap (λ (l : List Ordered). c.order ++ l) adds ∙ append-nil c.order in
-      keep n resilience line c at packets tk sb v i b t at refl (λ j q. refl) c.order [] (sym (append-nil c.order)) (same-goes c i t) (λ _. le_refl _) tk sb news news
-      (subst (λ (x : Sequencer). Seen group line x (λ j. memberOf group cut (at j)) c.order tk sb v.lost (v.known ++ news)) (same ∙ sym view-is)
-      (subst (λ (l : List Ordered). Seen group line o.sequencer (λ j. memberOf group cut (at j)) l tk sb v.lost (v.known ++ news)) order_is seen'))
+      let order_is : c.order ++ numbered_by o.answer o.bytes ≡ c.order = ap (λ (l : List Ordered). c.order ++ l) adds ∙ append-nil c.order in
+      keep n resilience line c at packets tk sb v i b t at refl (λ j q. refl) c.order [] (sym (append-nil c.order)) (same_goes c i t) (λ _. le_refl _) tk sb news news
+      (subst (λ (x : Sequencer). Seen group line x (λ j. member_of group cut (at j)) c.order tk sb v.lost (v.known ++ news)) (same ∙ sym view_is)
+      (subst (λ (l : List Ordered). Seen group line o.sequencer (λ j. member_of group cut (at j)) l tk sb v.lost (v.known ++ news)) order_is seen'))
       (le_refl _) (v.sits i b) (λ q d. subst (λ (k : ℕ). Open c at (at k).reset) q (v.opened d)) (λ q d. subst (λ (k : ℕ). (at k).reset.inviting ≡ false) q (v.shut d))
       (all_map _ _ (λ p w x q j z.
-      let f = subst (λ (y : Sequencer). y.floor.0 ≤ largestNumber) (sym same) (floor-fits s c.order own-seen.sequencer) in
-      let a = w.floor-at f x q in
-      let g = seen-floor group line s (λ j. memberOf group cut (at j)) c.order tk sb v.lost v.known own-seen j z in
+      let f = subst (λ (y : Sequencer). y.floor.0 ≤ largest_number) (sym same) (floor_fits s c.order own_seen.sequencer) in
+      let a = w.floor_at f x q in
+      let g = seen_floor group line s (λ j. member_of group cut (at j)) c.order tk sb v.lost v.known own_seen j z in
       let k = ap (λ (y : Sequencer). y.floor.0) same in
       omega arith) news wrote)
-      (news-covered c at v.under cut v.known news)
+      (news_covered c at v.under cut v.known news)
 
-  pub poll-next : Inv n resilience line c at (packets ++ written (sequencer.pollOf s longestPacket).bytes) tk sb
-  poll-next =
-      reads-next (sequencer.pollOf s longestPacket) (poll-leaves s longestPacket) (poll-adds s longestPacket) (poll-sends-own s longestPacket)
-      (poll-seen group line s (λ j. memberOf group cut (at j)) c.order tk sb v.lost v.known own-seen)
+  pub poll_next : Inv n resilience line c at (packets ++ written (sequencer.poll_of s longest_packet).bytes) tk sb
+  poll_next =
+      reads_next (sequencer.poll_of s longest_packet) (poll_leaves s longest_packet) (poll_adds s longest_packet) (poll_sends_own s longest_packet)
+      (poll_seen group line s (λ j. member_of group cut (at j)) c.order tk sb v.lost v.known own_seen)
 
-  pub copy-next : (k : SequenceNumber) → Inv n resilience line c at (packets ++ written (sequencer.copy_of s k longestPacket).bytes) tk sb
-  copy-next k =
-      reads-next (sequencer.copy_of s k longestPacket) (copy-leaves s k longestPacket) (copy-adds s k longestPacket) (copy-sends-own s k longestPacket)
-      (copy_seen group line s (λ j. memberOf group cut (at j)) c.order tk sb v.lost v.known own-seen k)
+  pub copy_next : (k : SequenceNumber) → Inv n resilience line c at (packets ++ written (sequencer.copy_of s k longest_packet).bytes) tk sb
+  copy_next k =
+      reads_next (sequencer.copy_of s k longest_packet) (copy_leaves s k longest_packet) (copy_adds s k longest_packet) (copy_sends_own s k longest_packet)
+      (copy_seen group line s (λ j. member_of group cut (at j)) c.order tk sb v.lost v.known own_seen k)
 
   -- a packet of the group, to a sequencer that is awake
   module _ (p : List ℕ) (index : ℕ) (there : get_elem? v.known index ≡ some p) (awake : t.frozen ≡ false) where
     abbrev o : sequencer.Outcome
-    o = sequencer.receiveOf s p longestPacket
+    o = sequencer.receive_of s p longest_packet
 
     abbrev voice : ℕ → Voice
-    voice = voices group line (λ j. memberOf group cut (at j)) sb v.lost
+    voice = voices group line (λ j. member_of group cut (at j)) sb v.lost
 
     known_is : Known group.number (facts_of group c.order s.accepted.0 voice) p
-    known_is = all-get _ v.known index own-seen.packets-known there
+    known_is = all_get _ v.known index own_seen.packets_known there
 
     abbrev more : List Ordered
-    more = numberedBy o.answer o.bytes
+    more = numbered_by o.answer o.bytes
 
     abbrev t' : Terminal
-    t' = terminal.withSequencer t o.sequencer
+    t' = terminal.with_sequencer t o.sequencer
 
-    pub order_is : terminal.order_of t p longestPacket ≡ terminal.ordered t o
-    order_is = order-calls t s p awake refl
+    pub order_is : terminal.order_of t p longest_packet ≡ terminal.ordered t o
+    order_is = order_calls t s p awake refl
 
-    seen' : Seen group line o.sequencer (λ j. memberOf group cut (at j)) (c.order ++ more) tk sb v.lost (v.known ++ written o.bytes)
-    seen' = order-seen group line s (λ j. memberOf group cut (at j)) c.order tk sb v.lost v.known own-seen p known_is
+    seen' : Seen group line o.sequencer (λ j. member_of group cut (at j)) (c.order ++ more) tk sb v.lost (v.known ++ written o.bytes)
+    seen' = order_seen group line s (λ j. member_of group cut (at j)) c.order tk sb v.lost v.known own_seen p known_is
 
     -- it did not reply
     silent : t.reset.replied ≡ true → ⊥
-    silent r = false≢true (sym awake ∙ (sound-of t h.sound).freezes r serves-here)
+    silent r = false≢true (sym awake ∙ (sound_of_lem t h.sound).freezes r serves_here)
 
     abbrev inv' : SequencerInv group o.sequencer (c.order ++ more)
     inv' = seen'.sequencer
 
     number' : o.sequencer.group.number ≡ c.number
-    number' = ap (λ (x : description.Group). x.number) inv'.group-is
+    number' = ap (λ (x : description.Group). x.number) inv'.group_is
 
-    fits : (headerOf p).b ≤ largestNumber
+    fits : (header_of p).b ≤ largest_number
     fits =
-        let is : headerOf p ≡ fields_of group.number known_is.content = ap headerOf known_is.bytes-are ∙ header-back (fields_of group.number known_is.content) known_is.payload known_is.allowed.0 in
-        subst (λ (x : Header). x.b ≤ largestNumber) (sym is) known_is.allowed.0.b
+        let is : header_of p ≡ fields_of group.number known_is.content = ap header_of known_is.bytes_are ∙ header_back (fields_of group.number known_is.content) known_is.payload known_is.allowed.0 in
+        subst (λ (x : Header). x.b ≤ largest_number) (sym is) known_is.allowed.0.b
 
-    sound' : terminalSound t' ≡ true
-    sound' = subst (λ (x : terminal.SequencerOutcome). terminalSound x.terminal ≡ true) order_is (order-keeps t p longestPacket fits h.typed (h.present refl e) h.sound)
+    sound' : terminal_sound t' ≡ true
+    sound' = subst (λ (x : terminal.SequencerOutcome). terminal_sound x.terminal ≡ true) order_is (order_keeps t p longest_packet fits h.typed (h.present refl e) h.sound)
 
-    member-same : memberOf group cut t' ≡ memberOf group cut t
-    unfolding memberOf
-    member-same = refl
+    member_same : member_of group cut t' ≡ member_of group cut t
+    unfolding member_of
+    member_same = refl
 
     module _ (at' : ℕ → Terminal) (here : at' i ≡ t') (rest : (j : ℕ) → j ≢ i → at' j ≡ at j) where
-      members-same : (j : ℕ) → memberOf group cut (at' j) ≡ memberOf group cut (at j)
-      members-same j =
-          eq-or j i (λ q. subst (λ (k : ℕ). memberOf group cut (at' k) ≡ memberOf group cut (at k)) (sym q) (ap (memberOf group cut) here ∙ member-same)) (λ q. ap (memberOf group cut) (rest j q))
+      members_same : (j : ℕ) → member_of group cut (at' j) ≡ member_of group cut (at j)
+      members_same j =
+          eq_or j i (λ q. subst (λ (k : ℕ). member_of group cut (at' k) ≡ member_of group cut (at k)) (sym q) (ap (member_of group cut) here ∙ member_same)) (λ q. ap (member_of group cut) (rest j q))
 
       goes : Goes c i t t'
       goes = record { group = λ _. refl; answers = λ _ _ r. absurd (silent r) }
 
-      ups : isIn c.survivors i ≡ true → reachOf (memberOf group cut t) ≤ reachOf (memberOf group cut t')
-      ups _ = subst (λ (x : Member). reachOf (memberOf group cut t) ≤ reachOf x) (sym member-same) (le_refl _)
+      ups : is_in c.survivors i ≡ true → reach_of (member_of group cut t) ≤ reach_of (member_of group cut t')
+      ups _ = subst (λ (x : Member). reach_of (member_of group cut t) ≤ reach_of x) (sym member_same) (le_refl _)
 
       low_up : (x : ℕ) → Low n resilience c cut at x → Low n resilience c cut at' x
       low_up = low_goes n resilience line c at packets tk sb v i b t' at' here rest (c.order ++ more) more refl goes ups
 
-      floor-low' : Low n resilience c cut at' o.sequencer.floor.0
-      floor-low' = low_up _ (seen-floor group line o.sequencer (λ j. memberOf group cut (at j)) (c.order ++ more) tk sb v.lost (v.known ++ written o.bytes) seen')
+      floor_low' : Low n resilience c cut at' o.sequencer.floor.0
+      floor_low' = low_up _ (seen_floor group line o.sequencer (λ j. member_of group cut (at j)) (c.order ++ more) tk sb v.lost (v.known ++ written o.bytes) seen')
 
       serves' : serves t' ≡ true
       serves' = both_hold t.sequencing _ (h.present refl e) (eq-eqb _ _ (number' ∙ sym e))
 
-      reply-is : replyNumber t' ≡ length (c.order ++ more)
-      unfolding replyNumber
-      reply-is = sym (if-true (serves t') _ _ _ serves' refl) ∙ inv'.top-is
+      reply_is : reply_number t' ≡ length (c.order ++ more)
+      unfolding reply_number
+      reply_is = sym (if_true (serves t') _ _ _ serves' refl) ∙ inv'.top_is
 
-      reach-le' : reachOf t.member ≤ replyNumber t'
-      reach-le' =
-          let x = reach-le-order in
-          let y = reply-is in
+      reach_le' : reach_of t.member ≤ reply_number t'
+      reach_le' =
+          let x = reach_le_order in
+          let y = reply_is in
           let z : length (c.order ++ more) ≡ length c.order + length more = length-append c.order more in
           omega arith
         where
-          reach-le-order : reachOf t.member ≤ length c.order
-          reach-le-order = subst (λ (m : Member). reachOf m ≤ length c.order) (member-here group cut t e) (reach-most (v.seen.terminal i inside).content)
+          reach_le_order : reach_of t.member ≤ length c.order
+          reach_le_order = subst (λ (m : Member). reach_of m ≤ length c.order) (member_here group cut t e) (reach_most (v.seen.terminal i inside).content)
 
-      survivor' : Survivor n resilience (withOrder c (c.order ++ more)) v.under cut (Low n resilience c cut at') i t'
+      survivor' : Survivor n resilience (with_order c (c.order ++ more)) v.under cut (Low n resilience c cut at') i t'
       survivor' =
           record {
             sound = sound';
@@ -224,33 +224,33 @@ module _ (n resilience line : ℕ) (c : Course) (at : ℕ → Terminal) (packets
             size = h.size;
             resilient = h.resilient;
             itself = h.itself;
-            remembers = longer-remembers t.member.taken.0 t.kept c.order h.remembers more (subst (λ (k : ℕ). k ≤ length c.order) (taken-same group cut t) (v.seen.terminal i inside).content.taken-le);
+            remembers = longer_remembers t.member.taken.0 t.kept c.order h.remembers more (subst (λ (k : ℕ). k ≤ length c.order) (taken_same group cut t) (v.seen.terminal i inside).content.taken_le);
             serving = λ _.
-                let x : take o.sequencer.top.0 (c.order ++ more) ≡ c.order ++ more = take_all o.sequencer.top.0 (c.order ++ more) (let z = inv'.top-is in omega arith) in
-                subst (λ (g : description.Group). SequencerInv g o.sequencer (take o.sequencer.top.0 (c.order ++ more))) (sym inv'.group-is) (subst (SequencerInv group o.sequencer) (sym x) inv');
-            reach-le = reach-le';
-            floor-low = λ _. floor-low';
+                let x : take o.sequencer.top.0 (c.order ++ more) ≡ c.order ++ more = take_all o.sequencer.top.0 (c.order ++ more) (let z = inv'.top_is in omega arith) in
+                subst (λ (g : description.Group). SequencerInv g o.sequencer (take o.sequencer.top.0 (c.order ++ more))) (sym inv'.group_is) (subst (SequencerInv group o.sequencer) (sym x) inv');
+            reach_le = reach_le';
+            floor_low = λ _. floor_low';
             read_low = low_up _ h.read_low;
             calm = h.calm;
-            under-is = λ q. absurd (q e);
+            under_is = λ q. absurd (q e);
             foreign = λ q. absurd (q e);
             waits = λ q. absurd (q e);
-            reply-le = λ q. absurd (q e);
+            reply_le = λ q. absurd (q e);
             awake = λ _ _. (refl, number');
             present = h.present;
             wakes = h.wakes;
-            cut-is = λ _ q. absurd (q e);
+            cut_is = λ _ q. absurd (q e);
           }
 
-      pub order-next : Inv n resilience line (withOrder c (c.order ++ more)) at' (packets ++ written o.bytes) tk sb
-      order-next =
+      pub order_next : Inv n resilience line (with_order c (c.order ++ more)) at' (packets ++ written o.bytes) tk sb
+      order_next =
           let news = written o.bytes in
-          let view' : sequencerOf group cut (at' i) ≡ o.sequencer = ap (sequencerOf group cut) here ∙ sequencer-here group cut t' e in
+          let view' : sequencer_of group cut (at' i) ≡ o.sequencer = ap (sequencer_of group cut) here ∙ sequencer_here group cut t' e in
           keep n resilience line c at packets tk sb v i b t' at' here rest (c.order ++ more) more refl goes ups tk sb news news
-          (subst (λ (x : Sequencer). Seen group line x (λ j. memberOf group cut (at' j)) (c.order ++ more) tk sb v.lost (v.known ++ news)) (sym view')
-          (same_seen group line o.sequencer (λ j. memberOf group cut (at j)) (λ j. memberOf group cut (at' j)) (c.order ++ more) tk tk sb sb v.lost (v.known ++ news) (λ j _. members-same j) (λ j _. refl) (λ j _. refl) seen'))
-          (subst (λ (x : Sequencer). (sequencerOf group cut t).accepted.0 ≤ x.accepted.0) (sym view')
-          (subst (λ (x : Sequencer). x.accepted.0 ≤ o.sequencer.accepted.0) (sym view-is) (order-up group line s (λ j. memberOf group cut (at j)) c.order tk sb v.lost v.known own-seen p known_is)))
+          (subst (λ (x : Sequencer). Seen group line x (λ j. member_of group cut (at' j)) (c.order ++ more) tk sb v.lost (v.known ++ news)) (sym view')
+          (same_seen group line o.sequencer (λ j. member_of group cut (at j)) (λ j. member_of group cut (at' j)) (c.order ++ more) tk tk sb sb v.lost (v.known ++ news) (λ j _. members_same j) (λ j _. refl) (λ j _. refl) seen'))
+          (subst (λ (x : Sequencer). (sequencer_of group cut t).accepted.0 ≤ x.accepted.0) (sym view')
+          (subst (λ (x : Sequencer). x.accepted.0 ≤ o.sequencer.accepted.0) (sym view_is) (order_up group line s (λ j. member_of group cut (at j)) c.order tk sb v.lost v.known own_seen p known_is)))
           (record {
             lost = λ q. absurd (false≢true (sym q ∙ inside));
             old = λ _ q. absurd (q number');
@@ -258,8 +258,8 @@ module _ (n resilience line : ℕ) (c : Course) (at : ℕ → Terminal) (packets
             survivor = λ _. survivor';
           })
           (λ q d. subst (λ (k : ℕ). Open c at (at k).reset) q (v.opened d)) (λ q d. subst (λ (k : ℕ). (at k).reset.inviting ≡ false) q (v.shut d))
-          (all_map _ _ (λ p w x q j z. let a = w.floor-at (floor-fits o.sequencer (c.order ++ more) inv') x q in let g = floor-low' j z in omega arith) news wrote)
-          (news-covered (withOrder c (c.order ++ more)) at' v.under cut v.known news)
+          (all_map _ _ (λ p w x q j z. let a = w.floor_at (floor_fits o.sequencer (c.order ++ more) inv') x q in let g = floor_low' j z in omega arith) news wrote)
+          (news_covered (with_order c (c.order ++ more)) at' v.under cut v.known news)
         where
           wrote : All (SequencerWrote s.group.number o.sequencer.floor.0) (written o.bytes)
-          wrote = subst (λ (x : terminal.SequencerOutcome). All (SequencerWrote s.group.number x.terminal.sequencer.floor.0) (written x.bytes)) order_is (order-sends t p longestPacket)
+          wrote = subst (λ (x : terminal.SequencerOutcome). All (SequencerWrote s.group.number x.terminal.sequencer.floor.0) (written x.bytes)) order_is (order_sends t p longest_packet)

@@ -9,36 +9,36 @@ use native.Mathlib.Omega.{arith}
 use borrow.Author.Tests.{eqb-true}
 use lib.ListN.{length, get_or, take, get_elem?}
 use lib.Seq.{length-take-le}
-use Rattle.group.proofs.Choice.{if-true, if-false, both_first, both-then}
-use Rattle.group.proofs.Lists.{if-elim, eq-or, All, all_map}
+use Rattle.group.proofs.Choice.{if_true, if_false, both_first, both_then}
+use Rattle.group.proofs.Lists.{if_elim, eq_or, All, all_map}
 use Rattle.group.specs.Choice.{if◌then◌else◌, ◌and◌, ◌=?◌}
-use Rattle.group.specs.Limits.{placesMost, membersMost}
-use Rattle.group.specs.Members.{isIn}
+use Rattle.group.specs.Limits.{places_most, members_most}
+use Rattle.group.specs.Members.{is_in}
 use Rattle.group.specs.declared.Group as description
 use Rattle.group.specs.declared.MemberNumber.{MemberNumber}
-use Rattle.history.proofs.Soundness.{takenIn}
+use Rattle.history.proofs.Soundness.{taken_in}
 use Rattle.message.specs.Order.{Ordered}
-use Rattle.member.proofs.Acknowledged.{reach-most}
+use Rattle.member.proofs.Acknowledged.{reach_most}
 use Rattle.member.proofs.Invariant as memberInvariant
 use Rattle.member.proofs.Invariant.{MemberGood}
 use Rattle.member.specs.Calls as member
 use Rattle.member.specs.Laws as memberLaws
-use Rattle.member.specs.State.{Member, reachOf}
+use Rattle.member.specs.State.{Member, reach_of}
 use Rattle.member.specs.declared.Answer.{Answer}
 use Rattle.sequencer.proofs.Invariant.{SequencerInv}
 use Rattle.sequencer.specs.State.{Sequencer}
 use Rattle.recovery.proofs.Laws.{Frame}
 use Rattle.recovery.specs.Calls as terminal
 use Rattle.recovery.specs.Laws as terminalLaws
-use Rattle.recovery.specs.Sound.{terminalSound}
-use Rattle.recovery.specs.State.{Kept, Reset, Terminal, serves, replyNumber}
+use Rattle.recovery.specs.Sound.{terminal_sound}
+use Rattle.recovery.specs.State.{Kept, Reset, Terminal, serves, reply_number}
 use Rattle.reset.specs.Course.{Course}
-use Rattle.reset.proofs.First.{Steady, same-steady}
-use Rattle.reset.proofs.Invariant.{Has, Busy, Foreign, groupIn, Low, Survivor, Sits, Answered, Open, Covered, ours, elsewhere, resets, FloorLow, Inv, withOrder, Goes}
-use Rattle.reset.proofs.Keep.{keep, low_goes, top-le}
+use Rattle.reset.proofs.First.{Steady, same_steady}
+use Rattle.reset.proofs.Invariant.{Has, Busy, Foreign, group_in, Low, Survivor, Sits, Answered, Open, Covered, ours, elsewhere, resets, FloorLow, Inv, with_order, Goes}
+use Rattle.reset.proofs.Keep.{keep, low_goes, top_le}
 use Rattle.reset.proofs.Remembering.{Remembers}
 use Rattle.reset.proofs.Seen.{Seen, member_seen}
-use Rattle.reset.proofs.View.{hasResult, memberOf, sequencerOf, member-here, sequencer-here}
+use Rattle.reset.proofs.View.{has_result, member_of, sequencer_of, member_here, sequencer_here}
 
 -- the group's description stays, and who it is
 pub record Kin (m m' : Member) : Type 0 where
@@ -47,18 +47,18 @@ pub record Kin (m m' : Member) : Type 0 where
 
 module _ (n resilience : ℕ) (c : Course) (under cut : ℕ) (low low' : ℕ → Type 0) (up : (x : ℕ) → low x → low' x) (i : ℕ) (t : Terminal) (m' : Member) (kept' : Kept) (s : Survivor n resilience c under cut low i t) where
   abbrev t' : Terminal
-  t' = terminal.withMember t m' kept'
+  t' = terminal.with_member t m' kept'
 
-  reaches : (serves t ≡ true → reachOf m' ≤ t.sequencer.top.0) → serves t' ≡ serves t → reachOf m' ≤ replyNumber t'
-  unfolding replyNumber
-  reaches reach' same = if-elim (λ (x : ℕ). reachOf m' ≤ x) (serves t') (λ e. reach' (sym same ∙ e)) (λ _. le_refl _)
+  reaches : (serves t ≡ true → reach_of m' ≤ t.sequencer.top.0) → serves t' ≡ serves t → reach_of m' ≤ reply_number t'
+  unfolding reply_number
+  reaches reach' same = if_elim (λ (x : ℕ). reach_of m' ≤ x) (serves t') (λ e. reach' (sym same ∙ e)) (λ _. le_refl _)
 
-  pub member-survivor : Kin t.member m' → terminalSound t' ≡ true → memberLaws.Typed m' → length kept'.past ≡ placesMost → length kept'.counts ≡ membersMost
-      → Remembers m'.taken.0 kept' c.order → low' kept'.read.0 → (serves t ≡ true → reachOf m' ≤ t.sequencer.top.0) → Survivor n resilience c under cut low' i t'
-  member-survivor kin sound' typed' past' counts' remembers' read' reach' =
+  pub member_survivor : Kin t.member m' → terminal_sound t' ≡ true → memberLaws.Typed m' → length kept'.past ≡ places_most → length kept'.counts ≡ members_most
+      → Remembers m'.taken.0 kept' c.order → low' kept'.read.0 → (serves t ≡ true → reach_of m' ≤ t.sequencer.top.0) → Survivor n resilience c under cut low' i t'
+  member_survivor kin sound' typed' past' counts' remembers' read' reach' =
       let number : m'.group.number ≡ t.member.group.number = ap (λ (x : description.Group). x.number) kin.group in
       let same : serves t' ≡ serves t = ap (λ (k : ℕ). t.sequencing and t.sequencer.group.number =? k) number in
-      let steady = same-steady t t' s.sound sound' refl in
+      let steady = same_steady t t' s.sound sound' refl in
       record {
         sound = sound';
         typed = record { member = typed'; sequencer = s.typed.sequencer; past = past'; counts = counts'; replies = s.typed.replies };
@@ -68,24 +68,24 @@ module _ (n resilience : ℕ) (c : Course) (under cut : ℕ) (low low' : ℕ →
         itself = ap (λ (x : MemberNumber). x.0) kin.number ∙ s.itself;
         remembers = remembers';
         serving = λ e. s.serving (sym same ∙ e);
-        reach-le = reaches reach' same;
-        floor-low = λ e. up _ (s.floor-low (sym same ∙ e));
+        reach_le = reaches reach' same;
+        floor_low = λ e. up _ (s.floor_low (sym same ∙ e));
         read_low = read';
         calm = λ e. s.calm (sym number ∙ e);
-        under-is = λ e. number ∙ s.under-is (λ q. e (number ∙ q));
+        under_is = λ e. number ∙ s.under_is (λ q. e (number ∙ q));
         foreign = λ e. subst (Foreign c) (sym number) (s.foreign (λ q. e (number ∙ q)));
         waits = λ e. s.waits (λ q. e (number ∙ q));
-        reply-le = λ e. let x = s.reply-le (λ q. e (number ∙ q)) in let y = steady.number (s.waits (λ q. e (number ∙ q))) in omega arith;
+        reply_le = λ e. let x = s.reply_le (λ q. e (number ∙ q)) in let y = steady.number (s.waits (λ q. e (number ∙ q))) in omega arith;
         awake = s.awake;
         present = λ e q. s.present e (sym number ∙ q);
         wakes = λ e q. s.wakes e (sym number ∙ q);
-        cut-is = λ e q. steady.number (s.waits (λ z. q (number ∙ z))) ∙ s.cut-is e (λ z. q (number ∙ z));
+        cut_is = λ e q. steady.number (s.waits (λ z. q (number ∙ z))) ∙ s.cut_is e (λ z. q (number ∙ z));
       }
 
 module _ (n resilience line : ℕ) (c : Course) (at : ℕ → Terminal) (packets : List (List ℕ)) (tk : ℕ → List Ordered) (sb : ℕ → List (List ℕ)) (v : Inv n resilience line c at packets tk sb)
-    (i : ℕ) (b : i < n) (inside : isIn c.survivors i ≡ true) where
+    (i : ℕ) (b : i < n) (inside : is_in c.survivors i ≡ true) where
   abbrev group : description.Group
-  group = groupIn n resilience c
+  group = group_in n resilience c
 
   abbrev cut : ℕ
   cut = v.cut
@@ -97,32 +97,32 @@ module _ (n resilience line : ℕ) (c : Course) (at : ℕ → Terminal) (packets
   t = at i
 
   abbrev view : Sequencer
-  view = sequencerOf group cut (at c.elected)
+  view = sequencer_of group cut (at c.elected)
 
   pub stands : Survivor n resilience c under cut (Low n resilience c cut at) i t
   stands = (v.sits i b).survivor inside
 
   -- a sequencer that serves with the result has the whole order
-  pub serves-all : t.member.group.number ≡ c.number → serves t ≡ true → (i ≡ c.elected) × (t.sequencer.top.0 ≡ length c.order)
-  serves-all e q =
+  pub serves_all : t.member.group.number ≡ c.number → serves t ≡ true → (i ≡ c.elected) × (t.sequencer.top.0 ≡ length c.order)
+  serves_all e q =
       let ours : t.sequencer.group.number ≡ c.number = eqb_is t.sequencing _ _ q ∙ e in
       let x = (v.sits i b).only (both_first t.sequencing _ q) ours in
-      let same : sequencerOf group cut (at c.elected) ≡ t.sequencer = ap (λ (k : ℕ). sequencerOf group cut (at k)) (sym x.0) ∙ sequencer-here group cut t e in
-      (x.0, ap (λ (z : Sequencer). z.top.0) (sym same) ∙ v.seen.sequencer.top-is)
+      let same : sequencer_of group cut (at c.elected) ≡ t.sequencer = ap (λ (k : ℕ). sequencer_of group cut (at k)) (sym x.0) ∙ sequencer_here group cut t e in
+      (x.0, ap (λ (z : Sequencer). z.top.0) (sym same) ∙ v.seen.sequencer.top_is)
     where
       eqb_is : (a : Bool) (x y : ℕ) → (a and x =? y) ≡ true → x ≡ y
-      eqb_is a x y h = eqb-true x y (both-then a _ h)
+      eqb_is a x y h = eqb-true x y (both_then a _ h)
 
   module _ (at' : ℕ → Terminal) (m' : Member) (kept' : Kept) where
     abbrev changed : Terminal
-    changed = terminal.withMember t m' kept'
+    changed = terminal.with_member t m' kept'
 
-    module _ (here : at' i ≡ changed) (rest : (j : ℕ) → j ≢ i → at' j ≡ at j) (kin : Kin t.member m') (sound' : terminalSound changed ≡ true) (typed' : memberLaws.Typed m') (past' : length kept'.past ≡ placesMost)
-        (counts' : length kept'.counts ≡ membersMost) (remembers' : Remembers m'.taken.0 kept' c.order) (read' : Low n resilience c cut at kept'.read.0)
+    module _ (here : at' i ≡ changed) (rest : (j : ℕ) → j ≢ i → at' j ≡ at j) (kin : Kin t.member m') (sound' : terminal_sound changed ≡ true) (typed' : memberLaws.Typed m') (past' : length kept'.past ≡ places_most)
+        (counts' : length kept'.counts ≡ members_most) (remembers' : Remembers m'.taken.0 kept' c.order) (read' : Low n resilience c cut at kept'.read.0)
         (tk' : ℕ → List Ordered) (sb' : ℕ → List (List ℕ)) (other-tk : (j : ℕ) → j ≢ i → tk' j ≡ tk j) (other-sb : (j : ℕ) → j ≢ i → sb' j ≡ sb j) (answer : Answer) (news ps : List (List ℕ))
-        (owes : MemberGood group i (takenIn view.acknowledgements i) view.accepted.0 c.order (sb i) (memberOf group cut t) (tk' i) (sb' i) news (record { member = memberOf group cut changed; answer = answer; bytes = [] }))
-        (stays : t.member.group.number ≢ c.number → reachOf m' ≤ reachOf t.member)
-        (head : i ≡ c.elected → t.member.group.number ≢ c.number → sequencerOf group cut changed ≡ sequencerOf group cut t)
+        (owes : MemberGood group i (taken_in view.acknowledgements i) view.accepted.0 c.order (sb i) (member_of group cut t) (tk' i) (sb' i) news (record { member = member_of group cut changed; answer = answer; bytes = [] }))
+        (stays : t.member.group.number ≢ c.number → reach_of m' ≤ reach_of t.member)
+        (head : i ≡ c.elected → t.member.group.number ≢ c.number → sequencer_of group cut changed ≡ sequencer_of group cut t)
         (floors' : All (FloorLow (Low n resilience c cut at)) news) (new : All (Covered c at' under cut (v.known ++ news)) ps) where
       number_is : m'.group.number ≡ t.member.group.number
       number_is = ap (λ (x : description.Group). x.number) kin.group
@@ -131,48 +131,48 @@ module _ (n resilience line : ℕ) (c : Course) (at : ℕ → Terminal) (packets
       goes =
           record {
             group = λ _. number_is;
-            answers = λ _ _ r a. (r, a, (same-steady t changed stands.sound sound' refl).number r);
+            answers = λ _ _ r a. (r, a, (same_steady t changed stands.sound sound' refl).number r);
           }
 
-      ups : isIn c.survivors i ≡ true → reachOf (memberOf group cut t) ≤ reachOf (memberOf group cut changed)
+      ups : is_in c.survivors i ≡ true → reach_of (member_of group cut t) ≤ reach_of (member_of group cut changed)
       ups _ = owes.louder.reach
 
       -- the elected one's sequencer stays
-      changed-view : i ≡ c.elected → sequencerOf group cut changed ≡ sequencerOf group cut t
-      changed-view q =
-          eq-or t.member.group.number c.number
-          (λ e. sequencer-here group cut changed (number_is ∙ e) ∙ sym (sequencer-here group cut t e)) (λ e. head q e)
+      changed_view : i ≡ c.elected → sequencer_of group cut changed ≡ sequencer_of group cut t
+      changed_view q =
+          eq_or t.member.group.number c.number
+          (λ e. sequencer_here group cut changed (number_is ∙ e) ∙ sym (sequencer_here group cut t e)) (λ e. head q e)
 
-      view-same : sequencerOf group cut (at' c.elected) ≡ view
-      view-same =
-          eq-or c.elected i
-          (λ q. subst (λ (k : ℕ). sequencerOf group cut (at' k) ≡ sequencerOf group cut (at k)) (sym q) (ap (sequencerOf group cut) here ∙ changed-view (sym q)))
-          (λ q. ap (sequencerOf group cut) (rest c.elected q))
+      view_same : sequencer_of group cut (at' c.elected) ≡ view
+      view_same =
+          eq_or c.elected i
+          (λ q. subst (λ (k : ℕ). sequencer_of group cut (at' k) ≡ sequencer_of group cut (at k)) (sym q) (ap (sequencer_of group cut) here ∙ changed_view (sym q)))
+          (λ q. ap (sequencer_of group cut) (rest c.elected q))
 
-      seen' : Seen group line (sequencerOf group cut (at' c.elected)) (λ j. memberOf group cut (at' j)) c.order tk' sb' v.lost (v.known ++ news)
+      seen' : Seen group line (sequencer_of group cut (at' c.elected)) (λ j. member_of group cut (at' j)) c.order tk' sb' v.lost (v.known ++ news)
       seen' =
-          subst (λ (x : Sequencer). Seen group line x (λ j. memberOf group cut (at' j)) c.order tk' sb' v.lost (v.known ++ news)) (sym view-same)
-          (member_seen group line view (λ j. memberOf group cut (at j)) c.order tk sb v.lost v.known v.seen i inside (λ j. memberOf group cut (at' j)) tk' sb'
-          (record { member = memberOf group cut changed; answer = answer; bytes = [] }) news (ap (memberOf group cut) here) (λ j q. ap (memberOf group cut) (rest j q)) other-tk other-sb owes)
+          subst (λ (x : Sequencer). Seen group line x (λ j. member_of group cut (at' j)) c.order tk' sb' v.lost (v.known ++ news)) (sym view_same)
+          (member_seen group line view (λ j. member_of group cut (at j)) c.order tk sb v.lost v.known v.seen i inside (λ j. member_of group cut (at' j)) tk' sb'
+          (record { member = member_of group cut changed; answer = answer; bytes = [] }) news (ap (member_of group cut) here) (λ j q. ap (member_of group cut) (rest j q)) other-tk other-sb owes)
 
       low_up : (x : ℕ) → Low n resilience c cut at x → Low n resilience c cut at' x
       low_up = low_goes n resilience line c at packets tk sb v i b changed at' here rest c.order [] (sym (append-nil c.order)) goes ups
 
       -- what it reaches lies within what its sequencer numbered
-      reach' : serves t ≡ true → reachOf m' ≤ t.sequencer.top.0
-      unfolding replyNumber
+      reach' : serves t ≡ true → reach_of m' ≤ t.sequencer.top.0
+      unfolding reply_number
       reach' q =
-          eq-or t.member.group.number c.number
+          eq_or t.member.group.number c.number
           (λ e.
-          let top = (serves-all e q).1 in
-          let x = reach-most owes.terminal.content in
-          let same : memberOf group cut changed ≡ m' = member-here group cut changed (number_is ∙ e) in
-          let y = subst (λ (z : Member). reachOf z ≤ length c.order) same x in
+          let top = (serves_all e q).1 in
+          let x = reach_most owes.terminal.content in
+          let same : member_of group cut changed ≡ m' = member_here group cut changed (number_is ∙ e) in
+          let y = subst (λ (z : Member). reach_of z ≤ length c.order) same x in
           omega arith)
           (λ e.
           let x = stays e in
-          let y = stands.reach-le in
-          let z : t.sequencer.top.0 ≡ replyNumber t = if-true (serves t) _ _ _ q refl in
+          let y = stands.reach_le in
+          let z : t.sequencer.top.0 ≡ reply_number t = if_true (serves t) _ _ _ q refl in
           omega arith)
 
       sits' : Sits n resilience c under cut (Low n resilience c cut at') i changed
@@ -182,12 +182,12 @@ module _ (n resilience line : ℕ) (c : Course) (at : ℕ → Terminal) (packets
             old = (v.sits i b).old;
             only = λ e q. let x = (v.sits i b).only e q in (x.0, number_is ∙ x.1);
             survivor = λ _.
-                member-survivor n resilience c under cut (Low n resilience c cut at) (Low n resilience c cut at') low_up i t m' kept' stands kin sound' typed' past' counts' remembers' (low_up _ read') reach';
+                member_survivor n resilience c under cut (Low n resilience c cut at) (Low n resilience c cut at') low_up i t m' kept' stands kin sound' typed' past' counts' remembers' (low_up _ read') reach';
           }
 
-      pub member-next : Inv n resilience line c at' (packets ++ ps) tk' sb'
-      member-next =
+      pub member_next : Inv n resilience line c at' (packets ++ ps) tk' sb'
+      member_next =
           keep n resilience line c at packets tk sb v i b changed at' here rest c.order [] (sym (append-nil c.order)) goes ups tk' sb' news ps seen'
-          (subst (λ (x : Sequencer). view.accepted.0 ≤ x.accepted.0) (sym view-same) (le_refl _)) sits'
+          (subst (λ (x : Sequencer). view.accepted.0 ≤ x.accepted.0) (sym view_same) (le_refl _)) sits'
           (λ e d. subst (λ (k : ℕ). Open c at (at k).reset) e (v.opened d)) (λ e d. subst (λ (k : ℕ). (at k).reset.inviting ≡ false) e (v.shut d))
           (all_map _ _ (λ p f h e. low_up _ (f h e)) news floors') new

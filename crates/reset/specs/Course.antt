@@ -5,18 +5,18 @@ use Rattle.std.proofs.Math.Option.{Option, none, some}
 use Rattle.std.proofs.Math.ListN.{get_elem?}
 use Rattle.std.proofs.Math.ListN as list
 use Rattle.group.specs.Choice.{if◌then◌else◌, ◌=?◌}
-use Rattle.group.specs.Limits.{largestNumber}
-use Rattle.group.specs.Members.{isIn, all_of}
-use Rattle.message.specs.Order.{Ordered, Submission, countedFrom}
+use Rattle.group.specs.Limits.{largest_number}
+use Rattle.group.specs.Members.{is_in, all_of}
+use Rattle.message.specs.Order.{Ordered, Submission, counted_from}
 use Rattle.member.specs.declared.Answer as memberAnswer
-use Rattle.model.specs.Log.{gather, numberedIn, tookIn, acceptedIn}
-use Rattle.model.specs.World.{Answer, absent, bySequencer, byMember}
-use Rattle.packet.specs.Packet.{headerOf, payloadAt, read_of, contentOf, survivorsIn}
+use Rattle.model.specs.Log.{gather, numbered_in, took_in, accepted_in}
+use Rattle.model.specs.World.{Answer, absent, by_sequencer, by_member}
+use Rattle.packet.specs.Packet.{header_of, payload_at, read_of, content_of, survivors_in}
 use Rattle.packet.specs.declared.Header.{Header}
 use Rattle.packet.specs.declared.Packet.{Packet}
 use Rattle.packet.specs.declared.Reading.{Reading}
-use Rattle.recovery.specs.Calls.{ofReset}
-use Rattle.reset.specs.World.{Event, submit, repeat, take, status, poll, copy, handMember, handSequencer, invite, make, Entry, World, step}
+use Rattle.recovery.specs.Calls.{of_reset}
+use Rattle.reset.specs.World.{Event, submit, repeat, take, status, poll, copy, hand_member, hand_sequencer, invite, make, Entry, World, step}
 
 -- the order; the survivors, one bit a member, the elected member and the number of the group made last, at first the group that was
 -- opened; the number and the initiator of the last attempt; and every number used so far. No attempt is open where its number is the group's
@@ -45,7 +45,7 @@ opened n number =
 abbrev pub numbering : Course → ℕ → Answer → Course
 numbering c i answer =
     record {
-      order = c.order ++ (if isIn c.survivors i then numberedIn answer else []);
+      order = c.order ++ (if is_in c.survivors i then numbered_in answer else []);
       survivors = c.survivors;
       elected = c.elected;
       number = c.number;
@@ -71,88 +71,88 @@ invited c i number =
 abbrev pub made : Course → List ℕ → Course
 made c packet =
     record {
-      order = list.take (headerOf packet).c c.order;
-      survivors = survivorsIn (payloadAt packet);
-      elected = (headerOf packet).b;
-      number = (headerOf packet).a;
+      order = list.take (header_of packet).c c.order;
+      survivors = survivors_in (payload_at packet);
+      elected = (header_of packet).b;
+      number = (header_of packet).a;
       attempt = c.attempt;
       initiator = c.initiator;
       used = c.used;
     }
 
 -- whether a call was answered Sent
-unfoldable pub isSent : Answer → Bool
-isSent absent = false
-isSent (bySequencer answer bytes) = false
-isSent (byMember (memberAnswer.Answer.Refused refusal) bytes) = false
-isSent (byMember memberAnswer.Answer.Sent bytes) = true
-isSent (byMember (memberAnswer.Answer.Queued count) bytes) = false
-isSent (byMember memberAnswer.Answer.Old bytes) = false
-isSent (byMember memberAnswer.Answer.Kept bytes) = false
-isSent (byMember memberAnswer.Answer.KeptGap bytes) = false
-isSent (byMember memberAnswer.Answer.Beyond bytes) = false
-isSent (byMember memberAnswer.Answer.BeyondGap bytes) = false
-isSent (byMember memberAnswer.Answer.Gap bytes) = false
-isSent (byMember memberAnswer.Answer.Status bytes) = false
-isSent (byMember memberAnswer.Answer.None bytes) = false
-isSent (byMember memberAnswer.Answer.Noted bytes) = false
-isSent (byMember (memberAnswer.Answer.Took number originator count more) bytes) = false
+unfoldable pub is_sent : Answer → Bool
+is_sent absent = false
+is_sent (by_sequencer answer bytes) = false
+is_sent (by_member (memberAnswer.Answer.Refused refusal) bytes) = false
+is_sent (by_member memberAnswer.Answer.Sent bytes) = true
+is_sent (by_member (memberAnswer.Answer.Queued count) bytes) = false
+is_sent (by_member memberAnswer.Answer.Old bytes) = false
+is_sent (by_member memberAnswer.Answer.Kept bytes) = false
+is_sent (by_member memberAnswer.Answer.KeptGap bytes) = false
+is_sent (by_member memberAnswer.Answer.Beyond bytes) = false
+is_sent (by_member memberAnswer.Answer.BeyondGap bytes) = false
+is_sent (by_member memberAnswer.Answer.Gap bytes) = false
+is_sent (by_member memberAnswer.Answer.Status bytes) = false
+is_sent (by_member memberAnswer.Answer.None bytes) = false
+is_sent (by_member memberAnswer.Answer.Noted bytes) = false
+is_sent (by_member (memberAnswer.Answer.Took number originator count more) bytes) = false
 
 -- the bytes that an event's call wrote
-unfoldable pub bytesIn : Answer → List ℕ
-bytesIn absent = []
-bytesIn (bySequencer answer bytes) = bytes
-bytesIn (byMember answer bytes) = bytes
+unfoldable pub bytes_in : Answer → List ℕ
+bytes_in absent = []
+bytes_in (by_sequencer answer bytes) = bytes
+bytes_in (by_member answer bytes) = bytes
 
-unfoldable pub courseOf : Course → Event → Answer → Course
-courseOf c (submit i payload) answer = c
-courseOf c (repeat i) answer = c
-courseOf c (take i) answer = c
-courseOf c (status i) answer = c
-courseOf c (poll i) answer = c
-courseOf c (copy i number) answer = c
-courseOf c (handMember k i) answer = c
-courseOf c (handSequencer k i) answer = numbering c i answer
-courseOf c (invite i number) answer = if isSent answer then invited c i number else c
-courseOf c (make i demand) answer = if isSent answer then made c (bytesIn answer) else c
+unfoldable pub course_of : Course → Event → Answer → Course
+course_of c (submit i payload) answer = c
+course_of c (repeat i) answer = c
+course_of c (take i) answer = c
+course_of c (status i) answer = c
+course_of c (poll i) answer = c
+course_of c (copy i number) answer = c
+course_of c (hand_member k i) answer = c
+course_of c (hand_sequencer k i) answer = numbering c i answer
+course_of c (invite i number) answer = if is_sent answer then invited c i number else c
+course_of c (make i demand) answer = if is_sent answer then made c (bytes_in answer) else c
 
 -- the course of a list of entries
-unfoldable pub courseFrom : Course → List Entry → Course
-courseFrom c [] = c
-courseFrom c (entry ∷ rest) = courseFrom (courseOf c entry.event entry.answer) rest
+unfoldable pub course_from : Course → List Entry → Course
+course_from c [] = c
+course_from c (entry ∷ rest) = course_from (course_of c entry.event entry.answer) rest
 
 -- what terminal i took in an event, and submitted in one
-unfoldable pub tookAt : ℕ → Event → Answer → List Ordered
-tookAt i (submit j payload) answer = []
-tookAt i (repeat j) answer = []
-tookAt i (take j) answer = if j =? i then tookIn answer else []
-tookAt i (status j) answer = []
-tookAt i (poll j) answer = []
-tookAt i (copy j number) answer = []
-tookAt i (handMember k j) answer = []
-tookAt i (handSequencer k j) answer = []
-tookAt i (invite j number) answer = []
-tookAt i (make j demand) answer = []
+unfoldable pub took_at : ℕ → Event → Answer → List Ordered
+took_at i (submit j payload) answer = []
+took_at i (repeat j) answer = []
+took_at i (take j) answer = if j =? i then took_in answer else []
+took_at i (status j) answer = []
+took_at i (poll j) answer = []
+took_at i (copy j number) answer = []
+took_at i (hand_member k j) answer = []
+took_at i (hand_sequencer k j) answer = []
+took_at i (invite j number) answer = []
+took_at i (make j demand) answer = []
 
-unfoldable pub submittedAt : ℕ → Event → Answer → List (List ℕ)
-submittedAt i (submit j payload) answer = if j =? i then acceptedIn payload answer else []
-submittedAt i (repeat j) answer = []
-submittedAt i (take j) answer = []
-submittedAt i (status j) answer = []
-submittedAt i (poll j) answer = []
-submittedAt i (copy j number) answer = []
-submittedAt i (handMember k j) answer = []
-submittedAt i (handSequencer k j) answer = []
-submittedAt i (invite j number) answer = []
-submittedAt i (make j demand) answer = []
+unfoldable pub submitted_at : ℕ → Event → Answer → List (List ℕ)
+submitted_at i (submit j payload) answer = if j =? i then accepted_in payload answer else []
+submitted_at i (repeat j) answer = []
+submitted_at i (take j) answer = []
+submitted_at i (status j) answer = []
+submitted_at i (poll j) answer = []
+submitted_at i (copy j number) answer = []
+submitted_at i (hand_member k j) answer = []
+submitted_at i (hand_sequencer k j) answer = []
+submitted_at i (invite j number) answer = []
+submitted_at i (make j demand) answer = []
 
 -- what a terminal took is the list of messages that its takes handed out, in that sequence
 abbrev pub taken : ℕ → List Entry → List Ordered
-taken i log = gather (λ entry. tookAt i entry.event entry.answer) log
+taken i log = gather (λ entry. took_at i entry.event entry.answer) log
 
 -- its accepted submissions are its submits that were not refused, the j-th with count j and the payload given
 abbrev pub accepted : ℕ → List Entry → List Submission
-accepted i log = countedFrom 1 (gather (λ entry. submittedAt i entry.event entry.answer) log)
+accepted i log = counted_from 1 (gather (λ entry. submitted_at i entry.event entry.answer) log)
 
 -- the number is not in a list
 pub data Fresh (number : ℕ) : List ℕ → Type 0 where
@@ -161,7 +161,7 @@ pub data Fresh (number : ℕ) : List ℕ → Type 0 where
 
 -- of kinds 9 to 11 only those of the last attempt are handed over, and only to a survivor of the group made last
 unfoldable pub OfAttempt : Course → ℕ → Reading → Type 0
-OfAttempt c i (Reading.Fields h) = ofReset (contentOf h) ≡ true → (h.a ≡ c.attempt) × (isIn c.survivors i ≡ true)
+OfAttempt c i (Reading.Fields h) = of_reset (content_of h) ≡ true → (h.a ≡ c.attempt) × (is_in c.survivors i ≡ true)
 OfAttempt c i (Reading.Refused refusal) = Unit {0}
 
 unfoldable pub Handed : Course → ℕ → Option (List ℕ) → Type 0
@@ -178,16 +178,16 @@ Allowed w c (take i) = Unit {0}
 Allowed w c (status i) = Unit {0}
 Allowed w c (poll i) = Unit {0}
 Allowed w c (copy i number) = Unit {0}
-Allowed w c (handMember k i) = Handed c i (get_elem? w.group.packets k)
-Allowed w c (handSequencer k i) = Unit {0}
-Allowed w c (invite i number) = (isIn c.survivors i ≡ true) × Fresh number c.used × (number ≤ largestNumber)
+Allowed w c (hand_member k i) = Handed c i (get_elem? w.group.packets k)
+Allowed w c (hand_sequencer k i) = Unit {0}
+Allowed w c (invite i number) = (is_in c.survivors i ≡ true) × Fresh number c.used × (number ≤ largest_number)
 Allowed w c (make i demand) = c.initiator ≡ i
 
 -- the course of a world of n terminals that began under a number
-abbrev pub courseIn : ℕ → ℕ → World → Course
-courseIn n number w = courseFrom (opened n number) w.log
+abbrev pub course_in : ℕ → ℕ → World → Course
+course_in n number w = course_from (opened n number) w.log
 
 -- a list of events that keeps the limit
 unfoldable pub Orderly : ℕ → ℕ → World → List Event → Type 0
 Orderly n number w [] = Unit {0}
-Orderly n number w (event ∷ rest) = Allowed w (courseIn n number w) event × Orderly n number (step w event) rest
+Orderly n number w (event ∷ rest) = Allowed w (course_in n number w) event × Orderly n number (step w event) rest

@@ -4,14 +4,14 @@ use Rattle.std.specs.Prelude.{Bool, true, false, List, [], ◌∷◌, ◌++◌, 
 use Rattle.std.proofs.Math.Option.{Option, none, some}
 use Rattle.std.proofs.Math.ListN.{get_elem?}
 use Rattle.group.specs.Choice.{if◌then◌else◌, ◌and◌, ◌<?◌}
-use Rattle.group.specs.Limits.{longestPacket}
-use Rattle.group.specs.Opening.{descriptionOf}
-use Rattle.member.specs.State.{Member, freshMember}
+use Rattle.group.specs.Limits.{longest_packet}
+use Rattle.group.specs.Opening.{description_of}
+use Rattle.member.specs.State.{Member, fresh_member}
 use Rattle.packet.specs.Packet.{written}
-use Rattle.model.specs.World.{Answer, absent, bySequencer, byMember}
+use Rattle.model.specs.World.{Answer, absent, by_sequencer, by_member}
 use Rattle.recovery.specs.Calls as terminal
-use Rattle.recovery.specs.Calls.{freshTerminal}
-use Rattle.recovery.specs.State.{Terminal, freshKept, noReset, noSequencer}
+use Rattle.recovery.specs.Calls.{fresh_terminal}
+use Rattle.recovery.specs.State.{Terminal, fresh_kept, no_reset, no_sequencer}
 
 -- a terminal's submit, repeat, take and status call, its sequencer's poll and copy call, "hand packet k to terminal i's member" or "to its
 -- sequencer", its inviting and its making
@@ -22,8 +22,8 @@ pub data Event : Type 0 where
   status : (i : ℕ) → Event
   poll : (i : ℕ) → Event
   copy : (i number : ℕ) → Event
-  handMember : (k i : ℕ) → Event
-  handSequencer : (k i : ℕ) → Event
+  hand_member : (k i : ℕ) → Event
+  hand_sequencer : (k i : ℕ) → Event
   invite : (i number : ℕ) → Event
   make : (i demand : ℕ) → Event
 
@@ -41,74 +41,74 @@ abbrev pub missing : Group → Happened
 missing g = record { group = g; answer = absent }
 
 -- what a list of terminals is read as past its end
-abbrev pub noTerminal : Terminal
-noTerminal =
+abbrev pub no_terminal : Terminal
+no_terminal =
     record {
-      member = freshMember (descriptionOf 0 0 0) (record { 0 = 0 });
-      kept = freshKept;
-      reset = noReset;
+      member = fresh_member (description_of 0 0 0) (record { 0 = 0 });
+      kept = fresh_kept;
+      reset = no_reset;
       sequencing = false;
       frozen = false;
-      sequencer = noSequencer;
+      sequencer = no_sequencer;
     }
 
-abbrev pub terminalAt : Group → ℕ → Terminal
-terminalAt g i = get_or g.terminals i noTerminal
+abbrev pub terminal_at : Group → ℕ → Terminal
+terminal_at g i = get_or g.terminals i no_terminal
 
 -- what a call of terminal i's member leaves, where `packets` are those that it wrote, and one of its sequencer
-abbrev pub withMember : Group → ℕ → terminal.Outcome → List (List ℕ) → Happened
-withMember g i o packets =
+abbrev pub with_member : Group → ℕ → terminal.Outcome → List (List ℕ) → Happened
+with_member g i o packets =
     record {
       group = record { terminals = set g.terminals i o.terminal; packets = g.packets ++ packets };
-      answer = byMember o.answer o.bytes;
+      answer = by_member o.answer o.bytes;
     }
 
-abbrev pub withSequencer : Group → ℕ → terminal.SequencerOutcome → Happened
-withSequencer g i o =
+abbrev pub with_sequencer : Group → ℕ → terminal.SequencerOutcome → Happened
+with_sequencer g i o =
     record {
       group = record { terminals = set g.terminals i o.terminal; packets = g.packets ++ written o.bytes };
-      answer = bySequencer o.answer o.bytes;
+      answer = by_sequencer o.answer o.bytes;
     }
 
 -- a call of terminal i that writes packets, if there is such a terminal
-abbrev pub atTerminal : Group → ℕ → (Terminal → terminal.Outcome) → Happened
-atTerminal g i call =
-    if i <? length g.terminals then withMember g i (call (terminalAt g i)) (written (call (terminalAt g i)).bytes) else
+abbrev pub at_terminal : Group → ℕ → (Terminal → terminal.Outcome) → Happened
+at_terminal g i call =
+    if i <? length g.terminals then with_member g i (call (terminal_at g i)) (written (call (terminal_at g i)).bytes) else
     missing g
 
 -- a take writes a payload and no packet
-abbrev pub takeAt : Group → ℕ → Happened
-takeAt g i =
-    if i <? length g.terminals then withMember g i (terminal.take_of (terminalAt g i) longestPacket) [] else
+abbrev pub take_at : Group → ℕ → Happened
+take_at g i =
+    if i <? length g.terminals then with_member g i (terminal.take_of (terminal_at g i) longest_packet) [] else
     missing g
 
 -- a call of terminal i's sequencer, if there is one
-abbrev pub atSequencer : Group → ℕ → (Terminal → terminal.SequencerOutcome) → Happened
-atSequencer g i call =
-    if i <? length g.terminals and (terminalAt g i).sequencing then withSequencer g i (call (terminalAt g i)) else
+abbrev pub at_sequencer : Group → ℕ → (Terminal → terminal.SequencerOutcome) → Happened
+at_sequencer g i call =
+    if i <? length g.terminals and (terminal_at g i).sequencing then with_sequencer g i (call (terminal_at g i)) else
     missing g
 
 -- a packet handed over, if there is such a packet
-abbrev pub handToMember : Group → ℕ → Option (List ℕ) → Happened
-handToMember g i none = missing g
-handToMember g i (some packet) = atTerminal g i (λ t. terminal.receiveOf t packet longestPacket)
+abbrev pub hand_to_member : Group → ℕ → Option (List ℕ) → Happened
+hand_to_member g i none = missing g
+hand_to_member g i (some packet) = at_terminal g i (λ t. terminal.receive_of t packet longest_packet)
 
-abbrev pub handToSequencer : Group → ℕ → Option (List ℕ) → Happened
-handToSequencer g i none = missing g
-handToSequencer g i (some packet) = atSequencer g i (λ t. terminal.order_of t packet longestPacket)
+abbrev pub hand_to_sequencer : Group → ℕ → Option (List ℕ) → Happened
+hand_to_sequencer g i none = missing g
+hand_to_sequencer g i (some packet) = at_sequencer g i (λ t. terminal.order_of t packet longest_packet)
 
 -- an event; each call is lent the output that question 2 asks
 unfoldable pub happen : Group → Event → Happened
-happen g (submit i payload) = atTerminal g i (λ t. terminal.submitOf t payload longestPacket)
-happen g (repeat i) = atTerminal g i (λ t. terminal.repeatOf t longestPacket)
-happen g (take i) = takeAt g i
-happen g (status i) = atTerminal g i (λ t. terminal.statusOf t longestPacket)
-happen g (poll i) = atSequencer g i (λ t. terminal.pollOf t longestPacket)
-happen g (copy i number) = atSequencer g i (λ t. terminal.copy_of t (record { 0 = number }) longestPacket)
-happen g (handMember k i) = handToMember g i (get_elem? g.packets k)
-happen g (handSequencer k i) = handToSequencer g i (get_elem? g.packets k)
-happen g (invite i number) = atTerminal g i (λ t. terminal.inviteOf t number longestPacket)
-happen g (make i demand) = atTerminal g i (λ t. terminal.makeOf t demand longestPacket)
+happen g (submit i payload) = at_terminal g i (λ t. terminal.submit_of t payload longest_packet)
+happen g (repeat i) = at_terminal g i (λ t. terminal.repeat_of t longest_packet)
+happen g (take i) = take_at g i
+happen g (status i) = at_terminal g i (λ t. terminal.status_of t longest_packet)
+happen g (poll i) = at_sequencer g i (λ t. terminal.poll_of t longest_packet)
+happen g (copy i number) = at_sequencer g i (λ t. terminal.copy_of t (record { 0 = number }) longest_packet)
+happen g (hand_member k i) = hand_to_member g i (get_elem? g.packets k)
+happen g (hand_sequencer k i) = hand_to_sequencer g i (get_elem? g.packets k)
+happen g (invite i number) = at_terminal g i (λ t. terminal.invite_of t number longest_packet)
+happen g (make i demand) = at_terminal g i (λ t. terminal.make_of t demand longest_packet)
 
 -- an event that happened stands in the list, with its answer
 pub record Entry : Type 0 where
@@ -133,12 +133,12 @@ run w [] = w
 run w (event ∷ rest) = run (step w event) rest
 
 -- terminals i to i + k - 1
-unfoldable pub freshTerminals : ℕ → ℕ → ℕ → ℕ → ℕ → List Terminal
-freshTerminals n number resilience i zero = []
-freshTerminals n number resilience i (suc k) =
-    freshTerminal n number resilience i ∷ freshTerminals n number resilience (i + 1) k
+unfoldable pub fresh_terminals : ℕ → ℕ → ℕ → ℕ → ℕ → List Terminal
+fresh_terminals n number resilience i zero = []
+fresh_terminals n number resilience i (suc k) =
+    fresh_terminal n number resilience i ∷ fresh_terminals n number resilience (i + 1) k
 
 -- a fresh world has terminals 0 to n - 1 fresh, opened alike but for the member number, and no packet yet
 unfoldable pub fresh : ℕ → ℕ → ℕ → World
 fresh n number resilience =
-    record { group = record { terminals = freshTerminals n number resilience 0 n; packets = [] }; log = [] }
+    record { group = record { terminals = fresh_terminals n number resilience 0 n; packets = [] }; log = [] }

@@ -3,56 +3,56 @@ use mathlib.Core.Path.{refl}
 use lib.Bits.{bit_and, bit_or}
 use lib.Count.{count_trailing_zeros, ones, ones_in}
 use Rattle.group.specs.Choice.{if◌then◌else◌}
-use Rattle.group.specs.Fold.{all, allAbove, leastOf}
-use Rattle.group.specs.Members.{lowestOf, othersOf, expectedOf, neededOf, groupSound}
-use Rattle.group.specs.Opening.{openOf}
+use Rattle.group.specs.Fold.{all, all_above, least_of}
+use Rattle.group.specs.Members.{lowest_of, others_of, expected_of, needed_of, group_sound}
+use Rattle.group.specs.Opening.{open_of}
 use Rattle.group.specs.Question.{judged}
-use Rattle.message.specs.Message.{allZero, messageOf, emptyMessage, payloadOf, zeroBehind, is_empty}
+use Rattle.message.specs.Message.{all_zero, message_of, empty_message, payload_of, zero_behind, is_empty}
 use Rattle.big_endian.specs.Number.{number_at, bytes_of}
-use Rattle.packet.specs.Packet.{headerOf, knownKind, payloadFits, obeys, fieldsVerdict, read_of, headerBytes, packetOf, contentOf, written, fromElected}
+use Rattle.packet.specs.Packet.{header_of, known_kind, payload_fits, obeys, fields_verdict, read_of, header_bytes, packet_of, content_of, written, from_elected}
 use Rattle.packet.specs.Packet as packet
-use Rattle.history.specs.Ask.{senderVerdict, countVerdict, wantedVerdict, expectedVerdict}
-use Rattle.history.specs.Marks.{markedOf, enoughOf, unmarkedOf, markSound}
-use Rattle.history.specs.Note.{largerOf, tableNoted, clearedOf}
-use Rattle.history.specs.Repeat.{oneMore, is_of, findOf}
-use Rattle.history.specs.Sound.{entrySound, keptSound, placeSound, frameSound}
-use Rattle.history.specs.State.{floorOf}
+use Rattle.history.specs.Ask.{sender_verdict, count_verdict, wanted_verdict, expected_verdict}
+use Rattle.history.specs.Marks.{marked_of, enough_of, unmarked_of, mark_sound}
+use Rattle.history.specs.Note.{larger_of, table_noted, cleared_of}
+use Rattle.history.specs.Repeat.{one_more, is_of, find_of}
+use Rattle.history.specs.Sound.{entry_sound, kept_sound, place_sound, frame_sound}
+use Rattle.history.specs.State.{floor_of}
 use Rattle.member.specs.Calls as member
-use Rattle.member.specs.Sound as memberSound
-use Rattle.member.specs.State.{reachOf, acknowledgedOf, freshMember}
+use Rattle.member.specs.Sound as member_sound
+use Rattle.member.specs.State.{reach_of, acknowledged_of, fresh_member}
 use Rattle.member.specs.Wording as memberWording
 use Rattle.sequencer.specs.Calls as sequencer
-use Rattle.sequencer.specs.Note.{withTable, note_of}
-use Rattle.sequencer.specs.Sound.{soundOf}
-use Rattle.sequencer.specs.State.{freshSequencer}
+use Rattle.sequencer.specs.Note.{with_table, note_of}
+use Rattle.sequencer.specs.Sound.{sound_of}
+use Rattle.sequencer.specs.State.{fresh_sequencer}
 use Rattle.sequencer.specs.Wording as sequencerWording
 use Rattle.window.specs.Places as window
 use Rattle.window.specs.Sound as windowSound
-use Rattle.recovery.specs.Begin.{highestOf, holdersOf, tableFrom, countsIn, historyFrom, electedSequencer, droppedOf, result_of}
+use Rattle.recovery.specs.Begin.{highest_of, holders_of, table_from, counts_in, history_from, elected_sequencer, dropped_of, result_of}
 use Rattle.recovery.specs.Calls as terminal
-use Rattle.recovery.specs.Sound as terminalSound
-use Rattle.recovery.specs.State.{replyNumber, keptFloor, messageOfNumber, counted, countedRow, countsOf}
-use Rattle.reset.specs.World.{happen, freshTerminals, fresh}
-use Rattle.text.specs.Text.{digitOf, glyphOf}
-use Rattle.text.specs.Field.{before, lines_of, fields_of, letterOf, valueFrom, upToLargest, number_in, pairsOf, isHex, hexBytes}
-use Rattle.text.specs.Written.{decimalDigits, decimalOf, hexOf, payloadText, spaced}
-use Rattle.schedule.specs.Line.{opened, openingWith, openingForm, openingOf}
-use Rattle.reset_schedule.specs.Line.{with_number, submitted, withNumbers, withTwo, form_of, eventOf}
-use Rattle.report.specs.Print.{moreText, indexText, valuesText, wordingFields, answerFields}
-use Rattle.reset_report.specs.Print.{listed_at, membersBelow, frozenText}
-use Rattle.player.specs.Play.{nextNumber}
+use Rattle.recovery.specs.Sound as terminal_sound
+use Rattle.recovery.specs.State.{reply_number, kept_floor, message_of_number, counted, counted_row, counts_of}
+use Rattle.reset.specs.World.{happen, fresh_terminals, fresh}
+use Rattle.text.specs.Text.{digit_of, glyph_of}
+use Rattle.text.specs.Field.{before, lines_of, fields_of, letter_of, value_from, up_to_largest, number_in, pairs_of, is_hex, hex_bytes}
+use Rattle.text.specs.Written.{decimal_digits, decimal_of, hex_of, payload_text, spaced}
+use Rattle.schedule.specs.Line.{opened, opening_with, opening_form, opening_of}
+use Rattle.reset_schedule.specs.Line.{with_number, submitted, with_numbers, with_two, form_of, event_of}
+use Rattle.report.specs.Print.{more_text, index_text, values_text, wording_fields, answer_fields}
+use Rattle.reset_report.specs.Print.{listed_at, members_below, frozen_text}
+use Rattle.player.specs.Play.{next_number}
 use Rattle.player.specs.Lines.{lines_told}
-use Rattle.reset_output.specs.Recover.{openTold, eventTold, lineTold, sequencerTold, terminalsTold, last_of}
+use Rattle.reset_output.specs.Recover.{open_told, event_told, line_told, sequencer_told, terminals_told, last_of}
 use Rattle.reset_output.specs.Example.{BurntOut, Refused, Unopened}
 
-pub burnt-out : BurntOut
-unfolding if◌then◌else◌ all allAbove leastOf groupSound fromElected neededOf ones_in ones openOf judged member.answered reachOf acknowledgedOf member.requestPacket member.gapPacket member.statusPacket member.callVerdict member.submitVerdict member.withWaiting member.submitOf member.repeatOf member.statusOf member.confirmPacket member.withAccepted member.withHeld member.gapUpTo member.keptOf member.messageStep member.broadcastOf member.confirms member.confirmedOf member.offerOf window.largerOf window.smallerOf member.pollOf member.contentStep member.read_step member.receiveOf member.isOwn member.withTaken member.isReady member.tookOf member.take_of member.opened_of member.fresh_of windowSound.placeSound windowSound.queueSound windowSound.waitingSound windowSound.frameSound memberSound.soundOf window.lowestMissing window.rowEnd freshMember allZero messageOf emptyMessage payloadOf zeroBehind is_empty happen freshTerminals fresh number_at bytes_of headerOf knownKind payloadFits obeys fieldsVerdict read_of headerBytes packetOf contentOf packet.fields_of written sequencer.answered sequencer.announced sequencer.broadcastOf sequencer.pollPacket sequencer.acceptPacket sequencer.withMark sequencer.withAccepted sequencer.settled_of sequencer.confirmOf oneMore sequencer.repeatedOf is_of findOf sequencer.old_of sequencer.againOf sequencer.full_of sequencer.withMessage sequencer.numberedOf sequencer.requestOf sequencer.gap_of senderVerdict countVerdict wantedVerdict expectedVerdict sequencer.contentStep sequencer.read_step sequencer.callVerdict sequencer.receiveOf sequencer.pollOf sequencer.copy_of sequencer.opened_of sequencer.fresh_of largerOf tableNoted clearedOf withTable note_of entrySound keptSound placeSound frameSound markedOf enoughOf unmarkedOf markSound lowestOf othersOf expectedOf count_trailing_zeros soundOf floorOf freshSequencer highestOf holdersOf tableFrom countsIn historyFrom electedSequencer droppedOf result_of terminal.refused terminal.callVerdict terminal.wholeVerdict terminal.submitOf terminal.repeatOf terminal.statusOf terminal.keptTook terminal.take_of terminal.floorIn terminal.ofReset terminal.isRefusal terminal.keptRead terminal.heardOf terminal.withReply terminal.invitedOf terminal.resultFits terminal.resetStep terminal.read_step terminal.receiveOf terminal.inviteOf terminal.makeOf terminal.orderedStep terminal.order_of terminal.pollOf terminal.copy_of terminalSound.pastSound terminalSound.pastPlaceSound terminalSound.keptSound terminalSound.resetSound terminalSound.memberSound terminalSound.zeroSequencer terminalSound.sequencerSound terminalSound.replySound terminalSound.terminalSound replyNumber keptFloor messageOfNumber counted countedRow countsOf digitOf glyphOf before lines_of fields_of letterOf valueFrom upToLargest number_in pairsOf isHex hexBytes decimalDigits decimalOf hexOf payloadText spaced opened openingWith openingForm openingOf with_number submitted withNumbers withTwo form_of eventOf moreText indexText valuesText wordingFields answerFields memberWording.wordingOf sequencerWording.wordingOf listed_at membersBelow frozenText nextNumber openTold eventTold lineTold sequencerTold terminalsTold last_of lines_told
-burnt-out = refl
+pub burnt_out : BurntOut
+unfolding if◌then◌else◌ all all_above least_of group_sound from_elected needed_of ones_in ones open_of judged member.answered reach_of acknowledged_of member.request_packet member.gap_packet member.status_packet member.call_verdict member.submit_verdict member.with_waiting member.submit_of member.repeat_of member.status_of member.confirm_packet member.with_accepted member.with_held member.gap_up_to member.kept_of member.message_step member.broadcast_of member.confirms member.confirmed_of member.offer_of window.larger_of window.smaller_of member.poll_of member.content_step member.read_step member.receive_of member.is_own member.with_taken member.is_ready member.took_of member.take_of member.opened_of member.fresh_of windowSound.place_sound windowSound.queue_sound windowSound.waiting_sound windowSound.frame_sound member_sound.sound_of window.lowest_missing window.row_end fresh_member all_zero message_of empty_message payload_of zero_behind is_empty happen fresh_terminals fresh number_at bytes_of header_of known_kind payload_fits obeys fields_verdict read_of header_bytes packet_of content_of packet.fields_of written sequencer.answered sequencer.announced sequencer.broadcast_of sequencer.poll_packet sequencer.accept_packet sequencer.with_mark sequencer.with_accepted sequencer.settled_of sequencer.confirm_of one_more sequencer.repeated_of is_of find_of sequencer.old_of sequencer.again_of sequencer.full_of sequencer.with_message sequencer.numbered_of sequencer.request_of sequencer.gap_of sender_verdict count_verdict wanted_verdict expected_verdict sequencer.content_step sequencer.read_step sequencer.call_verdict sequencer.receive_of sequencer.poll_of sequencer.copy_of sequencer.opened_of sequencer.fresh_of larger_of table_noted cleared_of with_table note_of entry_sound kept_sound place_sound frame_sound marked_of enough_of unmarked_of mark_sound lowest_of others_of expected_of count_trailing_zeros sound_of floor_of fresh_sequencer highest_of holders_of table_from counts_in history_from elected_sequencer dropped_of result_of terminal.refused terminal.call_verdict terminal.whole_verdict terminal.submit_of terminal.repeat_of terminal.status_of terminal.kept_took terminal.take_of terminal.floor_in terminal.of_reset terminal.is_refusal terminal.kept_read terminal.heard_of terminal.with_reply terminal.invited_of terminal.result_fits terminal.reset_step terminal.read_step terminal.receive_of terminal.invite_of terminal.make_of terminal.ordered_step terminal.order_of terminal.poll_of terminal.copy_of terminal_sound.past_sound terminal_sound.past_place_sound terminal_sound.kept_sound terminal_sound.reset_sound terminal_sound.member_sound terminal_sound.zero_sequencer terminal_sound.sequencer_sound terminal_sound.reply_sound terminal_sound.terminal_sound reply_number kept_floor message_of_number counted counted_row counts_of digit_of glyph_of before lines_of fields_of letter_of value_from up_to_largest number_in pairs_of is_hex hex_bytes decimal_digits decimal_of hex_of payload_text spaced opened opening_with opening_form opening_of with_number submitted with_numbers with_two form_of event_of more_text index_text values_text wording_fields answer_fields memberWording.wording_of sequencerWording.wording_of listed_at members_below frozen_text next_number open_told event_told line_told sequencer_told terminals_told last_of lines_told
+burnt_out = refl
 
 pub refused : Refused
-unfolding if◌then◌else◌ all allAbove leastOf groupSound fromElected neededOf ones_in ones openOf judged member.answered reachOf acknowledgedOf member.requestPacket member.gapPacket member.statusPacket member.callVerdict member.submitVerdict member.withWaiting member.submitOf member.repeatOf member.statusOf member.confirmPacket member.withAccepted member.withHeld member.gapUpTo member.keptOf member.messageStep member.broadcastOf member.confirms member.confirmedOf member.offerOf window.largerOf window.smallerOf member.pollOf member.contentStep member.read_step member.receiveOf member.isOwn member.withTaken member.isReady member.tookOf member.take_of member.opened_of member.fresh_of windowSound.placeSound windowSound.queueSound windowSound.waitingSound windowSound.frameSound memberSound.soundOf window.lowestMissing window.rowEnd freshMember allZero messageOf emptyMessage payloadOf zeroBehind is_empty happen freshTerminals fresh number_at bytes_of headerOf knownKind payloadFits obeys fieldsVerdict read_of headerBytes packetOf contentOf packet.fields_of written sequencer.answered sequencer.announced sequencer.broadcastOf sequencer.pollPacket sequencer.acceptPacket sequencer.withMark sequencer.withAccepted sequencer.settled_of sequencer.confirmOf oneMore sequencer.repeatedOf is_of findOf sequencer.old_of sequencer.againOf sequencer.full_of sequencer.withMessage sequencer.numberedOf sequencer.requestOf sequencer.gap_of senderVerdict countVerdict wantedVerdict expectedVerdict sequencer.contentStep sequencer.read_step sequencer.callVerdict sequencer.receiveOf sequencer.pollOf sequencer.copy_of sequencer.opened_of sequencer.fresh_of largerOf tableNoted clearedOf withTable note_of entrySound keptSound placeSound frameSound markedOf enoughOf unmarkedOf markSound lowestOf othersOf expectedOf count_trailing_zeros soundOf floorOf freshSequencer highestOf holdersOf tableFrom countsIn historyFrom electedSequencer droppedOf result_of terminal.refused terminal.callVerdict terminal.wholeVerdict terminal.submitOf terminal.repeatOf terminal.statusOf terminal.keptTook terminal.take_of terminal.floorIn terminal.ofReset terminal.isRefusal terminal.keptRead terminal.heardOf terminal.withReply terminal.invitedOf terminal.resultFits terminal.resetStep terminal.read_step terminal.receiveOf terminal.inviteOf terminal.makeOf terminal.orderedStep terminal.order_of terminal.pollOf terminal.copy_of terminalSound.pastSound terminalSound.pastPlaceSound terminalSound.keptSound terminalSound.resetSound terminalSound.memberSound terminalSound.zeroSequencer terminalSound.sequencerSound terminalSound.replySound terminalSound.terminalSound replyNumber keptFloor messageOfNumber counted countedRow countsOf digitOf glyphOf before lines_of fields_of letterOf valueFrom upToLargest number_in pairsOf isHex hexBytes decimalDigits decimalOf hexOf payloadText spaced opened openingWith openingForm openingOf with_number submitted withNumbers withTwo form_of eventOf moreText indexText valuesText wordingFields answerFields memberWording.wordingOf sequencerWording.wordingOf listed_at membersBelow frozenText nextNumber openTold eventTold lineTold sequencerTold terminalsTold last_of lines_told
+unfolding if◌then◌else◌ all all_above least_of group_sound from_elected needed_of ones_in ones open_of judged member.answered reach_of acknowledged_of member.request_packet member.gap_packet member.status_packet member.call_verdict member.submit_verdict member.with_waiting member.submit_of member.repeat_of member.status_of member.confirm_packet member.with_accepted member.with_held member.gap_up_to member.kept_of member.message_step member.broadcast_of member.confirms member.confirmed_of member.offer_of window.larger_of window.smaller_of member.poll_of member.content_step member.read_step member.receive_of member.is_own member.with_taken member.is_ready member.took_of member.take_of member.opened_of member.fresh_of windowSound.place_sound windowSound.queue_sound windowSound.waiting_sound windowSound.frame_sound member_sound.sound_of window.lowest_missing window.row_end fresh_member all_zero message_of empty_message payload_of zero_behind is_empty happen fresh_terminals fresh number_at bytes_of header_of known_kind payload_fits obeys fields_verdict read_of header_bytes packet_of content_of packet.fields_of written sequencer.answered sequencer.announced sequencer.broadcast_of sequencer.poll_packet sequencer.accept_packet sequencer.with_mark sequencer.with_accepted sequencer.settled_of sequencer.confirm_of one_more sequencer.repeated_of is_of find_of sequencer.old_of sequencer.again_of sequencer.full_of sequencer.with_message sequencer.numbered_of sequencer.request_of sequencer.gap_of sender_verdict count_verdict wanted_verdict expected_verdict sequencer.content_step sequencer.read_step sequencer.call_verdict sequencer.receive_of sequencer.poll_of sequencer.copy_of sequencer.opened_of sequencer.fresh_of larger_of table_noted cleared_of with_table note_of entry_sound kept_sound place_sound frame_sound marked_of enough_of unmarked_of mark_sound lowest_of others_of expected_of count_trailing_zeros sound_of floor_of fresh_sequencer highest_of holders_of table_from counts_in history_from elected_sequencer dropped_of result_of terminal.refused terminal.call_verdict terminal.whole_verdict terminal.submit_of terminal.repeat_of terminal.status_of terminal.kept_took terminal.take_of terminal.floor_in terminal.of_reset terminal.is_refusal terminal.kept_read terminal.heard_of terminal.with_reply terminal.invited_of terminal.result_fits terminal.reset_step terminal.read_step terminal.receive_of terminal.invite_of terminal.make_of terminal.ordered_step terminal.order_of terminal.poll_of terminal.copy_of terminal_sound.past_sound terminal_sound.past_place_sound terminal_sound.kept_sound terminal_sound.reset_sound terminal_sound.member_sound terminal_sound.zero_sequencer terminal_sound.sequencer_sound terminal_sound.reply_sound terminal_sound.terminal_sound reply_number kept_floor message_of_number counted counted_row counts_of digit_of glyph_of before lines_of fields_of letter_of value_from up_to_largest number_in pairs_of is_hex hex_bytes decimal_digits decimal_of hex_of payload_text spaced opened opening_with opening_form opening_of with_number submitted with_numbers with_two form_of event_of more_text index_text values_text wording_fields answer_fields memberWording.wording_of sequencerWording.wording_of listed_at members_below frozen_text next_number open_told event_told line_told sequencer_told terminals_told last_of lines_told
 refused = refl
 
 pub unopened : Unopened
-unfolding if◌then◌else◌ all allAbove leastOf groupSound fromElected neededOf ones_in ones openOf judged member.answered reachOf acknowledgedOf member.requestPacket member.gapPacket member.statusPacket member.callVerdict member.submitVerdict member.withWaiting member.submitOf member.repeatOf member.statusOf member.confirmPacket member.withAccepted member.withHeld member.gapUpTo member.keptOf member.messageStep member.broadcastOf member.confirms member.confirmedOf member.offerOf window.largerOf window.smallerOf member.pollOf member.contentStep member.read_step member.receiveOf member.isOwn member.withTaken member.isReady member.tookOf member.take_of member.opened_of member.fresh_of windowSound.placeSound windowSound.queueSound windowSound.waitingSound windowSound.frameSound memberSound.soundOf window.lowestMissing window.rowEnd freshMember allZero messageOf emptyMessage payloadOf zeroBehind is_empty happen freshTerminals fresh number_at bytes_of headerOf knownKind payloadFits obeys fieldsVerdict read_of headerBytes packetOf contentOf packet.fields_of written sequencer.answered sequencer.announced sequencer.broadcastOf sequencer.pollPacket sequencer.acceptPacket sequencer.withMark sequencer.withAccepted sequencer.settled_of sequencer.confirmOf oneMore sequencer.repeatedOf is_of findOf sequencer.old_of sequencer.againOf sequencer.full_of sequencer.withMessage sequencer.numberedOf sequencer.requestOf sequencer.gap_of senderVerdict countVerdict wantedVerdict expectedVerdict sequencer.contentStep sequencer.read_step sequencer.callVerdict sequencer.receiveOf sequencer.pollOf sequencer.copy_of sequencer.opened_of sequencer.fresh_of largerOf tableNoted clearedOf withTable note_of entrySound keptSound placeSound frameSound markedOf enoughOf unmarkedOf markSound lowestOf othersOf expectedOf count_trailing_zeros soundOf floorOf freshSequencer highestOf holdersOf tableFrom countsIn historyFrom electedSequencer droppedOf result_of terminal.refused terminal.callVerdict terminal.wholeVerdict terminal.submitOf terminal.repeatOf terminal.statusOf terminal.keptTook terminal.take_of terminal.floorIn terminal.ofReset terminal.isRefusal terminal.keptRead terminal.heardOf terminal.withReply terminal.invitedOf terminal.resultFits terminal.resetStep terminal.read_step terminal.receiveOf terminal.inviteOf terminal.makeOf terminal.orderedStep terminal.order_of terminal.pollOf terminal.copy_of terminalSound.pastSound terminalSound.pastPlaceSound terminalSound.keptSound terminalSound.resetSound terminalSound.memberSound terminalSound.zeroSequencer terminalSound.sequencerSound terminalSound.replySound terminalSound.terminalSound replyNumber keptFloor messageOfNumber counted countedRow countsOf digitOf glyphOf before lines_of fields_of letterOf valueFrom upToLargest number_in pairsOf isHex hexBytes decimalDigits decimalOf hexOf payloadText spaced opened openingWith openingForm openingOf with_number submitted withNumbers withTwo form_of eventOf moreText indexText valuesText wordingFields answerFields memberWording.wordingOf sequencerWording.wordingOf listed_at membersBelow frozenText nextNumber openTold eventTold lineTold sequencerTold terminalsTold last_of lines_told
+unfolding if◌then◌else◌ all all_above least_of group_sound from_elected needed_of ones_in ones open_of judged member.answered reach_of acknowledged_of member.request_packet member.gap_packet member.status_packet member.call_verdict member.submit_verdict member.with_waiting member.submit_of member.repeat_of member.status_of member.confirm_packet member.with_accepted member.with_held member.gap_up_to member.kept_of member.message_step member.broadcast_of member.confirms member.confirmed_of member.offer_of window.larger_of window.smaller_of member.poll_of member.content_step member.read_step member.receive_of member.is_own member.with_taken member.is_ready member.took_of member.take_of member.opened_of member.fresh_of windowSound.place_sound windowSound.queue_sound windowSound.waiting_sound windowSound.frame_sound member_sound.sound_of window.lowest_missing window.row_end fresh_member all_zero message_of empty_message payload_of zero_behind is_empty happen fresh_terminals fresh number_at bytes_of header_of known_kind payload_fits obeys fields_verdict read_of header_bytes packet_of content_of packet.fields_of written sequencer.answered sequencer.announced sequencer.broadcast_of sequencer.poll_packet sequencer.accept_packet sequencer.with_mark sequencer.with_accepted sequencer.settled_of sequencer.confirm_of one_more sequencer.repeated_of is_of find_of sequencer.old_of sequencer.again_of sequencer.full_of sequencer.with_message sequencer.numbered_of sequencer.request_of sequencer.gap_of sender_verdict count_verdict wanted_verdict expected_verdict sequencer.content_step sequencer.read_step sequencer.call_verdict sequencer.receive_of sequencer.poll_of sequencer.copy_of sequencer.opened_of sequencer.fresh_of larger_of table_noted cleared_of with_table note_of entry_sound kept_sound place_sound frame_sound marked_of enough_of unmarked_of mark_sound lowest_of others_of expected_of count_trailing_zeros sound_of floor_of fresh_sequencer highest_of holders_of table_from counts_in history_from elected_sequencer dropped_of result_of terminal.refused terminal.call_verdict terminal.whole_verdict terminal.submit_of terminal.repeat_of terminal.status_of terminal.kept_took terminal.take_of terminal.floor_in terminal.of_reset terminal.is_refusal terminal.kept_read terminal.heard_of terminal.with_reply terminal.invited_of terminal.result_fits terminal.reset_step terminal.read_step terminal.receive_of terminal.invite_of terminal.make_of terminal.ordered_step terminal.order_of terminal.poll_of terminal.copy_of terminal_sound.past_sound terminal_sound.past_place_sound terminal_sound.kept_sound terminal_sound.reset_sound terminal_sound.member_sound terminal_sound.zero_sequencer terminal_sound.sequencer_sound terminal_sound.reply_sound terminal_sound.terminal_sound reply_number kept_floor message_of_number counted counted_row counts_of digit_of glyph_of before lines_of fields_of letter_of value_from up_to_largest number_in pairs_of is_hex hex_bytes decimal_digits decimal_of hex_of payload_text spaced opened opening_with opening_form opening_of with_number submitted with_numbers with_two form_of event_of more_text index_text values_text wording_fields answer_fields memberWording.wording_of sequencerWording.wording_of listed_at members_below frozen_text next_number open_told event_told line_told sequencer_told terminals_told last_of lines_told
 unopened = (refl, refl, refl)

@@ -6,46 +6,46 @@ use Prim.Native.Nat.{ℕ, ◌+◌, ◌-◌, ◌≤◌, ◌<◌}
 use native.Mathlib.Omega.{arith}
 use lib.ListN.{length, take, drop}
 use lib.Seq.{length-take-le, take_all}
-use Rattle.group.proofs.Choice.{if-nle}
-use Rattle.group.proofs.Lists.{le-or}
-use Rattle.player.proofs.Laws.{opening-kept}
+use Rattle.group.proofs.Choice.{if_nle}
+use Rattle.group.proofs.Lists.{le_or}
+use Rattle.player.proofs.Laws.{opening_kept}
 use Rattle.player.proofs.Parts as parts
-use Rattle.player.specs.Parts.{keptMost, keptOf, ToldKept, said_of}
-use Rattle.reset_schedule.specs.Line.{eventOf}
-use Rattle.schedule.specs.Line.{lineMost}
-use Rattle.reset_player.specs.Feed.{State, start, fedOf, end_of}
+use Rattle.player.specs.Parts.{kept_most, kept_of, ToldKept, said_of}
+use Rattle.reset_schedule.specs.Line.{event_of}
+use Rattle.schedule.specs.Line.{line_most}
+use Rattle.reset_player.specs.Feed.{State, start, fed_of, end_of}
 use Rattle.reset_player.specs.Laws.{Continues, ReadsOn, PrintsAll}
-use Rattle.reset_output.specs.Recover.{Stage, opening, running, ended, closed, eventTold, openTold, lineTold, last_of, recoverProgram, recoverOf}
+use Rattle.reset_output.specs.Recover.{Stage, opening, running, ended, closed, event_told, open_told, line_told, last_of, recover_program, recover_of}
 
 -- a line over 1,000 characters is of another form, cut or not
-event-kept : (line : List ℕ) → eventOf (keptOf line) ≡ eventOf line
-unfolding eventOf
-event-kept line =
-    le-or (length line) keptMost
-    (λ h. ap eventOf (take_all keptMost line h))
+event_kept : (line : List ℕ) → event_of (kept_of line) ≡ event_of line
+unfolding event_of
+event_kept line =
+    le_or (length line) kept_most
+    (λ h. ap event_of (take_all kept_most line h))
     (λ h.
-    let n = length-take-le keptMost line (omega arith) in
-    sym (if-nle (length (keptOf line)) lineMost none _ _ (omega arith) refl) ∙ if-nle (length line) lineMost none _ _ (omega arith) refl)
+    let n = length-take-le kept_most line (omega arith) in
+    sym (if_nle (length (kept_of line)) line_most none _ _ (omega arith) refl) ∙ if_nle (length line) line_most none _ _ (omega arith) refl)
 
-told-kept : ToldKept lineTold
-unfolding lineTold
-told-kept opening line = ap openTold (opening-kept line)
-told-kept (running g number) line = ap (eventTold g number) (event-kept line)
-told-kept (ended g) line = refl
-told-kept closed line = refl
+told_kept : ToldKept line_told
+unfolding line_told
+told_kept opening line = ap open_told (opening_kept line)
+told_kept (running g number) line = ap (event_told g number) (event_kept line)
+told_kept (ended g) line = refl
+told_kept closed line = refl
 
-pub prints-all : PrintsAll
-prints-all = parts.prints-all lineTold told-kept opening recoverProgram (λ stage. refl)
+pub prints_all : PrintsAll
+prints_all = parts.prints_all line_told told_kept opening recover_program (λ stage. refl)
 
 pub reads_on : ReadsOn
-reads_on = parts.reads_on lineTold
+reads_on = parts.reads_on line_told
 
 -- what is read of the rest of an input lies within it
-pub reads-within : (s : State) (part rest : List ℕ) (from used : ℕ) → rest ≡ take (length part - from) (drop from part) → from < length part → used ≡ (fedOf s rest).used
+pub reads_within : (s : State) (part rest : List ℕ) (from used : ℕ) → rest ≡ take (length part - from) (drop from part) → from < length part → used ≡ (fed_of s rest).used
     → (1 ≤ used) × (from + used ≤ length part)
-reads-within = parts.reads-within lineTold
+reads_within = parts.reads_within line_told
 
 -- nothing is left of an input that was read
-pub continues-end : (s : State) (input printed left : List ℕ) → left ≡ [] → Continues start input printed s left
-    → printed ++ ((end_of s).text ++ last_of (end_of s).state.stage) ≡ recoverOf input
-continues-end = parts.continues-end lineTold told-kept opening recoverProgram (λ stage. refl)
+pub continues_end : (s : State) (input printed left : List ℕ) → left ≡ [] → Continues start input printed s left
+    → printed ++ ((end_of s).text ++ last_of (end_of s).state.stage) ≡ recover_of input
+continues_end = parts.continues_end line_told told_kept opening recover_program (λ stage. refl)

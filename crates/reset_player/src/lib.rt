@@ -1,16 +1,16 @@
 // Plays a schedule with resets as its input comes: a world of terminals that is run, the number of the next event, and the line that has not
 // ended. The numbers go by value, and every array behind a reference. What is kept of a line, the phases and the limits are the player's.
 ghost use Rattle.std.specs.Prelude.{Bool, true, false, ◌≡◌, ◌≤◌, ◌<◌, length, take};
-ghost use Rattle.group.specs.Limits.{membersMost};
-ghost use Rattle.player.specs.Parts.{toldAs};
-ghost use Rattle.reset_schedule.specs.Laws.{meantBy};
-ghost use Rattle.reset_schedule.specs.Line.{eventOf};
+ghost use Rattle.group.specs.Limits.{members_most};
+ghost use Rattle.player.specs.Parts.{told_as};
+ghost use Rattle.reset_schedule.specs.Laws.{meant_by};
+ghost use Rattle.reset_schedule.specs.Line.{event_of};
 ghost use Rattle.reset_simulator.specs.Whole.{whole_of, group_of};
-ghost use Rattle.schedule.specs.Line.{openingOf, payloadRoom};
-ghost use Rattle.reset_output.specs.Recover.{refusedTold, openTold, eventTold, lineTold, memberTold, sequencerTold};
-ghost use Rattle.reset_player.specs.Feed.{fedOf, end_of};
-ghost use Rattle.reset_player.specs.Player.{stageIn, phaseOf, stageOf, state_of, Does, LaysLast, Fresh};
-ghost use Rattle.reset_player.specs.Steps.{Fits, actionOf, Sized, Performed, Tells, Refuses, PlaysLine};
+ghost use Rattle.schedule.specs.Line.{opening_of, payload_room};
+ghost use Rattle.reset_output.specs.Recover.{refused_told, open_told, event_told, line_told, member_told, sequencer_told};
+ghost use Rattle.reset_player.specs.Feed.{fed_of, end_of};
+ghost use Rattle.reset_player.specs.Player.{stage_in, phase_of, stage_of, state_of, Does, LaysLast, Fresh};
+ghost use Rattle.reset_player.specs.Steps.{Fits, action_of, Sized, Performed, Tells, Refuses, PlaysLine};
 
 use group::{Group, Refusal, SequenceNumber, Verdict};
 use model::Reply;
@@ -73,7 +73,7 @@ fn is_event(command: Command) -> bool
 
 // What a command asks.
 fn action_of(command: Command) -> Action
-    ensures { result ≡ actionOf command }
+    ensures { result ≡ action_of command }
 {
     match command {
         Command::Other => Action::Nothing,
@@ -164,8 +164,8 @@ fn perform(
     payload: &[u8],
     out: &mut [u8; Group::PACKET],
 ) -> Happening
-    requires { Sized command × (length payload.now ≡ payloadRoom) }
-    ensures { Performed (meantBy command payload.now) world (whole_of world small.old masks.old numbers.old queued.old held.old queued_originators.old queued_lengths.old held_originators.old held_lengths.old queued_payloads.old held_payloads.old past.old past_originators.old past_lengths.old past_payloads.old highest.old replies.old taken.old counts.old repeats.old kept.old marks.old originators.old lengths.old payloads.old sizes.old packets.old) result (whole_of result.world small.new masks.new numbers.new queued.new held.new queued_originators.new queued_lengths.new held_originators.new held_lengths.new queued_payloads.new held_payloads.new past.new past_originators.new past_lengths.new past_payloads.new highest.new replies.new taken.new counts.new repeats.new kept.new marks.new originators.new lengths.new payloads.new sizes.new packets.new) out.old out.new }
+    requires { Sized command × (length payload.now ≡ payload_room) }
+    ensures { Performed (meant_by command payload.now) world (whole_of world small.old masks.old numbers.old queued.old held.old queued_originators.old queued_lengths.old held_originators.old held_lengths.old queued_payloads.old held_payloads.old past.old past_originators.old past_lengths.old past_payloads.old highest.old replies.old taken.old counts.old repeats.old kept.old marks.old originators.old lengths.old payloads.old sizes.old packets.old) result (whole_of result.world small.new masks.new numbers.new queued.new held.new queued_originators.new queued_lengths.new held_originators.new held_lengths.new queued_payloads.new held_payloads.new past.new past_originators.new past_lengths.new past_payloads.new highest.new replies.new taken.new counts.new repeats.new kept.new marks.new originators.new lengths.new payloads.new sizes.new packets.new) out.old out.new }
 {
     let asked = action_of(command);
     match asked {
@@ -280,7 +280,7 @@ fn tell(
     out: &mut [u8; OUTPUT],
 ) -> Told
     requires { Fits world }
-    ensures { Tells (eventTold (group_of (whole_of world small.old masks.old numbers.old queued.old held.old queued_originators.old queued_lengths.old held_originators.old held_lengths.old queued_payloads.old held_payloads.old past.old past_originators.old past_lengths.old past_payloads.old highest.old replies.old taken.old counts.old repeats.old kept.old marks.old originators.old lengths.old payloads.old sizes.old packets.old)) number (eventOf line.now)) result (whole_of result.world small.new masks.new numbers.new queued.new held.new queued_originators.new queued_lengths.new held_originators.new held_lengths.new queued_payloads.new held_payloads.new past.new past_originators.new past_lengths.new past_payloads.new highest.new replies.new taken.new counts.new repeats.new kept.new marks.new originators.new lengths.new payloads.new sizes.new packets.new) out.old out.new }
+    ensures { Tells (event_told (group_of (whole_of world small.old masks.old numbers.old queued.old held.old queued_originators.old queued_lengths.old held_originators.old held_lengths.old queued_payloads.old held_payloads.old past.old past_originators.old past_lengths.old past_payloads.old highest.old replies.old taken.old counts.old repeats.old kept.old marks.old originators.old lengths.old payloads.old sizes.old packets.old)) number (event_of line.now)) result (whole_of result.world small.new masks.new numbers.new queued.new held.new queued_originators.new queued_lengths.new held_originators.new held_lengths.new queued_payloads.new held_payloads.new past.new past_originators.new past_lengths.new past_payloads.new highest.new replies.new taken.new counts.new repeats.new kept.new marks.new originators.new lengths.new payloads.new sizes.new packets.new) out.old out.new }
 {
     let mut payload = [0u8; PAYLOAD_ROOM];
     let command = read_event(line, &mut payload);
@@ -351,7 +351,7 @@ fn tell(
 
 // A group that cannot be opened.
 fn refuse(world: World, refusal: Refusal, out: &mut [u8; OUTPUT]) -> Told
-    ensures { Refuses (refusedTold refusal) result out.old out.new }
+    ensures { Refuses (refused_told refusal) result out.old out.new }
 {
     let written = write_refused_opening(refusal, out);
     Told {
@@ -395,7 +395,7 @@ fn open(
     line: &[u8],
     out: &mut [u8; OUTPUT],
 ) -> Told
-    ensures { Tells (openTold (openingOf line.now)) result (whole_of result.world small.new masks.new numbers.new queued.new held.new queued_originators.new queued_lengths.new held_originators.new held_lengths.new queued_payloads.new held_payloads.new past.new past_originators.new past_lengths.new past_payloads.new highest.new replies.new taken.new counts.new repeats.new kept.new marks.new originators.new lengths.new payloads.new sizes.new packets.new) out.old out.new }
+    ensures { Tells (open_told (opening_of line.now)) result (whole_of result.world small.new masks.new numbers.new queued.new held.new queued_originators.new queued_lengths.new held_originators.new held_lengths.new queued_payloads.new held_payloads.new past.new past_originators.new past_lengths.new past_payloads.new highest.new replies.new taken.new counts.new repeats.new kept.new marks.new originators.new lengths.new payloads.new sizes.new packets.new) out.old out.new }
 {
     let opening = read_opening(line);
     match opening {
@@ -500,7 +500,7 @@ fn play(
     line: &[u8],
     out: &mut [u8; OUTPUT],
 ) -> Told
-    ensures { Tells (lineTold (stageIn (phaseOf world phase) (group_of (whole_of world small.old masks.old numbers.old queued.old held.old queued_originators.old queued_lengths.old held_originators.old held_lengths.old queued_payloads.old held_payloads.old past.old past_originators.old past_lengths.old past_payloads.old highest.old replies.old taken.old counts.old repeats.old kept.old marks.old originators.old lengths.old payloads.old sizes.old packets.old)) number) line.now) result (whole_of result.world small.new masks.new numbers.new queued.new held.new queued_originators.new queued_lengths.new held_originators.new held_lengths.new queued_payloads.new held_payloads.new past.new past_originators.new past_lengths.new past_payloads.new highest.new replies.new taken.new counts.new repeats.new kept.new marks.new originators.new lengths.new payloads.new sizes.new packets.new) out.old out.new }
+    ensures { Tells (line_told (stage_in (phase_of world phase) (group_of (whole_of world small.old masks.old numbers.old queued.old held.old queued_originators.old queued_lengths.old held_originators.old held_lengths.old queued_payloads.old held_payloads.old past.old past_originators.old past_lengths.old past_payloads.old highest.old replies.old taken.old counts.old repeats.old kept.old marks.old originators.old lengths.old payloads.old sizes.old packets.old)) number) line.now) result (whole_of result.world small.new masks.new numbers.new queued.new held.new queued_originators.new queued_lengths.new held_originators.new held_lengths.new queued_payloads.new held_payloads.new past.new past_originators.new past_lengths.new past_payloads.new highest.new replies.new taken.new counts.new repeats.new kept.new marks.new originators.new lengths.new payloads.new sizes.new packets.new) out.old out.new }
 {
     let stands = phase_of(world.n, world.count, phase);
     match stands {
@@ -620,7 +620,7 @@ fn play_line(
     out: &mut [u8; OUTPUT],
 ) -> Fed
     requires { size ≤ length line.now }
-    ensures { PlaysLine (toldAs (lineTold (stageOf player (whole_of player.world small.old masks.old numbers.old queued.old held.old queued_originators.old queued_lengths.old held_originators.old held_lengths.old queued_payloads.old held_payloads.old past.old past_originators.old past_lengths.old past_payloads.old highest.old replies.old taken.old counts.old repeats.old kept.old marks.old originators.old lengths.old payloads.old sizes.old packets.old)) (take size line.now)) used) result (whole_of result.player.world small.new masks.new numbers.new queued.new held.new queued_originators.new queued_lengths.new held_originators.new held_lengths.new queued_payloads.new held_payloads.new past.new past_originators.new past_lengths.new past_payloads.new highest.new replies.new taken.new counts.new repeats.new kept.new marks.new originators.new lengths.new payloads.new sizes.new packets.new) out.old out.new }
+    ensures { PlaysLine (told_as (line_told (stage_of player (whole_of player.world small.old masks.old numbers.old queued.old held.old queued_originators.old queued_lengths.old held_originators.old held_lengths.old queued_payloads.old held_payloads.old past.old past_originators.old past_lengths.old past_payloads.old highest.old replies.old taken.old counts.old repeats.old kept.old marks.old originators.old lengths.old payloads.old sizes.old packets.old)) (take size line.now)) used) result (whole_of result.player.world small.new masks.new numbers.new queued.new held.new queued_originators.new queued_lengths.new held_originators.new held_lengths.new queued_payloads.new held_payloads.new past.new past_originators.new past_lengths.new past_payloads.new highest.new replies.new taken.new counts.new repeats.new kept.new marks.new originators.new lengths.new payloads.new sizes.new packets.new) out.old out.new }
 {
     let world = player.world;
     let phase = player.phase;
@@ -707,7 +707,7 @@ pub fn feed(
     part: &[u8],
     out: &mut [u8; OUTPUT],
 ) -> Fed
-    ensures { Does (fedOf (state_of player (whole_of player.world small.old masks.old numbers.old queued.old held.old queued_originators.old queued_lengths.old held_originators.old held_lengths.old queued_payloads.old held_payloads.old past.old past_originators.old past_lengths.old past_payloads.old highest.old replies.old taken.old counts.old repeats.old kept.old marks.old originators.old lengths.old payloads.old sizes.old packets.old) line.old) part.now) result (whole_of result.player.world small.new masks.new numbers.new queued.new held.new queued_originators.new queued_lengths.new held_originators.new held_lengths.new queued_payloads.new held_payloads.new past.new past_originators.new past_lengths.new past_payloads.new highest.new replies.new taken.new counts.new repeats.new kept.new marks.new originators.new lengths.new payloads.new sizes.new packets.new) line.new out.old out.new }
+    ensures { Does (fed_of (state_of player (whole_of player.world small.old masks.old numbers.old queued.old held.old queued_originators.old queued_lengths.old held_originators.old held_lengths.old queued_payloads.old held_payloads.old past.old past_originators.old past_lengths.old past_payloads.old highest.old replies.old taken.old counts.old repeats.old kept.old marks.old originators.old lengths.old payloads.old sizes.old packets.old) line.old) part.now) result (whole_of result.player.world small.new masks.new numbers.new queued.new held.new queued_originators.new queued_lengths.new held_originators.new held_lengths.new queued_payloads.new held_payloads.new past.new past_originators.new past_lengths.new past_payloads.new highest.new replies.new taken.new counts.new repeats.new kept.new marks.new originators.new lengths.new payloads.new sizes.new packets.new) line.new out.old out.new }
 {
     let end = line_end(part);
     match end {
@@ -854,8 +854,8 @@ pub fn last_member(
     i: usize,
     out: &mut [u8; OUTPUT],
 ) -> usize
-    requires { i < membersMost }
-    ensures { LaysLast memberTold small.now masks.now numbers.now i result out.old out.new }
+    requires { i < members_most }
+    ensures { LaysLast member_told small.now masks.now numbers.now i result out.old out.new }
 {
     let head = read_head(small, masks, numbers, i);
     let group = head.member.group;
@@ -872,8 +872,8 @@ pub fn last_sequencer(
     i: usize,
     out: &mut [u8; OUTPUT],
 ) -> usize
-    requires { i < membersMost }
-    ensures { LaysLast sequencerTold small.now masks.now numbers.now i result out.old out.new }
+    requires { i < members_most }
+    ensures { LaysLast sequencer_told small.now masks.now numbers.now i result out.old out.new }
 {
     let head = read_head(small, masks, numbers, i);
     if head.sequencing == 1 {

@@ -3,16 +3,16 @@ use mathlib.Core.Path.{◌≡◌, refl}
 use mathlib.Core.Bool.{true, false}
 use mathlib.Core.List.{[], ◌∷◌, map}
 use Rattle.group.specs.Choice.{if◌then◌else◌}
-use Rattle.text.specs.Text.{text_of, glyphOf}
-use Rattle.text.specs.Written.{decimalDigits, decimalOf, spaced}
-use Rattle.reset_report.specs.Print.{listed_at, membersBelow, terminalLine, frozenText, sequencerLine}
+use Rattle.text.specs.Text.{text_of, glyph_of}
+use Rattle.text.specs.Written.{decimal_digits, decimal_of, spaced}
+use Rattle.reset_report.specs.Print.{listed_at, members_below, terminal_line, frozen_text, sequencer_line}
 
-lines : terminalLine 0 7 0 0 7
-    ∷ sequencerLine 0 7 1 0 false
-    ∷ terminalLine 1 8 0 1 6
-    ∷ sequencerLine 1 8 1 0 true
-    ∷ terminalLine 15 300 20 12 65535
-    ∷ terminalLine 3 9 1 3 8
+lines : terminal_line 0 7 0 0 7
+    ∷ sequencer_line 0 7 1 0 false
+    ∷ terminal_line 1 8 0 1 6
+    ∷ sequencer_line 1 8 1 0 true
+    ∷ terminal_line 15 300 20 12 65535
+    ∷ terminal_line 3 9 1 3 8
     ∷ []
     ≡ map text_of
     ("terminal 0 group 7 taken 0 elected 0 survivors 0 1 2\n"
@@ -22,5 +22,5 @@ lines : terminalLine 0 7 0 0 7
     ∷ "terminal 15 group 300 taken 20 elected 12 survivors 0 1 2 3 4 5 6 7 8 9 10 11 12 13 14 15\n"
     ∷ "terminal 3 group 9 taken 1 elected 3 survivors 3\n"
     ∷ [])
-unfolding spaced decimalOf decimalDigits glyphOf listed_at membersBelow frozenText if◌then◌else◌
+unfolding spaced decimal_of decimal_digits glyph_of listed_at members_below frozen_text if◌then◌else◌
 lines = refl

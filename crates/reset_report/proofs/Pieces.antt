@@ -5,22 +5,22 @@ use mathlib.Core.List.{List, [], ◌∷◌, ◌++◌, map, map-append, append_as
 use Prim.Native.Nat.{ℕ, ◌+◌}
 use native.Mathlib.Numerals.{add-one}
 use Rattle.group.specs.Choice.{if◌then◌else◌}
-use Rattle.group.specs.Members.{isIn}
+use Rattle.group.specs.Members.{is_in}
 use Rattle.text.specs.LaidAt.{LaidAt}
-use Rattle.text.specs.Written.{decimalOf, spaced}
-use Rattle.text.proofs.Pieces.{laid_then, spaced-append}
-use Rattle.reset_report.specs.Print.{listed_at, membersBelow}
+use Rattle.text.specs.Written.{decimal_of, spaced}
+use Rattle.text.proofs.Pieces.{laid_then, spaced_append}
+use Rattle.reset_report.specs.Print.{listed_at, members_below}
 
 module _ (mask i : ℕ) where
-  pub members-on : map decimalOf (membersBelow mask (i + 1)) ≡ map decimalOf (membersBelow mask i) ++ map decimalOf (listed_at mask i)
-  unfolding membersBelow
-  members-on = rw (add-one i) (map-append decimalOf (membersBelow mask i) (listed_at mask i))
+  pub members_on : map decimal_of (members_below mask (i + 1)) ≡ map decimal_of (members_below mask i) ++ map decimal_of (listed_at mask i)
+  unfolding members_below
+  members_on = rw (add-one i) (map-append decimal_of (members_below mask i) (listed_at mask i))
 
-  pub listed : isIn mask i ≡ true → map decimalOf (listed_at mask i) ≡ decimalOf i ∷ []
+  pub listed : is_in mask i ≡ true → map decimal_of (listed_at mask i) ≡ decimal_of i ∷ []
   unfolding listed_at if◌then◌else◌
   listed e = rw e
 
-  pub unlisted : isIn mask i ≡ false → map decimalOf (listed_at mask i) ≡ []
+  pub unlisted : is_in mask i ≡ false → map decimal_of (listed_at mask i) ≡ []
   unfolding listed_at if◌then◌else◌
   unlisted e = rw e
 
@@ -28,6 +28,6 @@ pub laid_more : {x y : ℕ} {lent between after : List ℕ} (name : List ℕ) (f
     → LaidAt x (spaced others) between after y → LaidAt 0 (name ++ spaced (fields ++ others)) lent after y
 laid_more name fields others f g =
     let e : name ++ spaced (fields ++ others) ≡ (name ++ spaced fields) ++ spaced others =
-    ap (λ (l : List ℕ). name ++ l) (spaced-append fields others) ∙ sym (append_assoc name (spaced fields) (spaced others))
+    ap (λ (l : List ℕ). name ++ l) (spaced_append fields others) ∙ sym (append_assoc name (spaced fields) (spaced others))
     in
     rw e (laid_then (name ++ spaced fields) (spaced others) f g)

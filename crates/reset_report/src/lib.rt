@@ -1,12 +1,12 @@
 // What the program that plays a schedule with resets prints at its end.
 ghost use Rattle.std.specs.Prelude.{◌≡◌, [], ◌∷◌, ◌++◌, map, ◌+◌, ◌*◌, ◌≤◌, length};
 ghost use Rattle.group.specs.Lent.{front};
-ghost use Rattle.group.specs.Limits.{membersMost};
+ghost use Rattle.group.specs.Limits.{members_most};
 ghost use Rattle.report.specs.Print.{fitting};
 ghost use Rattle.text.specs.LaidAt.{LaidAt};
 ghost use Rattle.text.specs.Text.{text_of};
-ghost use Rattle.text.specs.Written.{decimalOf, spaced, numberDigits};
-ghost use Rattle.reset_report.specs.Print.{listed_at, membersBelow, terminalLine, frozenText, sequencerLine, terminalRoom, sequencerRoom};
+ghost use Rattle.text.specs.Written.{decimal_of, spaced, number_digits};
+ghost use Rattle.reset_report.specs.Print.{listed_at, members_below, terminal_line, frozen_text, sequencer_line, terminal_room, sequencer_room};
 
 use group::{Group, MemberNumber, SequenceNumber, is_in};
 use text::{NUMBER_DIGITS, put, put_number, put_text, put_word};
@@ -18,22 +18,22 @@ pub const SEQUENCER_ROOM: usize = 32 + 4 * (1 + NUMBER_DIGITS) + 1;
 
 // The limits of specs/ are these constants.
 fn terminal_room() -> usize
-    ensures { result ≡ terminalRoom }
+    ensures { result ≡ terminal_room }
 {
     TERMINAL_ROOM
 }
 
 fn sequencer_room() -> usize
-    ensures { result ≡ sequencerRoom }
+    ensures { result ≡ sequencer_room }
 {
     SEQUENCER_ROOM
 }
 
 // A word and its number.
 fn put_named(word: &[u8], number: u32, out: &mut [u8], at: usize) -> usize
-    requires { at + 2 + length word.now + numberDigits ≤ length out.old }
-    ensures laid { LaidAt at (spaced (word.now ∷ decimalOf number ∷ [])) out.old out.new result }
-    ensures short { result ≤ at + 2 + length word.now + numberDigits }
+    requires { at + 2 + length word.now + number_digits ≤ length out.old }
+    ensures laid { LaidAt at (spaced (word.now ∷ decimal_of number ∷ [])) out.old out.new result }
+    ensures short { result ≤ at + 2 + length word.now + number_digits }
 {
     let next = put_word(word, out, at);
     put_number(number, out, next)
@@ -41,9 +41,9 @@ fn put_named(word: &[u8], number: u32, out: &mut [u8], at: usize) -> usize
 
 // What a line begins with: whose it is, and the group number.
 fn put_whose(name: &[u8], terminal: u32, group: u32, out: &mut [u8]) -> usize
-    requires { length name.now + 3 + length (text_of "group") + 2 * numberDigits ≤ length out.old }
-    ensures laid { LaidAt 0 (name.now ++ spaced (decimalOf terminal ∷ text_of "group" ∷ decimalOf group ∷ [])) out.old out.new result }
-    ensures short { result ≤ length name.now + 3 + length (text_of "group") + 2 * numberDigits }
+    requires { length name.now + 3 + length (text_of "group") + 2 * number_digits ≤ length out.old }
+    ensures laid { LaidAt 0 (name.now ++ spaced (decimal_of terminal ∷ text_of "group" ∷ decimal_of group ∷ [])) out.old out.new result }
+    ensures short { result ≤ length name.now + 3 + length (text_of "group") + 2 * number_digits }
 {
     let next = put_text(name, out, 0);
     let next = put_number(terminal, out, next);
@@ -52,9 +52,9 @@ fn put_whose(name: &[u8], terminal: u32, group: u32, out: &mut [u8]) -> usize
 
 // A terminal's line up to the word before its survivors.
 fn put_terminal(terminal: u32, group: u32, taken: u32, elected: u32, out: &mut [u8]) -> usize
-    requires { terminalRoom ≤ length out.old }
-    ensures laid { LaidAt 0 (text_of "terminal" ++ spaced (decimalOf terminal ∷ text_of "group" ∷ decimalOf group ∷ text_of "taken" ∷ decimalOf taken ∷ text_of "elected" ∷ decimalOf elected ∷ text_of "survivors" ∷ [])) out.old out.new result }
-    ensures short { result + membersMost * (1 + numberDigits) + 1 ≤ terminalRoom }
+    requires { terminal_room ≤ length out.old }
+    ensures laid { LaidAt 0 (text_of "terminal" ++ spaced (decimal_of terminal ∷ text_of "group" ∷ decimal_of group ∷ text_of "taken" ∷ decimal_of taken ∷ text_of "elected" ∷ decimal_of elected ∷ text_of "survivors" ∷ [])) out.old out.new result }
+    ensures short { result + members_most * (1 + number_digits) + 1 ≤ terminal_room }
 {
     let next = put_whose(b"terminal", terminal, group, out);
     let next = put_named(b"taken", taken, out, next);
@@ -64,9 +64,9 @@ fn put_terminal(terminal: u32, group: u32, taken: u32, elected: u32, out: &mut [
 
 // A member's number, if it is in the mask.
 fn put_listed(mask: u16, i: u8, out: &mut [u8], at: usize) -> usize
-    requires { at + 1 + numberDigits ≤ length out.old }
-    ensures laid { LaidAt at (spaced (map decimalOf (listed_at mask i))) out.old out.new result }
-    ensures short { result ≤ at + 1 + numberDigits }
+    requires { at + 1 + number_digits ≤ length out.old }
+    ensures laid { LaidAt at (spaced (map decimal_of (listed_at mask i))) out.old out.new result }
+    ensures short { result ≤ at + 1 + number_digits }
 {
     let member = MemberNumber(i);
     if is_in(mask, member) {
@@ -78,9 +78,9 @@ fn put_listed(mask: u16, i: u8, out: &mut [u8], at: usize) -> usize
 
 // The members of a mask, each behind one space.
 fn put_members(mask: u16, out: &mut [u8], at: usize) -> usize
-    requires { at + membersMost * (1 + numberDigits) ≤ length out.old }
-    ensures laid { LaidAt at (spaced (map decimalOf (membersBelow mask membersMost))) out.old out.new result }
-    ensures short { result ≤ at + membersMost * (1 + numberDigits) }
+    requires { at + members_most * (1 + number_digits) ≤ length out.old }
+    ensures laid { LaidAt at (spaced (map decimal_of (members_below mask members_most))) out.old out.new result }
+    ensures short { result ≤ at + members_most * (1 + number_digits) }
 {
     let mut next = at;
     let mut i: usize = 0;
@@ -100,8 +100,8 @@ pub fn write_terminal(
     survivors: u16,
     out: &mut [u8],
 ) -> usize
-    ensures size { result ≡ length (fitting terminalRoom (length out.old) (terminalLine terminal group taken.0 elected.0 survivors)) }
-    ensures lent { out.new ≡ front (fitting terminalRoom (length out.old) (terminalLine terminal group taken.0 elected.0 survivors)) out.old }
+    ensures size { result ≡ length (fitting terminal_room (length out.old) (terminal_line terminal group taken.0 elected.0 survivors)) }
+    ensures lent { out.new ≡ front (fitting terminal_room (length out.old) (terminal_line terminal group taken.0 elected.0 survivors)) out.old }
 {
     if out.len() < TERMINAL_ROOM {
         return 0;
@@ -113,9 +113,9 @@ pub fn write_terminal(
 
 // A sequencer's line up to its floor.
 fn put_sequencer(terminal: u32, group: u32, top: u32, floor: u32, out: &mut [u8]) -> usize
-    requires { sequencerRoom ≤ length out.old }
-    ensures laid { LaidAt 0 (text_of "sequencer" ++ spaced (decimalOf terminal ∷ text_of "group" ∷ decimalOf group ∷ text_of "top" ∷ decimalOf top ∷ text_of "floor" ∷ decimalOf floor ∷ [])) out.old out.new result }
-    ensures short { result + 1 + length (text_of "frozen") + 1 ≤ sequencerRoom }
+    requires { sequencer_room ≤ length out.old }
+    ensures laid { LaidAt 0 (text_of "sequencer" ++ spaced (decimal_of terminal ∷ text_of "group" ∷ decimal_of group ∷ text_of "top" ∷ decimal_of top ∷ text_of "floor" ∷ decimal_of floor ∷ [])) out.old out.new result }
+    ensures short { result + 1 + length (text_of "frozen") + 1 ≤ sequencer_room }
 {
     let next = put_whose(b"sequencer", terminal, group, out);
     let next = put_named(b"top", top, out, next);
@@ -125,7 +125,7 @@ fn put_sequencer(terminal: u32, group: u32, top: u32, floor: u32, out: &mut [u8]
 // The word behind a frozen one.
 fn put_frozen(frozen: bool, out: &mut [u8], at: usize) -> usize
     requires { at + 1 + length (text_of "frozen") ≤ length out.old }
-    ensures laid { LaidAt at (spaced (frozenText frozen)) out.old out.new result }
+    ensures laid { LaidAt at (spaced (frozen_text frozen)) out.old out.new result }
     ensures short { result ≤ at + 1 + length (text_of "frozen") }
 {
     if frozen {
@@ -144,8 +144,8 @@ pub fn write_sequencer(
     frozen: bool,
     out: &mut [u8],
 ) -> usize
-    ensures size { result ≡ length (fitting sequencerRoom (length out.old) (sequencerLine terminal group top.0 floor.0 frozen)) }
-    ensures lent { out.new ≡ front (fitting sequencerRoom (length out.old) (sequencerLine terminal group top.0 floor.0 frozen)) out.old }
+    ensures size { result ≡ length (fitting sequencer_room (length out.old) (sequencer_line terminal group top.0 floor.0 frozen)) }
+    ensures lent { out.new ≡ front (fitting sequencer_room (length out.old) (sequencer_line terminal group top.0 floor.0 frozen)) out.old }
 {
     if out.len() < SEQUENCER_ROOM {
         return 0;

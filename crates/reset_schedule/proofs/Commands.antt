@@ -6,36 +6,36 @@ use mathlib.Core.Option.{Option, none, some}
 use Prim.Native.Char.{code}
 use Prim.Native.Nat.{ℕ}
 use Rattle.group.specs.Choice.{if◌then◌else◌}
-use Rattle.group.proofs.Choice.{if-eq, if-ne}
+use Rattle.group.proofs.Choice.{if_eq, if_ne}
 use Rattle.reset.specs.World.{Event, submit}
-use Rattle.text.specs.Field.{number_in, isHex, hexBytes, hexIn}
-use Rattle.reset_schedule.specs.Line.{submitted, withNumbers, withTwo, commandOf}
+use Rattle.text.specs.Field.{number_in, is_hex, hex_bytes, hex_in}
+use Rattle.reset_schedule.specs.Line.{submitted, with_numbers, with_two, command_of}
 
-pub command-if : (t : Bool) (a b : Option Event) → commandOf (if t then a else b) ≡ if t then commandOf a else commandOf b
+pub command_if : (t : Bool) (a b : Option Event) → command_of (if t then a else b) ≡ if t then command_of a else command_of b
 unfolding if◌then◌else◌
-command-if true a b = refl
-command-if false a b = refl
+command_if true a b = refl
+command_if false a b = refl
 
 -- a submit: both fields are read, or one is of another form
 module _ (a b : List ℕ) where
-  pub submit-read : (i : ℕ) → number_in a ≡ some i → isHex b ≡ true → submitted (number_in a) (hexIn b) ≡ some (submit i (hexBytes b))
+  pub submit_read : (i : ℕ) → number_in a ≡ some i → is_hex b ≡ true → submitted (number_in a) (hex_in b) ≡ some (submit i (hex_bytes b))
   unfolding submitted if◌then◌else◌
-  submit-read i e h = rw (e, h)
+  submit_read i e h = rw (e, h)
 
-  pub submit-no-payload : (i : ℕ) → number_in a ≡ some i → isHex b ≡ false → submitted (number_in a) (hexIn b) ≡ none
+  pub submit_no_payload : (i : ℕ) → number_in a ≡ some i → is_hex b ≡ false → submitted (number_in a) (hex_in b) ≡ none
   unfolding submitted if◌then◌else◌
-  submit-no-payload i e h = rw (e, h)
+  submit_no_payload i e h = rw (e, h)
 
-  pub submit-no-number : number_in a ≡ none → submitted (number_in a) (hexIn b) ≡ none
+  pub submit_no_number : number_in a ≡ none → submitted (number_in a) (hex_in b) ≡ none
   unfolding submitted
-  submit-no-number e = rw e
+  submit_no_number e = rw e
 
 -- the letter before two fields
 module _ (letter : ℕ) (a b : List ℕ) where
-  pub two-submit : letter ≡ code "S" → withTwo letter a b ≡ submitted (number_in a) (hexIn b)
-  unfolding withTwo
-  two-submit e = sym (if-eq letter (code "S") _ (submitted (number_in a) (hexIn b)) _ e refl)
+  pub two_submit : letter ≡ code "S" → with_two letter a b ≡ submitted (number_in a) (hex_in b)
+  unfolding with_two
+  two_submit e = sym (if_eq letter (code "S") _ (submitted (number_in a) (hex_in b)) _ e refl)
 
-  pub two-numbers : (letter ≡ code "S" → ⊥) → withTwo letter a b ≡ withNumbers letter (number_in a) (number_in b)
-  unfolding withTwo
-  two-numbers n = sym (if-ne letter (code "S") _ _ _ n refl)
+  pub two_numbers : (letter ≡ code "S" → ⊥) → with_two letter a b ≡ with_numbers letter (number_in a) (number_in b)
+  unfolding with_two
+  two_numbers n = sym (if_ne letter (code "S") _ _ _ n refl)

@@ -2,10 +2,10 @@
 ghost use Rattle.std.specs.Prelude.{◌≡◌, ◌*◌, ◌≤◌, ◌<◌, length};
 ghost use Rattle.std.proofs.Math.Option.{some};
 ghost use Rattle.group.specs.Lent.{front};
-ghost use Rattle.text.specs.Field.{letterOf, number_in, hexIn};
+ghost use Rattle.text.specs.Field.{letter_of, number_in, hex_in};
 ghost use Rattle.schedule.specs.Parts.{parts_at};
 ghost use Rattle.schedule.specs.declared.Parts.TheVariants.{Two, Three};
-ghost use Rattle.reset_schedule.specs.Line.{with_number, submitted, withNumbers, withTwo, form_of, eventOf, commandOf, payloadOf};
+ghost use Rattle.reset_schedule.specs.Line.{with_number, submitted, with_numbers, with_two, form_of, event_of, command_of, payload_of};
 
 use schedule::{LINE_MOST, PAYLOAD_ROOM, Parts, fields};
 use text::{Numeral, is_hex, lay_hex, letter, number};
@@ -28,7 +28,7 @@ pub enum Command {
 
 // `R i`, `T i`, `A i`, `P i`
 fn read_number(name: &[u8], a: &[u8]) -> Command
-    ensures { result ≡ commandOf (with_number (letterOf name.now) (number_in a.now)) }
+    ensures { result ≡ command_of (with_number (letter_of name.now) (number_in a.now)) }
 {
     let l = letter(name);
     let n = number(a);
@@ -40,7 +40,7 @@ fn read_number(name: &[u8], a: &[u8]) -> Command
 
 // Which event a letter and a number are.
 fn numbered(letter: u8, x: u32) -> Command
-    ensures { result ≡ commandOf (with_number letter (some x)) }
+    ensures { result ≡ command_of (with_number letter (some x)) }
 {
     if letter == b'R' {
         return Command::Repeat(x);
@@ -60,8 +60,8 @@ fn numbered(letter: u8, x: u32) -> Command
 // `S i hex`: the payload is laid at the front of the bytes that were lent.
 fn read_submit(a: &[u8], b: &[u8], payload: &mut [u8]) -> Command
     requires { length b.now ≤ 2 * length payload.old }
-    ensures command { result ≡ commandOf (submitted (number_in a.now) (hexIn b.now)) }
-    ensures lent { payload.new ≡ front (payloadOf (submitted (number_in a.now) (hexIn b.now))) payload.old }
+    ensures command { result ≡ command_of (submitted (number_in a.now) (hex_in b.now)) }
+    ensures lent { payload.new ≡ front (payload_of (submitted (number_in a.now) (hex_in b.now))) payload.old }
 {
     let n = number(a);
     match n {
@@ -82,7 +82,7 @@ fn read_submit(a: &[u8], b: &[u8], payload: &mut [u8]) -> Command
 
 // `M k i`, `Q k i`, `C i s`, `I i number`, `G i demand`
 fn read_numbers(letter: u8, a: &[u8], b: &[u8]) -> Command
-    ensures { result ≡ commandOf (withNumbers letter (number_in a.now) (number_in b.now)) }
+    ensures { result ≡ command_of (with_numbers letter (number_in a.now) (number_in b.now)) }
 {
     let n = number(a);
     let m = number(b);
@@ -97,7 +97,7 @@ fn read_numbers(letter: u8, a: &[u8], b: &[u8]) -> Command
 
 // Which event a letter and two numbers are.
 fn paired(letter: u8, x: u32, y: u32) -> Command
-    ensures { result ≡ commandOf (withNumbers letter (some x) (some y)) }
+    ensures { result ≡ command_of (with_numbers letter (some x) (some y)) }
 {
     if letter == b'M' {
         return Command::HandMember {
@@ -135,8 +135,8 @@ fn paired(letter: u8, x: u32, y: u32) -> Command
 // A name and two fields: which form they have.
 fn read_two(name: &[u8], a: &[u8], b: &[u8], payload: &mut [u8]) -> Command
     requires { length b.now ≤ 2 * length payload.old }
-    ensures command { result ≡ commandOf (withTwo (letterOf name.now) a.now b.now) }
-    ensures lent { payload.new ≡ front (payloadOf (withTwo (letterOf name.now) a.now b.now)) payload.old }
+    ensures command { result ≡ command_of (with_two (letter_of name.now) a.now b.now) }
+    ensures lent { payload.new ≡ front (payload_of (with_two (letter_of name.now) a.now b.now)) payload.old }
 {
     let l = letter(name);
     if l == b'S' {
@@ -148,7 +148,7 @@ fn read_two(name: &[u8], a: &[u8], b: &[u8], payload: &mut [u8]) -> Command
 // A line of two fields, the first of which ends at a.
 fn read_short(line: &[u8], a: usize) -> Command
     requires { a < length line.now }
-    ensures { result ≡ commandOf (form_of (parts_at (Two a) line.now)) }
+    ensures { result ≡ command_of (form_of (parts_at (Two a) line.now)) }
 {
     read_number(&line[..a], &line[a + 1..])
 }
@@ -157,16 +157,16 @@ fn read_short(line: &[u8], a: usize) -> Command
 fn read_long(line: &[u8], a: usize, b: usize, payload: &mut [u8]) -> Command
     requires a_lt_b { (a < b) × (b < length line.now) }
     requires line_len_bound { length line.now ≤ 2 * length payload.old }
-    ensures command { result ≡ commandOf (form_of (parts_at (Three a b) line.now)) }
-    ensures lent { payload.new ≡ front (payloadOf (form_of (parts_at (Three a b) line.now))) payload.old }
+    ensures command { result ≡ command_of (form_of (parts_at (Three a b) line.now)) }
+    ensures lent { payload.new ≡ front (payload_of (form_of (parts_at (Three a b) line.now))) payload.old }
 {
     read_two(&line[..a], &line[a + 1..b], &line[b + 1..], payload)
 }
 
 // One event a line.
 pub fn read_event(line: &[u8], payload: &mut [u8; PAYLOAD_ROOM]) -> Command
-    ensures command { result ≡ commandOf (eventOf line.now) }
-    ensures lent { payload.new ≡ front (payloadOf (eventOf line.now)) payload.old }
+    ensures command { result ≡ command_of (event_of line.now) }
+    ensures lent { payload.new ≡ front (payload_of (event_of line.now)) payload.old }
 {
     if LINE_MOST < line.len() {
         return Command::Other;

@@ -8,88 +8,88 @@ use native.Mathlib.Omega.{arith}
 use lib.ListN.{length, take, set, get_elem?}
 use lib.Seq.{take_all, set-get_or}
 use Rattle.group.specs.Choice.{if◌then◌else◌, ◌<?◌, ◌and◌}
-use Rattle.group.specs.Limits.{longestPacket}
+use Rattle.group.specs.Limits.{longest_packet}
 use Rattle.group.specs.declared.SequenceNumber.{SequenceNumber}
 use Rattle.model.specs.World.{answer_of, absent}
 use Rattle.packet.specs.Packet.{written}
 use Rattle.recovery.specs.Calls as terminal
 use Rattle.recovery.specs.State.{Terminal}
 use Rattle.reset.specs.World as reset
-use Rattle.reset.specs.World.{Group, Happened, missing, noTerminal, withMember, withSequencer, atTerminal, atSequencer, happen}
-use Rattle.terminal_rows.specs.Steps.{keptSize, admitsOf}
+use Rattle.reset.specs.World.{Group, Happened, missing, no_terminal, with_member, with_sequencer, at_terminal, at_sequencer, happen}
+use Rattle.terminal_rows.specs.Steps.{kept_size, admits_of}
 use Rattle.terminal_rows.specs.declared.Call.{Call}
 use Rattle.terminal_rows.specs.declared.Call.TheVariants as call
-use Rattle.reset_simulator.specs.Steps.{bySequencer, cameOf, absentAt, cameAt, leads, happenedAt, handedBy, handedTo}
+use Rattle.reset_simulator.specs.Steps.{by_sequencer, came_of, absent_at, came_at, leads, happened_at, handed_by, handed_to}
 
 module _ (i : ℕ) (g : Group) where
   -- all bytes of a call that writes packets are the packet
   written_all : (o : terminal.Outcome)
-      → (if i <? length g.terminals then withMember g i o (written (take (length o.bytes) o.bytes)) else missing g)
-      ≡ (if i <? length g.terminals then withMember g i o (written o.bytes) else missing g)
+      → (if i <? length g.terminals then with_member g i o (written (take (length o.bytes) o.bytes)) else missing g)
+      ≡ (if i <? length g.terminals then with_member g i o (written o.bytes) else missing g)
   written_all o =
-      ap (λ (b : List ℕ). if i <? length g.terminals then withMember g i o (written b) else missing g) (take_all (length o.bytes) o.bytes (omega arith))
+      ap (λ (b : List ℕ). if i <? length g.terminals then with_member g i o (written b) else missing g) (take_all (length o.bytes) o.bytes (omega arith))
 
   -- and of the sequencer's; a terminal without one is not there
-  ordered-all : (there serves : Bool) (o : terminal.SequencerOutcome) (c : Call) → keptSize c (length o.bytes) ≡ length o.bytes → keptSize c 0 ≡ 0
-      → (if there then leads g i c (if serves then bySequencer o else absentAt (reset.terminalAt g i)) else missing g)
-      ≡ (if there and serves then withSequencer g i o else missing g)
+  ordered_all : (there serves : Bool) (o : terminal.SequencerOutcome) (c : Call) → kept_size c (length o.bytes) ≡ length o.bytes → kept_size c 0 ≡ 0
+      → (if there then leads g i c (if serves then by_sequencer o else absent_at (reset.terminal_at g i)) else missing g)
+      ≡ (if there and serves then with_sequencer g i o else missing g)
   unfolding if◌then◌else◌ answer_of written
-  ordered-all true true o c k z =
-      ap (λ (b : List ℕ). record { group = record { terminals = set g.terminals i o.terminal; packets = g.packets ++ written b }; answer = answer_of (bySequencer o).reply o.bytes })
+  ordered_all true true o c k z =
+      ap (λ (b : List ℕ). record { group = record { terminals = set g.terminals i o.terminal; packets = g.packets ++ written b }; answer = answer_of (by_sequencer o).reply o.bytes })
       (ap (λ (n : ℕ). take n o.bytes) k ∙ take_all (length o.bytes) o.bytes (omega arith))
-  ordered-all true false o c k z =
-      ap (λ (n : ℕ). record { group = record { terminals = set g.terminals i (reset.terminalAt g i); packets = g.packets ++ written (take n []) }; answer = absent }) z
-      ∙ (λ x. record { group = record { terminals = set-get_or g.terminals i noTerminal x; packets = append-nil g.packets x }; answer = absent })
-  ordered-all false serves o c k z = refl
+  ordered_all true false o c k z =
+      ap (λ (n : ℕ). record { group = record { terminals = set g.terminals i (reset.terminal_at g i); packets = g.packets ++ written (take n []) }; answer = absent }) z
+      ∙ (λ x. record { group = record { terminals = set-get_or g.terminals i no_terminal x; packets = append-nil g.packets x }; answer = absent })
+  ordered_all false serves o c k z = refl
 
-  pub submit-is : (payload : List ℕ) → happenedAt call.Submit i payload g ≡ happen g (reset.submit i payload)
-  unfolding happenedAt cameAt cameOf admitsOf keptSize happen answer_of if◌then◌else◌
-  submit-is payload = written_all (terminal.submitOf (reset.terminalAt g i) payload longestPacket)
+  pub submit_is : (payload : List ℕ) → happened_at call.Submit i payload g ≡ happen g (reset.submit i payload)
+  unfolding happened_at came_at came_of admits_of kept_size happen answer_of if◌then◌else◌
+  submit_is payload = written_all (terminal.submit_of (reset.terminal_at g i) payload longest_packet)
 
-  pub repeat-is : (bytes : List ℕ) → happenedAt call.Repeat i bytes g ≡ happen g (reset.repeat i)
-  unfolding happenedAt cameAt cameOf admitsOf keptSize happen answer_of if◌then◌else◌
-  repeat-is bytes = written_all (terminal.repeatOf (reset.terminalAt g i) longestPacket)
+  pub repeat_is : (bytes : List ℕ) → happened_at call.Repeat i bytes g ≡ happen g (reset.repeat i)
+  unfolding happened_at came_at came_of admits_of kept_size happen answer_of if◌then◌else◌
+  repeat_is bytes = written_all (terminal.repeat_of (reset.terminal_at g i) longest_packet)
 
-  pub status-is : (bytes : List ℕ) → happenedAt call.Status i bytes g ≡ happen g (reset.status i)
-  unfolding happenedAt cameAt cameOf admitsOf keptSize happen answer_of if◌then◌else◌
-  status-is bytes = written_all (terminal.statusOf (reset.terminalAt g i) longestPacket)
+  pub status_is : (bytes : List ℕ) → happened_at call.Status i bytes g ≡ happen g (reset.status i)
+  unfolding happened_at came_at came_of admits_of kept_size happen answer_of if◌then◌else◌
+  status_is bytes = written_all (terminal.status_of (reset.terminal_at g i) longest_packet)
 
-  pub take-is : (bytes : List ℕ) → happenedAt call.Take i bytes g ≡ happen g (reset.take i)
-  unfolding happenedAt cameAt cameOf admitsOf keptSize happen answer_of if◌then◌else◌ written
-  take-is bytes = refl
+  pub take_is : (bytes : List ℕ) → happened_at call.Take i bytes g ≡ happen g (reset.take i)
+  unfolding happened_at came_at came_of admits_of kept_size happen answer_of if◌then◌else◌ written
+  take_is bytes = refl
 
-  pub invite-is : (number : ℕ) (bytes : List ℕ) → happenedAt (call.Invite number) i bytes g ≡ happen g (reset.invite i number)
-  unfolding happenedAt cameAt cameOf admitsOf keptSize happen answer_of if◌then◌else◌
-  invite-is number bytes = written_all (terminal.inviteOf (reset.terminalAt g i) number longestPacket)
+  pub invite_is : (number : ℕ) (bytes : List ℕ) → happened_at (call.Invite number) i bytes g ≡ happen g (reset.invite i number)
+  unfolding happened_at came_at came_of admits_of kept_size happen answer_of if◌then◌else◌
+  invite_is number bytes = written_all (terminal.invite_of (reset.terminal_at g i) number longest_packet)
 
-  pub make-is : (demand : ℕ) (bytes : List ℕ) → happenedAt (call.Make demand) i bytes g ≡ happen g (reset.make i demand)
-  unfolding happenedAt cameAt cameOf admitsOf keptSize happen answer_of if◌then◌else◌
-  make-is demand bytes = written_all (terminal.makeOf (reset.terminalAt g i) demand longestPacket)
+  pub make_is : (demand : ℕ) (bytes : List ℕ) → happened_at (call.Make demand) i bytes g ≡ happen g (reset.make i demand)
+  unfolding happened_at came_at came_of admits_of kept_size happen answer_of if◌then◌else◌
+  make_is demand bytes = written_all (terminal.make_of (reset.terminal_at g i) demand longest_packet)
 
-  pub poll-is : (bytes : List ℕ) → happenedAt call.Poll i bytes g ≡ happen g (reset.poll i)
-  unfolding happenedAt cameAt cameOf admitsOf keptSize happen
-  poll-is bytes =
-      ordered-all (i <? length g.terminals) (reset.terminalAt g i).sequencing (terminal.pollOf (reset.terminalAt g i) longestPacket) call.Poll refl refl
+  pub poll_is : (bytes : List ℕ) → happened_at call.Poll i bytes g ≡ happen g (reset.poll i)
+  unfolding happened_at came_at came_of admits_of kept_size happen
+  poll_is bytes =
+      ordered_all (i <? length g.terminals) (reset.terminal_at g i).sequencing (terminal.poll_of (reset.terminal_at g i) longest_packet) call.Poll refl refl
 
-  pub copy_is : (number : SequenceNumber) (bytes : List ℕ) → happenedAt (call.Copy number) i bytes g ≡ happen g (reset.copy i number.0)
-  unfolding happenedAt cameAt cameOf admitsOf keptSize happen
+  pub copy_is : (number : SequenceNumber) (bytes : List ℕ) → happened_at (call.Copy number) i bytes g ≡ happen g (reset.copy i number.0)
+  unfolding happened_at came_at came_of admits_of kept_size happen
   copy_is number bytes =
-      ordered-all (i <? length g.terminals) (reset.terminalAt g i).sequencing (terminal.copy_of (reset.terminalAt g i) number longestPacket) (call.Copy number) refl refl
+      ordered_all (i <? length g.terminals) (reset.terminal_at g i).sequencing (terminal.copy_of (reset.terminal_at g i) number longest_packet) (call.Copy number) refl refl
 
   -- a packet handed over
-  pub member_is : (k : ℕ) → handedTo call.Receive k i g ≡ happen g (reset.handMember k i)
-  unfolding handedTo handedBy happenedAt cameAt cameOf admitsOf keptSize happen answer_of if◌then◌else◌
+  pub member_is : (k : ℕ) → handed_to call.Receive k i g ≡ happen g (reset.hand_member k i)
+  unfolding handed_to handed_by happened_at came_at came_of admits_of kept_size happen answer_of if◌then◌else◌
   member_is k = go (get_elem? g.packets k)
     where
-      go : (packet : Option (List ℕ)) → handedBy call.Receive i g packet ≡ reset.handToMember g i packet
+      go : (packet : Option (List ℕ)) → handed_by call.Receive i g packet ≡ reset.hand_to_member g i packet
       go none = refl
-      go (some packet) = written_all (terminal.receiveOf (reset.terminalAt g i) packet longestPacket)
+      go (some packet) = written_all (terminal.receive_of (reset.terminal_at g i) packet longest_packet)
 
-  pub sequencer-is : (k : ℕ) → handedTo call.Order k i g ≡ happen g (reset.handSequencer k i)
-  unfolding handedTo handedBy happenedAt cameAt cameOf admitsOf keptSize happen
-  sequencer-is k = go (get_elem? g.packets k)
+  pub sequencer_is : (k : ℕ) → handed_to call.Order k i g ≡ happen g (reset.hand_sequencer k i)
+  unfolding handed_to handed_by happened_at came_at came_of admits_of kept_size happen
+  sequencer_is k = go (get_elem? g.packets k)
     where
-      go : (packet : Option (List ℕ)) → handedBy call.Order i g packet ≡ reset.handToSequencer g i packet
+      go : (packet : Option (List ℕ)) → handed_by call.Order i g packet ≡ reset.hand_to_sequencer g i packet
       go none = refl
       go (some packet) =
-          ordered-all (i <? length g.terminals) (reset.terminalAt g i).sequencing (terminal.order_of (reset.terminalAt g i) packet longestPacket) call.Order refl refl
+          ordered_all (i <? length g.terminals) (reset.terminal_at g i).sequencing (terminal.order_of (reset.terminal_at g i) packet longest_packet) call.Order refl refl

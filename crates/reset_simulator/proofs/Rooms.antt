@@ -4,11 +4,11 @@ use mathlib.Core.Bool.{Bool, true, false}
 use Prim.Native.Nat.{ℕ, ◌≤◌, ◌<◌}
 use native.Mathlib.Omega.{arith}
 use borrow.Author.Tests.{lt-ltb, le-leb, ltb-true, ltb-false, leb-true}
-use Rattle.group.proofs.Choice.{both_hold, both_first, both-then}
+use Rattle.group.proofs.Choice.{both_hold, both_first, both_then}
 use Rattle.group.specs.Choice.{◌<?◌, ◌≤?◌}
-use Rattle.group.specs.Limits.{membersMost}
-use Rattle.simulator.specs.Steps.{roomOf, thereOf}
-use Rattle.simulator.specs.Whole.{packetsMost}
+use Rattle.group.specs.Limits.{members_most}
+use Rattle.simulator.specs.Steps.{room_of, there_of}
+use Rattle.simulator.specs.Whole.{packets_most}
 use Rattle.reset_simulator.specs.Whole.{Room}
 use Rattle.reset_simulator.specs.declared.World.{World}
 
@@ -17,30 +17,30 @@ true≢false e = let z : ◌≡◌ {A = ℕ} 0 1 = cc in omega arith
 
 module _ (world : World) where
   abbrev room : Bool
-  room = roomOf world.count world.n
+  room = room_of world.count world.n
 
-  room-yes : room ≡ true → Room world
-  unfolding roomOf
-  room-yes e =
+  room_yes : room ≡ true → Room world
+  unfolding room_of
+  room_yes e =
       record {
-        packets = ltb-true world.count packetsMost (both_first (world.count <? packetsMost) (world.n ≤? membersMost) e);
-        terminals = leb-true world.n membersMost (both-then (world.count <? packetsMost) (world.n ≤? membersMost) e);
+        packets = ltb-true world.count packets_most (both_first (world.count <? packets_most) (world.n ≤? members_most) e);
+        terminals = leb-true world.n members_most (both_then (world.count <? packets_most) (world.n ≤? members_most) e);
       }
 
-  room-is : Room world → room ≡ true
-  unfolding roomOf
-  room-is r =
-      both_hold (world.count <? packetsMost) (world.n ≤? membersMost) (lt-ltb world.count packetsMost r.packets) (le-leb world.n membersMost r.terminals)
+  room_is : Room world → room ≡ true
+  unfolding room_of
+  room_is r =
+      both_hold (world.count <? packets_most) (world.n ≤? members_most) (lt-ltb world.count packets_most r.packets) (le-leb world.n members_most r.terminals)
 
-  module _ (k limit : ℕ) (b : Bool) (is : b ≡ thereOf world.count world.n k limit) where
-    pub there-yes : b ≡ true → Room world × (k < limit)
-    unfolding thereOf
-    there-yes e = (room-yes (both_first room (k <? limit) (sym is ∙ e)), ltb-true k limit (both-then room (k <? limit) (sym is ∙ e)))
+  module _ (k limit : ℕ) (b : Bool) (is : b ≡ there_of world.count world.n k limit) where
+    pub there_yes : b ≡ true → Room world × (k < limit)
+    unfolding there_of
+    there_yes e = (room_yes (both_first room (k <? limit) (sym is ∙ e)), ltb-true k limit (both_then room (k <? limit) (sym is ∙ e)))
 
-    pub there-no : b ≡ false → Room world → limit ≤ k
-    unfolding thereOf
-    there-no e r = go (k <? limit) refl
+    pub there_no : b ≡ false → Room world → limit ≤ k
+    unfolding there_of
+    there_no e r = go (k <? limit) refl
       where
         go : (c : Bool) → (k <? limit) ≡ c → limit ≤ k
-        go true t = absurd (true≢false (sym (both_hold room (k <? limit) (room-is r) t) ∙ sym is ∙ e))
+        go true t = absurd (true≢false (sym (both_hold room (k <? limit) (room_is r) t) ∙ sym is ∙ e))
         go false t = ltb-false k limit t

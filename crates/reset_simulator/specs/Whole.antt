@@ -2,19 +2,19 @@
 -- event does to it what `happen` says.
 use Rattle.std.specs.Prelude.{◌≡◌, List, [], ℕ, ◌+◌, ◌≤◌, ◌<◌, take, get_or}
 use Rattle.group.specs.Lent.{front}
-use Rattle.group.specs.Limits.{membersMost, longestPacket}
+use Rattle.group.specs.Limits.{members_most, longest_packet}
 use Rattle.group.specs.declared.Verdict.{Verdict}
 use Rattle.model.specs.World.{answer_of}
 use Rattle.model.specs.declared.Reply.{Reply}
-use Rattle.recovery.specs.Calls.{freshTerminal}
+use Rattle.recovery.specs.Calls.{fresh_terminal}
 use Rattle.recovery.specs.State.{Terminal}
-use Rattle.recovery.specs.View.{Stored, whole, terminalOf}
+use Rattle.recovery.specs.View.{Stored, whole, terminal_of}
 use Rattle.recovery.specs.declared.Head.{Head}
-use Rattle.reset.specs.World.{Group, Happened, freshTerminals, fresh}
+use Rattle.reset.specs.World.{Group, Happened, fresh_terminals, fresh}
 use Rattle.sequencer.specs.Calls.{fresh_of}
-use Rattle.simulator.specs.Whole.{packetsMost, list_of, Packets, packetsOf, packetAt, packetsIn}
-use Rattle.terminal_rows.specs.Heads.{headIn}
-use Rattle.terminal_rows.specs.Steps.{openedWith}
+use Rattle.simulator.specs.Whole.{packets_most, list_of, Packets, packets_of, packet_at, packets_in}
+use Rattle.terminal_rows.specs.Heads.{head_in}
+use Rattle.terminal_rows.specs.Steps.{opened_with}
 use Rattle.reset_simulator.specs.declared.Happening.{Happening}
 use Rattle.reset_simulator.specs.declared.World.{World}
 
@@ -82,15 +82,15 @@ pub record Terminals : Type 0 where
   pub numbers : List (List ℕ)
   pub rows : Rows
 
-abbrev pub terminalsOf : List (List ℕ) → List (List ℕ) → List (List ℕ) → Rows → Terminals
-terminalsOf small masks numbers rows = record { small = small; masks = masks; numbers = numbers; rows = rows }
+abbrev pub terminals_of : List (List ℕ) → List (List ℕ) → List (List ℕ) → Rows → Terminals
+terminals_of small masks numbers rows = record { small = small; masks = masks; numbers = numbers; rows = rows }
 
 -- terminal i
-abbrev pub headAt : Terminals → ℕ → Head
-headAt t i = headIn (get_or t.small i []) (get_or t.masks i []) (get_or t.numbers i [])
+abbrev pub head_at : Terminals → ℕ → Head
+head_at t i = head_in (get_or t.small i []) (get_or t.masks i []) (get_or t.numbers i [])
 
-unfoldable pub terminalAt : Terminals → ℕ → Terminal
-terminalAt t i = terminalOf (stored_at t.rows i (headAt t i))
+unfoldable pub terminal_at : Terminals → ℕ → Terminal
+terminal_at t i = terminal_of (stored_at t.rows i (head_at t i))
 
 -- the whole
 pub record Whole : Type 0 where
@@ -102,18 +102,18 @@ abbrev pub whole_of : World → List (List ℕ) → List (List ℕ) → List (Li
 whole_of world small masks numbers queued held queued_originators queued_lengths held_originators held_lengths queued_payloads held_payloads past past_originators past_lengths past_payloads highest replies taken counts repeats kept marks originators lengths payloads sizes packets =
     record {
       n = world.n;
-      terminals = terminalsOf small masks numbers (rows_of queued held queued_originators queued_lengths held_originators held_lengths queued_payloads held_payloads past past_originators past_lengths past_payloads highest replies taken counts repeats kept marks originators lengths payloads);
-      packets = packetsOf sizes packets world.count;
+      terminals = terminals_of small masks numbers (rows_of queued held queued_originators queued_lengths held_originators held_lengths queued_payloads held_payloads past past_originators past_lengths past_payloads highest replies taken counts repeats kept marks originators lengths payloads);
+      packets = packets_of sizes packets world.count;
     }
 
 -- the world that is run
 abbrev pub group_of : Whole → Group
-group_of w = record { terminals = list_of (terminalAt w.terminals) 0 w.n; packets = packetsIn w.packets }
+group_of w = record { terminals = list_of (terminal_at w.terminals) 0 w.n; packets = packets_in w.packets }
 
 -- there is room for one packet more, and for every terminal
 pub record Room (world : World) : Type 0 where
-  pub packets : world.count < packetsMost
-  pub terminals : world.n ≤ membersMost
+  pub packets : world.count < packets_most
+  pub terminals : world.n ≤ members_most
 
 -- nothing happened: it is answered as an event that names a packet or terminal not there
 abbrev pub nothing : World → Happening
@@ -127,21 +127,21 @@ pub record Plays (happens : Group → Happened) (world : World) (w : Whole) (r :
   -- without, nothing
   pub stays : (Room world → ⊥) → (r ≡ nothing world) × (w' ≡ w)
   pub lent : after ≡ front (take r.written after) before
-  pub size : r.written ≤ longestPacket
-  -- n stays, and there is at most one packet more: there is room until `packetsMost` were written
+  pub size : r.written ≤ longest_packet
+  -- n stays, and there is at most one packet more: there is room until `packets_most` were written
   pub same : r.world.n ≡ world.n
   pub most : r.world.count ≤ world.count + 1
   -- of what the world does not show: no terminal from n on changes, and no packet but the one at count
-  pub terminals : (j : ℕ) → world.n ≤ j → terminalAt w'.terminals j ≡ terminalAt w.terminals j
-  pub packets : (k : ℕ) → (k ≡ world.count → ⊥) → packetAt w'.packets k ≡ packetAt w.packets k
+  pub terminals : (j : ℕ) → world.n ≤ j → terminal_at w'.terminals j ≡ terminal_at w.terminals j
+  pub packets : (k : ℕ) → (k ≡ world.count → ⊥) → packet_at w'.packets k ≡ packet_at w.packets k
 
 -- the promise of opening, questions 18 and 24: every terminal is fresh, those from n on too, and no packet was written
 pub record Opens (n number resilience : ℕ) (verdict : Verdict) (world : World) (w : Whole) : Type 0 where
-  pub verdict-is : verdict ≡ (fresh_of n number resilience).verdict
-  pub n-is : world.n ≡ openedWith verdict n
+  pub verdict_is : verdict ≡ (fresh_of n number resilience).verdict
+  pub n_is : world.n ≡ opened_with verdict n
   pub count : world.count ≡ 0
-  pub shown : group_of w ≡ record { terminals = freshTerminals n number resilience 0 (openedWith verdict n); packets = [] }
-  pub terminals : (j : ℕ) → j < membersMost → terminalAt w.terminals j ≡ freshTerminal n number resilience j
+  pub shown : group_of w ≡ record { terminals = fresh_terminals n number resilience 0 (opened_with verdict n); packets = [] }
+  pub terminals : (j : ℕ) → j < members_most → terminal_at w.terminals j ≡ fresh_terminal n number resilience j
   -- where it is accepted, the world is a fresh one; there is room
   pub group : verdict ≡ Verdict.Accepted → group_of w ≡ (fresh n number resilience).group
   pub room : Room world

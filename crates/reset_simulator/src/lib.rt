@@ -1,12 +1,12 @@
 // The world with resets that can be run: room for every terminal, and room for the packets of a schedule. Its numbers go by value, and every
 // array behind a reference: those of the terminals one behind the other, so that a call is lent the arrays of one terminal.
 ghost use Rattle.std.specs.Prelude.{◌≡◌, true, ◌<◌, length};
-ghost use Rattle.group.specs.Limits.{membersMost};
-ghost use Rattle.recovery.specs.Calls.{freshTerminal};
-ghost use Rattle.recovery.specs.View.{whole, terminalOf, flagsSound};
-ghost use Rattle.terminal_rows.specs.Steps.{ofWhole};
-ghost use Rattle.reset_simulator.specs.Whole.{rows_of, terminalsOf, whole_of, Plays, Opens};
-ghost use Rattle.reset_simulator.specs.Steps.{cameOf, happenedAt, handedTo, FullRows, CallsOn, MemberCallsOn, SequencerCallsOn, CallsRow, CallsAt, Begun};
+ghost use Rattle.group.specs.Limits.{members_most};
+ghost use Rattle.recovery.specs.Calls.{fresh_terminal};
+ghost use Rattle.recovery.specs.View.{whole, terminal_of, flags_sound};
+ghost use Rattle.terminal_rows.specs.Steps.{of_whole};
+ghost use Rattle.reset_simulator.specs.Whole.{rows_of, terminals_of, whole_of, Plays, Opens};
+ghost use Rattle.reset_simulator.specs.Steps.{came_of, happened_at, handed_to, FullRows, CallsOn, MemberCallsOn, SequencerCallsOn, CallsRow, CallsAt, Begun};
 
 use group::{Group, MemberNumber, Verdict};
 use model::Reply;
@@ -78,7 +78,7 @@ fn open_on(
     resilience: u8,
     i: u8,
 ) -> Head
-    ensures { terminalOf (whole result queued.new held.new queued_originators.new queued_lengths.new held_originators.new held_lengths.new queued_payloads.new held_payloads.new past.new past_originators.new past_lengths.new past_payloads.new highest.new replies.new taken.new counts.new repeats.new kept.new marks.new originators.new lengths.new payloads.new) ≡ freshTerminal n number resilience i }
+    ensures { terminal_of (whole result queued.new held.new queued_originators.new queued_lengths.new held_originators.new held_lengths.new queued_payloads.new held_payloads.new past.new past_originators.new past_lengths.new past_payloads.new highest.new replies.new taken.new counts.new repeats.new kept.new marks.new originators.new lengths.new payloads.new) ≡ fresh_terminal n number resilience i }
 {
     let begun = member_calls::open_on(
         head.member,
@@ -141,7 +141,7 @@ fn member_on(
     bytes: &[u8],
     out: &mut [u8],
 ) -> Called
-    requires { flagsSound head ≡ true }
+    requires { flags_sound head ≡ true }
     ensures { MemberCallsOn call bytes.now head queued.old held.old queued_originators.old queued_lengths.old held_originators.old held_lengths.old queued_payloads.old held_payloads.old past.old past_originators.old past_lengths.old past_payloads.old highest.old replies.old result queued.new held.new queued_originators.new queued_lengths.new held_originators.new held_lengths.new queued_payloads.new held_payloads.new past.new past_originators.new past_lengths.new past_payloads.new highest.new replies.new out.old out.new }
 {
     match call {
@@ -286,8 +286,8 @@ fn whole_on(
     bytes: &[u8],
     out: &mut [u8],
 ) -> Called
-    requires { flagsSound head ≡ true }
-    ensures { CallsOn (cameOf (ofWhole call) bytes.now (length out.old) (terminalOf (whole head queued.old held.old queued_originators.old queued_lengths.old held_originators.old held_lengths.old queued_payloads.old held_payloads.old past.old past_originators.old past_lengths.old past_payloads.old highest.old replies.old taken.old counts.old repeats.old kept.old marks.old originators.old lengths.old payloads.old))) result (whole result.head queued.new held.new queued_originators.new queued_lengths.new held_originators.new held_lengths.new queued_payloads.new held_payloads.new past.new past_originators.new past_lengths.new past_payloads.new highest.new replies.new taken.new counts.new repeats.new kept.new marks.new originators.new lengths.new payloads.new) out.old out.new }
+    requires { flags_sound head ≡ true }
+    ensures { CallsOn (came_of (of_whole call) bytes.now (length out.old) (terminal_of (whole head queued.old held.old queued_originators.old queued_lengths.old held_originators.old held_lengths.old queued_payloads.old held_payloads.old past.old past_originators.old past_lengths.old past_payloads.old highest.old replies.old taken.old counts.old repeats.old kept.old marks.old originators.old lengths.old payloads.old))) result (whole result.head queued.new held.new queued_originators.new queued_lengths.new held_originators.new held_lengths.new queued_payloads.new held_payloads.new past.new past_originators.new past_lengths.new past_payloads.new highest.new replies.new taken.new counts.new repeats.new kept.new marks.new originators.new lengths.new payloads.new) out.old out.new }
 {
     match call {
         WholeCall::Receive => {
@@ -460,7 +460,7 @@ fn sequencer_on(
     bytes: &[u8],
     out: &mut [u8],
 ) -> Called
-    requires { flagsSound head ≡ true }
+    requires { flags_sound head ≡ true }
     ensures { SequencerCallsOn call bytes.now head taken.old counts.old repeats.old kept.old marks.old originators.old lengths.old payloads.old result taken.new counts.new repeats.new kept.new marks.new originators.new lengths.new payloads.new out.old out.new }
 {
     match call {
@@ -560,8 +560,8 @@ fn call_on(
     bytes: &[u8],
     out: &mut [u8],
 ) -> Called
-    requires { flagsSound head ≡ true }
-    ensures { CallsOn (cameOf call bytes.now (length out.old) (terminalOf (whole head queued.old held.old queued_originators.old queued_lengths.old held_originators.old held_lengths.old queued_payloads.old held_payloads.old past.old past_originators.old past_lengths.old past_payloads.old highest.old replies.old taken.old counts.old repeats.old kept.old marks.old originators.old lengths.old payloads.old))) result (whole result.head queued.new held.new queued_originators.new queued_lengths.new held_originators.new held_lengths.new queued_payloads.new held_payloads.new past.new past_originators.new past_lengths.new past_payloads.new highest.new replies.new taken.new counts.new repeats.new kept.new marks.new originators.new lengths.new payloads.new) out.old out.new }
+    requires { flags_sound head ≡ true }
+    ensures { CallsOn (came_of call bytes.now (length out.old) (terminal_of (whole head queued.old held.old queued_originators.old queued_lengths.old held_originators.old held_lengths.old queued_payloads.old held_payloads.old past.old past_originators.old past_lengths.old past_payloads.old highest.old replies.old taken.old counts.old repeats.old kept.old marks.old originators.old lengths.old payloads.old))) result (whole result.head queued.new held.new queued_originators.new queued_lengths.new held_originators.new held_lengths.new queued_payloads.new held_payloads.new past.new past_originators.new past_lengths.new past_payloads.new highest.new replies.new taken.new counts.new repeats.new kept.new marks.new originators.new lengths.new payloads.new) out.old out.new }
 {
     let part = part_of(call);
     match part {
@@ -660,7 +660,7 @@ fn call_row(
     bytes: &[u8],
     out: &mut [u8],
 ) -> Called
-    requires { (i < membersMost) × (flagsSound head ≡ true) × FullRows (rows_of queued.old held.old queued_originators.old queued_lengths.old held_originators.old held_lengths.old queued_payloads.old held_payloads.old past.old past_originators.old past_lengths.old past_payloads.old highest.old replies.old taken.old counts.old repeats.old kept.old marks.old originators.old lengths.old payloads.old) }
+    requires { (i < members_most) × (flags_sound head ≡ true) × FullRows (rows_of queued.old held.old queued_originators.old queued_lengths.old held_originators.old held_lengths.old queued_payloads.old held_payloads.old past.old past_originators.old past_lengths.old past_payloads.old highest.old replies.old taken.old counts.old repeats.old kept.old marks.old originators.old lengths.old payloads.old) }
     ensures { CallsRow call i bytes.now head (rows_of queued.old held.old queued_originators.old queued_lengths.old held_originators.old held_lengths.old queued_payloads.old held_payloads.old past.old past_originators.old past_lengths.old past_payloads.old highest.old replies.old taken.old counts.old repeats.old kept.old marks.old originators.old lengths.old payloads.old) result (rows_of queued.new held.new queued_originators.new queued_lengths.new held_originators.new held_lengths.new queued_payloads.new held_payloads.new past.new past_originators.new past_lengths.new past_payloads.new highest.new replies.new taken.new counts.new repeats.new kept.new marks.new originators.new lengths.new payloads.new) out.old out.new }
 {
     call_on(
@@ -725,8 +725,8 @@ fn call_at(
     bytes: &[u8],
     out: &mut [u8],
 ) -> Called
-    requires { i < membersMost }
-    ensures { CallsAt call i bytes.now (terminalsOf small.old masks.old numbers.old (rows_of queued.old held.old queued_originators.old queued_lengths.old held_originators.old held_lengths.old queued_payloads.old held_payloads.old past.old past_originators.old past_lengths.old past_payloads.old highest.old replies.old taken.old counts.old repeats.old kept.old marks.old originators.old lengths.old payloads.old)) result (terminalsOf small.new masks.new numbers.new (rows_of queued.new held.new queued_originators.new queued_lengths.new held_originators.new held_lengths.new queued_payloads.new held_payloads.new past.new past_originators.new past_lengths.new past_payloads.new highest.new replies.new taken.new counts.new repeats.new kept.new marks.new originators.new lengths.new payloads.new)) out.old out.new }
+    requires { i < members_most }
+    ensures { CallsAt call i bytes.now (terminals_of small.old masks.old numbers.old (rows_of queued.old held.old queued_originators.old queued_lengths.old held_originators.old held_lengths.old queued_payloads.old held_payloads.old past.old past_originators.old past_lengths.old past_payloads.old highest.old replies.old taken.old counts.old repeats.old kept.old marks.old originators.old lengths.old payloads.old)) result (terminals_of small.new masks.new numbers.new (rows_of queued.new held.new queued_originators.new queued_lengths.new held_originators.new held_lengths.new queued_payloads.new held_payloads.new past.new past_originators.new past_lengths.new past_payloads.new highest.new replies.new taken.new counts.new repeats.new kept.new marks.new originators.new lengths.new payloads.new)) out.old out.new }
 {
     let head = read_head(small, masks, numbers, i);
     if admits(call, head.sequencing == 1) {
@@ -805,7 +805,7 @@ pub fn act(
     bytes: &[u8],
     out: &mut [u8; Group::PACKET],
 ) -> Happening
-    ensures { Plays (happenedAt call i bytes.now) world (whole_of world small.old masks.old numbers.old queued.old held.old queued_originators.old queued_lengths.old held_originators.old held_lengths.old queued_payloads.old held_payloads.old past.old past_originators.old past_lengths.old past_payloads.old highest.old replies.old taken.old counts.old repeats.old kept.old marks.old originators.old lengths.old payloads.old sizes.old packets.old) result (whole_of result.world small.new masks.new numbers.new queued.new held.new queued_originators.new queued_lengths.new held_originators.new held_lengths.new queued_payloads.new held_payloads.new past.new past_originators.new past_lengths.new past_payloads.new highest.new replies.new taken.new counts.new repeats.new kept.new marks.new originators.new lengths.new payloads.new sizes.new packets.new) out.old out.new }
+    ensures { Plays (happened_at call i bytes.now) world (whole_of world small.old masks.old numbers.old queued.old held.old queued_originators.old queued_lengths.old held_originators.old held_lengths.old queued_payloads.old held_payloads.old past.old past_originators.old past_lengths.old past_payloads.old highest.old replies.old taken.old counts.old repeats.old kept.old marks.old originators.old lengths.old payloads.old sizes.old packets.old) result (whole_of result.world small.new masks.new numbers.new queued.new held.new queued_originators.new queued_lengths.new held_originators.new held_lengths.new queued_payloads.new held_payloads.new past.new past_originators.new past_lengths.new past_payloads.new highest.new replies.new taken.new counts.new repeats.new kept.new marks.new originators.new lengths.new payloads.new sizes.new packets.new) out.old out.new }
 {
     if is_there(world.count, world.n, i, world.n as usize) {
         let called = call_at(
@@ -892,7 +892,7 @@ pub fn hand(
     i: usize,
     out: &mut [u8; Group::PACKET],
 ) -> Happening
-    ensures { Plays (handedTo call k i) world (whole_of world small.old masks.old numbers.old queued.old held.old queued_originators.old queued_lengths.old held_originators.old held_lengths.old queued_payloads.old held_payloads.old past.old past_originators.old past_lengths.old past_payloads.old highest.old replies.old taken.old counts.old repeats.old kept.old marks.old originators.old lengths.old payloads.old sizes.old packets.old) result (whole_of result.world small.new masks.new numbers.new queued.new held.new queued_originators.new queued_lengths.new held_originators.new held_lengths.new queued_payloads.new held_payloads.new past.new past_originators.new past_lengths.new past_payloads.new highest.new replies.new taken.new counts.new repeats.new kept.new marks.new originators.new lengths.new payloads.new sizes.new packets.new) out.old out.new }
+    ensures { Plays (handed_to call k i) world (whole_of world small.old masks.old numbers.old queued.old held.old queued_originators.old queued_lengths.old held_originators.old held_lengths.old queued_payloads.old held_payloads.old past.old past_originators.old past_lengths.old past_payloads.old highest.old replies.old taken.old counts.old repeats.old kept.old marks.old originators.old lengths.old payloads.old sizes.old packets.old) result (whole_of result.world small.new masks.new numbers.new queued.new held.new queued_originators.new queued_lengths.new held_originators.new held_lengths.new queued_payloads.new held_payloads.new past.new past_originators.new past_lengths.new past_payloads.new highest.new replies.new taken.new counts.new repeats.new kept.new marks.new originators.new lengths.new payloads.new sizes.new packets.new) out.old out.new }
 {
     if is_there(world.count, world.n, k, world.count) {
         let packet = packet_at(packets, k);
@@ -971,7 +971,7 @@ fn open_each(
     resilience: u8,
     out: &mut [u8],
 )
-    ensures terminals { Begun n number resilience (terminalsOf small.new masks.new numbers.new (rows_of queued.new held.new queued_originators.new queued_lengths.new held_originators.new held_lengths.new queued_payloads.new held_payloads.new past.new past_originators.new past_lengths.new past_payloads.new highest.new replies.new taken.new counts.new repeats.new kept.new marks.new originators.new lengths.new payloads.new)) membersMost }
+    ensures terminals { Begun n number resilience (terminals_of small.new masks.new numbers.new (rows_of queued.new held.new queued_originators.new queued_lengths.new held_originators.new held_lengths.new queued_payloads.new held_payloads.new past.new past_originators.new past_lengths.new past_payloads.new highest.new replies.new taken.new counts.new repeats.new kept.new marks.new originators.new lengths.new payloads.new)) members_most }
     ensures lent { out.new ≡ out.old }
 {
     let mut i: u8 = 0;

@@ -3,11 +3,11 @@ use Rattle.std.specs.Prelude.{List, ℕ}
 use Rattle.descriptor.specs.Descriptor.{Gives, Takes}
 use Rattle.descriptor.specs.declared.Source.{Source}
 use Rattle.descriptor.specs.declared.Sink.{Sink}
-use Rattle.reset_output.specs.Recover.{recoverOf}
+use Rattle.reset_output.specs.Recover.{recover_of}
 use Rattle.stream.specs.declared.Played.{Played}
 
 -- the source gave an input, and the sink took what `recover` prints of the whole input
 pub record Recovers (source : Source) (sink : Sink) (r : Played) : Type 0 where
   pub input : List ℕ
   pub gives : Gives source input r.source
-  pub takes : Takes sink (recoverOf input) r.sink
+  pub takes : Takes sink (recover_of input) r.sink

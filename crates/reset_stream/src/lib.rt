@@ -3,8 +3,8 @@
 ghost use Rattle.std.specs.Prelude.{[], ◌++◌, ◌≤◌};
 ghost use Rattle.descriptor.specs.Descriptor.{Takes};
 ghost use Rattle.group.specs.Lent.{Laid};
-ghost use Rattle.group.specs.Limits.{membersMost};
-ghost use Rattle.report.specs.Print.{badOpening};
+ghost use Rattle.group.specs.Limits.{members_most};
+ghost use Rattle.report.specs.Print.{bad_opening};
 ghost use Rattle.reset_player.specs.Feed.{end_of};
 ghost use Rattle.reset_player.specs.Player.{state_of};
 ghost use Rattle.reset_output.specs.Recover.{last_of};
@@ -325,7 +325,7 @@ fn put_terminals(
     n: usize,
     mut sink: Sink,
 ) -> Sink
-    requires { n ≤ membersMost }
+    requires { n ≤ members_most }
     ensures { HandsTerminals small.now masks.now numbers.now n sink result }
 {
     let mut i: usize = 0;
@@ -343,7 +343,7 @@ fn put_terminals(
 
 // The line of an input without a first line.
 fn write_unopened(out: &mut [u8; OUTPUT]) -> usize
-    ensures { Laid badOpening result out.old out.new }
+    ensures { Laid bad_opening result out.old out.new }
 {
     write_bad_opening(out)
 }

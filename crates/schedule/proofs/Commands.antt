@@ -6,47 +6,47 @@ use mathlib.Core.Option.{Option, none, some}
 use Prim.Native.Char.{code}
 use Prim.Native.Nat.{ℕ}
 use Rattle.group.specs.Choice.{if◌then◌else◌}
-use Rattle.group.proofs.Choice.{if-eq, if-ne}
+use Rattle.group.proofs.Choice.{if_eq, if_ne}
 use Rattle.model.specs.World.{Event, submit}
-use Rattle.text.specs.Field.{number_in, isHex, hexBytes, hexIn}
-use Rattle.schedule.specs.Line.{submitted, handed, withTwo, commandOf, payloadOf}
+use Rattle.text.specs.Field.{number_in, is_hex, hex_bytes, hex_in}
+use Rattle.schedule.specs.Line.{submitted, handed, with_two, command_of, payload_of}
 
-pub command-if : (t : Bool) (a b : Option Event) → commandOf (if t then a else b) ≡ if t then commandOf a else commandOf b
+pub command_if : (t : Bool) (a b : Option Event) → command_of (if t then a else b) ≡ if t then command_of a else command_of b
 unfolding if◌then◌else◌
-command-if true a b = refl
-command-if false a b = refl
+command_if true a b = refl
+command_if false a b = refl
 
 -- a submit: both fields are read, or one is of another form
 module _ (a b : List ℕ) where
-  pub submit-read : (i : ℕ) → number_in a ≡ some i → isHex b ≡ true → submitted (number_in a) (hexIn b) ≡ some (submit i (hexBytes b))
+  pub submit_read : (i : ℕ) → number_in a ≡ some i → is_hex b ≡ true → submitted (number_in a) (hex_in b) ≡ some (submit i (hex_bytes b))
   unfolding submitted if◌then◌else◌
-  submit-read i e h = rw (e, h)
+  submit_read i e h = rw (e, h)
 
-  pub submit-no-payload : (i : ℕ) → number_in a ≡ some i → isHex b ≡ false → submitted (number_in a) (hexIn b) ≡ none
+  pub submit_no_payload : (i : ℕ) → number_in a ≡ some i → is_hex b ≡ false → submitted (number_in a) (hex_in b) ≡ none
   unfolding submitted if◌then◌else◌
-  submit-no-payload i e h = rw (e, h)
+  submit_no_payload i e h = rw (e, h)
 
-  pub submit-no-number : number_in a ≡ none → submitted (number_in a) (hexIn b) ≡ none
+  pub submit_no_number : number_in a ≡ none → submitted (number_in a) (hex_in b) ≡ none
   unfolding submitted
-  submit-no-number e = rw e
+  submit_no_number e = rw e
 
 -- a packet handed over lays no payload
-pub hand-payload : (k i : Option ℕ) → payloadOf (handed k i) ≡ []
-unfolding handed payloadOf
-hand-payload none i = refl
-hand-payload (some k) none = refl
-hand-payload (some k) (some i) = refl
+pub hand_payload : (k i : Option ℕ) → payload_of (handed k i) ≡ []
+unfolding handed payload_of
+hand_payload none i = refl
+hand_payload (some k) none = refl
+hand_payload (some k) (some i) = refl
 
 -- the letter before two fields
 module _ (letter : ℕ) (a b : List ℕ) where
-  pub two-submit : letter ≡ code "S" → withTwo letter a b ≡ submitted (number_in a) (hexIn b)
-  unfolding withTwo
-  two-submit e = sym (if-eq letter (code "S") _ (submitted (number_in a) (hexIn b)) _ e refl)
+  pub two_submit : letter ≡ code "S" → with_two letter a b ≡ submitted (number_in a) (hex_in b)
+  unfolding with_two
+  two_submit e = sym (if_eq letter (code "S") _ (submitted (number_in a) (hex_in b)) _ e refl)
 
-  pub two-hand : (letter ≡ code "S" → ⊥) → letter ≡ code "M" → withTwo letter a b ≡ handed (number_in a) (number_in b)
-  unfolding withTwo
-  two-hand n e = sym (if-ne letter (code "S") _ _ _ n (if-eq letter (code "M") _ (handed (number_in a) (number_in b)) _ e refl))
+  pub two_hand : (letter ≡ code "S" → ⊥) → letter ≡ code "M" → with_two letter a b ≡ handed (number_in a) (number_in b)
+  unfolding with_two
+  two_hand n e = sym (if_ne letter (code "S") _ _ _ n (if_eq letter (code "M") _ (handed (number_in a) (number_in b)) _ e refl))
 
-  pub two-other : (letter ≡ code "S" → ⊥) → (letter ≡ code "M" → ⊥) → withTwo letter a b ≡ none
-  unfolding withTwo
-  two-other n m = sym (if-ne letter (code "S") _ _ _ n (if-ne letter (code "M") _ _ none m refl))
+  pub two_other : (letter ≡ code "S" → ⊥) → (letter ≡ code "M" → ⊥) → with_two letter a b ≡ none
+  unfolding with_two
+  two_other n m = sym (if_ne letter (code "S") _ _ _ n (if_ne letter (code "M") _ _ none m refl))

@@ -7,14 +7,14 @@ use Prim.Native.String.{String}
 use lib.ListN.{replicate}
 use Rattle.group.specs.Choice.{if◌then◌else◌}
 use Rattle.group.specs.Fold.{all}
-use Rattle.model.specs.World.{submit, repeat, take, status, poll, copy, handMember, handSequencer}
-use Rattle.text.specs.Text.{text_of, digitOf}
-use Rattle.text.specs.Field.{before, fields_of, letterOf, valueFrom, upToLargest, number_in, pairsOf, isHex, hexBytes}
-use Rattle.schedule.specs.Line.{alone, with_number, submitted, handed, withTwo, form_of, eventOf, opened, openingWith, openingForm, openingOf}
+use Rattle.model.specs.World.{submit, repeat, take, status, poll, copy, hand_member, hand_sequencer}
+use Rattle.text.specs.Text.{text_of, digit_of}
+use Rattle.text.specs.Field.{before, fields_of, letter_of, value_from, up_to_largest, number_in, pairs_of, is_hex, hex_bytes}
+use Rattle.schedule.specs.Line.{alone, with_number, submitted, handed, with_two, form_of, event_of, opened, opening_with, opening_form, opening_of}
 use Rattle.schedule.specs.declared.Opening.{Opening}
 
 -- every form; numbers up to the largest, leading zeros, a payload that a member will refuse, and none
-forms : map (λ (line : String). eventOf (text_of line))
+forms : map (λ (line : String). event_of (text_of line))
     ("S 1 6162" ∷ "S 0 -" ∷ "S 0 00ff" ∷ "R 2" ∷ "T 1" ∷ "A 3" ∷ "P" ∷ "C 7" ∷ "M 1 1" ∷ "Q 0" ∷ "R 4294967295" ∷ "R 0000000000000000000000000000000000000007" ∷ [])
     ≡ some (submit 1 (0x61 ∷ 0x62 ∷ []))
     ∷ some (submit 0 [])
@@ -24,30 +24,30 @@ forms : map (λ (line : String). eventOf (text_of line))
     ∷ some (status 3)
     ∷ some poll
     ∷ some (copy 7)
-    ∷ some (handMember 1 1)
-    ∷ some (handSequencer 0)
+    ∷ some (hand_member 1 1)
+    ∷ some (hand_sequencer 0)
     ∷ some (repeat 4294967295)
     ∷ some (repeat 7)
     ∷ []
-unfolding eventOf form_of fields_of before letterOf alone with_number submitted handed withTwo number_in upToLargest valueFrom digitOf all isHex hexBytes pairsOf if◌then◌else◌
+unfolding event_of form_of fields_of before letter_of alone with_number submitted handed with_two number_in up_to_largest value_from digit_of all is_hex hex_bytes pairs_of if◌then◌else◌
 forms = refl
 
 -- of another form: no line, a space too many or too few, a field missing or too many, a number over the largest or of other
 -- characters, hex in upper case, of an odd number of digits or of none, a carriage return, another letter
-others : map (λ (line : String). eventOf (text_of line))
+others : map (λ (line : String). event_of (text_of line))
     ("" ∷ " " ∷ " P" ∷ "P " ∷ "R  1" ∷ "R1" ∷ "R" ∷ "R 1 2" ∷ "S 1" ∷ "M 1" ∷ "M 1 2 3" ∷ "R " ∷ "R 4294967296" ∷ "R 99999999999999999999999999999999999999999" ∷ "R -1" ∷ "R +1" ∷ "R a"
     ∷ "S 1 6A" ∷ "S 1 616" ∷ "S 1 " ∷ "S 1 --" ∷ "S 1 6g" ∷ "R 1\r" ∷ "r 1" ∷ "X 1" ∷ "N 2 7" ∷ [])
     ≡ replicate 26 none
-unfolding eventOf form_of fields_of before letterOf alone with_number submitted handed withTwo number_in upToLargest valueFrom digitOf all isHex hexBytes pairsOf if◌then◌else◌
+unfolding event_of form_of fields_of before letter_of alone with_number submitted handed with_two number_in up_to_largest value_from digit_of all is_hex hex_bytes pairs_of if◌then◌else◌
 others = refl
 
 -- 1,000 characters, and one more
-long : (eventOf (text_of "R " ++ replicate 998 (code "0")) ≡ some (repeat 0)) × (eventOf (text_of "R " ++ replicate 999 (code "0")) ≡ none)
-unfolding eventOf form_of fields_of before letterOf with_number number_in upToLargest valueFrom digitOf all if◌then◌else◌
+long : (event_of (text_of "R " ++ replicate 998 (code "0")) ≡ some (repeat 0)) × (event_of (text_of "R " ++ replicate 999 (code "0")) ≡ none)
+unfolding event_of form_of fields_of before letter_of with_number number_in up_to_largest value_from digit_of all if◌then◌else◌
 long = (refl, refl)
 
 -- the first line
-openings : map (λ (line : String). openingOf (text_of line)) ("N 2 7" ∷ "N 0 7" ∷ "N 300 4294967295" ∷ "N 2 7 0" ∷ "N 4 7 3" ∷ "N 1 2 4294967295" ∷ "N 1" ∷ "N 1 2 3 4" ∷ "N 1 x" ∷ "N 1 2 x" ∷ "N 1 2 " ∷ "N 1 2 3 " ∷ "P" ∷ "" ∷ [])
+openings : map (λ (line : String). opening_of (text_of line)) ("N 2 7" ∷ "N 0 7" ∷ "N 300 4294967295" ∷ "N 2 7 0" ∷ "N 4 7 3" ∷ "N 1 2 4294967295" ∷ "N 1" ∷ "N 1 2 3 4" ∷ "N 1 x" ∷ "N 1 2 x" ∷ "N 1 2 " ∷ "N 1 2 3 " ∷ "P" ∷ "" ∷ [])
     ≡ Opening.Group 2 7 0 ∷ Opening.Group 0 7 0 ∷ Opening.Group 300 4294967295 0 ∷ Opening.Group 2 7 0 ∷ Opening.Group 4 7 3 ∷ Opening.Group 1 2 4294967295 ∷ replicate 8 Opening.Other
-unfolding openingOf openingForm openingWith opened fields_of before letterOf number_in upToLargest valueFrom digitOf all if◌then◌else◌
+unfolding opening_of opening_form opening_with opened fields_of before letter_of number_in up_to_largest value_from digit_of all if◌then◌else◌
 openings = refl

@@ -10,84 +10,84 @@ use native.Mathlib.Omega.{arith}
 use lib.ListN.{length, drop}
 use lib.Seq.{take_at}
 use Rattle.group.specs.Choice.{◌≤?◌, ◌=?◌}
-use Rattle.group.proofs.Lists.{if-elim}
+use Rattle.group.proofs.Lists.{if_elim}
 use borrow.Author.Tests.{leb-true}
-use Rattle.model.specs.World.{Event, submit, repeat, take, status, poll, copy, handMember, handSequencer}
+use Rattle.model.specs.World.{Event, submit, repeat, take, status, poll, copy, hand_member, hand_sequencer}
 use Rattle.text.specs.Text.{space}
-use Rattle.schedule.specs.Line.{lineMost, payloadRoom, submitted, withTwo, form_of, eventOf, commandOf, payloadOf}
-use Rattle.text.specs.Field.{before, fields_of, letterOf, number_in, isHex, hexBytes, hexIn}
-use Rattle.schedule.specs.Laws.{meantBy, CommandMeans, SubmitFits}
+use Rattle.schedule.specs.Line.{line_most, payload_room, submitted, with_two, form_of, event_of, command_of, payload_of}
+use Rattle.text.specs.Field.{before, fields_of, letter_of, number_in, is_hex, hex_bytes, hex_in}
+use Rattle.schedule.specs.Laws.{meant_by, CommandMeans, SubmitFits}
 use Rattle.schedule.specs.declared.Command.{Command}
 use Rattle.schedule.specs.declared.Command.TheVariants.{Submit, Repeat, Take, Status, Poll, Copy, HandMember, HandSequencer}
-use Rattle.schedule.proofs.Commands.{hand-payload}
-use Rattle.text.proofs.Digits.{pairs-length}
-use Rattle.schedule.proofs.Forms.{alone-payload, number-payload}
+use Rattle.schedule.proofs.Commands.{hand_payload}
+use Rattle.text.proofs.Digits.{pairs_length}
+use Rattle.schedule.proofs.Forms.{alone_payload, number_payload}
 
-pub command-means : CommandMeans
-unfolding meantBy commandOf payloadOf
-command-means none lent = refl
-command-means (some (submit i payload)) lent = ap (λ (p : List ℕ). some (submit i p)) (take_at payload (drop (length payload) lent) (length payload) refl)
-command-means (some (repeat i)) lent = refl
-command-means (some (take i)) lent = refl
-command-means (some (status i)) lent = refl
-command-means (some poll) lent = refl
-command-means (some (copy number)) lent = refl
-command-means (some (handMember k i)) lent = refl
-command-means (some (handSequencer k)) lent = refl
+pub command_means : CommandMeans
+unfolding meant_by command_of payload_of
+command_means none lent = refl
+command_means (some (submit i payload)) lent = ap (λ (p : List ℕ). some (submit i p)) (take_at payload (drop (length payload) lent) (length payload) refl)
+command_means (some (repeat i)) lent = refl
+command_means (some (take i)) lent = refl
+command_means (some (status i)) lent = refl
+command_means (some poll) lent = refl
+command_means (some (copy number)) lent = refl
+command_means (some (hand_member k i)) lent = refl
+command_means (some (hand_sequencer k)) lent = refl
 
 -- the characters of all fields
 unfoldable pub total : List (List ℕ) → ℕ
 total [] = 0
 total (field ∷ rest) = length field + total rest
 
-total-before : (c : ℕ) (parts : List (List ℕ)) → total (before c parts) ≡ suc (total parts)
+total_before : (c : ℕ) (parts : List (List ℕ)) → total (before c parts) ≡ suc (total parts)
 unfolding total before
-total-before c [] = refl
-total-before c (part ∷ rest) = omega arith
+total_before c [] = refl
+total_before c (part ∷ rest) = omega arith
 
-pub fields-total : (line : List ℕ) → total (fields_of line) ≤ length line
+pub fields_total : (line : List ℕ) → total (fields_of line) ≤ length line
 unfolding fields_of total
-fields-total [] = le_refl 0
-fields-total (c ∷ line) =
-    let h = fields-total line in
-    let b = total-before c (fields_of line) in
-    if-elim (λ (parts : List (List ℕ)). total parts ≤ suc (length line)) (c =? space) (λ t. omega arith) (λ t. omega arith)
+fields_total [] = le_refl 0
+fields_total (c ∷ line) =
+    let h = fields_total line in
+    let b = total_before c (fields_of line) in
+    if_elim (λ (parts : List (List ℕ)). total parts ≤ suc (length line)) (c =? space) (λ t. omega arith) (λ t. omega arith)
 
 -- a payload of two digits a byte
-pub hex-half : (field : List ℕ) → length (hexBytes field) ≤ length field / 2
-unfolding hexBytes
-hex-half field =
-    let n = pairs-length field in
-    if-elim (λ (bytes : List ℕ). length bytes ≤ length field / 2) _ (λ t. zero-le) (λ t. omega arith)
+pub hex_half : (field : List ℕ) → length (hex_bytes field) ≤ length field / 2
+unfolding hex_bytes
+hex_half field =
+    let n = pairs_length field in
+    if_elim (λ (bytes : List ℕ). length bytes ≤ length field / 2) _ (λ t. zero-le) (λ t. omega arith)
 
-submit-half : (i : Option ℕ) (field : List ℕ) → length (payloadOf (submitted i (hexIn field))) ≤ length field / 2
-unfolding submitted payloadOf
-submit-half none field = zero-le
-submit-half (some i) field =
-    if-elim (λ (payload : Option (List ℕ)). length (payloadOf (submitted (some i) payload)) ≤ length field / 2) (isHex field) (λ t. hex-half field) (λ t. zero-le)
+submit_half : (i : Option ℕ) (field : List ℕ) → length (payload_of (submitted i (hex_in field))) ≤ length field / 2
+unfolding submitted payload_of
+submit_half none field = zero-le
+submit_half (some i) field =
+    if_elim (λ (payload : Option (List ℕ)). length (payload_of (submitted (some i) payload)) ≤ length field / 2) (is_hex field) (λ t. hex_half field) (λ t. zero-le)
 
-two-half : (letter : ℕ) (a b : List ℕ) → length (payloadOf (withTwo letter a b)) ≤ length b / 2
-unfolding withTwo payloadOf
-two-half letter a b =
-    let half : Option Event → Type 0 = λ event. length (payloadOf event) ≤ length b / 2 in
-    if-elim half (letter =? code "S") (λ t. submit-half (number_in a) b)
-    (λ t. if-elim half (letter =? code "M") (λ u. rw (hand-payload (number_in a) (number_in b)) zero-le) (λ u. zero-le))
+two_half : (letter : ℕ) (a b : List ℕ) → length (payload_of (with_two letter a b)) ≤ length b / 2
+unfolding with_two payload_of
+two_half letter a b =
+    let half : Option Event → Type 0 = λ event. length (payload_of event) ≤ length b / 2 in
+    if_elim half (letter =? code "S") (λ t. submit_half (number_in a) b)
+    (λ t. if_elim half (letter =? code "M") (λ u. rw (hand_payload (number_in a) (number_in b)) zero-le) (λ u. zero-le))
 
-form-half : (fields : List (List ℕ)) → length (payloadOf (form_of fields)) ≤ total fields / 2
-unfolding form_of payloadOf total
-form-half [] = zero-le
-form-half (name ∷ []) = rw (alone-payload (letterOf name)) zero-le
-form-half (name ∷ (a ∷ [])) = rw (number-payload (letterOf name) (number_in a)) zero-le
-form-half (name ∷ (a ∷ (b ∷ []))) = let h = two-half (letterOf name) a b in omega arith
-form-half (name ∷ (a ∷ (b ∷ (c ∷ rest)))) = zero-le
+form_half : (fields : List (List ℕ)) → length (payload_of (form_of fields)) ≤ total fields / 2
+unfolding form_of payload_of total
+form_half [] = zero-le
+form_half (name ∷ []) = rw (alone_payload (letter_of name)) zero-le
+form_half (name ∷ (a ∷ [])) = rw (number_payload (letter_of name) (number_in a)) zero-le
+form_half (name ∷ (a ∷ (b ∷ []))) = let h = two_half (letter_of name) a b in omega arith
+form_half (name ∷ (a ∷ (b ∷ (c ∷ rest)))) = zero-le
 
-payload-fits : (line : List ℕ) → length (payloadOf (eventOf line)) ≤ payloadRoom
-unfolding eventOf payloadOf
-payload-fits line =
-    let h = form-half (fields_of line) in
-    let f = fields-total line in
-    if-elim (λ (event : Option Event). length (payloadOf event) ≤ payloadRoom) (length line ≤? lineMost)
-    (λ t. let n = leb-true (length line) lineMost t in omega arith)
+payload_fits_lem : (line : List ℕ) → length (payload_of (event_of line)) ≤ payload_room
+unfolding event_of payload_of
+payload_fits_lem line =
+    let h = form_half (fields_of line) in
+    let f = fields_total line in
+    if_elim (λ (event : Option Event). length (payload_of event) ≤ payload_room) (length line ≤? line_most)
+    (λ t. let n = leb-true (length line) line_most t in omega arith)
     (λ t. zero-le)
 
 -- a command tells its payload's length
@@ -102,21 +102,21 @@ size_of (Copy number) = 0
 size_of (HandMember k i) = 0
 size_of (HandSequencer k) = 0
 
-size-told : (event : Option Event) → size_of (commandOf event) ≡ length (payloadOf event)
-unfolding size_of commandOf payloadOf
-size-told none = refl
-size-told (some (submit i payload)) = refl
-size-told (some (repeat i)) = refl
-size-told (some (take i)) = refl
-size-told (some (status i)) = refl
-size-told (some poll) = refl
-size-told (some (copy number)) = refl
-size-told (some (handMember k i)) = refl
-size-told (some (handSequencer k)) = refl
+size_told : (event : Option Event) → size_of (command_of event) ≡ length (payload_of event)
+unfolding size_of command_of payload_of
+size_told none = refl
+size_told (some (submit i payload)) = refl
+size_told (some (repeat i)) = refl
+size_told (some (take i)) = refl
+size_told (some (status i)) = refl
+size_told (some poll) = refl
+size_told (some (copy number)) = refl
+size_told (some (hand_member k i)) = refl
+size_told (some (hand_sequencer k)) = refl
 
-pub submit-fits : SubmitFits
+pub submit_fits : SubmitFits
 unfolding size_of
-submit-fits line i size e =
-    let n : size ≡ length (payloadOf (eventOf line)) = ap size_of (sym e) ∙ size-told (eventOf line) in
-    let h = payload-fits line in
+submit_fits line i size e =
+    let n : size ≡ length (payload_of (event_of line)) = ap size_of (sym e) ∙ size_told (event_of line) in
+    let h = payload_fits_lem line in
     omega arith

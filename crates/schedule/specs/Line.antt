@@ -3,19 +3,19 @@ use Rattle.std.specs.Prelude.{List, [], ◌∷◌, ℕ, ◌/◌, length}
 use Rattle.std.proofs.Math.Option.{Option, none, some}
 use Prim.Native.Char.{code}
 use Rattle.group.specs.Choice.{if◌then◌else◌, ask◌or◌then◌, ◌≤?◌, ◌=?◌}
-use Rattle.model.specs.World.{Event, submit, repeat, take, status, poll, copy, handMember, handSequencer}
-use Rattle.text.specs.Field.{fields_of, letterOf, number_in, hexIn}
+use Rattle.model.specs.World.{Event, submit, repeat, take, status, poll, copy, hand_member, hand_sequencer}
+use Rattle.text.specs.Field.{fields_of, letter_of, number_in, hex_in}
 use Rattle.schedule.specs.declared.Command.{Command}
 use Rattle.schedule.specs.declared.Command.TheVariants.{Submit, Repeat, Take, Status, Poll, Copy, HandMember, HandSequencer}
 use Rattle.schedule.specs.declared.Opening.{Opening}
 
 -- a line over 1,000 characters is of another form
-abbrev pub lineMost : ℕ
-lineMost = 1000
+abbrev pub line_most : ℕ
+line_most = 1000
 
 -- the bytes that a line has room for, two digits a byte
-abbrev pub payloadRoom : ℕ
-payloadRoom = lineMost / 2
+abbrev pub payload_room : ℕ
+payload_room = line_most / 2
 
 -- `P` poll
 unfoldable pub alone : ℕ → Option Event
@@ -29,7 +29,7 @@ with_number letter (some x) =
     if letter =? code "T" then some (take x) else
     if letter =? code "A" then some (status x) else
     if letter =? code "C" then some (copy x) else
-    if letter =? code "Q" then some (handSequencer x) else
+    if letter =? code "Q" then some (hand_sequencer x) else
     none
 
 -- `S i hex` submit
@@ -42,48 +42,48 @@ submitted (some i) (some payload) = some (submit i payload)
 unfoldable pub handed : Option ℕ → Option ℕ → Option Event
 handed none i = none
 handed (some k) none = none
-handed (some k) (some i) = some (handMember k i)
+handed (some k) (some i) = some (hand_member k i)
 
-unfoldable pub withTwo : ℕ → List ℕ → List ℕ → Option Event
-withTwo letter a b =
-    if letter =? code "S" then submitted (number_in a) (hexIn b) else
+unfoldable pub with_two : ℕ → List ℕ → List ℕ → Option Event
+with_two letter a b =
+    if letter =? code "S" then submitted (number_in a) (hex_in b) else
     if letter =? code "M" then handed (number_in a) (number_in b) else
     none
 
 -- the event of a line's fields: its letter, and one or two fields behind it
 unfoldable pub form_of : List (List ℕ) → Option Event
 form_of [] = none
-form_of (name ∷ []) = alone (letterOf name)
-form_of (name ∷ (a ∷ [])) = with_number (letterOf name) (number_in a)
-form_of (name ∷ (a ∷ (b ∷ []))) = withTwo (letterOf name) a b
+form_of (name ∷ []) = alone (letter_of name)
+form_of (name ∷ (a ∷ [])) = with_number (letter_of name) (number_in a)
+form_of (name ∷ (a ∷ (b ∷ []))) = with_two (letter_of name) a b
 form_of (name ∷ (a ∷ (b ∷ (c ∷ rest)))) = none
 
 -- one event a line; a line over 1,000 characters is of another form
-unfoldable pub eventOf : List ℕ → Option Event
-eventOf line = ask length line ≤? lineMost or none then form_of (fields_of line)
+unfoldable pub event_of : List ℕ → Option Event
+event_of line = ask length line ≤? line_most or none then form_of (fields_of line)
 
 -- what reading an event gives back, and the bytes that it lays at the front of those that were lent: a submit's payload
-unfoldable pub commandOf : Option Event → Command
-commandOf none = Command.Other
-commandOf (some (submit i payload)) = Submit i (length payload)
-commandOf (some (repeat i)) = Repeat i
-commandOf (some (take i)) = Take i
-commandOf (some (status i)) = Status i
-commandOf (some poll) = Poll
-commandOf (some (copy number)) = Copy number
-commandOf (some (handMember k i)) = HandMember k i
-commandOf (some (handSequencer k)) = HandSequencer k
+unfoldable pub command_of : Option Event → Command
+command_of none = Command.Other
+command_of (some (submit i payload)) = Submit i (length payload)
+command_of (some (repeat i)) = Repeat i
+command_of (some (take i)) = Take i
+command_of (some (status i)) = Status i
+command_of (some poll) = Poll
+command_of (some (copy number)) = Copy number
+command_of (some (hand_member k i)) = HandMember k i
+command_of (some (hand_sequencer k)) = HandSequencer k
 
-unfoldable pub payloadOf : Option Event → List ℕ
-payloadOf none = []
-payloadOf (some (submit i payload)) = payload
-payloadOf (some (repeat i)) = []
-payloadOf (some (take i)) = []
-payloadOf (some (status i)) = []
-payloadOf (some poll) = []
-payloadOf (some (copy number)) = []
-payloadOf (some (handMember k i)) = []
-payloadOf (some (handSequencer k)) = []
+unfoldable pub payload_of : Option Event → List ℕ
+payload_of none = []
+payload_of (some (submit i payload)) = payload
+payload_of (some (repeat i)) = []
+payload_of (some (take i)) = []
+payload_of (some (status i)) = []
+payload_of (some poll) = []
+payload_of (some (copy number)) = []
+payload_of (some (hand_member k i)) = []
+payload_of (some (hand_sequencer k)) = []
 
 -- the first line: `N n group`, or `N n group r`; where r does not end it, r is 0
 unfoldable pub opened : Option ℕ → Option ℕ → Option ℕ → Opening
@@ -92,17 +92,17 @@ opened (some n) none resilience = Opening.Other
 opened (some n) (some group) none = Opening.Other
 opened (some n) (some group) (some resilience) = Opening.Group n group resilience
 
-unfoldable pub openingWith : List ℕ → List ℕ → List ℕ → Option ℕ → Opening
-openingWith name a b resilience =
-    if letterOf name =? code "N" then opened (number_in a) (number_in b) resilience else Opening.Other
+unfoldable pub opening_with : List ℕ → List ℕ → List ℕ → Option ℕ → Opening
+opening_with name a b resilience =
+    if letter_of name =? code "N" then opened (number_in a) (number_in b) resilience else Opening.Other
 
-unfoldable pub openingForm : List (List ℕ) → Opening
-openingForm [] = Opening.Other
-openingForm (name ∷ []) = Opening.Other
-openingForm (name ∷ (a ∷ [])) = Opening.Other
-openingForm (name ∷ (a ∷ (b ∷ []))) = openingWith name a b (some 0)
-openingForm (name ∷ (a ∷ (b ∷ (c ∷ [])))) = openingWith name a b (number_in c)
-openingForm (name ∷ (a ∷ (b ∷ (c ∷ (d ∷ rest))))) = Opening.Other
+unfoldable pub opening_form : List (List ℕ) → Opening
+opening_form [] = Opening.Other
+opening_form (name ∷ []) = Opening.Other
+opening_form (name ∷ (a ∷ [])) = Opening.Other
+opening_form (name ∷ (a ∷ (b ∷ []))) = opening_with name a b (some 0)
+opening_form (name ∷ (a ∷ (b ∷ (c ∷ [])))) = opening_with name a b (number_in c)
+opening_form (name ∷ (a ∷ (b ∷ (c ∷ (d ∷ rest))))) = Opening.Other
 
-unfoldable pub openingOf : List ℕ → Opening
-openingOf line = ask length line ≤? lineMost or Opening.Other then openingForm (fields_of line)
+unfoldable pub opening_of : List ℕ → Opening
+opening_of line = ask length line ≤? line_most or Opening.Other then opening_form (fields_of line)

@@ -2,10 +2,10 @@
 ghost use Rattle.std.specs.Prelude.{◌≡◌, [], ◌∷◌, ◌+◌, ◌-◌, ◌*◌, ◌≤◌, ◌<◌, length, take, drop};
 ghost use Rattle.std.proofs.Math.Option.{some};
 ghost use Rattle.group.specs.Lent.{front};
-ghost use Rattle.text.specs.Field.{fields_of, letterOf, number_in, read, hexIn};
+ghost use Rattle.text.specs.Field.{fields_of, letter_of, number_in, read, hex_in};
 ghost use Rattle.schedule.specs.Parts.{parts_at, Within};
-ghost use Rattle.schedule.specs.Steps.{fourAt};
-ghost use Rattle.schedule.specs.Line.{lineMost, payloadRoom, alone, with_number, submitted, handed, withTwo, form_of, eventOf, commandOf, payloadOf, opened, openingWith, openingForm, openingOf};
+ghost use Rattle.schedule.specs.Steps.{four_at};
+ghost use Rattle.schedule.specs.Line.{line_most, payload_room, alone, with_number, submitted, handed, with_two, form_of, event_of, command_of, payload_of, opened, opening_with, opening_form, opening_of};
 
 use text::{Found, Numeral, first, is_hex, lay_hex, letter, number};
 
@@ -51,13 +51,13 @@ pub enum Parts {
 
 // The limits of specs/ are these constants.
 fn line_most() -> usize
-    ensures { result ≡ lineMost }
+    ensures { result ≡ line_most }
 {
     LINE_MOST
 }
 
 fn payload_room() -> usize
-    ensures { result ≡ payloadRoom }
+    ensures { result ≡ payload_room }
 {
     PAYLOAD_ROOM
 }
@@ -102,7 +102,7 @@ fn fields_last(line: &[u8], a: usize, b: usize) -> Parts
 
 // `P`
 fn read_alone(name: &[u8]) -> Command
-    ensures { result ≡ commandOf (alone (letterOf name.now)) }
+    ensures { result ≡ command_of (alone (letter_of name.now)) }
 {
     if letter(name) == b'P' {
         Command::Poll
@@ -113,7 +113,7 @@ fn read_alone(name: &[u8]) -> Command
 
 // `R i`, `T i`, `A i`, `C s`, `Q k`
 fn read_number(name: &[u8], a: &[u8]) -> Command
-    ensures { result ≡ commandOf (with_number (letterOf name.now) (number_in a.now)) }
+    ensures { result ≡ command_of (with_number (letter_of name.now) (number_in a.now)) }
 {
     let l = letter(name);
     let n = number(a);
@@ -125,7 +125,7 @@ fn read_number(name: &[u8], a: &[u8]) -> Command
 
 // Which event a letter and a number are.
 fn numbered(letter: u8, x: u32) -> Command
-    ensures { result ≡ commandOf (with_number letter (some x)) }
+    ensures { result ≡ command_of (with_number letter (some x)) }
 {
     if letter == b'R' {
         return Command::Repeat(x);
@@ -148,8 +148,8 @@ fn numbered(letter: u8, x: u32) -> Command
 // `S i hex`: the payload is laid at the front of the bytes that were lent.
 fn read_submit(a: &[u8], b: &[u8], payload: &mut [u8]) -> Command
     requires { length b.now ≤ 2 * length payload.old }
-    ensures command { result ≡ commandOf (submitted (number_in a.now) (hexIn b.now)) }
-    ensures lent { payload.new ≡ front (payloadOf (submitted (number_in a.now) (hexIn b.now))) payload.old }
+    ensures command { result ≡ command_of (submitted (number_in a.now) (hex_in b.now)) }
+    ensures lent { payload.new ≡ front (payload_of (submitted (number_in a.now) (hex_in b.now))) payload.old }
 {
     let n = number(a);
     match n {
@@ -167,7 +167,7 @@ fn read_submit(a: &[u8], b: &[u8], payload: &mut [u8]) -> Command
 
 // `M k i`
 fn read_hand(a: &[u8], b: &[u8]) -> Command
-    ensures { result ≡ commandOf (handed (number_in a.now) (number_in b.now)) }
+    ensures { result ≡ command_of (handed (number_in a.now) (number_in b.now)) }
 {
     let n = number(a);
     let m = number(b);
@@ -186,8 +186,8 @@ fn read_hand(a: &[u8], b: &[u8]) -> Command
 // A name and two fields: which form they have.
 fn read_two(name: &[u8], a: &[u8], b: &[u8], payload: &mut [u8]) -> Command
     requires { length b.now ≤ 2 * length payload.old }
-    ensures command { result ≡ commandOf (withTwo (letterOf name.now) a.now b.now) }
-    ensures lent { payload.new ≡ front (payloadOf (withTwo (letterOf name.now) a.now b.now)) payload.old }
+    ensures command { result ≡ command_of (with_two (letter_of name.now) a.now b.now) }
+    ensures lent { payload.new ≡ front (payload_of (with_two (letter_of name.now) a.now b.now)) payload.old }
 {
     let l = letter(name);
     if l == b'S' {
@@ -202,7 +202,7 @@ fn read_two(name: &[u8], a: &[u8], b: &[u8], payload: &mut [u8]) -> Command
 // A line of two fields, the first of which ends at a.
 fn read_short(line: &[u8], a: usize) -> Command
     requires { a < length line.now }
-    ensures { result ≡ commandOf (form_of (parts_at (Parts.Two a) line.now)) }
+    ensures { result ≡ command_of (form_of (parts_at (Parts.Two a) line.now)) }
 {
     read_number(&line[..a], &line[a + 1..])
 }
@@ -211,16 +211,16 @@ fn read_short(line: &[u8], a: usize) -> Command
 fn read_long(line: &[u8], a: usize, b: usize, payload: &mut [u8]) -> Command
     requires a_lt_b { (a < b) × (b < length line.now) }
     requires line_len_bound { length line.now ≤ 2 * length payload.old }
-    ensures command { result ≡ commandOf (form_of (parts_at (Parts.Three a b) line.now)) }
-    ensures lent { payload.new ≡ front (payloadOf (form_of (parts_at (Parts.Three a b) line.now))) payload.old }
+    ensures command { result ≡ command_of (form_of (parts_at (Parts.Three a b) line.now)) }
+    ensures lent { payload.new ≡ front (payload_of (form_of (parts_at (Parts.Three a b) line.now))) payload.old }
 {
     read_two(&line[..a], &line[a + 1..b], &line[b + 1..], payload)
 }
 
 // One event a line.
 pub fn read_event(line: &[u8], payload: &mut [u8; PAYLOAD_ROOM]) -> Command
-    ensures command { result ≡ commandOf (eventOf line.now) }
-    ensures lent { payload.new ≡ front (payloadOf (eventOf line.now)) payload.old }
+    ensures command { result ≡ command_of (event_of line.now) }
+    ensures lent { payload.new ≡ front (payload_of (event_of line.now)) payload.old }
 {
     if LINE_MOST < line.len() {
         return Command::Other;
@@ -256,7 +256,7 @@ fn all_numbers(n: Numeral, group: Numeral, resilience: Numeral) -> Opening
 
 // `N n group`, with r.
 fn read_group(name: &[u8], a: &[u8], b: &[u8], resilience: Numeral) -> Opening
-    ensures { result ≡ openingWith name.now a.now b.now (read resilience) }
+    ensures { result ≡ opening_with name.now a.now b.now (read resilience) }
 {
     if letter(name) == b'N' {
         let n = number(a);
@@ -270,7 +270,7 @@ fn read_group(name: &[u8], a: &[u8], b: &[u8], resilience: Numeral) -> Opening
 // A first line of three fields, which end at a, at b and with the line: r is 0.
 fn read_whole(line: &[u8], a: usize, b: usize) -> Opening
     requires { (a < b) × (b < length line.now) }
-    ensures { result ≡ openingForm (parts_at (Parts.Three a b) line.now) }
+    ensures { result ≡ opening_form (parts_at (Parts.Three a b) line.now) }
 {
     let none = Numeral::Of(0);
     read_group(&line[..a], &line[a + 1..b], &line[b + 1..], none)
@@ -279,7 +279,7 @@ fn read_whole(line: &[u8], a: usize, b: usize) -> Opening
 // A first line of four fields, which end at a, at b, at c and with the line.
 fn read_resilient(line: &[u8], a: usize, b: usize, c: usize) -> Opening
     requires { (a < b) × (b < c) × (c < length line.now) }
-    ensures { result ≡ openingForm (fourAt a b c line.now) }
+    ensures { result ≡ opening_form (four_at a b c line.now) }
 {
     let resilience = number(&line[c + 1..]);
     read_group(&line[..a], &line[a + 1..b], &line[b + 1..c], resilience)
@@ -288,7 +288,7 @@ fn read_resilient(line: &[u8], a: usize, b: usize, c: usize) -> Opening
 // A first line of more than three fields, the first three of which end at a, at b and at c.
 fn read_more(line: &[u8], a: usize, b: usize, c: usize) -> Opening
     requires { (a < b) × (b < c) × (c < length line.now) }
-    ensures { result ≡ openingForm (parts_at (Parts.More a b c) line.now) }
+    ensures { result ≡ opening_form (parts_at (Parts.More a b c) line.now) }
 {
     let found = first(line, c + 1, b' ');
     match found {
@@ -299,7 +299,7 @@ fn read_more(line: &[u8], a: usize, b: usize, c: usize) -> Opening
 
 // The first line.
 pub fn read_opening(line: &[u8]) -> Opening
-    ensures { result ≡ openingOf line.now }
+    ensures { result ≡ opening_of line.now }
 {
     if LINE_MOST < line.len() {
         return Opening::Other;

@@ -11,33 +11,33 @@ use borrow.Author.Tests.{le-leb, leb-true, eqb-true, eqb-false}
 use lib.Bits.{bit_or}
 use lib.Count.{ones}
 use lib.ListN.{length, get_or}
-use Rattle.group.proofs.Choice.{both_hold, both_first, both-then}
-use Rattle.group.proofs.Counting.{count, count-within, count-mono, ones-count}
-use Rattle.group.proofs.Lists.{if-elim, le-or}
+use Rattle.group.proofs.Choice.{both_hold, both_first, both_then}
+use Rattle.group.proofs.Counting.{count, count_within, count_mono, ones_count}
+use Rattle.group.proofs.Lists.{if_elim, le_or}
 use Rattle.group.specs.Choice.{◌≤?◌, ◌=?◌}
-use Rattle.group.proofs.Members.{in-or, in-only, within_in, more_within, others-in, expected-others, survivor-lt}
-use Rattle.group.specs.Limits.{membersMost, placesMost}
-use Rattle.group.specs.Members.{isIn, onlyOf, othersOf, expectedOf, neededOf}
+use Rattle.group.proofs.Members.{in_or, in_only, within_in, more_within, others_in, expected_others, survivor_lt}
+use Rattle.group.specs.Limits.{members_most, places_most}
+use Rattle.group.specs.Members.{is_in, only_of, others_of, expected_of, needed_of}
 use Rattle.group.specs.declared.Group.{Group}
 use Rattle.group.specs.declared.MemberNumber.{MemberNumber}
 use Rattle.group.specs.declared.SequenceNumber.{SequenceNumber}
-use Rattle.history.proofs.Marks.{Apart, marked-length, marked_other, marked-at, marked-lt, unmarked-length, unmarked-other, unmarked-at, unmarked-lt, enough-in, enough-highest}
-use Rattle.history.specs.Marks.{markAt, markedOf, enoughOf, unmarkedOf}
-use Rattle.sequencer.specs.Calls.{Outcome, answered, withMark, withAccepted, enoughIn, settled_of, confirmOf}
+use Rattle.history.proofs.Marks.{Apart, marked_length, marked_other, marked_at, marked_lt, unmarked_length, unmarked_other, unmarked_at, unmarked_lt, enough_in_lem, enough_highest}
+use Rattle.history.specs.Marks.{mark_at, marked_of, enough_of, unmarked_of}
+use Rattle.sequencer.specs.Calls.{Outcome, answered, with_mark, with_accepted, enough_in, settled_of, confirm_of}
 use Rattle.sequencer.specs.Laws.{Typed, FewMarks}
 use Rattle.sequencer.specs.State.{Sequencer}
 use Rattle.sequencer.proofs.Invariant.{Confirmed, reaches}
-use Rattle.sequencer.proofs.Soundness.{stands, Sound, sound-of}
+use Rattle.sequencer.proofs.Soundness.{stands, Sound, sound_of_lem}
 
 -- an expected member confirms an unaccepted number
 module _ (s : Sequencer) (typed : Typed s) (sound : Sound s) (m : MemberNumber) (number : SequenceNumber)
     (member : m.0 < s.group.n) (above : s.accepted.0 < number.0) (below : number.0 ≤ s.top.0) where
   abbrev marks' : List ℕ
-  marks' = markedOf s.marks m s.accepted.0 (number.0 - s.accepted.0)
+  marks' = marked_of s.marks m s.accepted.0 (number.0 - s.accepted.0)
 
-  pub mark-typed : Typed (withMark s m number)
-  unfolding withMark
-  mark-typed =
+  pub mark_typed : Typed (with_mark s m number)
+  unfolding with_mark
+  mark_typed =
       record {
         group = typed.group;
         top = typed.top;
@@ -46,79 +46,79 @@ module _ (s : Sequencer) (typed : Typed s) (sound : Sound s) (m : MemberNumber) 
         history = typed.history;
         counts = typed.counts;
         repeats = typed.repeats;
-        marks = marked-length s.marks m s.accepted.0 (number.0 - s.accepted.0) ∙ typed.marks;
-        masks = marked-lt s.marks m s.accepted.0 (let n = sound.n-most in omega arith) typed.masks (number.0 - s.accepted.0);
+        marks = marked_length s.marks m s.accepted.0 (number.0 - s.accepted.0) ∙ typed.marks;
+        masks = marked_lt s.marks m s.accepted.0 (let n = sound.n_most in omega arith) typed.masks (number.0 - s.accepted.0);
       }
 
   -- the numbers up to A have the member's mark, the others theirs
-  mark-in : (k : ℕ) → s.accepted.0 < k → k ≤ number.0 → markAt marks' k ≡ bit_or (markAt s.marks k) (onlyOf m)
-  mark-in k a b =
+  mark_in : (k : ℕ) → s.accepted.0 < k → k ≤ number.0 → mark_at marks' k ≡ bit_or (mark_at s.marks k) (only_of m)
+  mark_in k a b =
       let w = sound.window in
-      let f = sound.floor-le in
-      marked-at s.marks m s.accepted.0 typed.marks (number.0 - s.accepted.0) k (omega arith) a (omega arith)
+      let f = sound.floor_le in
+      marked_at s.marks m s.accepted.0 typed.marks (number.0 - s.accepted.0) k (omega arith) a (omega arith)
 
-  mark-out : (k : ℕ) → s.floor.0 < k → k ≤ s.floor.0 + placesMost → (k ≤ s.accepted.0) ⊎ (number.0 < k) → markAt marks' k ≡ markAt s.marks k
-  mark-out k a b c =
+  mark_out : (k : ℕ) → s.floor.0 < k → k ≤ s.floor.0 + places_most → (k ≤ s.accepted.0) ⊎ (number.0 < k) → mark_at marks' k ≡ mark_at s.marks k
+  mark_out k a b c =
       let w = sound.window in
       marked_other s.marks m s.accepted.0 s.floor.0 (number.0 - s.accepted.0) k
-      (record { low = sound.floor-le; high = omega arith; least = a; most = b; apart = apart c })
+      (record { low = sound.floor_le; high = omega arith; least = a; most = b; apart = apart c })
     where
       apart : (k ≤ s.accepted.0) ⊎ (number.0 < k) → (k ≤ s.accepted.0) ⊎ (s.accepted.0 + (number.0 - s.accepted.0) < k)
       apart (inl h) = inl h
       apart (inr h) = inr (omega arith)
 
-  pub mark-sound : isIn (expectedOf s.group) m.0 ≡ true → Sound (withMark s m number)
-  unfolding withMark
-  mark-sound expected =
-      let f = sound.floor-le in
+  pub mark_sound_lem : is_in (expected_of s.group) m.0 ≡ true → Sound (with_mark s m number)
+  unfolding with_mark
+  mark_sound_lem expected =
+      let f = sound.floor_le in
       let w = sound.window in
       record {
-        n-least = sound.n-least;
-        n-most = sound.n-most;
+        n_least = sound.n_least;
+        n_most = sound.n_most;
         resilient = sound.resilient;
         within = sound.within;
-        elected-in = sound.elected-in;
-        floor-is = sound.floor-is;
-        floor-le = sound.floor-le;
-        accepted-le = sound.accepted-le;
+        elected_in = sound.elected_in;
+        floor_is = sound.floor_is;
+        floor_le = sound.floor_le;
+        accepted_le = sound.accepted_le;
         window = sound.window;
-        taken-le = sound.taken-le;
+        taken_le = sound.taken_le;
         lost = sound.lost;
         unused = sound.unused;
         kept = sound.kept;
         empty = sound.empty;
-        marks-in = λ k a b.
-            le-or k number.0
-            (λ h. rw (mark-in k a h) (more_within (markAt s.marks k) m.0 (expectedOf s.group) (sound.marks-in k a b) expected))
-            (λ h. rw (mark-out k (omega arith) (omega arith) (inr h)) (sound.marks-in k a b));
-        marks-below = λ k a b. mark-out k a (omega arith) (inl b) ∙ sound.marks-below k a b;
-        marks-above = λ k a b. mark-out k (omega arith) b (inr (omega arith)) ∙ sound.marks-above k a b;
+        marks_in = λ k a b.
+            le_or k number.0
+            (λ h. rw (mark_in k a h) (more_within (mark_at s.marks k) m.0 (expected_of s.group) (sound.marks_in k a b) expected))
+            (λ h. rw (mark_out k (omega arith) (omega arith) (inr h)) (sound.marks_in k a b));
+        marks_below = λ k a b. mark_out k a (omega arith) (inl b) ∙ sound.marks_below k a b;
+        marks_above = λ k a b. mark_out k (omega arith) b (inr (omega arith)) ∙ sound.marks_above k a b;
       }
 
-  pub mark-confirmed : (group : Group) (reach : ℕ → ℕ) → number.0 ≤ reach m.0 → Confirmed group s reach → Confirmed group (withMark s m number) reach
-  unfolding withMark
-  mark-confirmed group reach has c =
+  pub mark_confirmed : (group : Group) (reach : ℕ → ℕ) → number.0 ≤ reach m.0 → Confirmed group s reach → Confirmed group (with_mark s m number) reach
+  unfolding with_mark
+  mark_confirmed group reach has c =
       record {
         marked = λ k i a b e.
-            le-or k number.0
-            (λ h. go k i a b h (in-or (markAt s.marks k) (onlyOf m) i (rw (mark-in k a h) at e)))
+            le_or k number.0
+            (λ h. go k i a b h (in_or (mark_at s.marks k) (only_of m) i (rw (mark_in k a h) at e)))
             (λ h. c.marked k i a b
-            (rw (mark-out k (let f = sound.floor-le in omega arith) (let w = sound.window in omega arith) (inr h)) at e));
+            (rw (mark_out k (let f = sound.floor_le in omega arith) (let w = sound.window in omega arith) (inr h)) at e));
         enough = c.enough;
       }
     where
-      go : (k i : ℕ) → s.accepted.0 < k → k ≤ s.top.0 → k ≤ number.0 → (isIn (markAt s.marks k) i ≡ true) ⊎ (isIn (onlyOf m) i ≡ true) → k ≤ reach i
+      go : (k i : ℕ) → s.accepted.0 < k → k ≤ s.top.0 → k ≤ number.0 → (is_in (mark_at s.marks k) i ≡ true) ⊎ (is_in (only_of m) i ≡ true) → k ≤ reach i
       go k i a b h (inl e) = c.marked k i a b e
-      go k i a b h (inr e) = rw (in-only m.0 i e) (le_trans h has)
+      go k i a b h (inr e) = rw (in_only m.0 i e) (le_trans h has)
 
 -- all up to an unaccepted number are accepted
 module _ (s : Sequencer) (typed : Typed s) (sound : Sound s) (number : ℕ) (above : s.accepted.0 < number) (below : number ≤ s.top.0) where
   abbrev marks'' : List ℕ
-  marks'' = unmarkedOf s.marks s.accepted.0 (number - s.accepted.0)
+  marks'' = unmarked_of s.marks s.accepted.0 (number - s.accepted.0)
 
-  pub accept-typed : Typed (withAccepted s number)
-  unfolding withAccepted
-  accept-typed =
+  pub accept_typed : Typed (with_accepted s number)
+  unfolding with_accepted
+  accept_typed =
       record {
         group = typed.group;
         top = typed.top;
@@ -127,108 +127,108 @@ module _ (s : Sequencer) (typed : Typed s) (sound : Sound s) (number : ℕ) (abo
         history = typed.history;
         counts = typed.counts;
         repeats = typed.repeats;
-        marks = unmarked-length s.marks s.accepted.0 (number - s.accepted.0) ∙ typed.marks;
-        masks = unmarked-lt s.marks s.accepted.0 typed.masks (number - s.accepted.0);
+        marks = unmarked_length s.marks s.accepted.0 (number - s.accepted.0) ∙ typed.marks;
+        masks = unmarked_lt s.marks s.accepted.0 typed.masks (number - s.accepted.0);
       }
 
-  cleared-out : (k : ℕ) → s.floor.0 < k → k ≤ s.floor.0 + placesMost → (k ≤ s.accepted.0) ⊎ (number < k) → markAt marks'' k ≡ markAt s.marks k
-  cleared-out k a b c =
+  cleared_out : (k : ℕ) → s.floor.0 < k → k ≤ s.floor.0 + places_most → (k ≤ s.accepted.0) ⊎ (number < k) → mark_at marks'' k ≡ mark_at s.marks k
+  cleared_out k a b c =
       let w = sound.window in
-      unmarked-other s.marks s.accepted.0 s.floor.0 (number - s.accepted.0) k
-      (record { low = sound.floor-le; high = omega arith; least = a; most = b; apart = apart c })
+      unmarked_other s.marks s.accepted.0 s.floor.0 (number - s.accepted.0) k
+      (record { low = sound.floor_le; high = omega arith; least = a; most = b; apart = apart c })
     where
       apart : (k ≤ s.accepted.0) ⊎ (number < k) → (k ≤ s.accepted.0) ⊎ (s.accepted.0 + (number - s.accepted.0) < k)
       apart (inl h) = inl h
       apart (inr h) = inr (omega arith)
 
-  pub accept-sound : Sound (withAccepted s number)
-  unfolding withAccepted
-  accept-sound =
-      let f = sound.floor-le in
+  pub accept_sound : Sound (with_accepted s number)
+  unfolding with_accepted
+  accept_sound =
+      let f = sound.floor_le in
       let w = sound.window in
       record {
-        n-least = sound.n-least;
-        n-most = sound.n-most;
+        n_least = sound.n_least;
+        n_most = sound.n_most;
         resilient = sound.resilient;
         within = sound.within;
-        elected-in = sound.elected-in;
-        floor-is = sound.floor-is;
-        floor-le = omega arith;
-        accepted-le = below;
+        elected_in = sound.elected_in;
+        floor_is = sound.floor_is;
+        floor_le = omega arith;
+        accepted_le = below;
         window = sound.window;
-        taken-le = sound.taken-le;
+        taken_le = sound.taken_le;
         lost = sound.lost;
         unused = sound.unused;
         kept = sound.kept;
         empty = sound.empty;
-        marks-in = λ k a b. rw (cleared-out k (omega arith) (omega arith) (inr a)) (sound.marks-in k (omega arith) b);
-        marks-below = λ k a b.
-            le-or k s.accepted.0 (λ h. cleared-out k a (omega arith) (inl h) ∙ sound.marks-below k a h)
-            (λ h. unmarked-at s.marks s.accepted.0 typed.marks (number - s.accepted.0) k (omega arith) h (omega arith));
-        marks-above = λ k a b. cleared-out k (omega arith) b (inr (omega arith)) ∙ sound.marks-above k a b;
+        marks_in = λ k a b. rw (cleared_out k (omega arith) (omega arith) (inr a)) (sound.marks_in k (omega arith) b);
+        marks_below = λ k a b.
+            le_or k s.accepted.0 (λ h. cleared_out k a (omega arith) (inl h) ∙ sound.marks_below k a h)
+            (λ h. unmarked_at s.marks s.accepted.0 typed.marks (number - s.accepted.0) k (omega arith) h (omega arith));
+        marks_above = λ k a b. cleared_out k (omega arith) b (inr (omega arith)) ∙ sound.marks_above k a b;
       }
 
   -- who marked it has it
-  pub accept-confirmed : (group : Group) → s.group ≡ group → (reach : ℕ → ℕ) → neededOf s.group ≤ ones (markAt s.marks number) → Confirmed group s reach
-      → Confirmed group (withAccepted s number) reach
-  unfolding withAccepted
-  accept-confirmed group e reach enough c =
-      let needed : neededOf group ≤ ones (markAt s.marks number) = subst (λ (g : Group). neededOf g ≤ ones (markAt s.marks number)) e enough in
-      let mark = markAt s.marks number in
-      let counted = ones-count membersMost mark (typed.masks _) in
-      let within : count membersMost (isIn mark) ≤ count group.n (reaches group reach number) =
-      count-within membersMost group.n (isIn mark) (reaches group reach number)
+  pub accept_confirmed : (group : Group) → s.group ≡ group → (reach : ℕ → ℕ) → needed_of s.group ≤ ones (mark_at s.marks number) → Confirmed group s reach
+      → Confirmed group (with_accepted s number) reach
+  unfolding with_accepted
+  accept_confirmed group e reach enough c =
+      let needed : needed_of group ≤ ones (mark_at s.marks number) = subst (λ (g : Group). needed_of g ≤ ones (mark_at s.marks number)) e enough in
+      let mark = mark_at s.marks number in
+      let counted = ones_count members_most mark (typed.masks _) in
+      let within : count members_most (is_in mark) ≤ count group.n (reaches group reach number) =
+      count_within members_most group.n (is_in mark) (reaches group reach number)
       (λ i h.
-      let x = expected-others s.group (stands s sound) i (within_in mark (expectedOf s.group) i (sound.marks-in number above below) h) in
-      let y : isIn (othersOf group) i ≡ true = rw (← e) x in (
-        subst (λ (g : Group). i < g.n) e (survivor-lt s.group (stands s sound) i (others-in s.group (stands s sound) i x).0),
+      let x = expected_others s.group (stands s sound) i (within_in mark (expected_of s.group) i (sound.marks_in number above below) h) in
+      let y : is_in (others_of group) i ≡ true = rw (← e) x in (
+        subst (λ (g : Group). i < g.n) e (survivor_lt s.group (stands s sound) i (others_in s.group (stands s sound) i x).0),
         both_hold _ _ y (le-leb number (reach i) (c.marked number i above below h)),
       )) in
       record {
         marked = λ k i a b h.
             c.marked k i (omega arith) b
-            (rw (cleared-out k (let f = sound.floor-le in omega arith) (let w = sound.window in omega arith) (inr a)) at h);
+            (rw (cleared_out k (let f = sound.floor_le in omega arith) (let w = sound.window in omega arith) (inr a)) at h);
         enough = omega arith;
       }
 
 -- a reach that grows confirms as much
-pub confirmed-up : (group : Group) (s : Sequencer) (reach reach' : ℕ → ℕ) → ((i : ℕ) → reach i ≤ reach' i) → Confirmed group s reach → Confirmed group s reach'
-confirmed-up group s reach reach' up c =
+pub confirmed_up : (group : Group) (s : Sequencer) (reach reach' : ℕ → ℕ) → ((i : ℕ) → reach i ≤ reach' i) → Confirmed group s reach → Confirmed group s reach'
+confirmed_up group s reach reach' up c =
     record {
       marked = λ k i a b e. le_trans (c.marked k i a b e) (up i);
       enough =
           le_trans c.enough
-          (count-mono group.n (reaches group reach s.accepted.0) (reaches group reach' s.accepted.0)
+          (count_mono group.n (reaches group reach s.accepted.0) (reaches group reach' s.accepted.0)
           (λ i b e.
-          both_hold _ _ (both_first (isIn (othersOf group) i) _ e)
-          (le-leb s.accepted.0 (reach' i) (le_trans (leb-true s.accepted.0 (reach i) (both-then (isIn (othersOf group) i) _ e)) (up i)))));
+          both_hold _ _ (both_first (is_in (others_of group) i) _ e)
+          (le-leb s.accepted.0 (reach' i) (le_trans (leb-true s.accepted.0 (reach i) (both_then (is_in (others_of group) i) _ e)) (up i)))));
     }
 
-left-few : (s : Sequencer) → Typed s → (sound : Sound s) → (number : ℕ) → s.accepted.0 < number → number ≤ s.top.0 → (k : ℕ)
-    → (number < k → s.accepted.0 < k → k ≤ s.accepted.0 + (s.top.0 - s.accepted.0) → ones (markAt s.marks k) < neededOf s.group)
-    → (withAccepted s number).accepted.0 < k → k ≤ (withAccepted s number).top.0 → ones (markAt (withAccepted s number).marks k) < neededOf s.group
-unfolding withAccepted
-left-few s typed sound number above below k few a b =
-    let f = sound.floor-le in
+left_few : (s : Sequencer) → Typed s → (sound : Sound s) → (number : ℕ) → s.accepted.0 < number → number ≤ s.top.0 → (k : ℕ)
+    → (number < k → s.accepted.0 < k → k ≤ s.accepted.0 + (s.top.0 - s.accepted.0) → ones (mark_at s.marks k) < needed_of s.group)
+    → (with_accepted s number).accepted.0 < k → k ≤ (with_accepted s number).top.0 → ones (mark_at (with_accepted s number).marks k) < needed_of s.group
+unfolding with_accepted
+left_few s typed sound number above below k few a b =
+    let f = sound.floor_le in
     let w = sound.window in
-    rw (cleared-out s typed sound number above below k (omega arith) (omega arith) (inr a)) (few a (omega arith) (omega arith))
+    rw (cleared_out s typed sound number above below k (omega arith) (omega arith) (inr a)) (few a (omega arith) (omega arith))
 
 -- what is left unaccepted has too few marks
-few-accepted : (s : Sequencer) → Typed s → Sound s → (k : ℕ) → let o = settled_of s (enoughIn s) in
-    o.sequencer.accepted.0 < k → k ≤ o.sequencer.top.0 → ones (markAt o.sequencer.marks k) < neededOf s.group
+few_accepted : (s : Sequencer) → Typed s → Sound s → (k : ℕ) → let o = settled_of s (enough_in s) in
+    o.sequencer.accepted.0 < k → k ≤ o.sequencer.top.0 → ones (mark_at o.sequencer.marks k) < needed_of s.group
 unfolding settled_of answered
-few-accepted s typed sound k =
-    if-elim (λ (o : Outcome). o.sequencer.accepted.0 < k → k ≤ o.sequencer.top.0 → ones (markAt o.sequencer.marks k) < neededOf s.group) (enoughIn s =? 0)
-    (λ t a b. enough-highest s.marks (neededOf s.group) s.accepted.0 (s.top.0 - s.accepted.0) k (let z = eqb-true (enoughIn s) 0 t in omega arith) a (omega arith))
-    (λ t. let z = enough-in s.marks (neededOf s.group) s.accepted.0 (s.top.0 - s.accepted.0) (eqb-false (enoughIn s) 0 t) in
-    let h = sound.accepted-le in
-    left-few s typed sound (enoughIn s) z.0 (let y = z.1 in omega arith) k
-    (enough-highest s.marks (neededOf s.group) s.accepted.0 (s.top.0 - s.accepted.0) k))
+few_accepted s typed sound k =
+    if_elim (λ (o : Outcome). o.sequencer.accepted.0 < k → k ≤ o.sequencer.top.0 → ones (mark_at o.sequencer.marks k) < needed_of s.group) (enough_in s =? 0)
+    (λ t a b. enough_highest s.marks (needed_of s.group) s.accepted.0 (s.top.0 - s.accepted.0) k (let z = eqb-true (enough_in s) 0 t in omega arith) a (omega arith))
+    (λ t. let z = enough_in_lem s.marks (needed_of s.group) s.accepted.0 (s.top.0 - s.accepted.0) (eqb-false (enough_in s) 0 t) in
+    let h = sound.accepted_le in
+    left_few s typed sound (enough_in s) z.0 (let y = z.1 in omega arith) k
+    (enough_highest s.marks (needed_of s.group) s.accepted.0 (s.top.0 - s.accepted.0) k))
 
-pub few-marks : FewMarks
-unfolding confirmOf withMark
-few-marks s m number typed sound member expected above below k =
-    let f = sound-of s sound in
-    if-elim (λ (o : Outcome). o.sequencer.accepted.0 < k → k ≤ o.sequencer.top.0 → ones (markAt o.sequencer.marks k) < neededOf s.group) (number.0 ≤? s.accepted.0)
+pub few_marks : FewMarks
+unfolding confirm_of with_mark
+few_marks s m number typed sound member expected above below k =
+    let f = sound_of_lem s sound in
+    if_elim (λ (o : Outcome). o.sequencer.accepted.0 < k → k ≤ o.sequencer.top.0 → ones (mark_at o.sequencer.marks k) < needed_of s.group) (number.0 ≤? s.accepted.0)
     (λ t. let z = leb-true number.0 s.accepted.0 t in absurd (omega arith))
-    (λ t. few-accepted (withMark s m number) (mark-typed s typed f m number member above below) (mark-sound s typed f m number member above below expected) k)
+    (λ t. few_accepted (with_mark s m number) (mark_typed s typed f m number member above below) (mark_sound_lem s typed f m number member above below expected) k)

@@ -11,8 +11,8 @@ use borrow.Author.Tests.{le-leb, lt-leb, eqb-false}
 use lib.ListN.{length, get_or, set}
 use lib.Seq.{get_or-set_same}
 use Rattle.group.specs.Choice.{if◌then◌else◌, ◌<?◌, ◌≤?◌, ◌=?◌}
-use Rattle.group.specs.Limits.{placesMost}
-use Rattle.group.specs.Members.{neededOf}
+use Rattle.group.specs.Limits.{places_most}
+use Rattle.group.specs.Members.{needed_of}
 use Rattle.group.specs.Question.{judged}
 use Rattle.group.specs.declared.Group.{Group}
 use Rattle.group.specs.declared.MemberNumber.{MemberNumber}
@@ -20,23 +20,23 @@ use Rattle.group.specs.declared.Refusal.{Refusal}
 use Rattle.group.specs.declared.Refusal.TheVariants.{ForbiddenFields, OtherGroup, OtherEnd}
 use Rattle.group.specs.declared.SequenceNumber.{SequenceNumber}
 use Rattle.group.specs.declared.Verdict.{Verdict}
-use Rattle.group.proofs.Choice.{if-true, if-false, if-was}
+use Rattle.group.proofs.Choice.{if_true, if_false, if_was}
 use Rattle.group.proofs.Question.{accepted≢}
-use Rattle.message.specs.Message.{Message, messageOf, blank}
-use Rattle.packet.specs.Packet.{contentOf, fromElected}
+use Rattle.message.specs.Message.{Message, message_of, blank}
+use Rattle.packet.specs.Packet.{content_of, from_elected}
 use Rattle.packet.specs.declared.Header.{Header}
 use Rattle.packet.specs.declared.Packet.{Packet}
 use Rattle.packet.specs.declared.Packet.TheVariants.{Request, Broadcast, Gap, Status, Poll, Offer, Confirm, Accept, Invitation, Result}
 use Rattle.packet.specs.declared.Reading.{Reading}
-use Rattle.history.specs.Ask.{senderVerdict, requestVerdict, gapVerdict, confirmVerdict, senderOf, contentVerdict, packetVerdict}
-use Rattle.history.specs.Note.{largerOf, withCounts}
-use Rattle.history.specs.Repeat.{oneMore, findOf}
-use Rattle.history.specs.State.{Acknowledgement, noAcknowledgement, acknowledgementOf, place_of, messageAt}
+use Rattle.history.specs.Ask.{sender_verdict, request_verdict, gap_verdict, confirm_verdict, sender_of, content_verdict, packet_verdict}
+use Rattle.history.specs.Note.{larger_of, with_counts}
+use Rattle.history.specs.Repeat.{one_more, find_of}
+use Rattle.history.specs.State.{Acknowledgement, no_acknowledgement, acknowledgement_of, place_of, message_at}
 use Rattle.history.proofs.Finding.{found_in}
-use Rattle.sequencer.specs.Calls.{Outcome, answered, refused, broadcastOf, pollPacket, repeatedOf, old_of, againOf, full_of, withMessage, numberedOf, requestOf, gap_of, contentStep, read_step}
+use Rattle.sequencer.specs.Calls.{Outcome, answered, refused, broadcast_of, poll_packet, repeated_of, old_of, again_of, full_of, with_message, numbered_of, request_of, gap_of, content_step, read_step}
 use Rattle.sequencer.specs.Note.{note_of}
-use Rattle.sequencer.specs.State.{Sequencer, lastCount, repeatCount}
-use Rattle.sequencer.specs.Steps.{acceptedStep, confirmationOf, quiet, againChange, requestChange, gapAnswer, changeOf, sentOf, laid_of, changed}
+use Rattle.sequencer.specs.State.{Sequencer, last_count, repeat_count}
+use Rattle.sequencer.specs.Steps.{accepted_step, confirmation_of, quiet, again_change, request_change, gap_answer, change_of, sent_of, laid_of, changed}
 use Rattle.sequencer.specs.declared.Answer.{Answer}
 use Rattle.sequencer.specs.declared.Answer.TheVariants.{Old, Again, Full, Numbered, Noted, Wanted}
 use Rattle.sequencer.specs.declared.Change.{Change}
@@ -56,21 +56,21 @@ choose f true x y x' y' g h = g refl
 choose f false x y x' y' g h = h refl
 
 -- what a change of m comes to, in a noted state
-abbrev pub outcomeOf : Sequencer → MemberNumber → List ℕ → Change → Outcome
-outcomeOf s m payload c =
+abbrev pub outcome_of : Sequencer → MemberNumber → List ℕ → Change → Outcome
+outcome_of s m payload c =
     record {
       sequencer = changed s m c (laid_of s m c payload);
       answer = c.answer;
-      bytes = sentOf c.answer s.group c.top c.accepted s.floor (laid_of s m c payload);
+      bytes = sent_of c.answer s.group c.top c.accepted s.floor (laid_of s m c payload);
     }
 
 module _ (s : Sequencer) (m : MemberNumber) (payload : List ℕ) where
   -- the state with another repeat count of m
-  abbrev withRepeats : ℕ → Sequencer
-  withRepeats repeats =
+  abbrev with_repeats : ℕ → Sequencer
+  with_repeats repeats =
       record {
         group = s.group;
-        acknowledgements = set s.acknowledgements m.0 (withCounts (acknowledgementOf s.acknowledgements m) (lastCount s m) repeats);
+        acknowledgements = set s.acknowledgements m.0 (with_counts (acknowledgement_of s.acknowledgements m) (last_count s m) repeats);
         top = s.top;
         accepted = s.accepted;
         floor = s.floor;
@@ -80,175 +80,175 @@ module _ (s : Sequencer) (m : MemberNumber) (payload : List ℕ) where
 
   -- a number up to top has its own message laid in its place, and that changes nothing but the repeat count
   abbrev kept : SequenceNumber → ℕ → Answer → Change
-  kept number repeats answer = record { number = number; top = s.top; accepted = s.accepted; count = lastCount s m; repeats = repeats; answer = answer }
+  kept number repeats answer = record { number = number; top = s.top; accepted = s.accepted; count = last_count s m; repeats = repeats; answer = answer }
 
-  laid-own : (number : SequenceNumber) (repeats : ℕ) (answer : Answer) → number.0 ≤ s.top.0
-      → laid_of s m (kept number repeats answer) payload ≡ messageAt s.history number.0
+  laid_own : (number : SequenceNumber) (repeats : ℕ) (answer : Answer) → number.0 ≤ s.top.0
+      → laid_of s m (kept number repeats answer) payload ≡ message_at s.history number.0
   unfolding laid_of
-  laid-own number repeats answer h = sym (if-true (number.0 ≤? s.top.0) _ _ _ (le-leb number.0 s.top.0 h) refl)
+  laid_own number repeats answer h = sym (if_true (number.0 ≤? s.top.0) _ _ _ (le-leb number.0 s.top.0 h) refl)
 
   stays : (number : SequenceNumber) (repeats : ℕ) (answer : Answer) → number.0 ≤ s.top.0
       → changed s m (kept number repeats answer) (laid_of s m (kept number repeats answer) payload)
-      ≡ withRepeats repeats
+      ≡ with_repeats repeats
   unfolding changed
   stays number repeats answer h =
-      let place = ap (λ (x : Message). set s.history (place_of number.0) x) (laid-own number repeats answer h)
+      let place = ap (λ (x : Message). set s.history (place_of number.0) x) (laid_own number repeats answer h)
       ∙ set_own s.history (place_of number.0) blank in
-      λ i. record { group = s.group; acknowledgements = (withRepeats repeats).acknowledgements; top = s.top; accepted = s.accepted; floor = s.floor; history = place i; marks = s.marks }
+      λ i. record { group = s.group; acknowledgements = (with_repeats repeats).acknowledgements; top = s.top; accepted = s.accepted; floor = s.floor; history = place i; marks = s.marks }
 
   -- and its own repeat count changes nothing at all
-  own-repeats : withRepeats (repeatCount s m) ≡ s
-  own-repeats =
-      let table = set_own s.acknowledgements m.0 noAcknowledgement in
+  own_repeats : with_repeats (repeat_count s m) ≡ s
+  own_repeats =
+      let table = set_own s.acknowledgements m.0 no_acknowledgement in
       λ i. record { group = s.group; acknowledgements = table i; top = s.top; accepted = s.accepted; floor = s.floor; history = s.history; marks = s.marks }
 
-  pub noted-is : (answer : Answer) → sentOf answer s.group s.top s.accepted s.floor (laid_of s m (kept s.top (repeatCount s m) answer) payload) ≡ []
-      → answered s answer ≡ outcomeOf s m payload (quiet (lastCount s m) s.top s.accepted (repeatCount s m) answer)
+  pub noted_is : (answer : Answer) → sent_of answer s.group s.top s.accepted s.floor (laid_of s m (kept s.top (repeat_count s m) answer) payload) ≡ []
+      → answered s answer ≡ outcome_of s m payload (quiet (last_count s m) s.top s.accepted (repeat_count s m) answer)
   unfolding answered
-  noted-is answer e =
-      let p = stays s.top (repeatCount s m) answer (le_refl s.top.0) ∙ own-repeats in
+  noted_is answer e =
+      let p = stays s.top (repeat_count s m) answer (le_refl s.top.0) ∙ own_repeats in
       λ i. record { sequencer = sym p i; answer = answer; bytes = sym e i }
 
-  old-is : old_of s m ≡ outcomeOf s m payload (quiet (lastCount s m) s.top s.accepted (oneMore (repeatCount s m)) Old)
-  unfolding old_of answered repeatedOf sentOf
-  old-is =
-      let p = stays s.top (oneMore (repeatCount s m)) Old (le_refl s.top.0) in
+  old_is : old_of s m ≡ outcome_of s m payload (quiet (last_count s m) s.top s.accepted (one_more (repeat_count s m)) Old)
+  unfolding old_of answered repeated_of sent_of
+  old_is =
+      let p = stays s.top (one_more (repeat_count s m)) Old (le_refl s.top.0) in
       λ i. record { sequencer = sym p i; answer = Old; bytes = [] }
 
-  again-here : (number : ℕ) → number ≤ s.top.0
-      → record { sequencer = repeatedOf s m; answer = Again (record { 0 = number }); bytes = broadcastOf s number }
-      ≡ outcomeOf s m payload (kept (record { 0 = number }) (oneMore (repeatCount s m)) (Again (record { 0 = number })))
-  unfolding repeatedOf broadcastOf sentOf
-  again-here number h =
+  again_here : (number : ℕ) → number ≤ s.top.0
+      → record { sequencer = repeated_of s m; answer = Again (record { 0 = number }); bytes = broadcast_of s number }
+      ≡ outcome_of s m payload (kept (record { 0 = number }) (one_more (repeat_count s m)) (Again (record { 0 = number })))
+  unfolding repeated_of broadcast_of sent_of
+  again_here number h =
       let answer = Again (record { 0 = number }) in
-      let p = stays (record { 0 = number }) (oneMore (repeatCount s m)) answer h in
-      let e = ap (sentOf answer s.group s.top s.accepted s.floor) (laid-own (record { 0 = number }) (oneMore (repeatCount s m)) answer h) in
+      let p = stays (record { 0 = number }) (one_more (repeat_count s m)) answer h in
+      let e = ap (sent_of answer s.group s.top s.accepted s.floor) (laid_own (record { 0 = number }) (one_more (repeat_count s m)) answer h) in
       λ i. record { sequencer = sym p i; answer = answer; bytes = sym e i }
 
-  again-is : (number : ℕ) → (number ≢ 0 → number ≤ s.top.0) → againOf s m number ≡ outcomeOf s m payload (againChange number (lastCount s m) s.top s.accepted (repeatCount s m))
-  unfolding againOf againChange
-  again-is number found =
-      choose (outcomeOf s m payload) (number =? 0) _ _ _ _ (λ e. old-is) (λ e. again-here number (found (eqb-false number 0 e)))
+  again_is : (number : ℕ) → (number ≢ 0 → number ≤ s.top.0) → again_of s m number ≡ outcome_of s m payload (again_change number (last_count s m) s.top s.accepted (repeat_count s m))
+  unfolding again_of again_change
+  again_is number found =
+      choose (outcome_of s m payload) (number =? 0) _ _ _ _ (λ e. old_is) (λ e. again_here number (found (eqb-false number 0 e)))
 
-  full_is : full_of s ≡ outcomeOf s m payload (quiet (lastCount s m) s.top s.accepted (repeatCount s m) Full)
-  unfolding full_of pollPacket sentOf
+  full_is : full_of s ≡ outcome_of s m payload (quiet (last_count s m) s.top s.accepted (repeat_count s m) Full)
+  unfolding full_of poll_packet sent_of
   full_is =
-      let p = stays s.top (repeatCount s m) Full (le_refl s.top.0) ∙ own-repeats in
-      λ i. record { sequencer = sym p i; answer = Full; bytes = pollPacket s }
+      let p = stays s.top (repeat_count s m) Full (le_refl s.top.0) ∙ own_repeats in
+      λ i. record { sequencer = sym p i; answer = Full; bytes = poll_packet s }
 
-  module _ (count : ℕ) (size : length s.history ≡ placesMost) where
+  module _ (count : ℕ) (size : length s.history ≡ places_most) where
     abbrev next : Change
     next =
         record {
           number = record { 0 = s.top.0 + 1 };
           top = record { 0 = s.top.0 + 1 };
-          accepted = if neededOf s.group =? 0 then record { 0 = s.top.0 + 1 } else s.accepted;
+          accepted = if needed_of s.group =? 0 then record { 0 = s.top.0 + 1 } else s.accepted;
           count = count;
-          repeats = repeatCount s m;
+          repeats = repeat_count s m;
           answer = Numbered (record { 0 = s.top.0 + 1 });
         }
 
-    laid-new : laid_of s m next payload ≡ messageOf m count payload
+    laid_new : laid_of s m next payload ≡ message_of m count payload
     unfolding laid_of
-    laid-new = sym (if-false (s.top.0 + 1 ≤? s.top.0) _ _ _ (lt-leb (s.top.0 + 1) s.top.0 (omega arith)) refl)
+    laid_new = sym (if_false (s.top.0 + 1 ≤? s.top.0) _ _ _ (lt-leb (s.top.0 + 1) s.top.0 (omega arith)) refl)
 
-    numbered_is : numberedOf s m count payload ≡ outcomeOf s m payload next
-    unfolding numberedOf withMessage changed broadcastOf sentOf
+    numbered_is : numbered_of s m count payload ≡ outcome_of s m payload next
+    unfolding numbered_of with_message changed broadcast_of sent_of
     numbered_is =
-        let e = get_or-set_same s.history (place_of (s.top.0 + 1)) (messageOf m count payload) blank (omega arith) in
-        rw (laid-new, e)
+        let e = get_or-set_same s.history (place_of (s.top.0 + 1)) (message_of m count payload) blank (omega arith) in
+        rw (laid_new, e)
 
     -- a request, once A is noted
-    request-is : requestOf s m count payload
-        ≡ outcomeOf s m payload (requestChange s.history m count (lastCount s m) s.floor.0 s.top s.accepted (neededOf s.group) (repeatCount s m))
-    unfolding requestOf requestChange
-    request-is =
+    request_is : request_of s m count payload
+        ≡ outcome_of s m payload (request_change s.history m count (last_count s m) s.floor.0 s.top s.accepted (needed_of s.group) (repeat_count s m))
+    unfolding request_of request_change
+    request_is =
         let wide = s.top.0 - s.floor.0 in
-        let number = findOf s.history m count s.floor.0 wide in
+        let number = find_of s.history m count s.floor.0 wide in
         let found = found_in s.history m count s.floor.0 wide in
-        choose (outcomeOf s m payload) (count <? lastCount s m) _ _ _ _ (λ e. old-is)
-        (λ e. choose (outcomeOf s m payload) (count =? lastCount s m) _ _ _ _
-        (λ f. again-is number (λ q. let z = found q in omega arith))
-        (λ f. choose (outcomeOf s m payload) (wide =? placesMost) _ _ _ _ (λ g. full_is) (λ g. numbered_is)))
+        choose (outcome_of s m payload) (count <? last_count s m) _ _ _ _ (λ e. old_is)
+        (λ e. choose (outcome_of s m payload) (count =? last_count s m) _ _ _ _
+        (λ f. again_is number (λ q. let z = found q in omega arith))
+        (λ f. choose (outcome_of s m payload) (wide =? places_most) _ _ _ _ (λ g. full_is) (λ g. numbered_is)))
 
   -- a gap
-  gap_is : (first last : SequenceNumber) → gap_of s first last ≡ outcomeOf s m payload (quiet (lastCount s m) s.top s.accepted (repeatCount s m) (gapAnswer s.floor.0 first last))
-  unfolding gap_of gapAnswer sentOf
+  gap_is : (first last : SequenceNumber) → gap_of s first last ≡ outcome_of s m payload (quiet (last_count s m) s.top s.accepted (repeat_count s m) (gap_answer s.floor.0 first last))
+  unfolding gap_of gap_answer sent_of
   gap_is first last =
-      choose (λ (answer : Answer). outcomeOf s m payload (quiet (lastCount s m) s.top s.accepted (repeatCount s m) answer)) (last.0 ≤? s.floor.0) _ _ _ _
-      (λ e. noted-is Noted refl) (λ e. noted-is (Wanted (record { 0 = largerOf first.0 (s.floor.0 + 1) }) last) refl)
+      choose (λ (answer : Answer). outcome_of s m payload (quiet (last_count s m) s.top s.accepted (repeat_count s m) answer)) (last.0 ≤? s.floor.0) _ _ _ _
+      (λ e. noted_is Noted refl) (λ e. noted_is (Wanted (record { 0 = larger_of first.0 (s.floor.0 + 1) }) last) refl)
 
 -- a packet that confirms nothing does not confirm
 pub none≢ : {m : MemberNumber} {number : SequenceNumber} → Confirmation.None ≡ Confirmation.Of m number → ⊥
 none≢ e = let z : ◌≡◌ {A = ℕ} 0 1 = cc in omega arith
 
 -- a packet that is accepted and confirms nothing
-pub accepted-is : (s : Sequencer) (packet : Packet) (payload : List ℕ)
-    → contentVerdict s.group s.acknowledgements s.accepted.0 s.top.0 packet ≡ Verdict.Accepted
-    → confirmationOf packet ≡ Confirmation.None
-    → let m = (senderOf packet).member in
-    let noted = note_of s m (senderOf packet).taken in
-    length noted.history ≡ placesMost
-    → acceptedStep s packet payload
-    ≡ outcomeOf noted m payload
-    (changeOf noted.history packet (lastCount noted m) noted.floor.0 noted.top noted.accepted (neededOf noted.group) (repeatCount noted m))
-unfolding acceptedStep changeOf senderOf contentVerdict confirmationOf sentOf
-accepted-is s (Request sender taken count) payload e none size = request-is (note_of s sender taken) sender payload count size
-accepted-is s (Broadcast originator number count floor) payload e none size = absurd (accepted≢ OtherEnd e)
-accepted-is s (Gap sender taken first last) payload e none size = gap_is (note_of s sender taken) sender payload first last
-accepted-is s (Status sender taken) payload e none size = noted-is (note_of s sender taken) sender payload Noted refl
-accepted-is s (Poll elected top floor) payload e none size = absurd (accepted≢ OtherEnd e)
-accepted-is s (Offer originator number count floor) payload e none size = absurd (accepted≢ OtherEnd e)
-accepted-is s (Confirm sender number) payload e none size = absurd (none≢ (sym none))
-accepted-is s (Accept elected number) payload e none size = absurd (accepted≢ OtherEnd e)
-accepted-is s (Invitation sender attempt) payload e none size = absurd (accepted≢ OtherEnd e)
-accepted-is s (Packet.Reply sender attempt number) payload e none size = absurd (accepted≢ OtherEnd e)
-accepted-is s (Result sender attempt elected number) payload e none size = absurd (accepted≢ OtherEnd e)
+pub accepted_is : (s : Sequencer) (packet : Packet) (payload : List ℕ)
+    → content_verdict s.group s.acknowledgements s.accepted.0 s.top.0 packet ≡ Verdict.Accepted
+    → confirmation_of packet ≡ Confirmation.None
+    → let m = (sender_of packet).member in
+    let noted = note_of s m (sender_of packet).taken in
+    length noted.history ≡ places_most
+    → accepted_step s packet payload
+    ≡ outcome_of noted m payload
+    (change_of noted.history packet (last_count noted m) noted.floor.0 noted.top noted.accepted (needed_of noted.group) (repeat_count noted m))
+unfolding accepted_step change_of sender_of content_verdict confirmation_of sent_of
+accepted_is s (Request sender taken count) payload e none size = request_is (note_of s sender taken) sender payload count size
+accepted_is s (Broadcast originator number count floor) payload e none size = absurd (accepted≢ OtherEnd e)
+accepted_is s (Gap sender taken first last) payload e none size = gap_is (note_of s sender taken) sender payload first last
+accepted_is s (Status sender taken) payload e none size = noted_is (note_of s sender taken) sender payload Noted refl
+accepted_is s (Poll elected top floor) payload e none size = absurd (accepted≢ OtherEnd e)
+accepted_is s (Offer originator number count floor) payload e none size = absurd (accepted≢ OtherEnd e)
+accepted_is s (Confirm sender number) payload e none size = absurd (none≢ (sym none))
+accepted_is s (Accept elected number) payload e none size = absurd (accepted≢ OtherEnd e)
+accepted_is s (Invitation sender attempt) payload e none size = absurd (accepted≢ OtherEnd e)
+accepted_is s (Packet.Reply sender attempt number) payload e none size = absurd (accepted≢ OtherEnd e)
+accepted_is s (Result sender attempt elected number) payload e none size = absurd (accepted≢ OtherEnd e)
 
 -- two verdicts in turn, and a question before a verdict
-judged-turn : {A : Type 0} (v w : Verdict) (f : Refusal → A) (x : A) → judged v f (judged w f x) ≡ judged (judged v Verdict.Refused w) f x
+judged_turn : {A : Type 0} (v w : Verdict) (f : Refusal → A) (x : A) → judged v f (judged w f x) ≡ judged (judged v Verdict.Refused w) f x
 unfolding judged
-judged-turn Verdict.Accepted w f x = refl
-judged-turn (Verdict.Refused r) w f x = refl
+judged_turn Verdict.Accepted w f x = refl
+judged_turn (Verdict.Refused r) w f x = refl
 
-judged-if : {A : Type 0} (t : Bool) (r : Refusal) (v : Verdict) (f : Refusal → A) (x : A)
+judged_if : {A : Type 0} (t : Bool) (r : Refusal) (v : Verdict) (f : Refusal → A) (x : A)
     → (if t then judged v f x else f r) ≡ judged (if t then v else Verdict.Refused r) f x
 unfolding judged if◌then◌else◌
-judged-if true r v f x = refl
-judged-if false r v f x = refl
+judged_if true r v f x = refl
+judged_if false r v f x = refl
 
 -- what a packet says is asked, and then it is accepted
-content-is : (s : Sequencer) (packet : Packet) (payload : List ℕ)
-    → contentStep s packet payload
-    ≡ judged (contentVerdict s.group s.acknowledgements s.accepted.0 s.top.0 packet) (refused s) (acceptedStep s packet payload)
-unfolding contentStep contentVerdict acceptedStep requestVerdict gapVerdict confirmVerdict judged
-content-is s (Request sender taken count) payload = judged-turn (senderVerdict s.group.survivors s.accepted.0 sender taken) _ (refused s) _
-content-is s (Broadcast originator number count floor) payload = refl
-content-is s (Gap sender taken first last) payload = judged-turn (senderVerdict s.group.survivors s.accepted.0 sender taken) _ (refused s) _
-content-is s (Status sender taken) payload = refl
-content-is s (Poll elected top floor) payload = refl
-content-is s (Offer originator number count floor) payload = refl
-content-is s (Confirm sender number) payload = judged-turn (senderVerdict s.group.survivors s.top.0 sender number) _ (refused s) _
-content-is s (Accept elected number) payload = refl
-content-is s (Invitation sender attempt) payload = refl
-content-is s (Packet.Reply sender attempt number) payload = refl
-content-is s (Result sender attempt elected number) payload = refl
+content_is : (s : Sequencer) (packet : Packet) (payload : List ℕ)
+    → content_step s packet payload
+    ≡ judged (content_verdict s.group s.acknowledgements s.accepted.0 s.top.0 packet) (refused s) (accepted_step s packet payload)
+unfolding content_step content_verdict accepted_step request_verdict gap_verdict confirm_verdict judged
+content_is s (Request sender taken count) payload = judged_turn (sender_verdict s.group.survivors s.accepted.0 sender taken) _ (refused s) _
+content_is s (Broadcast originator number count floor) payload = refl
+content_is s (Gap sender taken first last) payload = judged_turn (sender_verdict s.group.survivors s.accepted.0 sender taken) _ (refused s) _
+content_is s (Status sender taken) payload = refl
+content_is s (Poll elected top floor) payload = refl
+content_is s (Offer originator number count floor) payload = refl
+content_is s (Confirm sender number) payload = judged_turn (sender_verdict s.group.survivors s.top.0 sender number) _ (refused s) _
+content_is s (Accept elected number) payload = refl
+content_is s (Invitation sender attempt) payload = refl
+content_is s (Packet.Reply sender attempt number) payload = refl
+content_is s (Result sender attempt elected number) payload = refl
 
 pub read_is : (s : Sequencer) (h : Header) (payload : List ℕ)
     → read_step s (Reading.Fields h) payload
-    ≡ judged (packetVerdict s.group s.acknowledgements s.accepted.0 s.top.0 h.group (contentOf h)) (refused s)
-    (acceptedStep s (contentOf h) payload)
-unfolding read_step packetVerdict
+    ≡ judged (packet_verdict s.group s.acknowledgements s.accepted.0 s.top.0 h.group (content_of h)) (refused s)
+    (accepted_step s (content_of h) payload)
+unfolding read_step packet_verdict
 read_is s h payload =
-    rw (content-is s (contentOf h) payload)
-    (ap (λ (o : Outcome). if fromElected s.group (contentOf h) then o else refused s ForbiddenFields)
-    (judged-if (h.group =? s.group.number) OtherGroup _ (refused s) _)
-    ∙ judged-if (fromElected s.group (contentOf h)) ForbiddenFields _ (refused s) _)
+    rw (content_is s (content_of h) payload)
+    (ap (λ (o : Outcome). if from_elected s.group (content_of h) then o else refused s ForbiddenFields)
+    (judged_if (h.group =? s.group.number) OtherGroup _ (refused s) _)
+    ∙ judged_if (from_elected s.group (content_of h)) ForbiddenFields _ (refused s) _)
 
 -- questions 6 and 7 said yes to a packet that was accepted
-pub content-was : (group : Group) (table : List Acknowledgement) (accepted top number : ℕ) (packet : Packet)
-    → packetVerdict group table accepted top number packet ≡ Verdict.Accepted → contentVerdict group table accepted top packet ≡ Verdict.Accepted
-unfolding packetVerdict
-content-was group table accepted top number packet e =
-    let f = if-was (fromElected group packet) _ _ Verdict.Accepted e (accepted≢ ForbiddenFields) in
-    (if-was (number =? group.number) _ _ Verdict.Accepted f.1 (accepted≢ OtherGroup)).1
+pub content_was : (group : Group) (table : List Acknowledgement) (accepted top number : ℕ) (packet : Packet)
+    → packet_verdict group table accepted top number packet ≡ Verdict.Accepted → content_verdict group table accepted top packet ≡ Verdict.Accepted
+unfolding packet_verdict
+content_was group table accepted top number packet e =
+    let f = if_was (from_elected group packet) _ _ Verdict.Accepted e (accepted≢ ForbiddenFields) in
+    (if_was (number =? group.number) _ _ Verdict.Accepted f.1 (accepted≢ OtherGroup)).1

@@ -1,9 +1,9 @@
 -- The sequencer's calls: each goes down its questions in their order, and then takes its step.
 use Rattle.std.specs.Prelude.{List, [], ℕ, ◌+◌, ◌-◌, set}
 use Rattle.group.specs.Choice.{if◌then◌else◌, ask◌or◌then◌, ◌and◌, ◌<?◌, ◌≤?◌, ◌=?◌}
-use Rattle.group.specs.Limits.{placesMost, longestPacket}
-use Rattle.group.specs.Members.{neededOf}
-use Rattle.group.specs.Opening.{descriptionOf, openOf}
+use Rattle.group.specs.Limits.{places_most, longest_packet}
+use Rattle.group.specs.Members.{needed_of}
+use Rattle.group.specs.Opening.{description_of, open_of}
 use Rattle.group.specs.Question.{judged}
 use Rattle.group.specs.declared.MemberNumber.{MemberNumber}
 use Rattle.group.specs.declared.SequenceNumber.{SequenceNumber}
@@ -12,20 +12,20 @@ use Rattle.group.specs.declared.Opened.TheVariants.{Open}
 use Rattle.group.specs.declared.Refusal.{Refusal}
 use Rattle.group.specs.declared.Refusal.TheVariants.{UnsoundState, ShortOutput, ForbiddenFields, OtherGroup, OtherEnd, NotInHistory}
 use Rattle.group.specs.declared.Verdict.{Verdict}
-use Rattle.message.specs.Message.{messageOf, payloadOf}
-use Rattle.packet.specs.Packet.{contentOf, fields_of, packetOf, payloadAt, read_of, fromElected}
+use Rattle.message.specs.Message.{message_of, payload_of}
+use Rattle.packet.specs.Packet.{content_of, fields_of, packet_of, payload_at, read_of, from_elected}
 use Rattle.packet.specs.declared.Packet.{Packet}
 use Rattle.packet.specs.declared.Packet.TheVariants.{Request, Broadcast, Gap, Status, Poll, Offer, Confirm, Accept, Invitation, Result}
 use Rattle.packet.specs.declared.Reading.{Reading}
 use Rattle.packet.specs.declared.Reading.TheVariants.{Fields}
-use Rattle.history.specs.Note.{largerOf, withCounts}
-use Rattle.history.specs.State.{acknowledgementOf, place_of, messageAt}
-use Rattle.history.specs.Repeat.{oneMore, findOf}
-use Rattle.history.specs.Ask.{senderVerdict, countVerdict, wantedVerdict, expectedVerdict}
-use Rattle.history.specs.Marks.{markedOf, enoughOf, unmarkedOf}
+use Rattle.history.specs.Note.{larger_of, with_counts}
+use Rattle.history.specs.State.{acknowledgement_of, place_of, message_at}
+use Rattle.history.specs.Repeat.{one_more, find_of}
+use Rattle.history.specs.Ask.{sender_verdict, count_verdict, wanted_verdict, expected_verdict}
+use Rattle.history.specs.Marks.{marked_of, enough_of, unmarked_of}
 use Rattle.sequencer.specs.Note.{note_of}
-use Rattle.sequencer.specs.Sound.{soundOf}
-use Rattle.sequencer.specs.State.{Sequencer, lastCount, repeatCount, freshSequencer}
+use Rattle.sequencer.specs.Sound.{sound_of}
+use Rattle.sequencer.specs.State.{Sequencer, last_count, repeat_count, fresh_sequencer}
 use Rattle.sequencer.specs.declared.Answer.{Answer}
 use Rattle.sequencer.specs.declared.Answer.TheVariants.{Old, Again, Full, Numbered, Noted, Wanted, Sent, Marked}
 
@@ -50,28 +50,28 @@ announced accepted originator number count floor =
     Offer originator number count floor
 
 -- the packet of a number, with today's floor
-unfoldable pub broadcastOf : Sequencer → ℕ → List ℕ
-broadcastOf s number =
-    packetOf
+unfoldable pub broadcast_of : Sequencer → ℕ → List ℕ
+broadcast_of s number =
+    packet_of
     (fields_of s.group.number
-    (announced s.accepted (messageAt s.history number).originator (record { 0 = number }) (messageAt s.history number).count s.floor))
-    (payloadOf (messageAt s.history number))
+    (announced s.accepted (message_at s.history number).originator (record { 0 = number }) (message_at s.history number).count s.floor))
+    (payload_of (message_at s.history number))
 
 -- the poll packet
-unfoldable pub pollPacket : Sequencer → List ℕ
-pollPacket s = packetOf (fields_of s.group.number (Poll s.group.elected s.top s.floor)) []
+unfoldable pub poll_packet : Sequencer → List ℕ
+poll_packet s = packet_of (fields_of s.group.number (Poll s.group.elected s.top s.floor)) []
 
 -- the packet that accepts all up to the last accepted number
-unfoldable pub acceptPacket : Sequencer → List ℕ
-acceptPacket s = packetOf (fields_of s.group.number (Accept s.group.elected s.accepted)) []
+unfoldable pub accept_packet : Sequencer → List ℕ
+accept_packet s = packet_of (fields_of s.group.number (Accept s.group.elected s.accepted)) []
 
 -- m repeated itself: one more in its repeat count
-unfoldable pub repeatedOf : Sequencer → MemberNumber → Sequencer
-repeatedOf s m =
+unfoldable pub repeated_of : Sequencer → MemberNumber → Sequencer
+repeated_of s m =
     record {
       group = s.group;
       acknowledgements =
-          set s.acknowledgements m.0 (withCounts (acknowledgementOf s.acknowledgements m) (lastCount s m) (oneMore (repeatCount s m)));
+          set s.acknowledgements m.0 (with_counts (acknowledgement_of s.acknowledgements m) (last_count s m) (one_more (repeat_count s m)));
       top = s.top;
       accepted = s.accepted;
       floor = s.floor;
@@ -81,58 +81,58 @@ repeatedOf s m =
 
 -- Old
 unfoldable pub old_of : Sequencer → MemberNumber → Outcome
-old_of s m = answered (repeatedOf s m) Old
+old_of s m = answered (repeated_of s m) Old
 
 -- the last count again: Old if no history message has it, else Again with its packet
-unfoldable pub againOf : Sequencer → MemberNumber → ℕ → Outcome
-againOf s m number =
+unfoldable pub again_of : Sequencer → MemberNumber → ℕ → Outcome
+again_of s m number =
     if number =? 0 then old_of s m else
-    record { sequencer = repeatedOf s m; answer = Again (record { 0 = number }); bytes = broadcastOf s number }
+    record { sequencer = repeated_of s m; answer = Again (record { 0 = number }); bytes = broadcast_of s number }
 
 -- Full, with a poll packet; nothing but the noting changes
 unfoldable pub full_of : Sequencer → Outcome
-full_of s = record { sequencer = s; answer = Full; bytes = pollPacket s }
+full_of s = record { sequencer = s; answer = Full; bytes = poll_packet s }
 
 -- a message numbered: top grows by 1, the message is kept, its originator's last count becomes its count; where none has to confirm
 -- it, it is accepted
-unfoldable pub withMessage : Sequencer → MemberNumber → ℕ → List ℕ → Sequencer
-withMessage s m count payload =
+unfoldable pub with_message : Sequencer → MemberNumber → ℕ → List ℕ → Sequencer
+with_message s m count payload =
     record {
       group = s.group;
-      acknowledgements = set s.acknowledgements m.0 (withCounts (acknowledgementOf s.acknowledgements m) count (repeatCount s m));
+      acknowledgements = set s.acknowledgements m.0 (with_counts (acknowledgement_of s.acknowledgements m) count (repeat_count s m));
       top = record { 0 = s.top.0 + 1 };
-      accepted = if neededOf s.group =? 0 then record { 0 = s.top.0 + 1 } else s.accepted;
+      accepted = if needed_of s.group =? 0 then record { 0 = s.top.0 + 1 } else s.accepted;
       floor = s.floor;
-      history = set s.history (place_of (s.top.0 + 1)) (messageOf m count payload);
+      history = set s.history (place_of (s.top.0 + 1)) (message_of m count payload);
       marks = s.marks;
     }
 
 -- Numbered, with its packet
-unfoldable pub numberedOf : Sequencer → MemberNumber → ℕ → List ℕ → Outcome
-numberedOf s m count payload =
+unfoldable pub numbered_of : Sequencer → MemberNumber → ℕ → List ℕ → Outcome
+numbered_of s m count payload =
     record {
-      sequencer = withMessage s m count payload;
+      sequencer = with_message s m count payload;
       answer = Numbered (record { 0 = s.top.0 + 1 });
-      bytes = broadcastOf (withMessage s m count payload) (s.top.0 + 1);
+      bytes = broadcast_of (with_message s m count payload) (s.top.0 + 1);
     }
 
 -- request with a count from m, once A is noted
-unfoldable pub requestOf : Sequencer → MemberNumber → ℕ → List ℕ → Outcome
-requestOf s m count payload =
-    if count <? lastCount s m then old_of s m else
-    if count =? lastCount s m then againOf s m (findOf s.history m count s.floor.0 (s.top.0 - s.floor.0)) else
-    if s.top.0 - s.floor.0 =? placesMost then full_of s else
-    numberedOf s m count payload
+unfoldable pub request_of : Sequencer → MemberNumber → ℕ → List ℕ → Outcome
+request_of s m count payload =
+    if count <? last_count s m then old_of s m else
+    if count =? last_count s m then again_of s m (find_of s.history m count s.floor.0 (s.top.0 - s.floor.0)) else
+    if s.top.0 - s.floor.0 =? places_most then full_of s else
+    numbered_of s m count payload
 
 -- gap, once A is noted: Noted if C ≤ floor, else Wanted, from the larger of B and floor + 1, to C
 unfoldable pub gap_of : Sequencer → SequenceNumber → SequenceNumber → Outcome
 gap_of s first last =
     if last.0 ≤? s.floor.0 then answered s Noted else
-    answered s (Wanted (record { 0 = largerOf first.0 (s.floor.0 + 1) }) last)
+    answered s (Wanted (record { 0 = larger_of first.0 (s.floor.0 + 1) }) last)
 
 -- m confirmed all unaccepted numbers up to A
-unfoldable pub withMark : Sequencer → MemberNumber → SequenceNumber → Sequencer
-withMark s m number =
+unfoldable pub with_mark : Sequencer → MemberNumber → SequenceNumber → Sequencer
+with_mark s m number =
     record {
       group = s.group;
       acknowledgements = s.acknowledgements;
@@ -140,12 +140,12 @@ withMark s m number =
       accepted = s.accepted;
       floor = s.floor;
       history = s.history;
-      marks = markedOf s.marks m s.accepted.0 (number.0 - s.accepted.0);
+      marks = marked_of s.marks m s.accepted.0 (number.0 - s.accepted.0);
     }
 
 -- all up to a number are accepted, and their marks cleared
-unfoldable pub withAccepted : Sequencer → ℕ → Sequencer
-withAccepted s number =
+unfoldable pub with_accepted : Sequencer → ℕ → Sequencer
+with_accepted s number =
     record {
       group = s.group;
       acknowledgements = s.acknowledgements;
@@ -153,80 +153,80 @@ withAccepted s number =
       accepted = record { 0 = number };
       floor = s.floor;
       history = s.history;
-      marks = unmarkedOf s.marks s.accepted.0 (number - s.accepted.0);
+      marks = unmarked_of s.marks s.accepted.0 (number - s.accepted.0);
     }
 
 -- the highest unaccepted number with enough marks; 0: there is none
-abbrev pub enoughIn : Sequencer → ℕ
-enoughIn s = enoughOf s.marks (neededOf s.group) s.accepted.0 (s.top.0 - s.accepted.0)
+abbrev pub enough_in : Sequencer → ℕ
+enough_in s = enough_of s.marks (needed_of s.group) s.accepted.0 (s.top.0 - s.accepted.0)
 
 -- Accepted, with the packet that says so, if there is such a number; else Marked
 unfoldable pub settled_of : Sequencer → ℕ → Outcome
 settled_of s number =
     if number =? 0 then answered s Marked else
-    record { sequencer = withAccepted s number; answer = Answer.Accepted; bytes = acceptPacket (withAccepted s number) }
+    record { sequencer = with_accepted s number; answer = Answer.Accepted; bytes = accept_packet (with_accepted s number) }
 
 -- confirmation of A from m: Old for an accepted number; else m's marks are set, and then it may be accepted
-unfoldable pub confirmOf : Sequencer → MemberNumber → SequenceNumber → Outcome
-confirmOf s m number =
+unfoldable pub confirm_of : Sequencer → MemberNumber → SequenceNumber → Outcome
+confirm_of s m number =
     if number.0 ≤? s.accepted.0 then answered s Old else
-    settled_of (withMark s m number) (enoughIn (withMark s m number))
+    settled_of (with_mark s m number) (enough_in (with_mark s m number))
 
 -- what a packet of our group says: kinds 1, 3, 4 and 7 are for this end (question 8); each is asked its questions; then of kinds 1, 3
 -- and 4 A is noted
-unfoldable pub contentStep : Sequencer → Packet → List ℕ → Outcome
-contentStep s (Request sender taken count) payload =
-    judged (senderVerdict s.group.survivors s.accepted.0 sender taken) (refused s)
-    (judged (countVerdict (lastCount s sender) s.top.0 count) (refused s)
-    (requestOf (note_of s sender taken) sender count payload))
-contentStep s (Broadcast originator number count floor) payload = refused s OtherEnd
-contentStep s (Gap sender taken first last) payload =
-    judged (senderVerdict s.group.survivors s.accepted.0 sender taken) (refused s)
-    (judged (wantedVerdict s.top.0 last) (refused s)
+unfoldable pub content_step : Sequencer → Packet → List ℕ → Outcome
+content_step s (Request sender taken count) payload =
+    judged (sender_verdict s.group.survivors s.accepted.0 sender taken) (refused s)
+    (judged (count_verdict (last_count s sender) s.top.0 count) (refused s)
+    (request_of (note_of s sender taken) sender count payload))
+content_step s (Broadcast originator number count floor) payload = refused s OtherEnd
+content_step s (Gap sender taken first last) payload =
+    judged (sender_verdict s.group.survivors s.accepted.0 sender taken) (refused s)
+    (judged (wanted_verdict s.top.0 last) (refused s)
     (gap_of (note_of s sender taken) first last))
-contentStep s (Status sender taken) payload =
-    judged (senderVerdict s.group.survivors s.accepted.0 sender taken) (refused s)
+content_step s (Status sender taken) payload =
+    judged (sender_verdict s.group.survivors s.accepted.0 sender taken) (refused s)
     (answered (note_of s sender taken) Noted)
-contentStep s (Poll elected top floor) payload = refused s OtherEnd
-contentStep s (Offer originator number count floor) payload = refused s OtherEnd
-contentStep s (Confirm sender number) payload =
-    judged (senderVerdict s.group.survivors s.top.0 sender number) (refused s)
-    (judged (expectedVerdict s.group s.accepted.0 sender number) (refused s)
-    (confirmOf s sender number))
-contentStep s (Accept elected number) payload = refused s OtherEnd
-contentStep s (Invitation sender attempt) payload = refused s OtherEnd
-contentStep s (Packet.Reply sender attempt number) payload = refused s OtherEnd
-contentStep s (Result sender attempt elected number) payload = refused s OtherEnd
+content_step s (Poll elected top floor) payload = refused s OtherEnd
+content_step s (Offer originator number count floor) payload = refused s OtherEnd
+content_step s (Confirm sender number) payload =
+    judged (sender_verdict s.group.survivors s.top.0 sender number) (refused s)
+    (judged (expected_verdict s.group s.accepted.0 sender number) (refused s)
+    (confirm_of s sender number))
+content_step s (Accept elected number) payload = refused s OtherEnd
+content_step s (Invitation sender attempt) payload = refused s OtherEnd
+content_step s (Packet.Reply sender attempt number) payload = refused s OtherEnd
+content_step s (Result sender attempt elected number) payload = refused s OtherEnd
 
 -- a packet that was read: question 6 of byte 1, then 7
 unfoldable pub read_step : Sequencer → Reading → List ℕ → Outcome
 read_step s (Fields h) payload =
-    ask fromElected s.group (contentOf h) or refused s ForbiddenFields then
+    ask from_elected s.group (content_of h) or refused s ForbiddenFields then
     ask h.group =? s.group.number or refused s OtherGroup then
-    contentStep s (contentOf h) payload
+    content_step s (content_of h) payload
 read_step s (Reading.Refused refusal) payload = refused s refusal
 
 -- questions 1 and 2, of every call
-unfoldable pub callVerdict : Sequencer → ℕ → Verdict
-callVerdict s room =
-    ask soundOf s or Verdict.Refused UnsoundState then
-    ask longestPacket ≤? room or Verdict.Refused ShortOutput then
+unfoldable pub call_verdict : Sequencer → ℕ → Verdict
+call_verdict s room =
+    ask sound_of s or Verdict.Refused UnsoundState then
+    ask longest_packet ≤? room or Verdict.Refused ShortOutput then
     Verdict.Accepted
 
 -- the call for packets
-unfoldable pub receiveOf : Sequencer → List ℕ → ℕ → Outcome
-receiveOf s packet room = judged (callVerdict s room) (refused s) (read_step s (read_of packet) (payloadAt packet))
+unfoldable pub receive_of : Sequencer → List ℕ → ℕ → Outcome
+receive_of s packet room = judged (call_verdict s room) (refused s) (read_step s (read_of packet) (payload_at packet))
 
 -- the poll call: the poll packet
-unfoldable pub pollOf : Sequencer → ℕ → Outcome
-pollOf s room = judged (callVerdict s room) (refused s) (record { sequencer = s; answer = Sent; bytes = pollPacket s })
+unfoldable pub poll_of : Sequencer → ℕ → Outcome
+poll_of s room = judged (call_verdict s room) (refused s) (record { sequencer = s; answer = Sent; bytes = poll_packet s })
 
 -- the copy call for a number: its packet, with today's floor. Question 17
 unfoldable pub copy_of : Sequencer → SequenceNumber → ℕ → Outcome
 copy_of s number room =
-    judged (callVerdict s room) (refused s)
+    judged (call_verdict s room) (refused s)
     (ask s.floor.0 <? number.0 and number.0 ≤? s.top.0 or refused s NotInHistory then
-    record { sequencer = s; answer = Sent; bytes = broadcastOf s number.0 })
+    record { sequencer = s; answer = Sent; bytes = broadcast_of s number.0 })
 
 -- what opening comes to
 pub record Opening : Type 0 where
@@ -235,9 +235,9 @@ pub record Opening : Type 0 where
 
 -- opening: questions 18 and 24. Where it is refused, the state is all zero
 unfoldable pub opened_of : Opened → Opening
-opened_of (Open group) = record { sequencer = freshSequencer group; verdict = Verdict.Accepted }
+opened_of (Open group) = record { sequencer = fresh_sequencer group; verdict = Verdict.Accepted }
 opened_of (Opened.Refused refusal) =
-    record { sequencer = freshSequencer (descriptionOf 0 0 0); verdict = Verdict.Refused refusal }
+    record { sequencer = fresh_sequencer (description_of 0 0 0); verdict = Verdict.Refused refusal }
 
 unfoldable pub fresh_of : ℕ → ℕ → ℕ → Opening
-fresh_of n number resilience = opened_of (openOf n number resilience)
+fresh_of n number resilience = opened_of (open_of n number resilience)

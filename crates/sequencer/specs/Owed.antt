@@ -1,17 +1,17 @@
 -- What the functions below the calls promise, and what they are owed by the questions before them.
 use Rattle.std.specs.Prelude.{◌≡◌, true, List, ℕ, ◌≤◌, ◌<◌, length}
-use Rattle.group.specs.Limits.{membersMost, headerSize, payloadMost, longestPacket, largestNumber}
+use Rattle.group.specs.Limits.{members_most, header_size, payload_most, longest_packet, largest_number}
 use Rattle.group.specs.declared.Refusal.{Refusal}
 use Rattle.group.specs.declared.SequenceNumber.{SequenceNumber}
 use Rattle.group.specs.declared.Verdict.{Verdict}
 use Rattle.message.specs.Message.{Message}
-use Rattle.packet.specs.Packet.{payloadAt}
+use Rattle.packet.specs.Packet.{payload_at}
 use Rattle.packet.specs.declared.Packet.{Packet}
 use Rattle.packet.specs.declared.Packet.TheVariants.{Request, Broadcast, Gap, Status, Poll, Offer, Confirm, Accept, Invitation, Result}
-use Rattle.history.specs.Ask.{contentVerdict}
-use Rattle.sequencer.specs.Calls.{refused, confirmOf, receiveOf}
-use Rattle.sequencer.specs.Sound.{soundOf}
-use Rattle.sequencer.specs.Steps.{acceptedStep, confirmationOf}
+use Rattle.history.specs.Ask.{content_verdict}
+use Rattle.sequencer.specs.Calls.{refused, confirm_of, receive_of}
+use Rattle.sequencer.specs.Sound.{sound_of}
+use Rattle.sequencer.specs.Steps.{accepted_step, confirmation_of}
 use Rattle.sequencer.specs.declared.Confirmation.{Confirmation}
 use Rattle.sequencer.specs.declared.Decision.{Decision}
 use Rattle.sequencer.specs.declared.Decision.TheVariants.{Refuse, Mark, Note}
@@ -26,7 +26,7 @@ pub record Refuses (refusal : Refusal) (reply : Reply) : Type 0 where
 
 -- a message that may go out with a number and a floor
 abbrev pub MayBroadcast : SequenceNumber → SequenceNumber → Message → Type 0
-MayBroadcast number floor m = (m.length ≤ payloadMost) × (1 ≤ m.count) × (floor.0 < number.0)
+MayBroadcast number floor m = (m.length ≤ payload_most) × (1 ≤ m.count) × (floor.0 < number.0)
 
 -- what an answer comes with may be written
 abbrev pub MaySend : Answer → SequenceNumber → SequenceNumber → Message → Type 0
@@ -43,28 +43,28 @@ MaySend Answer.Accepted top floor m = Unit {0}
 
 -- of a packet that is to be asked: the state is sound, and payload and lent output have the sizes that a packet wants
 pub record Sized (s : Sequencer) (size room : ℕ) : Type 0 where
-  pub sound : soundOf s ≡ true
-  pub payload : size ≤ payloadMost
-  pub output : longestPacket ≤ room
+  pub sound : sound_of s ≡ true
+  pub payload : size ≤ payload_most
+  pub output : longest_packet ≤ room
 
 -- of a packet that is to be answered: the same, and it was accepted
 pub record Due (s : Sequencer) (packet : Packet) (size room : ℕ) : Type 0 where
   pub sizes : Sized s size room
-  pub accepted : contentVerdict s.group s.acknowledgements s.accepted.0 s.top.0 packet ≡ Verdict.Accepted
+  pub accepted : content_verdict s.group s.acknowledgements s.accepted.0 s.top.0 packet ≡ Verdict.Accepted
 
 -- what a decision on a packet says: a refusal is the call's; who is to be marked is a member; what is to be noted is due, and lies
 -- behind a header
 abbrev pub Judged : Sequencer → List ℕ → ℕ → Decision → Type 0
-Judged s packet room (Refuse refusal) = refused s refusal ≡ receiveOf s packet room
+Judged s packet room (Refuse refusal) = refused s refusal ≡ receive_of s packet room
 Judged s packet room (Mark m number) =
-    (m.0 < membersMost) × (longestPacket ≤ room) × (confirmOf s m number ≡ receiveOf s packet room)
+    (m.0 < members_most) × (longest_packet ≤ room) × (confirm_of s m number ≡ receive_of s packet room)
 Judged s packet room (Note content) =
-    (confirmationOf content ≡ Confirmation.None) × Due s content (length (payloadAt packet)) room × (headerSize ≤ length packet)
-    × (acceptedStep s content (payloadAt packet) ≡ receiveOf s packet room)
+    (confirmation_of content ≡ Confirmation.None) × Due s content (length (payload_at packet)) room × (header_size ≤ length packet)
+    × (accepted_step s content (payload_at packet) ≡ receive_of s packet room)
 
 -- a next number is left where a request wants one
 abbrev pub Left : Packet → ℕ → ℕ → Type 0
-Left (Request sender taken count) last top = last < count → top < largestNumber
+Left (Request sender taken count) last top = last < count → top < largest_number
 Left (Broadcast originator number count floor) last top = Unit {0}
 Left (Gap sender taken first to) last top = Unit {0}
 Left (Status sender taken) last top = Unit {0}

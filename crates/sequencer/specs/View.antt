@@ -1,9 +1,9 @@
 -- The state that the meaning speaks of, read off its parts: the table of acknowledgements off three arrays, the history off three
 -- arrays of numbers and the bytes of all payloads, and the marks.
 use Rattle.std.specs.Prelude.{◌≡◌, List, [], ℕ, length}
-use Rattle.group.specs.Limits.{membersMost, placesMost}
-use Rattle.store.specs.Places.{messagesIn}
-use Rattle.history.specs.View.{Entries, Places, tableIn}
+use Rattle.group.specs.Limits.{members_most, places_most}
+use Rattle.store.specs.Places.{messages_in}
+use Rattle.history.specs.View.{Entries, Places, table_in}
 use Rattle.sequencer.specs.State.{Sequencer}
 use Rattle.sequencer.specs.declared.Head.{Head}
 
@@ -36,18 +36,18 @@ whole head taken counts repeats kept marks originators lengths payloads =
     }
 
 -- one of which only the head and the marks are asked
-abbrev pub marksOnly : Head → List ℕ → Stored
-marksOnly head marks = whole head [] [] [] [] marks [] [] []
+abbrev pub marks_only : Head → List ℕ → Stored
+marks_only head marks = whole head [] [] [] [] marks [] [] []
 
 unfoldable pub view_of : Stored → Sequencer
 view_of s =
     record {
       group = s.head.group;
-      acknowledgements = tableIn s.taken s.counts s.repeats;
+      acknowledgements = table_in s.taken s.counts s.repeats;
       top = s.head.top;
       accepted = s.head.accepted;
       floor = s.head.floor;
-      history = messagesIn s.kept s.originators s.lengths s.payloads;
+      history = messages_in s.kept s.originators s.lengths s.payloads;
       marks = s.marks;
     }
 
@@ -55,10 +55,10 @@ view_of s =
 pub record Fits (s : Stored) : Type 0 where
   pub entries : Entries s.taken s.counts s.repeats
   pub places : Places s.kept s.originators s.lengths s.payloads
-  pub marks-size : length s.marks ≡ placesMost
+  pub marks_size : length s.marks ≡ places_most
 
 pub record Placed (s : Stored) : Type 0 where
-  pub counts-long : length s.counts ≡ membersMost
-  pub repeats-long : length s.repeats ≡ membersMost
+  pub counts_long : length s.counts ≡ members_most
+  pub repeats_long : length s.repeats ≡ members_most
   pub places : Places s.kept s.originators s.lengths s.payloads
-  pub marks-size : length s.marks ≡ placesMost
+  pub marks_size : length s.marks ≡ places_most

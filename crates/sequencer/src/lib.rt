@@ -3,21 +3,21 @@
 ghost use Rattle.std.specs.Prelude.{◌≡◌, [], ◌<◌, ◌≤◌, length, get_or, take};
 ghost use Rattle.group.specs.Lent.{Laid};
 ghost use Rattle.group.specs.Choice.{if◌then◌else◌, ◌and◌, ◌=?◌};
-ghost use Rattle.group.specs.Fold.{allAbove};
-ghost use Rattle.group.specs.Limits.{membersMost, placesMost, payloadMost, longestPacket, largestNumber};
-ghost use Rattle.group.specs.Members.{expectedOf, neededOf};
-ghost use Rattle.message.specs.Message.{blank, payloadOf};
-ghost use Rattle.packet.specs.Packet.{fields_of, packetOf, read_of, writeOf};
-ghost use Rattle.store.specs.Places.{messagesIn, part_of, Lies};
-ghost use Rattle.history.specs.Marks.{markSound};
-ghost use Rattle.history.specs.Sound.{placeSound};
-ghost use Rattle.history.specs.View.{Places, countsOnly, listed};
-ghost use Rattle.sequencer.specs.Sound.{soundOf};
-ghost use Rattle.sequencer.specs.Calls.{announced, confirmOf, callVerdict};
-ghost use Rattle.sequencer.specs.View.{Fits, Placed, whole, marksOnly, view_of};
+ghost use Rattle.group.specs.Fold.{all_above};
+ghost use Rattle.group.specs.Limits.{members_most, places_most, payload_most, longest_packet, largest_number};
+ghost use Rattle.group.specs.Members.{expected_of, needed_of};
+ghost use Rattle.message.specs.Message.{blank, payload_of};
+ghost use Rattle.packet.specs.Packet.{fields_of, packet_of, read_of, write_of};
+ghost use Rattle.store.specs.Places.{messages_in, part_of, Lies};
+ghost use Rattle.history.specs.Marks.{mark_sound};
+ghost use Rattle.history.specs.Sound.{place_sound};
+ghost use Rattle.history.specs.View.{Places, counts_only, listed};
+ghost use Rattle.sequencer.specs.Sound.{sound_of};
+ghost use Rattle.sequencer.specs.Calls.{announced, confirm_of, call_verdict};
+ghost use Rattle.sequencer.specs.View.{Fits, Placed, whole, marks_only, view_of};
 ghost use Rattle.sequencer.specs.Promise.{Changed};
 ghost use Rattle.sequencer.specs.Owed.{MayBroadcast, MaySend, Left};
-ghost use Rattle.sequencer.specs.Steps.{quiet, requestChange, gapAnswer, changeOf, confirmationOf, decisionOf, sentOf};
+ghost use Rattle.sequencer.specs.Steps.{quiet, request_change, gap_answer, change_of, confirmation_of, decision_of, sent_of};
 
 use group::{Group, MemberNumber, Refusal, SequenceNumber, Verdict};
 use packet::{Header, Packet, Reading};
@@ -105,8 +105,8 @@ fn put_place(
     size: u8,
     out: &mut [u8],
 ) -> usize
-    requires { Lies at payloads.now × (size ≤ payloadMost) }
-    ensures { Laid (writeOf (fields_of group packet) (take size (part_of payloads.now at)) (length out.old)).bytes result out.old out.new }
+    requires { Lies at payloads.now × (size ≤ payload_most) }
+    ensures { Laid (write_of (fields_of group packet) (take size (part_of payloads.now at)) (length out.old)).bytes result out.old out.new }
 {
     let base = at * Group::PAYLOAD;
     let end = base + (size as usize);
@@ -152,8 +152,8 @@ pub fn send(
     payloads: &[u8],
     out: &mut [u8],
 ) -> usize
-    requires { (at < placesMost) × MayBroadcast number floor (get_or (messagesIn kept.now originators.now lengths.now payloads.now) at blank) × (longestPacket ≤ length out.old) × Places kept.now originators.now lengths.now payloads.now }
-    ensures { Laid (packetOf (fields_of group (announced accepted (get_or (messagesIn kept.now originators.now lengths.now payloads.now) at blank).originator number (get_or (messagesIn kept.now originators.now lengths.now payloads.now) at blank).count floor)) (payloadOf (get_or (messagesIn kept.now originators.now lengths.now payloads.now) at blank))) result out.old out.new }
+    requires { (at < places_most) × MayBroadcast number floor (get_or (messages_in kept.now originators.now lengths.now payloads.now) at blank) × (longest_packet ≤ length out.old) × Places kept.now originators.now lengths.now payloads.now }
+    ensures { Laid (packet_of (fields_of group (announced accepted (get_or (messages_in kept.now originators.now lengths.now payloads.now) at blank).originator number (get_or (messages_in kept.now originators.now lengths.now payloads.now) at blank).count floor)) (payload_of (get_or (messages_in kept.now originators.now lengths.now payloads.now) at blank))) result out.old out.new }
 {
     let originator = MemberNumber(originators[at]);
     let packet = announced(accepted, originator, number, kept[at], floor);
@@ -162,8 +162,8 @@ pub fn send(
 
 // Writes the poll packet.
 pub fn send_poll(group: Group, top: SequenceNumber, floor: SequenceNumber, out: &mut [u8]) -> usize
-    requires { (floor.0 ≤ top.0) × (longestPacket ≤ length out.old) }
-    ensures { Laid (packetOf (fields_of group.number (Packet.Poll group.elected top floor)) []) result out.old out.new }
+    requires { (floor.0 ≤ top.0) × (longest_packet ≤ length out.old) }
+    ensures { Laid (packet_of (fields_of group.number (Packet.Poll group.elected top floor)) []) result out.old out.new }
 {
     let none = [0u8; 0];
     let elected = group.elected;
@@ -177,8 +177,8 @@ pub fn send_poll(group: Group, top: SequenceNumber, floor: SequenceNumber, out: 
 
 // Writes the packet that accepts all up to a number.
 fn send_accept(group: Group, number: SequenceNumber, out: &mut [u8]) -> usize
-    requires { (1 ≤ number.0) × (longestPacket ≤ length out.old) }
-    ensures { Laid (packetOf (fields_of group.number (Packet.Accept group.elected number)) []) result out.old out.new }
+    requires { (1 ≤ number.0) × (longest_packet ≤ length out.old) }
+    ensures { Laid (packet_of (fields_of group.number (Packet.Accept group.elected number)) []) result out.old out.new }
 {
     let none = [0u8; 0];
     let elected = group.elected;
@@ -200,8 +200,8 @@ pub fn send_answer(
     payloads: &[u8],
     out: &mut [u8],
 ) -> usize
-    requires { (at < placesMost) × MaySend answer top floor (get_or (messagesIn kept.now originators.now lengths.now payloads.now) at blank) × (longestPacket ≤ length out.old) × Places kept.now originators.now lengths.now payloads.now }
-    ensures { Laid (sentOf answer group top accepted floor (get_or (messagesIn kept.now originators.now lengths.now payloads.now) at blank)) result out.old out.new }
+    requires { (at < places_most) × MaySend answer top floor (get_or (messages_in kept.now originators.now lengths.now payloads.now) at blank) × (longest_packet ≤ length out.old) × Places kept.now originators.now lengths.now payloads.now }
+    ensures { Laid (sent_of answer group top accepted floor (get_or (messages_in kept.now originators.now lengths.now payloads.now) at blank)) result out.old out.new }
 {
     match answer {
         Answer::Refused(_) => 0,
@@ -261,7 +261,7 @@ fn quiet(
 
 // The last accepted number, once a next number is given: that one where none has to confirm it.
 fn accepted_next(group: Group, accepted: SequenceNumber, next: SequenceNumber) -> SequenceNumber
-    ensures { result ≡ (if neededOf group =? 0 then next else accepted) }
+    ensures { result ≡ (if needed_of group =? 0 then next else accepted) }
 {
     if group.needed() == 0 {
         return next;
@@ -282,8 +282,8 @@ fn request_change(
     group: Group,
     repeats: u32,
 ) -> Change
-    requires { (last < count → top.0 < largestNumber) × (length kept.now ≡ placesMost) × (length originators.now ≡ placesMost) }
-    ensures { result ≡ requestChange (listed kept.now originators.now) sender count last floor.0 top accepted (neededOf group) repeats }
+    requires { (last < count → top.0 < largest_number) × (length kept.now ≡ places_most) × (length originators.now ≡ places_most) }
+    ensures { result ≡ request_change (listed kept.now originators.now) sender count last floor.0 top accepted (needed_of group) repeats }
 {
     let more = history::one_more(repeats);
     if count < last {
@@ -322,7 +322,7 @@ fn request_change(
 
 // A gap, once A is noted: Noted if C is at most floor, else Wanted, from the larger of B and floor + 1, to C.
 fn gap_answer(floor: SequenceNumber, first: SequenceNumber, last: SequenceNumber) -> Answer
-    ensures { result ≡ gapAnswer floor.0 first last }
+    ensures { result ≡ gap_answer floor.0 first last }
 {
     if last.0 <= floor.0 {
         return Answer::Noted;
@@ -343,8 +343,8 @@ pub fn packet_change(
     group: Group,
     repeats: u32,
 ) -> Change
-    requires { Left packet last top.0 × (length kept.now ≡ placesMost) × (length originators.now ≡ placesMost) }
-    ensures { result ≡ changeOf (listed kept.now originators.now) packet last floor.0 top accepted (neededOf group) repeats }
+    requires { Left packet last top.0 × (length kept.now ≡ places_most) × (length originators.now ≡ places_most) }
+    ensures { result ≡ change_of (listed kept.now originators.now) packet last floor.0 top accepted (needed_of group) repeats }
 {
     match packet {
         Packet::Request {
@@ -418,7 +418,7 @@ pub fn packet_change(
 
 // Who confirms which number in a packet.
 fn confirmed_by(packet: Packet) -> Confirmation
-    ensures { result ≡ confirmationOf packet }
+    ensures { result ≡ confirmation_of packet }
 {
     match packet {
         Packet::Request {
@@ -498,8 +498,8 @@ fn places_sound(
     lengths: &[u8],
     payloads: &[u8],
 ) -> bool
-    requires { (head.group.n ≤ membersMost) × (length counts.now ≡ membersMost) × (length marks.now ≡ placesMost) × Places kept.now originators.now lengths.now payloads.now }
-    ensures { result ≡ (allAbove (placeSound head.group.n (countsOnly counts.now) (messagesIn kept.now originators.now lengths.now payloads.now) head.top.0) head.floor.0 placesMost and allAbove (markSound (expectedOf head.group) marks.now head.accepted.0 head.top.0) head.floor.0 placesMost) }
+    requires { (head.group.n ≤ members_most) × (length counts.now ≡ members_most) × (length marks.now ≡ places_most) × Places kept.now originators.now lengths.now payloads.now }
+    ensures { result ≡ (all_above (place_sound head.group.n (counts_only counts.now) (messages_in kept.now originators.now lengths.now payloads.now) head.top.0) head.floor.0 places_most and all_above (mark_sound (expected_of head.group) marks.now head.accepted.0 head.top.0) head.floor.0 places_most) }
 {
     let group = head.group;
     let floor = head.floor;
@@ -533,7 +533,7 @@ pub fn sound(
     payloads: &[u8],
 ) -> bool
     requires { Placed (whole head taken.now counts.now repeats.now kept.now marks.now originators.now lengths.now payloads.now) }
-    ensures answer { result ≡ soundOf (view_of (whole head taken.now counts.now repeats.now kept.now marks.now originators.now lengths.now payloads.now)) }
+    ensures answer { result ≡ sound_of (view_of (whole head taken.now counts.now repeats.now kept.now marks.now originators.now lengths.now payloads.now)) }
     ensures sizes { Fits (whole head taken.now counts.now repeats.now kept.now marks.now originators.now lengths.now payloads.now) }
 {
     let group = head.group;
@@ -563,7 +563,7 @@ pub fn ask(
     room: usize,
 ) -> Verdict
     requires { Placed (whole head taken.now counts.now repeats.now kept.now marks.now originators.now lengths.now payloads.now) }
-    ensures answer { result ≡ callVerdict (view_of (whole head taken.now counts.now repeats.now kept.now marks.now originators.now lengths.now payloads.now)) room }
+    ensures answer { result ≡ call_verdict (view_of (whole head taken.now counts.now repeats.now kept.now marks.now originators.now lengths.now payloads.now)) room }
     ensures sizes { Fits (whole head taken.now counts.now repeats.now kept.now marks.now originators.now lengths.now payloads.now) }
 {
     if sound(
@@ -600,8 +600,8 @@ pub fn confirm(
     number: SequenceNumber,
     out: &mut [u8],
 ) -> Step
-    requires { (member.0 < membersMost) × (length marks.old ≡ placesMost) × (longestPacket ≤ length out.old) }
-    ensures { Changed (confirmOf (view_of (marksOnly head marks.old)) member number) result.reply (marksOnly result.head marks.new) out.old out.new }
+    requires { (member.0 < members_most) × (length marks.old ≡ places_most) × (longest_packet ≤ length out.old) }
+    ensures { Changed (confirm_of (view_of (marks_only head marks.old)) member number) result.reply (marks_only result.head marks.new) out.old out.new }
 {
     let accepted = head.accepted;
     if number.0 <= accepted.0 {
@@ -633,8 +633,8 @@ pub fn confirm(
 
 // Questions 3 to 12 (6 of byte 1 at this end), 25, and 16, of a packet; then what becomes of it.
 pub fn decide(head: Head, counts: &[u32], packet: &[u8]) -> Decision
-    requires { length counts.now ≡ membersMost }
-    ensures { result ≡ decisionOf head.group (countsOnly counts.now) head.accepted head.top (read_of packet.now) }
+    requires { length counts.now ≡ members_most }
+    ensures { result ≡ decision_of head.group (counts_only counts.now) head.accepted head.top (read_of packet.now) }
 {
     let reading = packet::read(packet);
     match reading {

@@ -1,11 +1,11 @@
 // The sequencer's calls, on the arrays: each asks its questions, then takes the steps of `sequencer`, and hands back the head that the state
 // has next and what it answers.
 ghost use Rattle.std.specs.Prelude.{◌≡◌, length};
-ghost use Rattle.sequencer.specs.Calls.{callVerdict};
+ghost use Rattle.sequencer.specs.Calls.{call_verdict};
 ghost use Rattle.sequencer.specs.View.{Fits, Placed, whole, view_of};
 ghost use Rattle.sequencer.specs.Promise.{Changed, Received, Polled, Copied, Opens};
 ghost use Rattle.sequencer.specs.Owed.{Due, Judged, Refuses};
-ghost use Rattle.sequencer.specs.Steps.{acceptedStep, confirmationOf};
+ghost use Rattle.sequencer.specs.Steps.{accepted_step, confirmation_of};
 
 use group::{Group, MemberNumber, Opened, Refusal, SequenceNumber, Verdict};
 use packet::Packet;
@@ -43,8 +43,8 @@ fn noted(
     payload: &[u8],
     out: &mut [u8],
 ) -> Step
-    requires { (confirmationOf packet ≡ Confirmation.None) × Due (view_of (whole head taken.old counts.old repeats.old kept.old marks.now originators.old lengths.old payloads.old)) packet (length payload.now) (length out.old) × Fits (whole head taken.old counts.old repeats.old kept.old marks.now originators.old lengths.old payloads.old) }
-    ensures { Changed (acceptedStep (view_of (whole head taken.old counts.old repeats.old kept.old marks.now originators.old lengths.old payloads.old)) packet payload.now) result.reply (whole result.head taken.new counts.new repeats.new kept.new marks.now originators.new lengths.new payloads.new) out.old out.new }
+    requires { (confirmation_of packet ≡ Confirmation.None) × Due (view_of (whole head taken.old counts.old repeats.old kept.old marks.now originators.old lengths.old payloads.old)) packet (length payload.now) (length out.old) × Fits (whole head taken.old counts.old repeats.old kept.old marks.now originators.old lengths.old payloads.old) }
+    ensures { Changed (accepted_step (view_of (whole head taken.old counts.old repeats.old kept.old marks.now originators.old lengths.old payloads.old)) packet payload.now) result.reply (whole result.head taken.new counts.new repeats.new kept.new marks.now originators.new lengths.new payloads.new) out.old out.new }
 {
     let from = history::sender_of(packet);
     let sender = from.member;
@@ -248,7 +248,7 @@ fn copied(
     number: SequenceNumber,
     out: &mut [u8],
 ) -> Reply
-    requires { (callVerdict (view_of (whole head taken.now counts.now repeats.now kept.now marks.now originators.now lengths.now payloads.now)) (length out.old) ≡ Verdict.Accepted) × Fits (whole head taken.now counts.now repeats.now kept.now marks.now originators.now lengths.now payloads.now) }
+    requires { (call_verdict (view_of (whole head taken.now counts.now repeats.now kept.now marks.now originators.now lengths.now payloads.now)) (length out.old) ≡ Verdict.Accepted) × Fits (whole head taken.now counts.now repeats.now kept.now marks.now originators.now lengths.now payloads.now) }
     ensures { Copied (whole head taken.now counts.now repeats.now kept.now marks.now originators.now lengths.now payloads.now) number out.old result out.new }
 {
     let today = head.floor;

@@ -7,11 +7,11 @@ use native.Mathlib.Omega.{arith}
 use borrow.Author.Tests.{lt-ltb, le-ltb, ltb-true}
 use lib.ListN.{length, take, drop, get_or, set, get_elem?, length-append}
 use lib.Seq.{take-append_seam, take_all, get_or-set_same, get_or-set_other}
-use Rattle.group.proofs.Choice.{if-true, if-false}
-use Rattle.group.proofs.Lists.{if-elim, le-or}
+use Rattle.group.proofs.Choice.{if_true, if_false}
+use Rattle.group.proofs.Lists.{if_elim, le_or}
 use Rattle.group.specs.Choice.{if◌then◌else◌, ◌<?◌}
 use Rattle.group.specs.Lent.{front}
-use Rattle.group.specs.Limits.{membersMost, longestPacket}
+use Rattle.group.specs.Limits.{members_most, longest_packet}
 use Rattle.group.specs.declared.Group as group
 use Rattle.member.specs.Calls as member
 use Rattle.member.specs.Promise as memberPromise
@@ -20,7 +20,7 @@ use Rattle.member.specs.View as memberView
 use Rattle.member.specs.declared.Done as memberDone
 use Rattle.member.specs.declared.Head as memberHead
 use Rattle.member.specs.declared.Reply as memberReply
-use Rattle.model.specs.World.{answer_of, Group, Happened, missing, withMember, withSequencer, noMember, handToMember, handToSequencer}
+use Rattle.model.specs.World.{answer_of, Group, Happened, missing, with_member, with_sequencer, no_member, hand_to_member, hand_to_sequencer}
 use Rattle.model.specs.declared.Reply.{Reply}
 use Rattle.packet.specs.Packet.{written}
 use Rattle.sequencer.specs.Calls as sequencer
@@ -28,8 +28,8 @@ use Rattle.sequencer.specs.Promise as sequencerPromise
 use Rattle.sequencer.specs.State.{Sequencer}
 use Rattle.sequencer.specs.View as sequencerView
 use Rattle.sequencer.specs.declared.Reply as sequencerReply
-use Rattle.simulator.specs.Steps.{fittingOf, keptSize, outcomeOf, outcomeHere, Full, CallsMember, CallsAt, CallsSequencer, Stores, happenedAt, happenedHere, nothing, Acts, Sequences}
-use Rattle.simulator.specs.Whole.{list_of, Room, Rows, rows_of, stored_at, Terminals, terminalsOf, headIn, memberAt, membersIn, Packets, packetsOf, packetAt, packetsIn}
+use Rattle.simulator.specs.Steps.{fitting_of, kept_size, outcome_of, outcome_here, Full, CallsMember, CallsAt, CallsSequencer, Stores, happened_at, happened_here, nothing, Acts, Sequences}
+use Rattle.simulator.specs.Whole.{list_of, Room, Rows, rows_of, stored_at, Terminals, terminals_of, head_in, member_at, members_in, Packets, packets_of, packet_at, packets_in}
 use Rattle.simulator.specs.declared.Happening.{Happening}
 use Rattle.simulator.specs.declared.Head.{Head}
 use Rattle.simulator.specs.declared.MemberCall.{MemberCall}
@@ -37,60 +37,60 @@ use Rattle.simulator.specs.declared.MemberCall.TheVariants as call
 use Rattle.simulator.specs.declared.SequencerCall.{SequencerCall}
 use Rattle.simulator.proofs.Groups as sequencerKeeps
 use Rattle.simulator.proofs.Keeping as memberKeeps
-use Rattle.simulator.proofs.Lists.{length-list, lists-same, lists-set, lists-snoc, lists-get, lists-there, lists-absent}
+use Rattle.simulator.proofs.Lists.{length_list, lists_same, lists_set, lists_snoc, lists_get, lists_there, lists_absent}
 
 -- arrays that changed at i alone
 module _ (i : ℕ) (rows : Rows) (a b c d e f g h : List ℕ) where
   abbrev pub set_at : Rows
   set_at =
-      rows_of (set rows.queued i a) (set rows.held i b) (set rows.queuedOriginators i c) (set rows.queuedLengths i d)
-      (set rows.heldOriginators i e) (set rows.heldLengths i f) (set rows.queuedPayloads i g) (set rows.heldPayloads i h)
+      rows_of (set rows.queued i a) (set rows.held i b) (set rows.queued_originators i c) (set rows.queued_lengths i d)
+      (set rows.held_originators i e) (set rows.held_lengths i f) (set rows.queued_payloads i g) (set rows.held_payloads i h)
 
-  pub set_own : i < membersMost → Full rows → (head : memberHead.Head) → stored_at set_at i head ≡ memberView.whole head a b c d e f g h
+  pub set_own : i < members_most → Full rows → (head : memberHead.Head) → stored_at set_at i head ≡ memberView.whole head a b c d e f g h
   set_own l n head =
-      let inside : (x : List (List ℕ)) → length x ≡ membersMost → i < length x = λ x e. omega arith in
+      let inside : (x : List (List ℕ)) → length x ≡ members_most → i < length x = λ x e. omega arith in
       λ t. memberView.whole head (get_or-set_same rows.queued i a [] (inside rows.queued n.queued) t) (get_or-set_same rows.held i b [] (inside rows.held n.held) t)
-      (get_or-set_same rows.queuedOriginators i c [] (inside rows.queuedOriginators n.queued-originators) t) (get_or-set_same rows.queuedLengths i d [] (inside rows.queuedLengths n.queued-lengths) t)
-      (get_or-set_same rows.heldOriginators i e [] (inside rows.heldOriginators n.held-originators) t) (get_or-set_same rows.heldLengths i f [] (inside rows.heldLengths n.held-lengths) t)
-      (get_or-set_same rows.queuedPayloads i g [] (inside rows.queuedPayloads n.queued-payloads) t) (get_or-set_same rows.heldPayloads i h [] (inside rows.heldPayloads n.held-payloads) t)
+      (get_or-set_same rows.queued_originators i c [] (inside rows.queued_originators n.queued_originators) t) (get_or-set_same rows.queued_lengths i d [] (inside rows.queued_lengths n.queued_lengths) t)
+      (get_or-set_same rows.held_originators i e [] (inside rows.held_originators n.held_originators) t) (get_or-set_same rows.held_lengths i f [] (inside rows.held_lengths n.held_lengths) t)
+      (get_or-set_same rows.queued_payloads i g [] (inside rows.queued_payloads n.queued_payloads) t) (get_or-set_same rows.held_payloads i h [] (inside rows.held_payloads n.held_payloads) t)
 
-  pub set-others : (j : ℕ) (head : memberHead.Head) → (j ≡ i → ⊥) → stored_at set_at j head ≡ stored_at rows j head
-  set-others j head n =
+  pub set_others : (j : ℕ) (head : memberHead.Head) → (j ≡ i → ⊥) → stored_at set_at j head ≡ stored_at rows j head
+  set_others j head n =
       λ t. memberView.whole head (get_or-set_other rows.queued i j a [] n t) (get_or-set_other rows.held i j b [] n t)
-      (get_or-set_other rows.queuedOriginators i j c [] n t) (get_or-set_other rows.queuedLengths i j d [] n t)
-      (get_or-set_other rows.heldOriginators i j e [] n t) (get_or-set_other rows.heldLengths i j f [] n t)
-      (get_or-set_other rows.queuedPayloads i j g [] n t) (get_or-set_other rows.heldPayloads i j h [] n t)
+      (get_or-set_other rows.queued_originators i j c [] n t) (get_or-set_other rows.queued_lengths i j d [] n t)
+      (get_or-set_other rows.held_originators i j e [] n t) (get_or-set_other rows.held_lengths i j f [] n t)
+      (get_or-set_other rows.queued_payloads i j g [] n t) (get_or-set_other rows.held_payloads i j h [] n t)
 
   -- a call of the member whose arrays stand at i
-  pub calls-member : (call : MemberCall) (bytes : List ℕ) (head : memberHead.Head) (r : memberDone.Done) (before after : List ℕ) → i < membersMost → Full rows
-      → memberPromise.Changed (outcomeOf call bytes (length before) (memberView.view_of (stored_at rows i head))) r.reply (memberView.whole r.head a b c d e f g h) before after
+  pub calls_member : (call : MemberCall) (bytes : List ℕ) (head : memberHead.Head) (r : memberDone.Done) (before after : List ℕ) → i < members_most → Full rows
+      → memberPromise.Changed (outcome_of call bytes (length before) (memberView.view_of (stored_at rows i head))) r.reply (memberView.whole r.head a b c d e f g h) before after
       → CallsMember call i bytes head rows r set_at before after
-  calls-member call bytes head r before after l n k =
+  calls_member call bytes head r before after l n k =
       record {
-        call-is =
-            subst (λ (s : memberView.Stored). memberPromise.Changed (outcomeOf call bytes (length before) (memberView.view_of (stored_at rows i head))) r.reply s before after)
+        call_is =
+            subst (λ (s : memberView.Stored). memberPromise.Changed (outcome_of call bytes (length before) (memberView.view_of (stored_at rows i head))) r.reply s before after)
             (sym (set_own l n r.head)) k;
-        others = set-others;
+        others = set_others;
       }
 
 -- a call that only reads the state
-pub calls-told : (call : MemberCall) (i : ℕ) (bytes : List ℕ) (head : memberHead.Head) (rows : Rows) (reply : memberReply.Reply) (before after : List ℕ)
-    → (outcomeOf call bytes (length before) (memberView.view_of (stored_at rows i head))).member ≡ memberView.view_of (stored_at rows i head)
-    → memberPromise.Told (outcomeOf call bytes (length before) (memberView.view_of (stored_at rows i head))) reply before after
+pub calls_told : (call : MemberCall) (i : ℕ) (bytes : List ℕ) (head : memberHead.Head) (rows : Rows) (reply : memberReply.Reply) (before after : List ℕ)
+    → (outcome_of call bytes (length before) (memberView.view_of (stored_at rows i head))).member ≡ memberView.view_of (stored_at rows i head)
+    → memberPromise.Told (outcome_of call bytes (length before) (memberView.view_of (stored_at rows i head))) reply before after
     → CallsMember call i bytes head rows (record { head = head; reply = reply }) rows before after
-calls-told call i bytes head rows reply before after e k =
+calls_told call i bytes head rows reply before after e k =
     record {
-      call-is = record { answer = k.answer; state = sym e; lent = k.lent; wording = k.wording };
+      call_is = record { answer = k.answer; state = sym e; lent = k.lent; wording = k.wording };
       others = λ j h n. refl;
     }
 
 -- the head that a call left is the head of the row that is stored of it, since group and number stay
-pub head-kept : (call : MemberCall) (bytes : List ℕ) (room : ℕ) (g : group.Group) (i : ℕ) (numbers : List ℕ) (s : memberView.Stored) (s' : memberView.Stored)
-    → s.head ≡ headIn g i numbers → memberView.view_of s' ≡ (outcomeOf call bytes room (memberView.view_of s)).member
-    → headIn g i (s'.head.taken.0 ∷ s'.head.accepted.0 ∷ s'.head.submitted ∷ s'.head.waiting ∷ []) ≡ s'.head
+pub head_kept : (call : MemberCall) (bytes : List ℕ) (room : ℕ) (g : group.Group) (i : ℕ) (numbers : List ℕ) (s : memberView.Stored) (s' : memberView.Stored)
+    → s.head ≡ head_in g i numbers → memberView.view_of s' ≡ (outcome_of call bytes room (memberView.view_of s)).member
+    → head_in g i (s'.head.taken.0 ∷ s'.head.accepted.0 ∷ s'.head.submitted ∷ s'.head.waiting ∷ []) ≡ s'.head
 unfolding memberView.view_of
-head-kept call bytes room g i numbers s s' h e =
-    let k = memberKeeps.outcome-has (memberView.view_of s) call bytes room in
+head_kept call bytes room g i numbers s s' h e =
+    let k = memberKeeps.outcome_has (memberView.view_of s) call bytes room in
     let a : g ≡ s'.head.group = sym (ap (λ (m : Member). m.group) e ∙ k.0 ∙ ap (λ (h : memberHead.Head). h.group) h) in
     let b : record { 0 = i } ≡ s'.head.number = sym (ap (λ (m : Member). m.number) e ∙ k.1 ∙ ap (λ (h : memberHead.Head). h.number) h) in
     λ t. record { group = a t; number = b t; taken = s'.head.taken; accepted = s'.head.accepted; submitted = s'.head.submitted; waiting = s'.head.waiting }
@@ -98,47 +98,47 @@ head-kept call bytes room g i numbers s s' h e =
 -- a row of numbers that is set, and arrays that changed at the same index alone
 module _ (call : MemberCall) (bytes : List ℕ) (g : group.Group) (i : ℕ) (numbers : List (List ℕ)) (rows rows' : Rows) (r : memberDone.Done) (before after : List ℕ) where
   abbrev head : memberHead.Head
-  head = headIn g i (get_or numbers i [])
+  head = head_in g i (get_or numbers i [])
 
   abbrev row : List ℕ
   row = r.head.taken.0 ∷ r.head.accepted.0 ∷ r.head.submitted ∷ r.head.waiting ∷ []
 
   pub calls_at : i < length numbers → CallsMember call i bytes head rows r rows' before after
-      → CallsAt call i bytes (terminalsOf g numbers rows) r.reply (terminalsOf g (set numbers i row) rows') before after
-  unfolding memberAt
+      → CallsAt call i bytes (terminals_of g numbers rows) r.reply (terminals_of g (set numbers i row) rows') before after
+  unfolding member_at
   calls_at h c =
-      let k = head-kept call bytes (length before) g i (get_or numbers i []) (stored_at rows i head) (stored_at rows' i r.head) refl c.call-is.state in
-      let e : headIn g i (get_or (set numbers i row) i []) ≡ r.head = ap (headIn g i) (get_or-set_same numbers i row [] h) ∙ k in
+      let k = head_kept call bytes (length before) g i (get_or numbers i []) (stored_at rows i head) (stored_at rows' i r.head) refl c.call_is.state in
+      let e : head_in g i (get_or (set numbers i row) i []) ≡ r.head = ap (head_in g i) (get_or-set_same numbers i row [] h) ∙ k in
       record {
-        answer = c.call-is.answer;
-        state = ap (λ (x : memberHead.Head). memberView.view_of (stored_at rows' i x)) e ∙ c.call-is.state;
-        lent = c.call-is.lent;
+        answer = c.call_is.answer;
+        state = ap (λ (x : memberHead.Head). memberView.view_of (stored_at rows' i x)) e ∙ c.call_is.state;
+        lent = c.call_is.lent;
         others = λ j n.
-            ap (λ (l : List ℕ). memberView.view_of (stored_at rows' j (headIn g j l))) (get_or-set_other numbers i j row [] n)
-            ∙ ap memberView.view_of (c.others j (headIn g j (get_or numbers j [])) n);
+            ap (λ (l : List ℕ). memberView.view_of (stored_at rows' j (head_in g j l))) (get_or-set_other numbers i j row [] n)
+            ∙ ap memberView.view_of (c.others j (head_in g j (get_or numbers j [])) n);
       }
 
 -- a packet at the end
 module _ (sizes : List ℕ) (packets : List (List ℕ)) (count size : ℕ) (bytes : List ℕ) where
   abbrev p : Packets
-  p = packetsOf sizes packets count
+  p = packets_of sizes packets count
 
   abbrev next : ℕ → Packets
-  next k = packetsOf (set sizes count size) (set packets count bytes) k
+  next k = packets_of (set sizes count size) (set packets count bytes) k
 
-  at_others : (c k : ℕ) → (k ≡ count → ⊥) → packetAt (next c) k ≡ packetAt p k
-  unfolding packetAt
+  at_others : (c k : ℕ) → (k ≡ count → ⊥) → packet_at (next c) k ≡ packet_at p k
+  unfolding packet_at
   at_others c k n = λ t. take (get_or-set_other sizes count k size 0 n t) (get_or-set_other packets count k bytes [] n t)
 
-  at_count : (c : ℕ) → count < length sizes → count < length packets → packetAt (next c) count ≡ take size bytes
-  unfolding packetAt
+  at_count : (c : ℕ) → count < length sizes → count < length packets → packet_at (next c) count ≡ take size bytes
+  unfolding packet_at
   at_count c h k = λ t. take (get_or-set_same sizes count size 0 h t) (get_or-set_same packets count bytes [] k t)
 
-  pub stores-none : size ≡ 0 → length bytes ≡ longestPacket → Stores p size bytes (next count)
+  pub stores_none : size ≡ 0 → length bytes ≡ longest_packet → Stores p size bytes (next count)
   unfolding written
-  stores-none e l =
+  stores_none e l =
       record {
-        packets = lists-same (packetAt p) (packetAt (next count)) count (λ j h. at_others count j (λ c. omega arith)) ∙ rw e (sym (append-nil (packetsIn p)));
+        packets = lists_same (packet_at p) (packet_at (next count)) count (λ j h. at_others count j (λ c. omega arith)) ∙ rw e (sym (append-nil (packets_in p)));
         most = omega arith;
         others = at_others count;
         full = l;
@@ -151,27 +151,27 @@ module _ (sizes : List ℕ) (packets : List (List ℕ)) (count size : ℕ) (byte
   written_one (suc size) [] h k = absurd (omega arith)
   written_one (suc size) (b ∷ bytes) h k = refl
 
-  pub stores_one : 0 < size → length bytes ≡ longestPacket → count < length sizes → count < length packets → Stores p size bytes (next (count + 1))
+  pub stores_one : 0 < size → length bytes ≡ longest_packet → count < length sizes → count < length packets → Stores p size bytes (next (count + 1))
   stores_one z l h k =
       record {
         packets =
-            lists-snoc (packetAt (next (count + 1))) count
-            ∙ (λ t. lists-same (packetAt p) (packetAt (next (count + 1))) count (λ j h. at_others (count + 1) j (λ c. omega arith)) t
+            lists_snoc (packet_at (next (count + 1))) count
+            ∙ (λ t. lists_same (packet_at p) (packet_at (next (count + 1))) count (λ j h. at_others (count + 1) j (λ c. omega arith)) t
             ++ (at_count (count + 1) h k t ∷ []))
-            ∙ ap (λ (l : List (List ℕ)). packetsIn p ++ l) (sym (written_one size bytes z (omega arith)));
+            ∙ ap (λ (l : List (List ℕ)). packets_in p ++ l) (sym (written_one size bytes z (omega arith)));
         most = omega arith;
         others = at_others (count + 1);
         full = l;
       }
 
 -- what is stored of a call's bytes
-kept-bytes : (c : MemberCall) (bytes lent : List ℕ) → take (keptSize c (length bytes)) (front bytes lent) ≡ take (keptSize c (length bytes)) bytes
-unfolding keptSize
-kept-bytes call.Submit bytes lent = take-append_seam bytes _ ∙ sym (take_all (length bytes) bytes (omega arith))
-kept-bytes call.Repeat bytes lent = take-append_seam bytes _ ∙ sym (take_all (length bytes) bytes (omega arith))
-kept-bytes call.Take bytes lent = refl
-kept-bytes call.Status bytes lent = take-append_seam bytes _ ∙ sym (take_all (length bytes) bytes (omega arith))
-kept-bytes call.Receive bytes lent = take-append_seam bytes _ ∙ sym (take_all (length bytes) bytes (omega arith))
+kept_bytes : (c : MemberCall) (bytes lent : List ℕ) → take (kept_size c (length bytes)) (front bytes lent) ≡ take (kept_size c (length bytes)) bytes
+unfolding kept_size
+kept_bytes call.Submit bytes lent = take-append_seam bytes _ ∙ sym (take_all (length bytes) bytes (omega arith))
+kept_bytes call.Repeat bytes lent = take-append_seam bytes _ ∙ sym (take_all (length bytes) bytes (omega arith))
+kept_bytes call.Take bytes lent = refl
+kept_bytes call.Status bytes lent = take-append_seam bytes _ ∙ sym (take_all (length bytes) bytes (omega arith))
+kept_bytes call.Receive bytes lent = take-append_seam bytes _ ∙ sym (take_all (length bytes) bytes (omega arith))
 
 -- the bytes that a call wrote are as many as it says, and behind them the output is as it was lent
 pub wrote : (bytes before after : List ℕ) (size : ℕ) → size ≡ length bytes → after ≡ front bytes before → take size after ≡ bytes
@@ -181,42 +181,42 @@ pub behind : (bytes before after : List ℕ) (size : ℕ) → size ≡ length by
 behind bytes before after size e f = rw (wrote bytes before after size e f) f
 
 -- and there is room for them
-pub fits : (bytes before after : List ℕ) (size : ℕ) → size ≡ length bytes → after ≡ front bytes before → length after ≡ longestPacket → size ≤ longestPacket
+pub fits : (bytes before after : List ℕ) (size : ℕ) → size ≡ length bytes → after ≡ front bytes before → length after ≡ longest_packet → size ≤ longest_packet
 fits bytes before after size e f l = let z = simp length-append at (ap length f) in omega arith
 
 -- an event of member i
 module _ (c : MemberCall) (i : ℕ) (bytes : List ℕ) (head : Head) (t t' : Terminals) (p p' : Packets) (told : memberReply.Reply) (before after : List ℕ) where
   abbrev o : member.Outcome
-  o = outcomeOf c bytes (length before) (memberAt t i)
+  o = outcome_of c bytes (length before) (member_at t i)
 
   abbrev gives : Happening
   gives = record { head = record { sequencer = head.sequencer; count = p'.count }; reply = Reply.Member told.answer; written = told.written }
 
-  pub acts : Room head → i < t.group.n → t'.group ≡ t.group → length before ≡ longestPacket → CallsAt c i bytes t told t' before after
-      → Stores p (keptSize c told.written) after p' → head.count ≡ p.count → Acts (happenedAt c i bytes) head t p gives t' p' before after
-  unfolding happenedAt answer_of
+  pub acts : Room head → i < t.group.n → t'.group ≡ t.group → length before ≡ longest_packet → CallsAt c i bytes t told t' before after
+      → Stores p (kept_size c told.written) after p' → head.count ≡ p.count → Acts (happened_at c i bytes) head t p gives t' p' before after
+  unfolding happened_at answer_of
   acts has h same room call s count =
       let w : told.written ≡ length o.bytes = ap (λ (r : memberReply.Reply). r.written) call.answer in
       let a : told.answer ≡ o.answer = ap (λ (r : memberReply.Reply). r.answer) call.answer in
       let k = wrote o.bytes before after told.written w call.lent in
-      let z : take (keptSize c told.written) after ≡ take (keptSize c (length o.bytes)) o.bytes =
-      (λ x. take (keptSize c (w x)) (call.lent x)) ∙ kept-bytes c o.bytes before
+      let z : take (kept_size c told.written) after ≡ take (kept_size c (length o.bytes)) o.bytes =
+      (λ x. take (kept_size c (w x)) (call.lent x)) ∙ kept_bytes c o.bytes before
       in
-      let happens : (s : Sequencer) → withMember (record { sequencer = s; members = membersIn t; packets = packetsIn p }) i o (written (take (keptSize c (length o.bytes)) o.bytes))
-      ≡ happenedAt c i bytes (record { sequencer = s; members = membersIn t; packets = packetsIn p }) =
+      let happens : (s : Sequencer) → with_member (record { sequencer = s; members = members_in t; packets = packets_in p }) i o (written (take (kept_size c (length o.bytes)) o.bytes))
+      ≡ happened_at c i bytes (record { sequencer = s; members = members_in t; packets = packets_in p }) =
       λ s.
-      let g : Group = record { sequencer = s; members = membersIn t; packets = packetsIn p } in
-      let m : memberAt t i ≡ get_or (membersIn t) i noMember = sym (lists-get (memberAt t) noMember t.group.n i h) in
-      (λ x. let o : member.Outcome = outcomeOf c bytes (room x) (m x) in withMember g i o (written (take (keptSize c (length o.bytes)) o.bytes)))
-      ∙ if-true _ _ _ _ (lt-ltb i (length (membersIn t)) (rw (length-list (memberAt t) 0 t.group.n) h)) refl
+      let g : Group = record { sequencer = s; members = members_in t; packets = packets_in p } in
+      let m : member_at t i ≡ get_or (members_in t) i no_member = sym (lists_get (member_at t) no_member t.group.n i h) in
+      (λ x. let o : member.Outcome = outcome_of c bytes (room x) (m x) in with_member g i o (written (take (kept_size c (length o.bytes)) o.bytes)))
+      ∙ if_true _ _ _ _ (lt-ltb i (length (members_in t)) (rw (length_list (member_at t) 0 t.group.n) h)) refl
       in
-      let ms : membersIn t' ≡ set (membersIn t) i o.member =
-      ap (λ (k : ℕ). list_of (memberAt t') 0 k) (ap (λ (g : group.Group). g.n) same)
-      ∙ lists-set (memberAt t) (memberAt t') o.member t.group.n i h call.state call.others
+      let ms : members_in t' ≡ set (members_in t) i o.member =
+      ap (λ (k : ℕ). list_of (member_at t') 0 k) (ap (λ (g : group.Group). g.n) same)
+      ∙ lists_set (member_at t) (member_at t') o.member t.group.n i h call.state call.others
       in
       record {
         group = λ _ q.
-            (λ x. record { sequencer = q; members = ms x; packets = (s.packets ∙ ap (λ (l : List ℕ). packetsIn p ++ written l) z) x })
+            (λ x. record { sequencer = q; members = ms x; packets = (s.packets ∙ ap (λ (l : List ℕ). packets_in p ++ written l) z) x })
             ∙ ap (λ (h : Happened). h.group) (happens q);
         stays = λ no. absurd (no has);
         answer = λ _ q. (λ x. answer_of (Reply.Member (a x)) (k x)) ∙ ap (λ (h : Happened). h.answer) (happens q);
@@ -229,11 +229,11 @@ module _ (c : MemberCall) (i : ℕ) (bytes : List ℕ) (head : Head) (t t' : Ter
       }
 
 -- an event that names a packet or member that is not there
-pub acts-not : (happened : Group → Happened) (head : Head) (t : Terminals) (p : Packets) (lent : List ℕ)
-    → (Room head → (s : Sequencer) → missing (record { sequencer = s; members = membersIn t; packets = packetsIn p }) ≡ happened (record { sequencer = s; members = membersIn t; packets = packetsIn p }))
+pub acts_not : (happened : Group → Happened) (head : Head) (t : Terminals) (p : Packets) (lent : List ℕ)
+    → (Room head → (s : Sequencer) → missing (record { sequencer = s; members = members_in t; packets = packets_in p }) ≡ happened (record { sequencer = s; members = members_in t; packets = packets_in p }))
     → Acts happened head t p (nothing head) t p lent lent
 unfolding answer_of
-acts-not happened head t p lent e =
+acts_not happened head t p lent e =
     record {
       group = λ room s. ap (λ (h : Happened). h.group) (e room s);
       answer = λ room s. ap (λ (h : Happened). h.answer) (e room s);
@@ -247,56 +247,56 @@ acts-not happened head t p lent e =
     }
 
 -- there is no member i
-pub no_member : (c : MemberCall) (i : ℕ) (bytes : List ℕ) (t : Terminals) (p : Packets) (s : Sequencer) → t.group.n ≤ i
-    → missing (record { sequencer = s; members = membersIn t; packets = packetsIn p }) ≡ happenedAt c i bytes (record { sequencer = s; members = membersIn t; packets = packetsIn p })
-unfolding happenedAt
-no_member c i bytes t p s h = if-false _ _ _ _ (le-ltb i (length (membersIn t)) (rw (length-list (memberAt t) 0 t.group.n) h)) refl
+pub no_member_lem : (c : MemberCall) (i : ℕ) (bytes : List ℕ) (t : Terminals) (p : Packets) (s : Sequencer) → t.group.n ≤ i
+    → missing (record { sequencer = s; members = members_in t; packets = packets_in p }) ≡ happened_at c i bytes (record { sequencer = s; members = members_in t; packets = packets_in p })
+unfolding happened_at
+no_member_lem c i bytes t p s h = if_false _ _ _ _ (le-ltb i (length (members_in t)) (rw (length_list (member_at t) 0 t.group.n) h)) refl
 
 -- an event of the sequencer
 module _ (c : SequencerCall) (bytes : List ℕ) (head : Head) (s s' : sequencerView.Stored) (p p' : Packets) (told : sequencerReply.Reply) (before after : List ℕ) where
   abbrev out : sequencer.Outcome
-  out = outcomeHere c bytes (length before) (sequencerView.view_of s)
+  out = outcome_here c bytes (length before) (sequencerView.view_of s)
 
   abbrev tells : Happening
   tells = record { head = record { sequencer = s'.head; count = p'.count }; reply = Reply.Sequencer told.answer; written = told.written }
 
-  pub sequences : Room head → head.sequencer ≡ s.head → length before ≡ longestPacket → CallsSequencer c bytes s told s' before after
-      → Stores p told.written after p' → head.count ≡ p.count → Sequences (happenedHere c bytes) head s p tells s' p' before after
-  unfolding happenedHere answer_of sequencerView.view_of
+  pub sequences : Room head → head.sequencer ≡ s.head → length before ≡ longest_packet → CallsSequencer c bytes s told s' before after
+      → Stores p told.written after p' → head.count ≡ p.count → Sequences (happened_here c bytes) head s p tells s' p' before after
+  unfolding happened_here answer_of sequencerView.view_of
   sequences has e room call z count =
       let w : told.written ≡ length out.bytes = ap (λ (r : sequencerReply.Reply). r.written) call.answer in
       let a : told.answer ≡ out.answer = ap (λ (r : sequencerReply.Reply). r.answer) call.answer in
       let k = wrote out.bytes before after told.written w call.lent in
-      let happens : (members : List Member) → withSequencer (record { sequencer = sequencerView.view_of s; members = members; packets = packetsIn p }) out
-      ≡ happenedHere c bytes (record { sequencer = sequencerView.view_of s; members = members; packets = packetsIn p }) =
-      λ members. ap (λ (x : ℕ). withSequencer (record { sequencer = sequencerView.view_of s; members = members; packets = packetsIn p }) (outcomeHere c bytes x (sequencerView.view_of s))) room
+      let happens : (members : List Member) → with_sequencer (record { sequencer = sequencerView.view_of s; members = members; packets = packets_in p }) out
+      ≡ happened_here c bytes (record { sequencer = sequencerView.view_of s; members = members; packets = packets_in p }) =
+      λ members. ap (λ (x : ℕ). with_sequencer (record { sequencer = sequencerView.view_of s; members = members; packets = packets_in p }) (outcome_here c bytes x (sequencerView.view_of s))) room
       in
       record {
         group = λ _ members.
-            (λ x. record { sequencer = call.state x; members = members; packets = (z.packets ∙ ap (λ (l : List ℕ). packetsIn p ++ written l) k) x })
+            (λ x. record { sequencer = call.state x; members = members; packets = (z.packets ∙ ap (λ (l : List ℕ). packets_in p ++ written l) k) x })
             ∙ ap (λ (h : Happened). h.group) (happens members);
         stays = λ no. absurd (no has);
         answer = λ _ members. (λ x. answer_of (Reply.Sequencer (a x)) (k x)) ∙ ap (λ (h : Happened). h.answer) (happens members);
         lent = behind out.bytes before after told.written w call.lent;
         size = fits out.bytes before after told.written w call.lent z.full;
-        same = ap (λ (q : Sequencer). q.group) call.state ∙ sequencerKeeps.outcome-has (sequencerView.view_of s) c bytes (length before) ∙ sym (ap (λ h. h.group) e);
+        same = ap (λ (q : Sequencer). q.group) call.state ∙ sequencerKeeps.outcome_has (sequencerView.view_of s) c bytes (length before) ∙ sym (ap (λ h. h.group) e);
         most = rw count z.most;
         packets = z.others;
       }
 
 -- a call of the sequencer that only reads the state
-pub sequencer-told : (c : SequencerCall) (bytes : List ℕ) (s : sequencerView.Stored) (reply : sequencerReply.Reply) (before after : List ℕ)
-    → (outcomeHere c bytes (length before) (sequencerView.view_of s)).sequencer ≡ sequencerView.view_of s
-    → sequencerPromise.Told (outcomeHere c bytes (length before) (sequencerView.view_of s)) reply before after
+pub sequencer_told_lem : (c : SequencerCall) (bytes : List ℕ) (s : sequencerView.Stored) (reply : sequencerReply.Reply) (before after : List ℕ)
+    → (outcome_here c bytes (length before) (sequencerView.view_of s)).sequencer ≡ sequencerView.view_of s
+    → sequencerPromise.Told (outcome_here c bytes (length before) (sequencerView.view_of s)) reply before after
     → CallsSequencer c bytes s reply s before after
-sequencer-told c bytes s reply before after e k = record { answer = k.answer; state = sym e; lent = k.lent; wording = k.wording }
+sequencer_told_lem c bytes s reply before after e k = record { answer = k.answer; state = sym e; lent = k.lent; wording = k.wording }
 
-pub sequences-not : (happened : Group → Happened) (head : Head) (s : sequencerView.Stored) (p : Packets) (lent : List ℕ)
+pub sequences_not : (happened : Group → Happened) (head : Head) (s : sequencerView.Stored) (p : Packets) (lent : List ℕ)
     → (Room head → (members : List Member)
-    → missing (record { sequencer = sequencerView.view_of s; members = members; packets = packetsIn p }) ≡ happened (record { sequencer = sequencerView.view_of s; members = members; packets = packetsIn p }))
+    → missing (record { sequencer = sequencerView.view_of s; members = members; packets = packets_in p }) ≡ happened (record { sequencer = sequencerView.view_of s; members = members; packets = packets_in p }))
     → Sequences happened head s p (nothing head) s p lent lent
 unfolding answer_of
-sequences-not happened head s p lent e =
+sequences_not happened head s p lent e =
     record {
       group = λ room members. ap (λ (h : Happened). h.group) (e room members);
       answer = λ room members. ap (λ (h : Happened). h.answer) (e room members);
@@ -309,16 +309,16 @@ sequences-not happened head s p lent e =
     }
 
 -- the stretch of a stored packet's array that is read is the packet
-pub packet-read : (size length' : ℕ) (bytes : List ℕ) → length bytes ≡ longestPacket → size ≡ fittingOf length' → take size bytes ≡ take length' bytes
-unfolding fittingOf
-packet-read size length' bytes e s =
+pub packet_read : (size length' : ℕ) (bytes : List ℕ) → length bytes ≡ longest_packet → size ≡ fitting_of length' → take size bytes ≡ take length' bytes
+unfolding fitting_of
+packet_read size length' bytes e s =
     rw s
-    (le-or longestPacket length'
-    (λ h. let z : fittingOf length' ≡ longestPacket = sym (if-false _ _ _ _ (le-ltb length' longestPacket h) refl) in
-    rw z (take_all longestPacket bytes (omega arith) ∙ sym (take_all length' bytes (omega arith))))
-    (λ h. let z : fittingOf length' ≡ length' = sym (if-true _ _ _ _ (lt-ltb length' longestPacket h) refl) in rw z))
+    (le_or longest_packet length'
+    (λ h. let z : fitting_of length' ≡ longest_packet = sym (if_false _ _ _ _ (le-ltb length' longest_packet h) refl) in
+    rw z (take_all longest_packet bytes (omega arith) ∙ sym (take_all length' bytes (omega arith))))
+    (λ h. let z : fitting_of length' ≡ length' = sym (if_true _ _ _ _ (lt-ltb length' longest_packet h) refl) in rw z))
 
-pub packet-fits : (size length' : ℕ) → size ≡ fittingOf length' → size ≤ longestPacket
-unfolding fittingOf
-packet-fits size length' s =
-    rw s (if-elim (λ (x : ℕ). x ≤ longestPacket) (length' <? longestPacket) (λ t. let z = ltb-true length' longestPacket t in omega arith) (λ _. omega arith))
+pub packet_fits : (size length' : ℕ) → size ≡ fitting_of length' → size ≤ longest_packet
+unfolding fitting_of
+packet_fits size length' s =
+    rw s (if_elim (λ (x : ℕ). x ≤ longest_packet) (length' <? longest_packet) (λ t. let z = ltb-true length' longest_packet t in omega arith) (λ _. omega arith))

@@ -2,7 +2,7 @@
 use mathlib.Core.Path.{◌≡◌, refl, sym, ap, ◌∙◌}
 use mathlib.Core.List.{List, [], ◌∷◌, ◌++◌, map}
 use Prim.Native.Nat.{ℕ, ◌≤◌}
-use Rattle.group.specs.Limits.{membersMost}
+use Rattle.group.specs.Limits.{members_most}
 use Rattle.model.specs.World.{Event, Answer, Group, happen, Entry, World, step, run, fresh}
 use Rattle.simulator.specs.Course.{Played, opened, played, Reached, PlayedReached, Unseen, OpensAlike}
 use Rattle.simulator.specs.Whole.{Room, Whole}
@@ -12,14 +12,14 @@ map_snoc : {A B : Type 0} (f : A → B) (l : List A) (x : A) → map f (l ++ (x 
 map_snoc f [] x = refl
 map_snoc f (y ∷ l) x = ap (λ (r : List _). f y ∷ r) (map_snoc f l x)
 
-run-snoc : (w : World) (events : List Event) (event : Event) → run w (events ++ (event ∷ [])) ≡ step (run w events) event
+run_snoc : (w : World) (events : List Event) (event : Event) → run w (events ++ (event ∷ [])) ≡ step (run w events) event
 unfolding run
-run-snoc w [] event = refl
-run-snoc w (e ∷ events) event = run-snoc (step w e) events event
+run_snoc w [] event = refl
+run_snoc w (e ∷ events) event = run_snoc (step w e) events event
 
 module _ (n number resilience : ℕ) where
   -- there is room for every member
-  few : {events : List Event} {answers : List Answer} {head : Head} {w : Whole} → Played n number resilience events answers head w → head.sequencer.group.n ≤ membersMost
+  few : {events : List Event} {answers : List Answer} {head : Head} {w : Whole} → Played n number resilience events answers head w → head.sequencer.group.n ≤ members_most
   few (opened verdict head w o accepted) = o.room.members
   few (played {events} {answers} {head} {w} event head' reply written w' before after p room d) = let z = few p in rw d.same z
 
@@ -30,7 +30,7 @@ module _ (n number resilience : ℕ) where
       let h = here p in
       let has : Room head = record { packets = room; members = few p } in
       let w₀ = run (fresh n number resilience) events in
-      let s : run (fresh n number resilience) (events ++ (event ∷ [])) ≡ step w₀ event = run-snoc (fresh n number resilience) events event in
+      let s : run (fresh n number resilience) (events ++ (event ∷ [])) ≡ step w₀ event = run_snoc (fresh n number resilience) events event in
       let a = ap (λ (g : Group). (happen g event).answer) (sym h.group) ∙ sym (d.answer has) in
       record {
         group = d.group has ∙ ap (λ (g : Group). (happen g event).group) h.group ∙ ap (λ (x : World). x.group) (sym s);
@@ -41,8 +41,8 @@ module _ (n number resilience : ℕ) where
             ∙ ap (λ (x : Answer). answers ++ (x ∷ [])) a;
       }
 
-pub played-reached : PlayedReached
-played-reached n number resilience events answers head w p = here n number resilience p
+pub played_reached : PlayedReached
+played_reached n number resilience events answers head w p = here n number resilience p
 
 pub unseen : Unseen
 unseen event head head₁ head' head₁' w w₁ w' w₁' reply reply₁ size size₁ before before₁ after after₁ room room₁ e p q = (
@@ -50,5 +50,5 @@ unseen event head head₁ head' head₁' w w₁ w' w₁' reply reply₁ size siz
   p.answer room ∙ ap (λ (g : Group). (happen g event).answer) e ∙ sym (q.answer room₁),
 )
 
-pub opens-alike : OpensAlike
-opens-alike n number resilience verdict verdict₁ head head₁ w w₁ p q = (p.verdict-is ∙ sym q.verdict-is, p.shown ∙ sym q.shown)
+pub opens_alike : OpensAlike
+opens_alike n number resilience verdict verdict₁ head head₁ w w₁ p q = (p.verdict_is ∙ sym q.verdict_is, p.shown ∙ sym q.shown)

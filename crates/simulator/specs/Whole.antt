@@ -2,21 +2,21 @@
 -- for a packet, an event does to it what `happen` says.
 use Rattle.std.specs.Prelude.{◌≡◌, List, [], ◌∷◌, ℕ, zero, suc, ◌+◌, ◌≤◌, ◌<◌, length, take, get_or}
 use Rattle.group.specs.Lent.{front}
-use Rattle.group.specs.Limits.{membersMost, longestPacket}
+use Rattle.group.specs.Limits.{members_most, longest_packet}
 use Rattle.group.specs.declared.Group as group
 use Rattle.group.specs.declared.Verdict.{Verdict}
-use Rattle.member.specs.State.{Member, freshMember}
+use Rattle.member.specs.State.{Member, fresh_member}
 use Rattle.member.specs.View as memberView
 use Rattle.member.specs.declared.Head as member
-use Rattle.model.specs.World.{Event, answer_of, Group, Happened, happen, freshMembers, fresh}
+use Rattle.model.specs.World.{Event, answer_of, Group, Happened, happen, fresh_members, fresh}
 use Rattle.model.specs.declared.Reply.{Reply}
 use Rattle.sequencer.specs.Calls as sequencer
 use Rattle.sequencer.specs.View as sequencerView
 use Rattle.simulator.specs.declared.Head.{Head}
 
 -- the packets that a schedule has room for; `PACKETS` of the code is the same
-abbrev pub packetsMost : ℕ
-packetsMost = 200
+abbrev pub packets_most : ℕ
+packets_most = 200
 
 -- the k values of a function from i on
 unfoldable pub list_of : {A : Type 0} → (ℕ → A) → ℕ → ℕ → List A
@@ -27,31 +27,31 @@ list_of f i (suc k) = f i ∷ list_of f (i + 1) k
 pub record Rows : Type 0 where
   pub queued : List (List ℕ)
   pub held : List (List ℕ)
-  pub queuedOriginators : List (List ℕ)
-  pub queuedLengths : List (List ℕ)
-  pub heldOriginators : List (List ℕ)
-  pub heldLengths : List (List ℕ)
-  pub queuedPayloads : List (List ℕ)
-  pub heldPayloads : List (List ℕ)
+  pub queued_originators : List (List ℕ)
+  pub queued_lengths : List (List ℕ)
+  pub held_originators : List (List ℕ)
+  pub held_lengths : List (List ℕ)
+  pub queued_payloads : List (List ℕ)
+  pub held_payloads : List (List ℕ)
 
 abbrev pub rows_of : List (List ℕ) → List (List ℕ) → List (List ℕ) → List (List ℕ) → List (List ℕ) → List (List ℕ) → List (List ℕ) → List (List ℕ) → Rows
-rows_of queued held queuedOriginators queuedLengths heldOriginators heldLengths queuedPayloads heldPayloads =
+rows_of queued held queued_originators queued_lengths held_originators held_lengths queued_payloads held_payloads =
     record {
       queued = queued;
       held = held;
-      queuedOriginators = queuedOriginators;
-      queuedLengths = queuedLengths;
-      heldOriginators = heldOriginators;
-      heldLengths = heldLengths;
-      queuedPayloads = queuedPayloads;
-      heldPayloads = heldPayloads;
+      queued_originators = queued_originators;
+      queued_lengths = queued_lengths;
+      held_originators = held_originators;
+      held_lengths = held_lengths;
+      queued_payloads = queued_payloads;
+      held_payloads = held_payloads;
     }
 
 -- the member whose arrays stand at i, with a head
 abbrev pub stored_at : Rows → ℕ → member.Head → memberView.Stored
 stored_at rows i head =
-    memberView.whole head (get_or rows.queued i []) (get_or rows.held i []) (get_or rows.queuedOriginators i []) (get_or rows.queuedLengths i [])
-    (get_or rows.heldOriginators i []) (get_or rows.heldLengths i []) (get_or rows.queuedPayloads i []) (get_or rows.heldPayloads i [])
+    memberView.whole head (get_or rows.queued i []) (get_or rows.held i []) (get_or rows.queued_originators i []) (get_or rows.queued_lengths i [])
+    (get_or rows.held_originators i []) (get_or rows.held_lengths i []) (get_or rows.queued_payloads i []) (get_or rows.held_payloads i [])
 
 -- all members: the description of their group, the numbers of each, and their arrays
 pub record Terminals : Type 0 where
@@ -59,12 +59,12 @@ pub record Terminals : Type 0 where
   pub numbers : List (List ℕ)
   pub rows : Rows
 
-abbrev pub terminalsOf : group.Group → List (List ℕ) → Rows → Terminals
-terminalsOf group numbers rows = record { group = group; numbers = numbers; rows = rows }
+abbrev pub terminals_of : group.Group → List (List ℕ) → Rows → Terminals
+terminals_of group numbers rows = record { group = group; numbers = numbers; rows = rows }
 
 -- the head of member i: what it took last, what it knows to be accepted, its submissions, and how many of them wait
-abbrev pub headIn : group.Group → ℕ → List ℕ → member.Head
-headIn group i numbers =
+abbrev pub head_in : group.Group → ℕ → List ℕ → member.Head
+head_in group i numbers =
     record {
       group = group;
       number = record { 0 = i };
@@ -74,11 +74,11 @@ headIn group i numbers =
       waiting = get_or numbers 3 0;
     }
 
-unfoldable pub memberAt : Terminals → ℕ → Member
-memberAt t i = memberView.view_of (stored_at t.rows i (headIn t.group i (get_or t.numbers i [])))
+unfoldable pub member_at : Terminals → ℕ → Member
+member_at t i = memberView.view_of (stored_at t.rows i (head_in t.group i (get_or t.numbers i [])))
 
-abbrev pub membersIn : Terminals → List Member
-membersIn t = list_of (memberAt t) 0 t.group.n
+abbrev pub members_in : Terminals → List Member
+members_in t = list_of (member_at t) 0 t.group.n
 
 -- the packets: the length and the bytes of each, and how many were written
 pub record Packets : Type 0 where
@@ -86,14 +86,14 @@ pub record Packets : Type 0 where
   pub bytes : List (List ℕ)
   pub count : ℕ
 
-abbrev pub packetsOf : List ℕ → List (List ℕ) → ℕ → Packets
-packetsOf sizes bytes count = record { sizes = sizes; bytes = bytes; count = count }
+abbrev pub packets_of : List ℕ → List (List ℕ) → ℕ → Packets
+packets_of sizes bytes count = record { sizes = sizes; bytes = bytes; count = count }
 
-unfoldable pub packetAt : Packets → ℕ → List ℕ
-packetAt p k = take (get_or p.sizes k 0) (get_or p.bytes k [])
+unfoldable pub packet_at : Packets → ℕ → List ℕ
+packet_at p k = take (get_or p.sizes k 0) (get_or p.bytes k [])
 
-abbrev pub packetsIn : Packets → List (List ℕ)
-packetsIn p = list_of (packetAt p) 0 p.count
+abbrev pub packets_in : Packets → List (List ℕ)
+packets_in p = list_of (packet_at p) 0 p.count
 
 -- the whole
 pub record Whole : Type 0 where
@@ -103,26 +103,26 @@ pub record Whole : Type 0 where
 
 abbrev pub whole_of : Head → List ℕ → List ℕ → List ℕ → List ℕ → List ℕ → List ℕ → List ℕ → List ℕ → List (List ℕ) → List (List ℕ) → List (List ℕ)
     → List (List ℕ) → List (List ℕ) → List (List ℕ) → List (List ℕ) → List (List ℕ) → List (List ℕ) → List ℕ → List (List ℕ) → Whole
-whole_of head taken counts repeats kept marks originators lengths payloads numbers queued held queuedOriginators queuedLengths heldOriginators heldLengths queuedPayloads heldPayloads sizes packets =
+whole_of head taken counts repeats kept marks originators lengths payloads numbers queued held queued_originators queued_lengths held_originators held_lengths queued_payloads held_payloads sizes packets =
     record {
       sequencer = sequencerView.whole head.sequencer taken counts repeats kept marks originators lengths payloads;
-      terminals = terminalsOf head.sequencer.group numbers (rows_of queued held queuedOriginators queuedLengths heldOriginators heldLengths queuedPayloads heldPayloads);
-      packets = packetsOf sizes packets head.count;
+      terminals = terminals_of head.sequencer.group numbers (rows_of queued held queued_originators queued_lengths held_originators held_lengths queued_payloads held_payloads);
+      packets = packets_of sizes packets head.count;
     }
 
 -- the group that is run
 abbrev pub group_of : Whole → Group
-group_of w = record { sequencer = sequencerView.view_of w.sequencer; members = membersIn w.terminals; packets = packetsIn w.packets }
+group_of w = record { sequencer = sequencerView.view_of w.sequencer; members = members_in w.terminals; packets = packets_in w.packets }
 
 -- there is room for one packet more, and for every member
 pub record Room (head : Head) : Type 0 where
-  pub packets : head.count < packetsMost
-  pub members : head.sequencer.group.n ≤ membersMost
+  pub packets : head.count < packets_most
+  pub members : head.sequencer.group.n ≤ members_most
 
 -- nothing happened
 pub record Stays (head : Head) (w : Whole) (head' : Head) (reply : Reply) (written : ℕ) (w' : Whole) : Type 0 where
-  pub head-is : head' ≡ head
-  pub reply-is : reply ≡ Reply.Absent
+  pub head_is : head' ≡ head
+  pub reply_is : reply ≡ Reply.Absent
   pub written_is : written ≡ 0
   pub whole_is : w' ≡ w
 
@@ -134,28 +134,28 @@ pub record Plays (event : Event) (head : Head) (w : Whole) (head' : Head) (reply
   -- without, nothing
   pub stays : (Room head → ⊥) → Stays head w head' reply written w'
   pub lent : after ≡ front (take written after) before
-  pub size : written ≤ longestPacket
-  -- n stays, and there is at most one packet more: there is room until `packetsMost` were written
+  pub size : written ≤ longest_packet
+  -- n stays, and there is at most one packet more: there is room until `packets_most` were written
   pub same : head'.sequencer.group.n ≡ head.sequencer.group.n
   pub most : head'.count ≤ head.count + 1
   -- of what the group does not show: no member from n on changes, and no packet but the one at count
-  pub members : (j : ℕ) → w.terminals.group.n ≤ j → memberAt w'.terminals j ≡ memberAt w.terminals j
-  pub packets : (k : ℕ) → (k ≡ head.count → ⊥) → packetAt w'.packets k ≡ packetAt w.packets k
+  pub members : (j : ℕ) → w.terminals.group.n ≤ j → member_at w'.terminals j ≡ member_at w.terminals j
+  pub packets : (k : ℕ) → (k ≡ head.count → ⊥) → packet_at w'.packets k ≡ packet_at w.packets k
 
 -- the group that an opening shows: where n or the resilience degree is refused, its sequencer has no member
-abbrev pub openedGroup : ℕ → ℕ → ℕ → Group
-openedGroup n number resilience =
+abbrev pub opened_group : ℕ → ℕ → ℕ → Group
+opened_group n number resilience =
     record {
       sequencer = (sequencer.fresh_of n number resilience).sequencer;
-      members = freshMembers n number resilience 0 (sequencer.fresh_of n number resilience).sequencer.group.n;
+      members = fresh_members n number resilience 0 (sequencer.fresh_of n number resilience).sequencer.group.n;
       packets = [];
     }
 
 -- the promise of opening, questions 18 and 24: every member is fresh, those from n on too, and no packet was written
 pub record Opens (n number resilience : ℕ) (verdict : Verdict) (head : Head) (w : Whole) : Type 0 where
-  pub verdict-is : verdict ≡ (sequencer.fresh_of n number resilience).verdict
-  pub shown : group_of w ≡ openedGroup n number resilience
-  pub members : (j : ℕ) → j < membersMost → memberAt w.terminals j ≡ freshMember head.sequencer.group (record { 0 = j })
+  pub verdict_is : verdict ≡ (sequencer.fresh_of n number resilience).verdict
+  pub shown : group_of w ≡ opened_group n number resilience
+  pub members : (j : ℕ) → j < members_most → member_at w.terminals j ≡ fresh_member head.sequencer.group (record { 0 = j })
   pub count : head.count ≡ 0
   -- where it is accepted, the group is a fresh one; there is room
   pub group : verdict ≡ Verdict.Accepted → group_of w ≡ (fresh n number resilience).group

@@ -1,10 +1,10 @@
 // The group that can be run: a sequencer, room for every member, and room for the packets of a schedule. Its numbers go by value, and
 // every array behind a reference: those of the members one behind the other, so that a call is lent the arrays of one member.
 ghost use Rattle.std.specs.Prelude.{◌≡◌, [], ◌∷◌, ◌<◌, ◌≤◌, length, take};
-ghost use Rattle.group.specs.Limits.{membersMost, longestPacket};
+ghost use Rattle.group.specs.Limits.{members_most, longest_packet};
 ghost use Rattle.sequencer.specs.View as sequencerView;
-ghost use Rattle.simulator.specs.Whole.{packetsMost, rows_of, terminalsOf, packetsOf, whole_of, headIn, Opens};
-ghost use Rattle.simulator.specs.Steps.{roomOf, thereOf, fittingOf, keptSize, happenedAt, happenedHere, handedTo, handedHere, Full, CallsMember, CallsAt, CallsSequencer, Stores, Acts, Sequences, BegunAt, Begun};
+ghost use Rattle.simulator.specs.Whole.{packets_most, rows_of, terminals_of, packets_of, whole_of, head_in, Opens};
+ghost use Rattle.simulator.specs.Steps.{room_of, there_of, fitting_of, kept_size, happened_at, happened_here, handed_to, handed_here, Full, CallsMember, CallsAt, CallsSequencer, Stores, Acts, Sequences, BegunAt, Begun};
 
 use group::{Group, MemberNumber, SequenceNumber, Verdict};
 use model::Reply;
@@ -57,14 +57,14 @@ pub struct Opened {
 
 // The limit of specs/ is this constant.
 fn packets_most() -> usize
-    ensures { result ≡ packetsMost }
+    ensures { result ≡ packets_most }
 {
     PACKETS
 }
 
 // Whether there is room for one packet more, and for every member.
 pub fn has_room(count: usize, n: u8) -> bool
-    ensures { result ≡ roomOf count n }
+    ensures { result ≡ room_of count n }
 {
     if count < PACKETS {
         return (n as usize) <= Group::MEMBERS;
@@ -74,7 +74,7 @@ pub fn has_room(count: usize, n: u8) -> bool
 
 // Whether there is room, and a member or packet k: one below the limit.
 pub fn is_there(count: usize, n: u8, k: usize, limit: usize) -> bool
-    ensures { result ≡ thereOf count n k limit }
+    ensures { result ≡ there_of count n k limit }
 {
     if has_room(count, n) {
         return k < limit;
@@ -84,7 +84,7 @@ pub fn is_there(count: usize, n: u8, k: usize, limit: usize) -> bool
 
 // How many bytes of a stored packet are read: its length, where its array has as many.
 pub fn fitting(size: usize) -> usize
-    ensures { result ≡ fittingOf size }
+    ensures { result ≡ fitting_of size }
 {
     if size < Group::PACKET {
         return size;
@@ -94,7 +94,7 @@ pub fn fitting(size: usize) -> usize
 
 // The length of the packet that a member's call wrote. A take writes a payload, and no packet.
 fn kept_size(call: MemberCall, written: usize) -> usize
-    ensures { result ≡ keptSize call written }
+    ensures { result ≡ kept_size call written }
 {
     match call {
         MemberCall::Submit => written,
@@ -107,8 +107,8 @@ fn kept_size(call: MemberCall, written: usize) -> usize
 
 // The numbers of member i.
 pub fn head_of(group: Group, i: usize, numbers: [u32; NUMBERS]) -> member::Head
-    requires { i < membersMost }
-    ensures { result ≡ headIn group i numbers }
+    requires { i < members_most }
+    ensures { result ≡ head_in group i numbers }
 {
     let number = MemberNumber(i as u8);
     let taken = SequenceNumber(numbers[0]);
@@ -139,7 +139,7 @@ fn call_member(
     bytes: &[u8],
     out: &mut [u8],
 ) -> member::Done
-    requires { (i < membersMost) × Full (rows_of queued.old held.old queued_originators.old queued_lengths.old held_originators.old held_lengths.old queued_payloads.old held_payloads.old) }
+    requires { (i < members_most) × Full (rows_of queued.old held.old queued_originators.old queued_lengths.old held_originators.old held_lengths.old queued_payloads.old held_payloads.old) }
     ensures { CallsMember call i bytes.now head (rows_of queued.old held.old queued_originators.old queued_lengths.old held_originators.old held_lengths.old queued_payloads.old held_payloads.old) result (rows_of queued.new held.new queued_originators.new queued_lengths.new held_originators.new held_lengths.new queued_payloads.new held_payloads.new) out.old out.new }
 {
     match call {
@@ -231,8 +231,8 @@ fn call_at(
     bytes: &[u8],
     out: &mut [u8],
 ) -> member::Reply
-    requires { (i < membersMost) × (length numbers.old ≡ membersMost) × Full (rows_of queued.old held.old queued_originators.old queued_lengths.old held_originators.old held_lengths.old queued_payloads.old held_payloads.old) }
-    ensures { CallsAt call i bytes.now (terminalsOf group numbers.old (rows_of queued.old held.old queued_originators.old queued_lengths.old held_originators.old held_lengths.old queued_payloads.old held_payloads.old)) result (terminalsOf group numbers.new (rows_of queued.new held.new queued_originators.new queued_lengths.new held_originators.new held_lengths.new queued_payloads.new held_payloads.new)) out.old out.new }
+    requires { (i < members_most) × (length numbers.old ≡ members_most) × Full (rows_of queued.old held.old queued_originators.old queued_lengths.old held_originators.old held_lengths.old queued_payloads.old held_payloads.old) }
+    ensures { CallsAt call i bytes.now (terminals_of group numbers.old (rows_of queued.old held.old queued_originators.old queued_lengths.old held_originators.old held_lengths.old queued_payloads.old held_payloads.old)) result (terminals_of group numbers.new (rows_of queued.new held.new queued_originators.new queued_lengths.new held_originators.new held_lengths.new queued_payloads.new held_payloads.new)) out.old out.new }
 {
     let row = numbers[i];
     let head = head_of(group, i, row);
@@ -265,8 +265,8 @@ pub fn store(
     size: usize,
     bytes: [u8; Group::PACKET],
 ) -> usize
-    requires { (count < packetsMost) × (length sizes.old ≡ packetsMost) × (length packets.old ≡ packetsMost) }
-    ensures { Stores (packetsOf sizes.old packets.old count) size bytes (packetsOf sizes.new packets.new result) }
+    requires { (count < packets_most) × (length sizes.old ≡ packets_most) × (length packets.old ≡ packets_most) }
+    ensures { Stores (packets_of sizes.old packets.old count) size bytes (packets_of sizes.new packets.new result) }
 {
     sizes[count] = size;
     packets[count] = bytes;
@@ -295,7 +295,7 @@ pub fn act(
     bytes: &[u8],
     out: &mut [u8; Group::PACKET],
 ) -> Happening
-    ensures { Acts (happenedAt call i bytes.now) head (terminalsOf head.sequencer.group numbers.old (rows_of queued.old held.old queued_originators.old queued_lengths.old held_originators.old held_lengths.old queued_payloads.old held_payloads.old)) (packetsOf sizes.old packets.old head.count) result (terminalsOf head.sequencer.group numbers.new (rows_of queued.new held.new queued_originators.new queued_lengths.new held_originators.new held_lengths.new queued_payloads.new held_payloads.new)) (packetsOf sizes.new packets.new result.head.count) out.old out.new }
+    ensures { Acts (happened_at call i bytes.now) head (terminals_of head.sequencer.group numbers.old (rows_of queued.old held.old queued_originators.old queued_lengths.old held_originators.old held_lengths.old queued_payloads.old held_payloads.old)) (packets_of sizes.old packets.old head.count) result (terminals_of head.sequencer.group numbers.new (rows_of queued.new held.new queued_originators.new queued_lengths.new held_originators.new held_lengths.new queued_payloads.new held_payloads.new)) (packets_of sizes.new packets.new result.head.count) out.old out.new }
 {
     let group = head.sequencer.group;
     if is_there(head.count, group.n, i, group.n as usize) {
@@ -353,7 +353,7 @@ fn deliver(
     i: usize,
     out: &mut [u8; Group::PACKET],
 ) -> Happening
-    ensures { Acts (happenedAt MemberCall.Receive i (take size packet)) head (terminalsOf head.sequencer.group numbers.old (rows_of queued.old held.old queued_originators.old queued_lengths.old held_originators.old held_lengths.old queued_payloads.old held_payloads.old)) (packetsOf sizes.old packets.old head.count) result (terminalsOf head.sequencer.group numbers.new (rows_of queued.new held.new queued_originators.new queued_lengths.new held_originators.new held_lengths.new queued_payloads.new held_payloads.new)) (packetsOf sizes.new packets.new result.head.count) out.old out.new }
+    ensures { Acts (happened_at MemberCall.Receive i (take size packet)) head (terminals_of head.sequencer.group numbers.old (rows_of queued.old held.old queued_originators.old queued_lengths.old held_originators.old held_lengths.old queued_payloads.old held_payloads.old)) (packets_of sizes.old packets.old head.count) result (terminals_of head.sequencer.group numbers.new (rows_of queued.new held.new queued_originators.new queued_lengths.new held_originators.new held_lengths.new queued_payloads.new held_payloads.new)) (packets_of sizes.new packets.new result.head.count) out.old out.new }
 {
     let most = fitting(size);
     act(
@@ -394,7 +394,7 @@ pub fn hand_member(
     i: usize,
     out: &mut [u8; Group::PACKET],
 ) -> Happening
-    ensures { Acts (handedTo k i) head (terminalsOf head.sequencer.group numbers.old (rows_of queued.old held.old queued_originators.old queued_lengths.old held_originators.old held_lengths.old queued_payloads.old held_payloads.old)) (packetsOf sizes.old packets.old head.count) result (terminalsOf head.sequencer.group numbers.new (rows_of queued.new held.new queued_originators.new queued_lengths.new held_originators.new held_lengths.new queued_payloads.new held_payloads.new)) (packetsOf sizes.new packets.new result.head.count) out.old out.new }
+    ensures { Acts (handed_to k i) head (terminals_of head.sequencer.group numbers.old (rows_of queued.old held.old queued_originators.old queued_lengths.old held_originators.old held_lengths.old queued_payloads.old held_payloads.old)) (packets_of sizes.old packets.old head.count) result (terminals_of head.sequencer.group numbers.new (rows_of queued.new held.new queued_originators.new queued_lengths.new held_originators.new held_lengths.new queued_payloads.new held_payloads.new)) (packets_of sizes.new packets.new result.head.count) out.old out.new }
 {
     if is_there(head.count, head.sequencer.group.n, k, head.count) {
         let packet = packets[k];
@@ -507,7 +507,7 @@ pub fn sequence(
     bytes: &[u8],
     out: &mut [u8; Group::PACKET],
 ) -> Happening
-    ensures { Sequences (happenedHere call bytes.now) head (sequencerView.whole head.sequencer taken.old counts.old repeats.old kept.old marks.old originators.old lengths.old payloads.old) (packetsOf sizes.old packets.old head.count) result (sequencerView.whole result.head.sequencer taken.new counts.new repeats.new kept.new marks.new originators.new lengths.new payloads.new) (packetsOf sizes.new packets.new result.head.count) out.old out.new }
+    ensures { Sequences (happened_here call bytes.now) head (sequencerView.whole head.sequencer taken.old counts.old repeats.old kept.old marks.old originators.old lengths.old payloads.old) (packets_of sizes.old packets.old head.count) result (sequencerView.whole result.head.sequencer taken.new counts.new repeats.new kept.new marks.new originators.new lengths.new payloads.new) (packets_of sizes.new packets.new result.head.count) out.old out.new }
 {
     let mine = head.sequencer;
     if has_room(head.count, mine.group.n) {
@@ -561,7 +561,7 @@ fn submit(
     size: usize,
     out: &mut [u8; Group::PACKET],
 ) -> Happening
-    ensures { Sequences (happenedHere SequencerCall.Receive (take size packet)) head (sequencerView.whole head.sequencer taken.old counts.old repeats.old kept.old marks.old originators.old lengths.old payloads.old) (packetsOf sizes.old packets.old head.count) result (sequencerView.whole result.head.sequencer taken.new counts.new repeats.new kept.new marks.new originators.new lengths.new payloads.new) (packetsOf sizes.new packets.new result.head.count) out.old out.new }
+    ensures { Sequences (happened_here SequencerCall.Receive (take size packet)) head (sequencerView.whole head.sequencer taken.old counts.old repeats.old kept.old marks.old originators.old lengths.old payloads.old) (packets_of sizes.old packets.old head.count) result (sequencerView.whole result.head.sequencer taken.new counts.new repeats.new kept.new marks.new originators.new lengths.new payloads.new) (packets_of sizes.new packets.new result.head.count) out.old out.new }
 {
     let most = fitting(size);
     sequence(
@@ -598,7 +598,7 @@ pub fn hand_sequencer(
     k: usize,
     out: &mut [u8; Group::PACKET],
 ) -> Happening
-    ensures { Sequences (handedHere k) head (sequencerView.whole head.sequencer taken.old counts.old repeats.old kept.old marks.old originators.old lengths.old payloads.old) (packetsOf sizes.old packets.old head.count) result (sequencerView.whole result.head.sequencer taken.new counts.new repeats.new kept.new marks.new originators.new lengths.new payloads.new) (packetsOf sizes.new packets.new result.head.count) out.old out.new }
+    ensures { Sequences (handed_here k) head (sequencerView.whole head.sequencer taken.old counts.old repeats.old kept.old marks.old originators.old lengths.old payloads.old) (packets_of sizes.old packets.old head.count) result (sequencerView.whole result.head.sequencer taken.new counts.new repeats.new kept.new marks.new originators.new lengths.new payloads.new) (packets_of sizes.new packets.new result.head.count) out.old out.new }
 {
     if is_there(head.count, head.sequencer.group.n, k, head.count) {
         let packet = packets[k];
@@ -644,8 +644,8 @@ fn open_member(
     held_payloads: &mut [[u8; Group::HELD_BYTES]],
     i: usize,
 )
-    requires { (i < membersMost) × (length numbers.old ≡ membersMost) × Full (rows_of queued.old held.old queued_originators.old queued_lengths.old held_originators.old held_lengths.old queued_payloads.old held_payloads.old) }
-    ensures { BegunAt i (terminalsOf group numbers.old (rows_of queued.old held.old queued_originators.old queued_lengths.old held_originators.old held_lengths.old queued_payloads.old held_payloads.old)) (terminalsOf group numbers.new (rows_of queued.new held.new queued_originators.new queued_lengths.new held_originators.new held_lengths.new queued_payloads.new held_payloads.new)) }
+    requires { (i < members_most) × (length numbers.old ≡ members_most) × Full (rows_of queued.old held.old queued_originators.old queued_lengths.old held_originators.old held_lengths.old queued_payloads.old held_payloads.old) }
+    ensures { BegunAt i (terminals_of group numbers.old (rows_of queued.old held.old queued_originators.old queued_lengths.old held_originators.old held_lengths.old queued_payloads.old held_payloads.old)) (terminals_of group numbers.new (rows_of queued.new held.new queued_originators.new queued_lengths.new held_originators.new held_lengths.new queued_payloads.new held_payloads.new)) }
 {
     let head = head_of(group, i, [0u32; NUMBERS]);
     let begun = member_calls::open_on(
@@ -684,7 +684,7 @@ fn open_members(
     queued_payloads: &mut [[u8; Group::WAITING_BYTES]; Group::MEMBERS],
     held_payloads: &mut [[u8; Group::HELD_BYTES]; Group::MEMBERS],
 )
-    ensures { Begun (terminalsOf group numbers.new (rows_of queued.new held.new queued_originators.new queued_lengths.new held_originators.new held_lengths.new queued_payloads.new held_payloads.new)) membersMost }
+    ensures { Begun (terminals_of group numbers.new (rows_of queued.new held.new queued_originators.new queued_lengths.new held_originators.new held_lengths.new queued_payloads.new held_payloads.new)) members_most }
 {
     let mut i: usize = 0;
     while i < Group::MEMBERS {

@@ -42,11 +42,11 @@ arrays = record { row = Array u32 16; ty = ty_array (ty_int w32) 16 }
 abbrev all : Sequencer → Denots (rows_of (first ∷ arrays))
 all h = ((B.the_type).to h.head, (h.taken, (h.counts, (h.repeats, (h.kept, (h.marks, (h.originators, (h.lengths, (h.payloads, tt)))))))))
 
-all-is : (h : Sequencer) → (T.the_type).to h ≡ all h
-all-is h = λ i. ((B.the_type).to h.head, (map-id h.taken i, (map-id h.counts i, (map-id h.repeats i, (map-id h.kept i, (map-id h.marks i, (map-id h.originators i, (map-id h.lengths i, (map-id h.payloads i, tt)))))))))
+all_is : (h : Sequencer) → (T.the_type).to h ≡ all h
+all_is h = λ i. ((B.the_type).to h.head, (map-id h.taken i, (map-id h.counts i, (map-id h.repeats i, (map-id h.kept i, (map-id h.marks i, (map-id h.originators i, (map-id h.lengths i, (map-id h.payloads i, tt)))))))))
 
 pub same : (q : Share) (h : Sequencer) (b o : ℕ) → part_at T.the_row q h b o ≡ part_at (Struct (shape T.the_type)) q (all h) b o
-same q h b o = Recorded-part (Struct (shape T.the_type)) Sequencer (T.the_type).to (T.the_type).to_one q h b o ∙ ap (λ (a : Denots (rows_of (first ∷ arrays))). part_at (Struct (shape T.the_type)) q a b o) (all-is h)
+same q h b o = Recorded-part (Struct (shape T.the_type)) Sequencer (T.the_type).to (T.the_type).to_one q h b o ∙ ap (λ (a : Denots (rows_of (first ∷ arrays))). part_at (Struct (shape T.the_type)) q a b o) (all_is h)
 
 abbrev pub lendable : Lendable
 lendable = record {

@@ -1,9 +1,9 @@
 // Both ends as structs that lie where their owner put them: each method lends the end's work the head's numbers and all arrays, and stores the
 // head that comes back.
 ghost use Rattle.std.specs.Prelude.{◌≡◌};
-ghost use Rattle.group.specs.Opening.{descriptionOf};
-ghost use Rattle.member.specs.State.{freshMember};
-ghost use Rattle.sequencer.specs.State.{freshSequencer};
+ghost use Rattle.group.specs.Opening.{description_of};
+ghost use Rattle.member.specs.State.{fresh_member};
+ghost use Rattle.sequencer.specs.State.{fresh_sequencer};
 ghost use Rattle.states.specs.Member as memberInPlace;
 ghost use Rattle.states.specs.Sequencer as sequencerInPlace;
 
@@ -45,7 +45,7 @@ pub struct Member {
 impl Sequencer {
     // All zero: what a caller has before it opens a group. No call accepts it.
     pub fn closed() -> Self
-        ensures { sequencerInPlace.view_of result ≡ freshSequencer (descriptionOf 0 0 0) }
+        ensures { sequencerInPlace.view_of result ≡ fresh_sequencer (description_of 0 0 0) }
     {
         let head = sequencer::fresh_head(Group {
             n: 0,
@@ -151,7 +151,7 @@ impl Sequencer {
 impl Member {
     // The member that is not opened, all zero: no call accepts it.
     pub fn closed() -> Self
-        ensures { memberInPlace.view_of result ≡ freshMember (descriptionOf 0 0 0) (record { 0 = 0 }) }
+        ensures { memberInPlace.view_of result ≡ fresh_member (description_of 0 0 0) (record { 0 = 0 }) }
     {
         let none = Group {
             n: 0,

@@ -1,8 +1,8 @@
 // The payloads of several places in one array of bytes, a place behind the other, each payload with zeros behind it.
 ghost use Rattle.std.specs.Prelude.{◌≡◌, ◌+◌, ◌*◌, ◌≤◌, length, drop, replicate};
-ghost use Rattle.group.specs.Limits.{payloadMost};
-ghost use Rattle.message.specs.Message.{allZero, padded};
-ghost use Rattle.store.specs.Places.{part_of, laidAt, Lies, blockSize, mask_of};
+ghost use Rattle.group.specs.Limits.{payload_most};
+ghost use Rattle.message.specs.Message.{all_zero, padded};
+ghost use Rattle.store.specs.Places.{part_of, laid_at, Lies, block_size, mask_of};
 
 use group::Group;
 
@@ -31,8 +31,8 @@ pub fn mask() -> [u8; 2 * BLOCK]
 // Whether the bytes of a block from an index on are zero: all of them, each under its byte of the mask, are joined by `|`. The loop
 // has a fixed end and no exit, so that it becomes a few vector instructions.
 fn scan(block: &[u8], mask: &[u8], from: usize) -> bool
-    requires { (length block.now ≡ blockSize) × (mask.now ≡ mask_of) × (from ≤ blockSize) }
-    ensures { result ≡ allZero (drop from block.now) }
+    requires { (length block.now ≡ block_size) × (mask.now ≡ mask_of) × (from ≤ block_size) }
+    ensures { result ≡ all_zero (drop from block.now) }
 {
     let shift = BLOCK - from;
     let mut seen: u8 = 0;
@@ -46,7 +46,7 @@ fn scan(block: &[u8], mask: &[u8], from: usize) -> bool
 
 // Whether all bytes are zero.
 fn zeros(bytes: &[u8]) -> bool
-    ensures { result ≡ allZero bytes.now }
+    ensures { result ≡ all_zero bytes.now }
 {
     let mut seen: u8 = 0;
     let mut i: usize = 0;
@@ -60,8 +60,8 @@ fn zeros(bytes: &[u8]) -> bool
 // Whether the bytes of a part from an index on are zero: the block in which the index lies is looked at under the mask, and what lies behind it
 // whole. The blocks are told apart here, so that each loop has a fixed length.
 fn unused(part: &[u8], mask: &[u8], from: usize) -> bool
-    requires { (length part.now ≡ payloadMost) × (mask.now ≡ mask_of) × (from ≤ payloadMost) }
-    ensures { result ≡ allZero (drop from part.now) }
+    requires { (length part.now ≡ payload_most) × (mask.now ≡ mask_of) × (from ≤ payload_most) }
+    ensures { result ≡ all_zero (drop from part.now) }
 {
     if from == 0 {
         return zeros(part);
@@ -95,8 +95,8 @@ fn unused(part: &[u8], mask: &[u8], from: usize) -> bool
 
 // Whether the bytes of a place from an index on are zero.
 pub fn zero_from(bytes: &[u8], mask: &[u8], at: usize, from: u8) -> bool
-    requires { Lies at bytes.now × (mask.now ≡ mask_of) × (from ≤ payloadMost) }
-    ensures { result ≡ allZero (drop from (part_of bytes.now at)) }
+    requires { Lies at bytes.now × (mask.now ≡ mask_of) × (from ≤ payload_most) }
+    ensures { result ≡ all_zero (drop from (part_of bytes.now at)) }
 {
     let base = at * Group::PAYLOAD;
     let end = base + Group::PAYLOAD;
@@ -106,7 +106,7 @@ pub fn zero_from(bytes: &[u8], mask: &[u8], at: usize, from: u8) -> bool
 // A place without a payload.
 pub fn clear(bytes: &mut [u8], at: usize)
     requires { Lies at bytes.old }
-    ensures { bytes.new ≡ laidAt bytes.old at (replicate payloadMost 0) }
+    ensures { bytes.new ≡ laid_at bytes.old at (replicate payload_most 0) }
 {
     let base = at * Group::PAYLOAD;
     let end = base + Group::PAYLOAD;
@@ -115,7 +115,7 @@ pub fn clear(bytes: &mut [u8], at: usize)
 
 // The payload with zeros behind it, whatever stood in the part.
 fn lay(part: &mut [u8], payload: &[u8])
-    requires { (length part.old ≡ payloadMost) × (length payload.now ≤ payloadMost) }
+    requires { (length part.old ≡ payload_most) × (length payload.now ≤ payload_most) }
     ensures { part.new ≡ padded payload.now }
 {
     message::copy(payload, part);
@@ -124,8 +124,8 @@ fn lay(part: &mut [u8], payload: &[u8])
 
 // The payload goes to a place.
 pub fn keep(bytes: &mut [u8], at: usize, payload: &[u8])
-    requires { Lies at bytes.old × (length payload.now ≤ payloadMost) }
-    ensures { bytes.new ≡ laidAt bytes.old at (padded payload.now) }
+    requires { Lies at bytes.old × (length payload.now ≤ payload_most) }
+    ensures { bytes.new ≡ laid_at bytes.old at (padded payload.now) }
 {
     let base = at * Group::PAYLOAD;
     let end = base + Group::PAYLOAD;

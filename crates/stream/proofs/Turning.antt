@@ -2,33 +2,33 @@
 use mathlib.Core.Path.{◌≡◌, refl, subst}
 use mathlib.Core.List.{List, [], ◌++◌, append_assoc}
 use Prim.Native.Nat.{ℕ}
-use Rattle.descriptor.proofs.Laws.{gives_none, gives_both, takes_none, takes-both}
+use Rattle.descriptor.proofs.Laws.{gives_none, gives_both, takes_none, takes_both}
 use Rattle.descriptor.specs.declared.Source.{Source}
 use Rattle.descriptor.specs.declared.Sink.{Sink}
-use Rattle.player.proofs.Parts.{continues-none}
+use Rattle.player.proofs.Parts.{continues_none}
 use Rattle.player.specs.Lines.{Told, Program}
 use Rattle.player.specs.Parts.{State}
 use Rattle.stream.specs.Puts.{PutsBy, TurnsBy}
 
-module _ {Stage : Type 0} {lineTold : Stage → List ℕ → Told Stage} {program : Program Stage} where
-  pub puts-from : {s t u : State Stage} {a b : List ℕ} {i j : Sink} → s ≡ t → PutsBy lineTold program s a u b i j → PutsBy lineTold program t a u b i j
-  puts-from {s} {t} {u} {a} {b} {i} {j} e p = subst (λ (x : State Stage). PutsBy lineTold program x a u b i j) e p
+module _ {Stage : Type 0} {line_told : Stage → List ℕ → Told Stage} {program : Program Stage} where
+  pub puts_from : {s t u : State Stage} {a b : List ℕ} {i j : Sink} → s ≡ t → PutsBy line_told program s a u b i j → PutsBy line_told program t a u b i j
+  puts_from {s} {t} {u} {a} {b} {i} {j} e p = subst (λ (x : State Stage). PutsBy line_told program x a u b i j) e p
 
-  pub puts_none : (s : State Stage) (input : List ℕ) (k : Sink) → PutsBy lineTold program s input s input k k
-  puts_none s input k = record { printed = []; takes = takes_none k; continues = continues-none program s s input refl }
+  pub puts_none : (s : State Stage) (input : List ℕ) (k : Sink) → PutsBy line_told program s input s input k k
+  puts_none s input k = record { printed = []; takes = takes_none k; continues = continues_none program s s input refl }
 
-  puts-both : {s t u : State Stage} {a b : List ℕ} {i j k : Sink} → PutsBy lineTold program s a t [] i j → PutsBy lineTold program t b u [] j k → PutsBy lineTold program s (a ++ b) u [] i k
-  puts-both {s} {t} {u} {a} {b} p q =
+  puts_both : {s t u : State Stage} {a b : List ℕ} {i j k : Sink} → PutsBy line_told program s a t [] i j → PutsBy line_told program t b u [] j k → PutsBy line_told program s (a ++ b) u [] i k
+  puts_both {s} {t} {u} {a} {b} p q =
       record {
         printed = p.printed ++ q.printed;
-        takes = takes-both p.takes q.takes;
+        takes = takes_both p.takes q.takes;
         continues = λ rest output z.
             rw (append_assoc a b rest, append_assoc p.printed q.printed output)
             (p.continues (b ++ rest) (q.printed ++ output) (q.continues rest output z));
       }
 
-  pub turns-none : (s : State Stage) (source : Source) (sink : Sink) → TurnsBy lineTold program s s source sink source sink
-  turns-none s source sink = record { input = []; gives = gives_none source; puts = puts_none s [] sink }
+  pub turns_none : (s : State Stage) (source : Source) (sink : Sink) → TurnsBy line_told program s s source sink source sink
+  turns_none s source sink = record { input = []; gives = gives_none source; puts = puts_none s [] sink }
 
-  pub turns-both : {s t u : State Stage} {source read last : Source} {sink handed ended : Sink} → TurnsBy lineTold program s t source sink read handed → TurnsBy lineTold program t u read handed last ended → TurnsBy lineTold program s u source sink last ended
-  turns-both p q = record { input = p.input ++ q.input; gives = gives_both p.gives q.gives; puts = puts-both p.puts q.puts }
+  pub turns_both : {s t u : State Stage} {source read last : Source} {sink handed ended : Sink} → TurnsBy line_told program s t source sink read handed → TurnsBy line_told program t u read handed last ended → TurnsBy line_told program s u source sink last ended
+  turns_both p q = record { input = p.input ++ q.input; gives = gives_both p.gives q.gives; puts = puts_both p.puts q.puts }

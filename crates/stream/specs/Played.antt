@@ -3,11 +3,11 @@ use Rattle.std.specs.Prelude.{List, ℕ}
 use Rattle.descriptor.specs.Descriptor.{Gives, Takes}
 use Rattle.descriptor.specs.declared.Source.{Source}
 use Rattle.descriptor.specs.declared.Sink.{Sink}
-use Rattle.player.specs.Play.{Program, outputOf}
+use Rattle.player.specs.Play.{Program, output_of}
 use Rattle.stream.specs.declared.Played.{Played}
 
 -- the source gave an input, and the sink took what the program prints of the whole input
 pub record Plays (program : Program) (source : Source) (sink : Sink) (r : Played) : Type 0 where
   pub input : List ℕ
   pub gives : Gives source input r.source
-  pub takes : Takes sink (outputOf program input) r.sink
+  pub takes : Takes sink (output_of program input) r.sink

@@ -6,12 +6,12 @@ use Rattle.descriptor.specs.declared.Sink.{Sink}
 use Rattle.player.specs.Lines.{Told, Program}
 use Rattle.player.specs.Parts.{State, Continues}
 
-module _ {Stage : Type 0} (lineTold : Stage → List ℕ → Told Stage) (program : Program Stage) where
+module _ {Stage : Type 0} (line_told : Stage → List ℕ → Told Stage) (program : Program Stage) where
   -- an input was played but for what is left of it, and the sink took what was printed
   pub record PutsBy (from : State Stage) (input : List ℕ) (to : State Stage) (left : List ℕ) (before after : Sink) : Type 0 where
     pub printed : List ℕ
     pub takes : Takes before printed after
-    pub continues : Continues lineTold program from input printed to left
+    pub continues : Continues line_told program from input printed to left
 
   -- the source gave an input, which was played
   pub record TurnsBy (from to : State Stage) (source : Source) (sink : Sink) (read : Source) (handed : Sink) : Type 0 where

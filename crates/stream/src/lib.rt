@@ -2,16 +2,16 @@
 // says of it is handed on at once.
 ghost use Rattle.std.specs.Prelude.{◌≡◌, [], ◌++◌, ◌≤◌, length, take};
 ghost use Rattle.descriptor.specs.Descriptor.{Takes};
-ghost use Rattle.group.specs.Limits.{membersMost};
-ghost use Rattle.inspection.specs.Lists.{jobLines, listLines, listOn, lists_of};
-ghost use Rattle.inspection.specs.Table.{inspectProgram};
+ghost use Rattle.group.specs.Limits.{members_most};
+ghost use Rattle.inspection.specs.Lists.{job_lines, list_lines, list_on, lists_of};
+ghost use Rattle.inspection.specs.Table.{inspect_program};
 ghost use Rattle.player.specs.Feed.{said_of, end_of};
-ghost use Rattle.player.specs.Play.{playProgram};
-ghost use Rattle.player.specs.Player.{phaseWith, state_of};
+ghost use Rattle.player.specs.Play.{play_program};
+ghost use Rattle.player.specs.Player.{phase_with, state_of};
 ghost use Rattle.player.specs.Steps.{Fits};
-ghost use Rattle.simulator.specs.Whole.{packetsMost, rows_of, terminalsOf, packetsOf, packetsIn, whole_of};
+ghost use Rattle.simulator.specs.Whole.{packets_most, rows_of, terminals_of, packets_of, packets_in, whole_of};
 ghost use Rattle.stream.specs.Played.{Plays};
-ghost use Rattle.stream.specs.Steps.{program_of, saidSize, Puts, Turns, HandsLists, HandsLeft, HandsLast};
+ghost use Rattle.stream.specs.Steps.{program_of, said_size, Puts, Turns, HandsLists, HandsLeft, HandsLast};
 
 use descriptor::{Sink, Source};
 use group::{Group, SequenceNumber};
@@ -74,7 +74,7 @@ fn put_job(sink: Sink, line: [u8; JOB_ROOM], size: usize) -> Sink
 
 // How many bytes are said of a line's text: all, or, where the program is quiet, those of a line that opened no group.
 fn said(quiet: bool, n: u8, count: usize, phase: Phase, size: usize) -> usize
-    ensures { result ≡ saidSize quiet (phaseWith n count phase) size }
+    ensures { result ≡ said_size quiet (phase_with n count phase) size }
 {
     if quiet {
         let stands = phase_of(n, count, phase);
@@ -324,7 +324,7 @@ fn play_all(
 
 // The lines of terminal i's work list.
 fn put_jobs(i: u32, jobs: [Job; Group::JOBS], mut sink: Sink) -> Sink
-    ensures { Takes sink (jobLines i jobs (length jobs)) result }
+    ensures { Takes sink (job_lines i jobs (length jobs)) result }
 {
     let mut place: usize = 0;
     while place < Group::JOBS {
@@ -346,8 +346,8 @@ fn put_lists(
     n: usize,
     mut sink: Sink,
 ) -> Sink
-    requires { (n ≤ membersMost) × (count ≤ packetsMost) × (length numbers.now ≡ membersMost) }
-    ensures { Takes sink (listLines (listOn numbers.now (packetsIn (packetsOf sizes.now packets.now count))) n) result }
+    requires { (n ≤ members_most) × (count ≤ packets_most) × (length numbers.now ≡ members_most) }
+    ensures { Takes sink (list_lines (list_on numbers.now (packets_in (packets_of sizes.now packets.now count))) n) result }
 {
     let mut i: usize = 0;
     while i < n {
@@ -368,7 +368,7 @@ fn put_group(
     sink: Sink,
 ) -> Sink
     requires { Fits head }
-    ensures { HandsLists lists_of head numbers.now (packetsOf sizes.now packets.now head.count) sink result }
+    ensures { HandsLists lists_of head numbers.now (packets_of sizes.now packets.now head.count) sink result }
 {
     let n = head.sequencer.group.n as usize;
     let next = sink.write(b"terminal place holder job\n");
@@ -383,7 +383,7 @@ fn put_left(
     packets: &[[u8; Group::PACKET]; PACKETS],
     sink: Sink,
 ) -> Sink
-    ensures { HandsLeft player numbers.now (packetsOf sizes.now packets.now player.head.count) sink result }
+    ensures { HandsLeft player numbers.now (packets_of sizes.now packets.now player.head.count) sink result }
 {
     let head = player.head;
     let phase = player.phase;
@@ -415,7 +415,7 @@ fn put_last(
     packets: &[[u8; Group::PACKET]; PACKETS],
     sink: Sink,
 ) -> Sink
-    ensures { HandsLast quiet player taken.now repeats.now (terminalsOf player.head.sequencer.group numbers.now (rows_of queued.now held.now queued_originators.now queued_lengths.now held_originators.now held_lengths.now queued_payloads.now held_payloads.now)) (packetsOf sizes.now packets.now player.head.count) sink result }
+    ensures { HandsLast quiet player taken.now repeats.now (terminals_of player.head.sequencer.group numbers.now (rows_of queued.now held.now queued_originators.now queued_lengths.now held_originators.now held_lengths.now queued_payloads.now held_payloads.now)) (packets_of sizes.now packets.now player.head.count) sink result }
 {
     if quiet {
         let mut table = [0u8; TABLE_ROOM];
@@ -617,14 +617,14 @@ fn run(quiet: bool, source: Source, sink: Sink) -> Played
 
 // Prints what each event answers.
 pub fn play(source: Source, sink: Sink) -> Played
-    ensures { Plays playProgram source sink result }
+    ensures { Plays play_program source sink result }
 {
     run(false, source, sink)
 }
 
 // Prints what is left at the end.
 pub fn inspect(source: Source, sink: Sink) -> Played
-    ensures { Plays inspectProgram source sink result }
+    ensures { Plays inspect_program source sink result }
 {
     run(true, source, sink)
 }

@@ -1,34 +1,34 @@
 -- A terminal's take: its member's take, and then, once that is done, its work list is fed what was taken. The take stands, whatever
 -- the list answers.
 use Rattle.std.specs.Prelude.{List, [], ◌∷◌}
-use Rattle.jobs.specs.Feed.{feedOf}
+use Rattle.jobs.specs.Feed.{feed_of}
 use Rattle.jobs.specs.declared.Job.{Job}
 use Rattle.jobs.specs.declared.Outcome as fed
 use Rattle.member.specs.Calls as member
-use Rattle.member.specs.Order.{tookBy}
+use Rattle.member.specs.Order.{took_by}
 use Rattle.message.specs.Order.{Ordered}
 use Rattle.terminal.specs.declared.Fed.{Fed}
 use Rattle.terminal.specs.declared.Fed.TheVariants.{Nothing, Answered}
 use Rattle.terminal.specs.declared.Feeding.{Feeding}
 
 -- a feed of a message: by its originator and its payload
-abbrev pub fedOf : List Job → Ordered → fed.Outcome
-fedOf jobs m = feedOf jobs (record { 0 = m.originator }) m.payload
+abbrev pub fed_of : List Job → Ordered → fed.Outcome
+fed_of jobs m = feed_of jobs (record { 0 = m.originator }) m.payload
 
 -- a list that is fed messages, one after the other
-unfoldable pub fedBy : List Job → List Ordered → List Job
-fedBy jobs [] = jobs
-fedBy jobs (m ∷ rest) = fedBy (fedOf jobs m).jobs rest
+unfoldable pub fed_by : List Job → List Ordered → List Job
+fed_by jobs [] = jobs
+fed_by jobs (m ∷ rest) = fed_by (fed_of jobs m).jobs rest
 
 -- what it answers to the first of them
-unfoldable pub answeredBy : List Job → List Ordered → Fed
-answeredBy jobs [] = Nothing
-answeredBy jobs (m ∷ rest) = Answered (fedOf jobs m).answer
+unfoldable pub answered_by : List Job → List Ordered → Fed
+answered_by jobs [] = Nothing
+answered_by jobs (m ∷ rest) = Answered (fed_of jobs m).answer
 
 -- a list that is fed them, and its answer
-unfoldable pub feedingOf : List Job → List Ordered → Feeding
-feedingOf jobs messages = record { jobs = fedBy jobs messages; fed = answeredBy jobs messages }
+unfoldable pub feeding_of : List Job → List Ordered → Feeding
+feeding_of jobs messages = record { jobs = fed_by jobs messages; fed = answered_by jobs messages }
 
 -- what a member's take hands out is fed to a list
-abbrev pub takingOf : member.Outcome → List Job → Feeding
-takingOf o jobs = feedingOf jobs (tookBy o.answer o.bytes)
+abbrev pub taking_of : member.Outcome → List Job → Feeding
+taking_of o jobs = feeding_of jobs (took_by o.answer o.bytes)

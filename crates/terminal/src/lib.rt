@@ -1,10 +1,10 @@
 // A terminal beside its member: its work list, which is fed what the member takes.
 ghost use Rattle.std.specs.Prelude.{◌≡◌};
-ghost use Rattle.member.specs.Order.{tookBy};
-ghost use Rattle.packet.specs.Packet.{read_of, payloadAt};
-ghost use Rattle.terminal.specs.Left.{isMessage, isNext, heardOf, freshLeft};
-ghost use Rattle.terminal.specs.Take.{feedingOf};
-ghost use Rattle.terminal.specs.Wording.{fedWording};
+ghost use Rattle.member.specs.Order.{took_by};
+ghost use Rattle.packet.specs.Packet.{read_of, payload_at};
+ghost use Rattle.terminal.specs.Left.{is_message, is_next, heard_of, fresh_left};
+ghost use Rattle.terminal.specs.Take.{feeding_of};
+ghost use Rattle.terminal.specs.Wording.{fed_wording};
 
 use group::{Group, SequenceNumber};
 use jobs::Job;
@@ -34,8 +34,8 @@ pub struct Feeding {
 // Feeds a list what a take's answer and the bytes that it wrote hand out, once the take is done. The take stands, whatever the list
 // answers.
 pub fn feed(jobs: [Job; Group::JOBS], answer: member::Answer, bytes: &[u8]) -> Feeding
-    ensures answer { result ≡ feedingOf jobs (tookBy answer bytes.now) }
-    ensures wording { fedWording result.fed ≡ fedWording (feedingOf jobs (tookBy answer bytes.now)).fed }
+    ensures answer { result ≡ feeding_of jobs (took_by answer bytes.now) }
+    ensures wording { fed_wording result.fed ≡ fed_wording (feeding_of jobs (took_by answer bytes.now)).fed }
 {
     if let member::Answer::Took {
         number: _,
@@ -60,7 +60,7 @@ pub fn feed(jobs: [Job; Group::JOBS], answer: member::Answer, bytes: &[u8]) -> F
 
 // Whether the fields are those of a message, broadcast or offered.
 fn is_message(h: Header) -> bool
-    ensures { result ≡ isMessage h }
+    ensures { result ≡ is_message h }
 {
     if h.kind == Header::BROADCAST {
         return true;
@@ -70,7 +70,7 @@ fn is_message(h: Header) -> bool
 
 // Whether the fields are those of the message of the number that comes next, and it was taken.
 fn is_next(taken: SequenceNumber, number: usize, h: Header) -> bool
-    ensures { result ≡ isNext taken.0 number h }
+    ensures { result ≡ is_next taken.0 number h }
 {
     if is_message(h) {
         if (h.a as usize) == number {
@@ -84,7 +84,7 @@ fn is_next(taken: SequenceNumber, number: usize, h: Header) -> bool
 impl Left {
     // Before the first packet: the list is empty.
     pub fn fresh() -> Self
-        ensures { result ≡ freshLeft }
+        ensures { result ≡ fresh_left }
     {
         let jobs = jobs::no_jobs();
         Left { jobs, next: 1 }
@@ -92,7 +92,7 @@ impl Left {
 
     // A packet that was written; `taken` is the last number that the terminal took.
     pub fn hear(self, taken: SequenceNumber, packet: &[u8]) -> Self
-        ensures { result ≡ heardOf taken.0 self (read_of packet.now) (payloadAt packet.now) }
+        ensures { result ≡ heard_of taken.0 self (read_of packet.now) (payload_at packet.now) }
     {
         let reading = packet::read(packet);
         match reading {

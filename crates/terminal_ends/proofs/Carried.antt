@@ -2,7 +2,7 @@
 use mathlib.Core.Path.{◌≡◌, ap, ◌∙◌}
 use mathlib.Core.List.{List}
 use Prim.Native.Nat.{ℕ}
-use Rattle.group.specs.Wording.{verdictWording}
+use Rattle.group.specs.Wording.{verdict_wording}
 use Rattle.group.specs.declared.Verdict.{Verdict}
 use Rattle.member.specs.Wording as memberWording
 use Rattle.member.specs.declared.Reply as memberReply
@@ -12,25 +12,25 @@ use Rattle.recovery.specs.Promise.{Seen, SequencerSeen, Changed, Ordered}
 use Rattle.recovery.specs.View.{Stored, seen, view_of}
 use Rattle.terminal_opening.specs.Opening as opening
 use Rattle.ends.specs.Promise.{Tells}
-use Rattle.ends.specs.Telling.{toldOf, sequencerTold, memberTold, openingTold, SequencerTells, MemberTells, OpeningTells}
+use Rattle.ends.specs.Telling.{told_of, sequencer_told, member_told, opening_told, SequencerTells, MemberTells, OpeningTells}
 use Rattle.ends.specs.declared.Told.{Told}
 
-pub member-leaves : {o : Seen} {r : memberReply.Reply} {s : Stored} {before after : List ℕ} {t : Told} → Changed o r s before after → MemberTells r t
-    → Tells (memberWording.wordingOf o.answer) o.bytes t before after × (view_of s ≡ o.view)
-member-leaves p e = (record { says = e ∙ ap memberTold p.answer; lays = p.lent }, p.state)
+pub member_leaves : {o : Seen} {r : memberReply.Reply} {s : Stored} {before after : List ℕ} {t : Told} → Changed o r s before after → MemberTells r t
+    → Tells (memberWording.wording_of o.answer) o.bytes t before after × (view_of s ≡ o.view)
+member_leaves p e = (record { says = e ∙ ap member_told p.answer; lays = p.lent }, p.state)
 
-pub member-tells : {o : Seen} {r : memberReply.Reply} {s : Stored} {before after : List ℕ} {t : Told} → Changed o r s before after → MemberTells r t
-    → Tells (memberWording.wordingOf o.answer) o.bytes t before after
-member-tells p e = (member-leaves p e).0
+pub member_tells_lem : {o : Seen} {r : memberReply.Reply} {s : Stored} {before after : List ℕ} {t : Told} → Changed o r s before after → MemberTells r t
+    → Tells (memberWording.wording_of o.answer) o.bytes t before after
+member_tells_lem p e = (member_leaves p e).0
 
-pub sequencer-leaves : {o : SequencerSeen} {r : sequencerReply.Reply} {s : Stored} {before after : List ℕ} {t : Told} → Ordered o r s before after → SequencerTells r t
-    → Tells (sequencerWording.wordingOf o.answer) o.bytes t before after × (view_of s ≡ o.view)
-sequencer-leaves p e = (record { says = e ∙ ap sequencerTold p.answer; lays = p.lent }, p.state)
+pub sequencer_leaves : {o : SequencerSeen} {r : sequencerReply.Reply} {s : Stored} {before after : List ℕ} {t : Told} → Ordered o r s before after → SequencerTells r t
+    → Tells (sequencerWording.wording_of o.answer) o.bytes t before after × (view_of s ≡ o.view)
+sequencer_leaves p e = (record { says = e ∙ ap sequencer_told p.answer; lays = p.lent }, p.state)
 
-pub sequencer-tells : {o : SequencerSeen} {r : sequencerReply.Reply} {s : Stored} {before after : List ℕ} {t : Told} → Ordered o r s before after → SequencerTells r t
-    → Tells (sequencerWording.wordingOf o.answer) o.bytes t before after
-sequencer-tells p e = (sequencer-leaves p e).0
+pub sequencer_tells_lem : {o : SequencerSeen} {r : sequencerReply.Reply} {s : Stored} {before after : List ℕ} {t : Told} → Ordered o r s before after → SequencerTells r t
+    → Tells (sequencerWording.wording_of o.answer) o.bytes t before after
+sequencer_tells_lem p e = (sequencer_leaves p e).0
 
-pub terminal-opens : {o : opening.Opening} {v : Verdict} {s : Stored} {t : Told} → opening.Opens o v s → OpeningTells v t
-    → (t ≡ toldOf (verdictWording o.verdict) 0) × (view_of s ≡ seen o.terminal)
-terminal-opens p e = (e ∙ ap openingTold p.answer, p.state)
+pub terminal_opens : {o : opening.Opening} {v : Verdict} {s : Stored} {t : Told} → opening.Opens o v s → OpeningTells v t
+    → (t ≡ told_of (verdict_wording o.verdict) 0) × (view_of s ≡ seen o.terminal)
+terminal_opens p e = (e ∙ ap opening_told p.answer, p.state)

@@ -6,128 +6,128 @@ use Prim.Native.Nat.{ℕ, ◌*◌}
 use native.Mathlib.Omega.{arith}
 use lib.ListN.{replicate}
 use Rattle.group.specs.Choice.{if◌then◌else◌, ◌<?◌, ◌=?◌}
-use Rattle.group.specs.Limits.{membersMost, placesMost, payloadMost}
-use Rattle.group.specs.Opening.{descriptionOf, openOf}
+use Rattle.group.specs.Limits.{members_most, places_most, payload_most}
+use Rattle.group.specs.Opening.{description_of, open_of}
 use Rattle.group.specs.Question.{judged}
-use Rattle.group.specs.Wording.{verdictWording}
+use Rattle.group.specs.Wording.{verdict_wording}
 use Rattle.group.specs.declared.MemberNumber.{MemberNumber}
 use Rattle.group.specs.declared.Opened.{Opened}
 use Rattle.group.specs.declared.Opened.TheVariants.{Open, Refused}
 use Rattle.group.specs.declared.Refusal.{Refusal}
 use Rattle.group.specs.declared.Verdict.{Verdict}
-use Rattle.store.proofs.Places.{messages-none}
+use Rattle.store.proofs.Places.{messages_none}
 use Rattle.member.specs.Calls as member
 use Rattle.member.specs.Promise as memberPromise
-use Rattle.member.specs.State.{Member, freshMember}
+use Rattle.member.specs.State.{Member, fresh_member}
 use Rattle.member.specs.View as memberView
 use Rattle.member.specs.declared.Head as memberHead
 use Rattle.sequencer.specs.Calls as sequencer
 use Rattle.sequencer.specs.State.{Sequencer}
 use Rattle.sequencer.specs.View as sequencerView
 use Rattle.sequencer.specs.declared.Head as sequencerHead
-use Rattle.recovery.specs.Calls.{freshTerminal}
-use Rattle.recovery.specs.State.{Terminal, freshKept, noReset, noSequencer}
-use Rattle.recovery.specs.View.{Stored, View, seen, whole, terminalOf, flagsSound, view_of}
+use Rattle.recovery.specs.Calls.{fresh_terminal}
+use Rattle.recovery.specs.State.{Terminal, fresh_kept, no_reset, no_sequencer}
+use Rattle.recovery.specs.View.{Stored, View, seen, whole, terminal_of, flags_sound, view_of}
 use Rattle.recovery.specs.declared.Head.{Head}
-use Rattle.terminal_opening.specs.Opening.{closedTerminal, Opening, notOpened, fresh_of, Opens, RefusedCloses}
-use Rattle.terminal_opening.specs.Steps.{sequencingOf, freshHead}
+use Rattle.terminal_opening.specs.Opening.{closed_terminal, Opening, not_opened, fresh_of, Opens, RefusedCloses}
+use Rattle.terminal_opening.specs.Steps.{sequencing_of, fresh_head}
 
 -- a sequencer of a group of nobody is none
-none-fresh : (group resilience : ℕ) → (sequencer.fresh_of 0 group resilience).sequencer ≡ noSequencer
-unfolding sequencer.fresh_of sequencer.opened_of openOf if◌then◌else◌
-none-fresh group resilience = refl
+none_fresh : (group resilience : ℕ) → (sequencer.fresh_of 0 group resilience).sequencer ≡ no_sequencer
+unfolding sequencer.fresh_of sequencer.opened_of open_of if◌then◌else◌
+none_fresh group resilience = refl
 
 -- a member that is not opened is all zero
 apart : (refusal : Refusal) → Verdict.Accepted ≡ Verdict.Refused refusal → ⊥
 apart refusal e = let z : ◌≡◌ {A = ℕ} 0 1 = cc in absurd (omega arith)
 
-not_opened : (number : MemberNumber) (refusal : Refusal) (test : Bool) (o : Opened)
-    → (if test then member.opened_of o number else member.notOpened Refusal.Opening).verdict ≡ Verdict.Refused refusal
-    → (if test then member.opened_of o number else member.notOpened Refusal.Opening).member ≡ freshMember (descriptionOf 0 0 0) (record { 0 = 0 })
+not_opened_lem : (number : MemberNumber) (refusal : Refusal) (test : Bool) (o : Opened)
+    → (if test then member.opened_of o number else member.not_opened Refusal.Opening).verdict ≡ Verdict.Refused refusal
+    → (if test then member.opened_of o number else member.not_opened Refusal.Opening).member ≡ fresh_member (description_of 0 0 0) (record { 0 = 0 })
 unfolding if◌then◌else◌ member.opened_of
-not_opened number refusal true (Open group) e = absurd (apart refusal e)
-not_opened number refusal true (Refused r) e = refl
-not_opened number refusal false o e = refl
+not_opened_lem number refusal true (Open group) e = absurd (apart refusal e)
+not_opened_lem number refusal true (Refused r) e = refl
+not_opened_lem number refusal false o e = refl
 
-closed-member : (n : ℕ) (number : MemberNumber) (group resilience : ℕ) (refusal : Refusal) → (member.fresh_of n number group resilience).verdict ≡ Verdict.Refused refusal
-    → (member.fresh_of n number group resilience).member ≡ freshMember (descriptionOf 0 0 0) (record { 0 = 0 })
+closed_member : (n : ℕ) (number : MemberNumber) (group resilience : ℕ) (refusal : Refusal) → (member.fresh_of n number group resilience).verdict ≡ Verdict.Refused refusal
+    → (member.fresh_of n number group resilience).member ≡ fresh_member (description_of 0 0 0) (record { 0 = 0 })
 unfolding member.fresh_of
-closed-member n number group resilience refusal e = not_opened number refusal (number.0 <? n) (openOf n group resilience) e
+closed_member n number group resilience refusal e = not_opened_lem number refusal (number.0 <? n) (open_of n group resilience) e
 
 -- the two ways of opening
-fresh-yes : (n : ℕ) (number : MemberNumber) (group resilience : ℕ) → Verdict.Accepted ≡ (member.fresh_of n number group resilience).verdict
-    → record { terminal = freshTerminal n group resilience number.0; verdict = Verdict.Accepted } ≡ fresh_of n number group resilience
+fresh_yes : (n : ℕ) (number : MemberNumber) (group resilience : ℕ) → Verdict.Accepted ≡ (member.fresh_of n number group resilience).verdict
+    → record { terminal = fresh_terminal n group resilience number.0; verdict = Verdict.Accepted } ≡ fresh_of n number group resilience
 unfolding fresh_of judged
-fresh-yes n number group resilience e =
-    ap (λ (v : Verdict). judged v notOpened (record { terminal = freshTerminal n group resilience number.0; verdict = Verdict.Accepted })) e
+fresh_yes n number group resilience e =
+    ap (λ (v : Verdict). judged v not_opened (record { terminal = fresh_terminal n group resilience number.0; verdict = Verdict.Accepted })) e
 
-fresh-no : (n : ℕ) (number : MemberNumber) (group resilience : ℕ) (refusal : Refusal) → Verdict.Refused refusal ≡ (member.fresh_of n number group resilience).verdict
-    → notOpened refusal ≡ fresh_of n number group resilience
+fresh_no : (n : ℕ) (number : MemberNumber) (group resilience : ℕ) (refusal : Refusal) → Verdict.Refused refusal ≡ (member.fresh_of n number group resilience).verdict
+    → not_opened refusal ≡ fresh_of n number group resilience
 unfolding fresh_of judged
-fresh-no n number group resilience refusal e =
-    ap (λ (v : Verdict). judged v notOpened (record { terminal = freshTerminal n group resilience number.0; verdict = Verdict.Accepted })) e
+fresh_no n number group resilience refusal e =
+    ap (λ (v : Verdict). judged v not_opened (record { terminal = fresh_terminal n group resilience number.0; verdict = Verdict.Accepted })) e
 
 -- a refused opening leaves a terminal that is all zero
-pub refused-closes : RefusedCloses
-refused-closes n number group resilience refusal e = go (member.fresh_of n number group resilience).verdict refl
+pub refused_closes : RefusedCloses
+refused_closes n number group resilience refusal e = go (member.fresh_of n number group resilience).verdict refl
   where
-    go : (v : Verdict) → (member.fresh_of n number group resilience).verdict ≡ v → (fresh_of n number group resilience).terminal ≡ closedTerminal
-    go Verdict.Accepted z = absurd (apart refusal (ap (λ (o : Opening). o.verdict) (fresh-yes n number group resilience (sym z)) ∙ e))
-    go (Verdict.Refused r) z = ap (λ (o : Opening). o.terminal) (sym (fresh-no n number group resilience r (sym z)))
+    go : (v : Verdict) → (member.fresh_of n number group resilience).verdict ≡ v → (fresh_of n number group resilience).terminal ≡ closed_terminal
+    go Verdict.Accepted z = absurd (apart refusal (ap (λ (o : Opening). o.verdict) (fresh_yes n number group resilience (sym z)) ∙ e))
+    go (Verdict.Refused r) z = ap (λ (o : Opening). o.terminal) (sym (fresh_no n number group resilience r (sym z)))
 
 -- the parts of both ends, with nothing kept and nobody's reply
 abbrev pub parts : memberView.Stored → sequencerView.Stored → Head → Stored
-parts a b head = whole head a.queued a.held a.queued_originators a.queued_lengths a.held_originators a.held_lengths a.queued_payloads a.held_payloads (replicate placesMost 0) (replicate placesMost 0) (replicate placesMost 0) (replicate (placesMost * payloadMost) 0) (replicate membersMost 0) (replicate membersMost 0) b.taken b.counts b.repeats b.kept b.marks b.originators b.lengths b.payloads
+parts a b head = whole head a.queued a.held a.queued_originators a.queued_lengths a.held_originators a.held_lengths a.queued_payloads a.held_payloads (replicate places_most 0) (replicate places_most 0) (replicate places_most 0) (replicate (places_most * payload_most) 0) (replicate members_most 0) (replicate members_most 0) b.taken b.counts b.repeats b.kept b.marks b.originators b.lengths b.payloads
 
 seen_of : (a : memberView.Stored) (b : sequencerView.Stored) (yes : Bool)
-    → view_of (parts a b (freshHead a.head b.head (if yes then 1 else 0)))
-    ≡ seen (record { member = memberView.view_of a; kept = freshKept; reset = noReset; sequencing = yes; frozen = false; sequencer = sequencerView.view_of b })
-unfolding view_of terminalOf flagsSound if◌then◌else◌
+    → view_of (parts a b (fresh_head a.head b.head (if yes then 1 else 0)))
+    ≡ seen (record { member = memberView.view_of a; kept = fresh_kept; reset = no_reset; sequencing = yes; frozen = false; sequencer = sequencerView.view_of b })
+unfolding view_of terminal_of flags_sound if◌then◌else◌
 seen_of a b true =
-    λ i. seen (record { member = memberView.view_of a; kept = record { read = record { 0 = 0 }; past = messages-none placesMost i; counts = replicate membersMost 0 }; reset = noReset; sequencing = true; frozen = false; sequencer = sequencerView.view_of b })
+    λ i. seen (record { member = memberView.view_of a; kept = record { read = record { 0 = 0 }; past = messages_none places_most i; counts = replicate members_most 0 }; reset = no_reset; sequencing = true; frozen = false; sequencer = sequencerView.view_of b })
 seen_of a b false =
-    λ i. seen (record { member = memberView.view_of a; kept = record { read = record { 0 = 0 }; past = messages-none placesMost i; counts = replicate membersMost 0 }; reset = noReset; sequencing = false; frozen = false; sequencer = sequencerView.view_of b })
+    λ i. seen (record { member = memberView.view_of a; kept = record { read = record { 0 = 0 }; past = messages_none places_most i; counts = replicate members_most 0 }; reset = no_reset; sequencing = false; frozen = false; sequencer = sequencerView.view_of b })
 
 -- both ends all zero
-pub closed-seen : (a : memberView.Stored) (b : sequencerView.Stored) {head : Head} → memberView.view_of a ≡ freshMember (descriptionOf 0 0 0) (record { 0 = 0 })
-    → sequencerView.view_of b ≡ noSequencer → head ≡ freshHead a.head b.head 0 → view_of (parts a b head) ≡ seen closedTerminal
+pub closed_seen : (a : memberView.Stored) (b : sequencerView.Stored) {head : Head} → memberView.view_of a ≡ fresh_member (description_of 0 0 0) (record { 0 = 0 })
+    → sequencerView.view_of b ≡ no_sequencer → head ≡ fresh_head a.head b.head 0 → view_of (parts a b head) ≡ seen closed_terminal
 unfolding if◌then◌else◌
-closed-seen a b m s e =
+closed_seen a b m s e =
     ap (λ (h : Head). view_of (parts a b h)) e ∙ seen_of a b false
-    ∙ (λ i. seen (record { member = m i; kept = freshKept; reset = noReset; sequencing = false; frozen = false; sequencer = s i }))
+    ∙ (λ i. seen (record { member = m i; kept = fresh_kept; reset = no_reset; sequencing = false; frozen = false; sequencer = s i }))
 
-seats-of : (n group resilience : ℕ) (yes : Bool)
-    → (sequencer.fresh_of (if (if yes then 1 else 0) =? 1 then n else 0) group resilience).sequencer ≡ (if yes then (sequencer.fresh_of n group resilience).sequencer else noSequencer)
+seats_of : (n group resilience : ℕ) (yes : Bool)
+    → (sequencer.fresh_of (if (if yes then 1 else 0) =? 1 then n else 0) group resilience).sequencer ≡ (if yes then (sequencer.fresh_of n group resilience).sequencer else no_sequencer)
 unfolding if◌then◌else◌
-seats-of n group resilience true = refl
-seats-of n group resilience false = none-fresh group resilience
+seats_of n group resilience true = refl
+seats_of n group resilience false = none_fresh group resilience
 
 pub opened : (n : ℕ) (number : MemberNumber) (group resilience : ℕ) {verdict : Verdict} {a : memberView.Stored} {b : sequencerView.Stored} {head : Head} {sequencing seats : ℕ}
-    → memberPromise.Opens (member.fresh_of n number group resilience) verdict a → sequencing ≡ sequencingOf verdict number → seats ≡ (if sequencing =? 1 then n else 0)
-    → sequencerView.view_of b ≡ (sequencer.fresh_of seats group resilience).sequencer → head ≡ freshHead a.head b.head sequencing
+    → memberPromise.Opens (member.fresh_of n number group resilience) verdict a → sequencing ≡ sequencing_of verdict number → seats ≡ (if sequencing =? 1 then n else 0)
+    → sequencerView.view_of b ≡ (sequencer.fresh_of seats group resilience).sequencer → head ≡ fresh_head a.head b.head sequencing
     → Opens (fresh_of n number group resilience) verdict (parts a b head)
-unfolding sequencingOf if◌then◌else◌
+unfolding sequencing_of if◌then◌else◌
 opened n number group resilience {verdict} {a} {b} {head} {sequencing} {seats} p f k s e = go verdict p.answer f
   where
-    go : (v : Verdict) → v ≡ (member.fresh_of n number group resilience).verdict → sequencing ≡ sequencingOf v number → Opens (fresh_of n number group resilience) v (parts a b head)
+    go : (v : Verdict) → v ≡ (member.fresh_of n number group resilience).verdict → sequencing ≡ sequencing_of v number → Opens (fresh_of n number group resilience) v (parts a b head)
     go Verdict.Accepted z f =
-        let w = fresh-yes n number group resilience z in
-        let t : sequencerView.view_of b ≡ (if number.0 =? 0 then (sequencer.fresh_of n group resilience).sequencer else noSequencer) =
-        s ∙ ap (λ (x : ℕ). (sequencer.fresh_of x group resilience).sequencer) (k ∙ ap (λ (x : ℕ). if x =? 1 then n else 0) f) ∙ seats-of n group resilience (number.0 =? 0) in
+        let w = fresh_yes n number group resilience z in
+        let t : sequencerView.view_of b ≡ (if number.0 =? 0 then (sequencer.fresh_of n group resilience).sequencer else no_sequencer) =
+        s ∙ ap (λ (x : ℕ). (sequencer.fresh_of x group resilience).sequencer) (k ∙ ap (λ (x : ℕ). if x =? 1 then n else 0) f) ∙ seats_of n group resilience (number.0 =? 0) in
         record {
           answer = ap (λ (o : Opening). o.verdict) w;
           state =
-              ap (λ (h : Head). view_of (parts a b h)) (e ∙ ap (freshHead a.head b.head) f) ∙ seen_of a b (number.0 =? 0)
-              ∙ (λ i. seen (record { member = p.state i; kept = freshKept; reset = noReset; sequencing = number.0 =? 0; frozen = false; sequencer = t i }))
+              ap (λ (h : Head). view_of (parts a b h)) (e ∙ ap (fresh_head a.head b.head) f) ∙ seen_of a b (number.0 =? 0)
+              ∙ (λ i. seen (record { member = p.state i; kept = fresh_kept; reset = no_reset; sequencing = number.0 =? 0; frozen = false; sequencer = t i }))
               ∙ ap (λ (o : Opening). seen o.terminal) w;
-          wording = ap (λ (o : Opening). verdictWording o.verdict) w;
+          wording = ap (λ (o : Opening). verdict_wording o.verdict) w;
         }
     go (Verdict.Refused refusal) z f =
-        let w = fresh-no n number group resilience refusal z in
-        let t : sequencerView.view_of b ≡ noSequencer =
-        s ∙ ap (λ (x : ℕ). (sequencer.fresh_of x group resilience).sequencer) (k ∙ ap (λ (x : ℕ). if x =? 1 then n else 0) f) ∙ none-fresh group resilience in
+        let w = fresh_no n number group resilience refusal z in
+        let t : sequencerView.view_of b ≡ no_sequencer =
+        s ∙ ap (λ (x : ℕ). (sequencer.fresh_of x group resilience).sequencer) (k ∙ ap (λ (x : ℕ). if x =? 1 then n else 0) f) ∙ none_fresh group resilience in
         record {
           answer = ap (λ (o : Opening). o.verdict) w;
-          state = closed-seen a b (p.state ∙ closed-member n number group resilience refusal (sym z)) t (e ∙ ap (freshHead a.head b.head) f) ∙ ap (λ (o : Opening). seen o.terminal) w;
-          wording = ap (λ (o : Opening). verdictWording o.verdict) w;
+          state = closed_seen a b (p.state ∙ closed_member n number group resilience refusal (sym z)) t (e ∙ ap (fresh_head a.head b.head) f) ∙ ap (λ (o : Opening). seen o.terminal) w;
+          wording = ap (λ (o : Opening). verdict_wording o.verdict) w;
         }

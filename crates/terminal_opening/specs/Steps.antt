@@ -8,13 +8,13 @@ use Rattle.sequencer.specs.declared.Head as sequencer
 use Rattle.recovery.specs.declared.Head.{Head}
 
 -- an opened terminal has the sequencer (1: yes, 0: no) if it is member 0's
-unfoldable pub sequencingOf : Verdict → MemberNumber → ℕ
-sequencingOf Verdict.Accepted number = if number.0 =? 0 then 1 else 0
-sequencingOf (Verdict.Refused refusal) number = 0
+unfoldable pub sequencing_of : Verdict → MemberNumber → ℕ
+sequencing_of Verdict.Accepted number = if number.0 =? 0 then 1 else 0
+sequencing_of (Verdict.Refused refusal) number = 0
 
 -- the head of both ends, with no part in a reset
-abbrev pub freshHead : member.Head → sequencer.Head → ℕ → Head
-freshHead m s sequencing =
+abbrev pub fresh_head : member.Head → sequencer.Head → ℕ → Head
+fresh_head m s sequencing =
     record {
       member = m;
       sequencer = s;

@@ -4,7 +4,7 @@ ghost use Rattle.std.specs.Prelude.{◌≡◌};
 ghost use Rattle.group.specs.Choice.{if◌then◌else◌, ◌=?◌};
 ghost use Rattle.recovery.specs.View.{whole};
 ghost use Rattle.terminal_opening.specs.Opening.{Opens, fresh_of};
-ghost use Rattle.terminal_opening.specs.Steps.{sequencingOf, freshHead};
+ghost use Rattle.terminal_opening.specs.Steps.{sequencing_of, fresh_head};
 
 use group::{Group, MemberNumber, SequenceNumber, Verdict};
 use recovery::Head;
@@ -18,7 +18,7 @@ pub struct Begun {
 
 // Whether an opened terminal has the sequencer (1: yes, 0: no): member 0's has.
 fn sequencing(verdict: Verdict, number: MemberNumber) -> u8
-    ensures { result ≡ sequencingOf verdict number }
+    ensures { result ≡ sequencing_of verdict number }
 {
     match verdict {
         Verdict::Accepted => {
@@ -43,7 +43,7 @@ fn seats(sequencing: u8, n: u8) -> u8
 
 // The head of both ends, with no part in a reset.
 pub fn fresh_head(member: member::Head, sequencer: sequencer::Head, sequencing: u8) -> Head
-    ensures { result ≡ freshHead member sequencer sequencing }
+    ensures { result ≡ fresh_head member sequencer sequencing }
 {
     Head {
         member,

@@ -4,12 +4,12 @@ use Rattle.group.specs.Choice.{if◌then◌else◌, ◌=?◌}
 use Rattle.recovery.specs.declared.Head.{Head}
 
 -- a flag is set if it is 1
-unfoldable pub flagOf : ℕ → ℕ
-flagOf stored = if stored =? 1 then 1 else 0
+unfoldable pub flag_of : ℕ → ℕ
+flag_of stored = if stored =? 1 then 1 else 0
 
 -- the head whose rows these are
-abbrev pub headIn : List ℕ → List ℕ → List ℕ → Head
-headIn small masks numbers =
+abbrev pub head_in : List ℕ → List ℕ → List ℕ → Head
+head_in small masks numbers =
     record {
       member =
           record {
@@ -46,24 +46,24 @@ headIn small masks numbers =
       number = record { 0 = get_or numbers 11 0 };
       invited = get_or numbers 12 0;
       repliers = get_or masks 2 0;
-      replied = flagOf (get_or small 7 0);
-      inviting = flagOf (get_or small 8 0);
-      sequencing = flagOf (get_or small 9 0);
-      frozen = flagOf (get_or small 10 0);
+      replied = flag_of (get_or small 7 0);
+      inviting = flag_of (get_or small 8 0);
+      sequencing = flag_of (get_or small 9 0);
+      frozen = flag_of (get_or small 10 0);
     }
 
 -- the rows of a head
-abbrev pub smallOf : Head → List ℕ
-smallOf h =
+abbrev pub small_of : Head → List ℕ
+small_of h =
     h.member.group.n ∷ h.member.group.resilience ∷ h.member.group.elected.0 ∷ h.member.number.0
     ∷ h.sequencer.group.n ∷ h.sequencer.group.resilience ∷ h.sequencer.group.elected.0
     ∷ h.replied ∷ h.inviting ∷ h.sequencing ∷ h.frozen ∷ []
 
-abbrev pub masksOf : Head → List ℕ
-masksOf h = h.member.group.survivors ∷ h.sequencer.group.survivors ∷ h.repliers ∷ []
+abbrev pub masks_of : Head → List ℕ
+masks_of h = h.member.group.survivors ∷ h.sequencer.group.survivors ∷ h.repliers ∷ []
 
-abbrev pub numbersOf : Head → List ℕ
-numbersOf h =
+abbrev pub numbers_of : Head → List ℕ
+numbers_of h =
     h.member.group.number ∷ h.member.taken.0 ∷ h.member.accepted.0 ∷ h.member.submitted ∷ h.member.waiting
     ∷ h.sequencer.group.number ∷ h.sequencer.top.0 ∷ h.sequencer.accepted.0 ∷ h.sequencer.floor.0
     ∷ h.read.0 ∷ h.attempt ∷ h.number.0 ∷ h.invited ∷ []

@@ -13,57 +13,57 @@ use Rattle.terminal_rows.specs.declared.WholeCall.{WholeCall}
 use Rattle.terminal_rows.specs.declared.WholeCall.TheVariants as whole
 
 -- the calls by the parts that they are lent
-unfoldable pub ofMember : MemberCall → Call
-ofMember member.Submit = Submit
-ofMember member.Repeat = Repeat
-ofMember member.Take = Take
-ofMember member.Status = Status
+unfoldable pub of_member : MemberCall → Call
+of_member member.Submit = Submit
+of_member member.Repeat = Repeat
+of_member member.Take = Take
+of_member member.Status = Status
 
-unfoldable pub ofWhole : WholeCall → Call
-ofWhole whole.Receive = Receive
-ofWhole (whole.Invite number) = Invite number
-ofWhole (whole.Make demand) = Make demand
-ofWhole (whole.Open n number resilience i) = Open n number resilience i
+unfoldable pub of_whole : WholeCall → Call
+of_whole whole.Receive = Receive
+of_whole (whole.Invite number) = Invite number
+of_whole (whole.Make demand) = Make demand
+of_whole (whole.Open n number resilience i) = Open n number resilience i
 
-unfoldable pub ofSequencer : SequencerCall → Call
-ofSequencer sequencer.Order = Order
-ofSequencer sequencer.Poll = Poll
-ofSequencer (sequencer.Copy number) = Copy number
+unfoldable pub of_sequencer : SequencerCall → Call
+of_sequencer sequencer.Order = Order
+of_sequencer sequencer.Poll = Poll
+of_sequencer (sequencer.Copy number) = Copy number
 
-unfoldable pub ofPart : Part → Call
-ofPart (Member call) = ofMember call
-ofPart (Whole call) = ofWhole call
-ofPart (Sequencer call) = ofSequencer call
+unfoldable pub of_part : Part → Call
+of_part (Member call) = of_member call
+of_part (Whole call) = of_whole call
+of_part (Sequencer call) = of_sequencer call
 
 -- the length of the packet that a call wrote: a take writes a payload, and no packet
-unfoldable pub keptSize : Call → ℕ → ℕ
-keptSize Submit size = size
-keptSize Repeat size = size
-keptSize Take size = 0
-keptSize Status size = size
-keptSize Receive size = size
-keptSize (Invite number) size = size
-keptSize (Make demand) size = size
-keptSize Order size = size
-keptSize Poll size = size
-keptSize (Copy number) size = size
-keptSize (Open n number resilience i) size = size
+unfoldable pub kept_size : Call → ℕ → ℕ
+kept_size Submit size = size
+kept_size Repeat size = size
+kept_size Take size = 0
+kept_size Status size = size
+kept_size Receive size = size
+kept_size (Invite number) size = size
+kept_size (Make demand) size = size
+kept_size Order size = size
+kept_size Poll size = size
+kept_size (Copy number) size = size
+kept_size (Open n number resilience i) size = size
 
 -- the sequencer's calls need one
-unfoldable pub admitsOf : Call → Bool → Bool
-admitsOf Submit sequencing = true
-admitsOf Repeat sequencing = true
-admitsOf Take sequencing = true
-admitsOf Status sequencing = true
-admitsOf Receive sequencing = true
-admitsOf (Invite number) sequencing = true
-admitsOf (Make demand) sequencing = true
-admitsOf Order sequencing = sequencing
-admitsOf Poll sequencing = sequencing
-admitsOf (Copy number) sequencing = sequencing
-admitsOf (Open n number resilience i) sequencing = true
+unfoldable pub admits_of : Call → Bool → Bool
+admits_of Submit sequencing = true
+admits_of Repeat sequencing = true
+admits_of Take sequencing = true
+admits_of Status sequencing = true
+admits_of Receive sequencing = true
+admits_of (Invite number) sequencing = true
+admits_of (Make demand) sequencing = true
+admits_of Order sequencing = sequencing
+admits_of Poll sequencing = sequencing
+admits_of (Copy number) sequencing = sequencing
+admits_of (Open n number resilience i) sequencing = true
 
 -- how many terminals there are once a group was opened: none where that is refused
-unfoldable pub openedWith : Verdict → ℕ → ℕ
-openedWith Verdict.Accepted n = n
-openedWith (Verdict.Refused refusal) n = 0
+unfoldable pub opened_with : Verdict → ℕ → ℕ
+opened_with Verdict.Accepted n = n
+opened_with (Verdict.Refused refusal) n = 0

@@ -3,9 +3,9 @@
 ghost use Rattle.std.specs.Prelude.{◌≡◌, ◌<◌, [], length, get_or, set};
 ghost use Rattle.group.specs.Choice.{if◌then◌else◌, ◌=?◌};
 ghost use Rattle.sequencer.specs.Calls.{fresh_of};
-ghost use Rattle.simulator.specs.Steps.{fittingOf};
-ghost use Rattle.terminal_rows.specs.Heads.{flagOf, headIn, smallOf, masksOf, numbersOf};
-ghost use Rattle.terminal_rows.specs.Steps.{keptSize, admitsOf, ofPart, openedWith};
+ghost use Rattle.simulator.specs.Steps.{fitting_of};
+ghost use Rattle.terminal_rows.specs.Heads.{flag_of, head_in, small_of, masks_of, numbers_of};
+ghost use Rattle.terminal_rows.specs.Steps.{kept_size, admits_of, of_part, opened_with};
 
 use group::{Group, MemberNumber, SequenceNumber, Verdict};
 use recovery::Head;
@@ -20,7 +20,7 @@ pub const NUMBERS: usize = 13;
 
 // A flag is set if it is 1.
 fn flag(stored: u8) -> u8
-    ensures { result ≡ flagOf stored }
+    ensures { result ≡ flag_of stored }
 {
     if stored == 1 {
         return 1;
@@ -30,7 +30,7 @@ fn flag(stored: u8) -> u8
 
 // The head of the terminal whose rows these are.
 pub fn head_of(small: [u8; SMALL], masks: [u16; MASKS], numbers: [u32; NUMBERS]) -> Head
-    ensures { result ≡ headIn small masks numbers }
+    ensures { result ≡ head_in small masks numbers }
 {
     let mine = member::Head {
         group: Group {
@@ -79,7 +79,7 @@ pub fn head_of(small: [u8; SMALL], masks: [u16; MASKS], numbers: [u32; NUMBERS])
 
 // The rows of a head.
 fn small_of(head: Head) -> [u8; SMALL]
-    ensures { result ≡ smallOf head }
+    ensures { result ≡ small_of head }
 {
     [
         head.member.group.n,
@@ -97,7 +97,7 @@ fn small_of(head: Head) -> [u8; SMALL]
 }
 
 fn masks_of(head: Head) -> [u16; MASKS]
-    ensures { result ≡ masksOf head }
+    ensures { result ≡ masks_of head }
 {
     [
         head.member.group.survivors,
@@ -107,7 +107,7 @@ fn masks_of(head: Head) -> [u16; MASKS]
 }
 
 fn numbers_of(head: Head) -> [u32; NUMBERS]
-    ensures { result ≡ numbersOf head }
+    ensures { result ≡ numbers_of head }
 {
     [
         head.member.group.number,
@@ -134,7 +134,7 @@ pub fn read_head(
     i: usize,
 ) -> Head
     requires { (i < length small.now) × (i < length masks.now) × (i < length numbers.now) }
-    ensures { result ≡ headIn (get_or small.now i []) (get_or masks.now i []) (get_or numbers.now i []) }
+    ensures { result ≡ head_in (get_or small.now i []) (get_or masks.now i []) (get_or numbers.now i []) }
 {
     let first = small[i];
     let second = masks[i];
@@ -150,7 +150,7 @@ pub fn write_head(
     head: Head,
 )
     requires { (i < length small.old) × (i < length masks.old) × (i < length numbers.old) }
-    ensures { (small.new ≡ set small.old i (smallOf head)) × (masks.new ≡ set masks.old i (masksOf head)) × (numbers.new ≡ set numbers.old i (numbersOf head)) }
+    ensures { (small.new ≡ set small.old i (small_of head)) × (masks.new ≡ set masks.old i (masks_of head)) × (numbers.new ≡ set numbers.old i (numbers_of head)) }
 {
     let first = small_of(head);
     small[i] = first;
@@ -220,7 +220,7 @@ pub enum Part {
 
 // The parts that a call is lent.
 pub fn part_of(call: Call) -> Part
-    ensures { ofPart result ≡ call }
+    ensures { of_part result ≡ call }
 {
     match call {
         Call::Submit => Part::Member(MemberCall::Submit),
@@ -249,7 +249,7 @@ pub fn part_of(call: Call) -> Part
 
 // The length of the packet that a call wrote. A take writes a payload, and no packet.
 pub fn kept_size(call: Call, written: usize) -> usize
-    ensures { result ≡ keptSize call written }
+    ensures { result ≡ kept_size call written }
 {
     match call {
         Call::Submit => written,
@@ -273,7 +273,7 @@ pub fn kept_size(call: Call, written: usize) -> usize
 
 // Whether a terminal can be called so: its sequencer's calls need one.
 pub fn admits(call: Call, sequencing: bool) -> bool
-    ensures { result ≡ admitsOf call sequencing }
+    ensures { result ≡ admits_of call sequencing }
 {
     match call {
         Call::Submit => true,
@@ -315,7 +315,7 @@ pub fn packet_at(packets: &[[u8; Group::PACKET]], k: usize) -> [u8; Group::PACKE
 
 pub fn size_at(sizes: &[usize], k: usize) -> usize
     requires { k < length sizes.now }
-    ensures { result ≡ fittingOf (get_or sizes.now k 0) }
+    ensures { result ≡ fitting_of (get_or sizes.now k 0) }
 {
     let size = sizes[k];
     simulator::fitting(size)
@@ -334,7 +334,7 @@ pub fn verdict_of(n: u8, number: u32, resilience: u8) -> Verdict
 
 // How many terminals there are where that is answered.
 pub fn opened_with(verdict: Verdict, n: u8) -> u8
-    ensures { result ≡ openedWith verdict n }
+    ensures { result ≡ opened_with verdict n }
 {
     match verdict {
         Verdict::Accepted => n,

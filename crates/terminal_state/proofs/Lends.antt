@@ -56,11 +56,11 @@ arrays = record { row = Array u32 5; ty = ty_array (ty_int w32) 5 }
 abbrev all : Terminal → Denots (rows_of (first ∷ arrays))
 all h = ((B.the_type).to h.head, (h.queued, (h.held, (h.queued_originators, (h.queued_lengths, (h.held_originators, (h.held_lengths, (h.queued_payloads, (h.held_payloads, (h.past, (h.past_originators, (h.past_lengths, (h.past_payloads, (h.highest, (h.replies, (h.taken, (h.counts, (h.repeats, (h.kept, (h.marks, (h.originators, (h.lengths, (h.payloads, tt)))))))))))))))))))))))
 
-all-is : (h : Terminal) → (T.the_type).to h ≡ all h
-all-is h = λ i. ((B.the_type).to h.head, (map-id h.queued i, (map-id h.held i, (map-id h.queued_originators i, (map-id h.queued_lengths i, (map-id h.held_originators i, (map-id h.held_lengths i, (map-id h.queued_payloads i, (map-id h.held_payloads i, (map-id h.past i, (map-id h.past_originators i, (map-id h.past_lengths i, (map-id h.past_payloads i, (map-id h.highest i, (map-id h.replies i, (map-id h.taken i, (map-id h.counts i, (map-id h.repeats i, (map-id h.kept i, (map-id h.marks i, (map-id h.originators i, (map-id h.lengths i, (map-id h.payloads i, tt)))))))))))))))))))))))
+all_is : (h : Terminal) → (T.the_type).to h ≡ all h
+all_is h = λ i. ((B.the_type).to h.head, (map-id h.queued i, (map-id h.held i, (map-id h.queued_originators i, (map-id h.queued_lengths i, (map-id h.held_originators i, (map-id h.held_lengths i, (map-id h.queued_payloads i, (map-id h.held_payloads i, (map-id h.past i, (map-id h.past_originators i, (map-id h.past_lengths i, (map-id h.past_payloads i, (map-id h.highest i, (map-id h.replies i, (map-id h.taken i, (map-id h.counts i, (map-id h.repeats i, (map-id h.kept i, (map-id h.marks i, (map-id h.originators i, (map-id h.lengths i, (map-id h.payloads i, tt)))))))))))))))))))))))
 
 pub same : (q : Share) (h : Terminal) (b o : ℕ) → part_at T.the_row q h b o ≡ part_at (Struct (shape T.the_type)) q (all h) b o
-same q h b o = Recorded-part (Struct (shape T.the_type)) Terminal (T.the_type).to (T.the_type).to_one q h b o ∙ ap (λ (a : Denots (rows_of (first ∷ arrays))). part_at (Struct (shape T.the_type)) q a b o) (all-is h)
+same q h b o = Recorded-part (Struct (shape T.the_type)) Terminal (T.the_type).to (T.the_type).to_one q h b o ∙ ap (λ (a : Denots (rows_of (first ∷ arrays))). part_at (Struct (shape T.the_type)) q a b o) (all_is h)
 
 abbrev pub lendable : Lendable
 lendable = record {

@@ -3,7 +3,7 @@
 ghost use Rattle.std.specs.Prelude.{◌≡◌};
 ghost use Rattle.recovery.specs.Promise as promise;
 ghost use Rattle.recovery.specs.View.{whole, seen};
-ghost use Rattle.terminal_opening.specs.Opening.{closedTerminal};
+ghost use Rattle.terminal_opening.specs.Opening.{closed_terminal};
 ghost use Rattle.terminal_state.specs.Terminal as inPlace;
 
 use group::{Group, MemberNumber, SequenceNumber, Verdict};
@@ -550,7 +550,7 @@ pub fn make_on(
 impl Terminal {
     // All zero: what a caller has before it opens a terminal. No call accepts it.
     pub fn closed() -> Self
-        ensures { inPlace.view_of result ≡ seen closedTerminal }
+        ensures { inPlace.view_of result ≡ seen closed_terminal }
     {
         let none = Group {
             n: 0,

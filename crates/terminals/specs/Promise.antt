@@ -7,7 +7,7 @@ use Rattle.sequencer.specs.declared.Reply as sequencer
 use Rattle.recovery.specs.Promise as promise
 use Rattle.recovery.specs.View.{Stored, whole, view_of}
 use Rattle.recovery.specs.declared.Head.{Head}
-use Rattle.terminals.specs.Steps.{endVerdict}
+use Rattle.terminals.specs.Steps.{end_verdict}
 
 -- the member's calls look at no array of the sequencer
 abbrev pub Submits : Head → List ℕ → List ℕ → List ℕ → List ℕ → List ℕ → List ℕ → List ℕ → List ℕ → List ℕ → List ℕ → List ℕ → List ℕ → List ℕ → List ℕ → List ℕ → List ℕ → member.Reply → Head → List ℕ → List ℕ → List ℕ → List ℕ → List ℕ → List ℕ → List ℕ → List ℕ → List ℕ → Type 0
@@ -34,7 +34,7 @@ Takes head queued held queued_originators queued_lengths held_originators held_l
 -- questions 1 and 2 of the member's end
 abbrev pub Asks : Head → List ℕ → List ℕ → List ℕ → List ℕ → List ℕ → List ℕ → List ℕ → List ℕ → List ℕ → List ℕ → List ℕ → List ℕ → List ℕ → List ℕ → ℕ → Verdict → Type 0
 Asks head queued held queued_originators queued_lengths held_originators held_lengths queued_payloads held_payloads past past_originators past_lengths past_payloads highest replies room verdict =
-    (taken counts repeats kept marks originators lengths payloads : List ℕ) → verdict ≡ endVerdict (view_of (whole head queued held queued_originators queued_lengths held_originators held_lengths queued_payloads held_payloads past past_originators past_lengths past_payloads highest replies taken counts repeats kept marks originators lengths payloads)) room
+    (taken counts repeats kept marks originators lengths payloads : List ℕ) → verdict ≡ end_verdict (view_of (whole head queued held queued_originators queued_lengths held_originators held_lengths queued_payloads held_payloads past past_originators past_lengths past_payloads highest replies taken counts repeats kept marks originators lengths payloads)) room
 
 -- nor does a packet that is of no reset, and it leaves the member's arrays
 abbrev pub Hears : Head → List ℕ → List ℕ → List ℕ → List ℕ → List ℕ → List ℕ → List ℕ → List ℕ → List ℕ → List ℕ → List ℕ → List ℕ → List ℕ → List ℕ → List ℕ → List ℕ → member.Reply → Head → List ℕ → List ℕ → List ℕ → List ℕ → List ℕ → List ℕ → List ℕ → List ℕ → List ℕ → Type 0

@@ -1,17 +1,17 @@
 // A terminal's calls: the work of each is lent its state in parts, the numbers of its head by value and the arrays that it looks at.
 ghost use Rattle.std.specs.Prelude.{true, false, ◌≡◌, ◌*◌, ◌≤◌, length, take};
-ghost use Rattle.group.specs.Limits.{membersMost, heldMost, payloadMost};
+ghost use Rattle.group.specs.Limits.{members_most, held_most, payload_most};
 ghost use Rattle.group.specs.declared.Refusal.{Refusal};
 ghost use Rattle.member.specs.declared.Answer as memberAnswer;
 ghost use Rattle.sequencer.specs.declared.Answer as sequencerAnswer;
-ghost use Rattle.packet.specs.Packet.{requestKind, contentOf, read_of};
+ghost use Rattle.packet.specs.Packet.{request_kind, content_of, read_of};
 ghost use Rattle.history.specs.View.{Places};
-ghost use Rattle.recovery.specs.Calls.{ofReset, floorIn};
+ghost use Rattle.recovery.specs.Calls.{of_reset, floor_in};
 ghost use Rattle.recovery.specs.Promise.{Received};
-ghost use Rattle.recovery.specs.Steps.{withMemberHead, withSequencerHead};
+ghost use Rattle.recovery.specs.Steps.{with_member_head, with_sequencer_head};
 ghost use Rattle.recovery.specs.View.{whole};
 ghost use Rattle.terminals.specs.Promise.{Submits, Repeats, Reports, Takes, Asks, Hears, Polls, Copies, Orders};
-ghost use Rattle.terminals.specs.Steps.{Remembers, frozenRefusal, closedRefusal, refusalAfter, resets, floorSaid, readAfter, heardHead};
+ghost use Rattle.terminals.specs.Steps.{Remembers, frozen_refusal, closed_refusal, refusal_after, resets, floor_said, read_after, heard_head};
 
 use attempt::Done;
 use group::{Group, Refusal, SequenceNumber, Verdict};
@@ -42,7 +42,7 @@ fn not_sound() -> sequencer::Reply
 
 // The head with its member's replaced.
 fn with_member(head: Head, member: member::Head) -> Head
-    ensures { result ≡ withMemberHead head member }
+    ensures { result ≡ with_member_head head member }
 {
     let mut next = head;
     next.member = member;
@@ -195,8 +195,8 @@ pub fn status_on(
 
 // The sizes of what is held, which a reference to an array does not tell.
 fn held_sizes(held: &[u32], held_payloads: &[u8])
-    requires { (length held.now ≡ heldMost) × (length held_payloads.now ≡ heldMost * payloadMost) }
-    ensures { (length held.now ≡ heldMost) × (length held_payloads.now ≡ heldMost * payloadMost) }
+    requires { (length held.now ≡ held_most) × (length held_payloads.now ≡ held_most * payload_most) }
+    ensures { (length held.now ≡ held_most) × (length held_payloads.now ≡ held_most * payload_most) }
 {}
 
 // What a take handed out is kept among the last 32, and its count.
@@ -210,7 +210,7 @@ fn remember(
     highest: &mut [u32],
     out: &[u8],
 )
-    requires { Places past.old past_originators.old past_lengths.old past_payloads.old × (length highest.old ≡ membersMost) × (written ≤ payloadMost) × (written ≤ length out.now) }
+    requires { Places past.old past_originators.old past_lengths.old past_payloads.old × (length highest.old ≡ members_most) × (written ≤ payload_most) × (written ≤ length out.now) }
     ensures { Remembers answer (take written out.now) past.old past_originators.old past_lengths.old past_payloads.old highest.old past.new past_originators.new past_lengths.new past_payloads.new highest.new }
 {
     if let member::Answer::Took {
@@ -299,15 +299,15 @@ pub fn take_on(
 
 // Whether a packet that was read is of a reset: kinds 9 to 11.
 fn of_reset(h: Header) -> bool
-    requires { requestKind ≤ h.kind }
-    ensures { result ≡ ofReset (contentOf h) }
+    requires { request_kind ≤ h.kind }
+    ensures { result ≡ of_reset (content_of h) }
 {
     Header::ACCEPT < h.kind
 }
 
 // The floor that a packet says; 0 for none.
 fn floor_in(content: Packet) -> u32
-    ensures { result ≡ floorIn content }
+    ensures { result ≡ floor_in content }
 {
     match content {
         Packet::Request {
@@ -369,7 +369,7 @@ fn floor_in(content: Packet) -> u32
 }
 
 fn floor_said(packet: &[u8]) -> SequenceNumber
-    ensures { result.0 ≡ floorSaid (read_of packet.now) }
+    ensures { result.0 ≡ floor_said (read_of packet.now) }
 {
     let r = packet::read(packet);
     match r {
@@ -383,7 +383,7 @@ fn floor_said(packet: &[u8]) -> SequenceNumber
 
 // The highest floor read, once a packet was answered.
 fn read_after(read: SequenceNumber, answer: member::Answer, packet: &[u8]) -> SequenceNumber
-    ensures { result ≡ readAfter read answer (read_of packet.now) }
+    ensures { result ≡ read_after read answer (read_of packet.now) }
 {
     if let member::Answer::Refused(_) = answer {
         return read;
@@ -394,7 +394,7 @@ fn read_after(read: SequenceNumber, answer: member::Answer, packet: &[u8]) -> Se
 
 // The head with what its member leaves, and the highest floor read.
 fn with_heard(head: Head, member: member::Head, read: SequenceNumber) -> Head
-    ensures { result ≡ heardHead head member read }
+    ensures { result ≡ heard_head head member read }
 {
     let mut next = with_member(head, member);
     next.read = read;
@@ -403,7 +403,7 @@ fn with_heard(head: Head, member: member::Head, read: SequenceNumber) -> Head
 
 // What a member with a reply open refuses a packet with that is of no reset: questions 3 to 7.
 fn closed_refusal(group: Group, packet: &[u8]) -> Refusal
-    ensures { result ≡ closedRefusal group (read_of packet.now) }
+    ensures { result ≡ closed_refusal group (read_of packet.now) }
 {
     let r = packet::read(packet);
     match r {
@@ -420,7 +420,7 @@ fn closed_refusal(group: Group, packet: &[u8]) -> Refusal
 
 // Behind questions 1 and 2.
 fn closed_reply(v: Verdict, group: Group, packet: &[u8]) -> member::Reply
-    ensures { result ≡ record { answer = memberAnswer.Answer.Refused (refusalAfter v (closedRefusal group (read_of packet.now))); written = 0 } }
+    ensures { result ≡ record { answer = memberAnswer.Answer.Refused (refusal_after v (closed_refusal group (read_of packet.now))); written = 0 } }
 {
     match v {
         Verdict::Accepted => {
@@ -800,7 +800,7 @@ pub fn copy_on(
 
 // The head with its sequencer's replaced.
 fn with_sequencer(head: Head, sequencer: sequencer::Head) -> Head
-    ensures { result ≡ withSequencerHead head sequencer }
+    ensures { result ≡ with_sequencer_head head sequencer }
 {
     let mut next = head;
     next.sequencer = sequencer;
@@ -809,7 +809,7 @@ fn with_sequencer(head: Head, sequencer: sequencer::Head) -> Head
 
 // What a frozen sequencer refuses a packet with: questions 3 to 6, 7 but of a reset, and 8.
 fn frozen_refusal(group: Group, packet: &[u8]) -> Refusal
-    ensures { result ≡ frozenRefusal group (read_of packet.now) }
+    ensures { result ≡ frozen_refusal group (read_of packet.now) }
 {
     let r = packet::read(packet);
     match r {
@@ -832,7 +832,7 @@ fn frozen_refusal(group: Group, packet: &[u8]) -> Refusal
 
 // Behind questions 1 and 2.
 fn frozen_reply(v: Verdict, group: Group, packet: &[u8]) -> sequencer::Reply
-    ensures { result ≡ record { answer = sequencerAnswer.Answer.Refused (refusalAfter v (frozenRefusal group (read_of packet.now))); written = 0 } }
+    ensures { result ≡ record { answer = sequencerAnswer.Answer.Refused (refusal_after v (frozen_refusal group (read_of packet.now))); written = 0 } }
 {
     match v {
         Verdict::Accepted => {

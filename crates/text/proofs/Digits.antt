@@ -13,99 +13,99 @@ use lib.Seq.{drop-cons, take-suc-set, drop-set-lt, append_snoc, drop-drop}
 use Rattle.group.specs.Choice.{◌and◌, ◌<?◌, ◌≤?◌, ◌=?◌}
 use Rattle.group.specs.Fold.{all}
 use Rattle.group.specs.Lent.{front}
-use Rattle.group.specs.Limits.{largestNumber}
-use Rattle.group.proofs.Choice.{if-eq, if-ne, if-le, if-nle, both_first, both-then}
-use Rattle.text.specs.Text.{dash, digitOf}
-use Rattle.text.specs.Field.{letterOf, digitsOf, valueFrom, upToLargest, pairsOf, isHex, hexBytes}
+use Rattle.group.specs.Limits.{largest_number}
+use Rattle.group.proofs.Choice.{if_eq, if_ne, if_le, if_nle, both_first, both_then}
+use Rattle.text.specs.Text.{dash, digit_of}
+use Rattle.text.specs.Field.{letter_of, digits_of, value_from, up_to_largest, pairs_of, is_hex, hex_bytes}
 
 -- digits bring no value down
-value_grows : (l : List ℕ) (v : ℕ) → v ≤ valueFrom v l
-unfolding valueFrom
+value_grows : (l : List ℕ) (v : ℕ) → v ≤ value_from v l
+unfolding value_from
 value_grows [] v = le_refl v
-value_grows (c ∷ l) v = let h = value_grows l (v * 10 + digitOf c) in omega arith
+value_grows (c ∷ l) v = let h = value_grows l (v * 10 + digit_of c) in omega arith
 
 -- the loop over digits, where those passed came to v: a turn, a value past the largest, and the end
-module _ (l : List ℕ) (v i : ℕ) (inv : valueFrom 0 l ≡ valueFrom v (drop i l)) where
-  pub value_on : (d : ℕ) → i < length l → d ≡ digitOf (get_or l i 0) → valueFrom 0 l ≡ valueFrom (v * 10 + d) (drop (i + 1) l)
-  unfolding valueFrom
+module _ (l : List ℕ) (v i : ℕ) (inv : value_from 0 l ≡ value_from v (drop i l)) where
+  pub value_on : (d : ℕ) → i < length l → d ≡ digit_of (get_or l i 0) → value_from 0 l ≡ value_from (v * 10 + d) (drop (i + 1) l)
+  unfolding value_from
   value_on d h e = inv ∙ rw (drop-cons l i 0 h, add-one, e)
 
-  pub value-past : (d : ℕ) → i < length l → d ≡ digitOf (get_or l i 0) → largestNumber < v * 10 + d → none ≡ upToLargest (valueFrom 0 l)
-  unfolding upToLargest
-  value-past d h e p =
+  pub value_past : (d : ℕ) → i < length l → d ≡ digit_of (get_or l i 0) → largest_number < v * 10 + d → none ≡ up_to_largest (value_from 0 l)
+  unfolding up_to_largest
+  value_past d h e p =
       let g = value_grows (drop (i + 1) l) (v * 10 + d) in
       let w = value_on d h e in
-      if-nle (valueFrom 0 l) largestNumber none (some (valueFrom 0 l)) none (omega arith) refl
+      if_nle (value_from 0 l) largest_number none (some (value_from 0 l)) none (omega arith) refl
 
-  pub value-end : length l ≤ i → v ≤ largestNumber → some v ≡ upToLargest (valueFrom 0 l)
-  unfolding valueFrom upToLargest
-  value-end h p =
-      let e : valueFrom 0 l ≡ v = inv ∙ rw (drop_of_length-le l h) in
-      rw e (if-le v largestNumber (some v) (some v) none p refl)
+  pub value_end : length l ≤ i → v ≤ largest_number → some v ≡ up_to_largest (value_from 0 l)
+  unfolding value_from up_to_largest
+  value_end h p =
+      let e : value_from 0 l ≡ v = inv ∙ rw (drop_of_length-le l h) in
+      rw e (if_le v largest_number (some v) (some v) none p refl)
 
 -- where every character is a digit, each is
-pub digit_at : (base i : ℕ) (l : List ℕ) (k : ℕ) → all (λ i c. digitOf c <? base) k l ≡ true → i < length l → digitOf (get_or l i 0) < base
+pub digit_at : (base i : ℕ) (l : List ℕ) (k : ℕ) → all (λ i c. digit_of c <? base) k l ≡ true → i < length l → digit_of (get_or l i 0) < base
 unfolding all
 digit_at base i [] k e h = absurd (omega arith)
-digit_at base zero (c ∷ l) k e h = ltb-true (digitOf c) base (both_first _ (all (λ i c. digitOf c <? base) (k + 1) l) e)
+digit_at base zero (c ∷ l) k e h = ltb-true (digit_of c) base (both_first _ (all (λ i c. digit_of c <? base) (k + 1) l) e)
 digit_at base (suc i) (c ∷ l) k e h =
-    digit_at base i l (k + 1) (both-then (digitOf c <? base) (all (λ i c. digitOf c <? base) (k + 1) l) e) (omega arith)
+    digit_at base i l (k + 1) (both_then (digit_of c <? base) (all (λ i c. digit_of c <? base) (k + 1) l) e) (omega arith)
 
 -- the byte of a pair, then those of the rest
 module _ (l : List ℕ) (i : ℕ) where
-  pub pairs-step : 2 * i + 1 < length l
-      → pairsOf (drop (2 * i) l) ≡ (digitOf (get_or l (2 * i) 0) * 16 + digitOf (get_or l (2 * i + 1) 0)) ∷ pairsOf (drop (2 * (i + 1)) l)
-  unfolding pairsOf
-  pairs-step h =
+  pub pairs_step : 2 * i + 1 < length l
+      → pairs_of (drop (2 * i) l) ≡ (digit_of (get_or l (2 * i) 0) * 16 + digit_of (get_or l (2 * i + 1) 0)) ∷ pairs_of (drop (2 * (i + 1)) l)
+  unfolding pairs_of
+  pairs_step h =
       let e : 2 * (i + 1) ≡ suc (suc (2 * i)) = omega arith in
       let f : 2 * i + 1 ≡ suc (2 * i) = omega arith in
       rw (e, f, drop-cons l (2 * i) 0 (omega arith), drop-cons l (suc (2 * i)) 0 (omega arith))
 
-  pub pairs_end : length l ≤ 2 * i → pairsOf (drop (2 * i) l) ≡ []
-  unfolding pairsOf
+  pub pairs_end : length l ≤ 2 * i → pairs_of (drop (2 * i) l) ≡ []
+  unfolding pairs_of
   pairs_end h = rw (drop_of_length-le l h)
 
-pub pairs-length : (l : List ℕ) → length (pairsOf l) ≡ length l / 2
-unfolding pairsOf
-pairs-length [] = refl
-pairs-length (c ∷ []) = refl
-pairs-length (c ∷ (d ∷ l)) = let e = pairs-length l in omega arith
+pub pairs_length : (l : List ℕ) → length (pairs_of l) ≡ length l / 2
+unfolding pairs_of
+pairs_length [] = refl
+pairs_length (c ∷ []) = refl
+pairs_length (c ∷ (d ∷ l)) = let e = pairs_length l in omega arith
 
 -- the loop that lays the bytes of pairs: what it laid so far, before the bytes to come; the rest keeps its value
-module _ (field lent payload : List ℕ) (i : ℕ) (laid : take i payload ++ pairsOf (drop (2 * i) field) ≡ pairsOf field)
+module _ (field lent payload : List ℕ) (i : ℕ) (laid : take i payload ++ pairs_of (drop (2 * i) field) ≡ pairs_of field)
     (rest : drop i payload ≡ drop i lent) (i<n : i < length payload)
   where
-    pub pairs-laid : (byte : ℕ) → 2 * i + 1 < length field → byte ≡ digitOf (get_or field (2 * i) 0) * 16 + digitOf (get_or field (2 * i + 1) 0)
-        → take (i + 1) (set payload i byte) ++ pairsOf (drop (2 * (i + 1)) field) ≡ pairsOf field
-    pairs-laid byte h e =
-        rw (add-one i, take-suc-set payload i byte i<n, append_snoc, e, ← add-one i) (rw (pairs-step field i h) at laid)
+    pub pairs_laid : (byte : ℕ) → 2 * i + 1 < length field → byte ≡ digit_of (get_or field (2 * i) 0) * 16 + digit_of (get_or field (2 * i + 1) 0)
+        → take (i + 1) (set payload i byte) ++ pairs_of (drop (2 * (i + 1)) field) ≡ pairs_of field
+    pairs_laid byte h e =
+        rw (add-one i, take-suc-set payload i byte i<n, append_snoc, e, ← add-one i) (rw (pairs_step field i h) at laid)
 
-    pub pairs-rest : (byte : ℕ) → drop (i + 1) (set payload i byte) ≡ drop (i + 1) lent
-    pairs-rest byte = drop-set-lt (i + 1) payload i byte (omega arith) ∙ sym (drop-drop 1 i payload) ∙ ap (drop 1) rest ∙ drop-drop 1 i lent
+    pub pairs_rest : (byte : ℕ) → drop (i + 1) (set payload i byte) ≡ drop (i + 1) lent
+    pairs_rest byte = drop-set-lt (i + 1) payload i byte (omega arith) ∙ sym (drop-drop 1 i payload) ∙ ap (drop 1) rest ∙ drop-drop 1 i lent
 
 -- and its end
-pub pairs-done : (field lent payload : List ℕ) (i : ℕ) → length field ≡ 2 * i
-    → take i payload ++ pairsOf (drop (2 * i) field) ≡ pairsOf field → drop i payload ≡ drop i lent → payload ≡ front (pairsOf field) lent
-pairs-done field lent payload i n laid rest =
-    let t : take i payload ≡ pairsOf field = sym (append-nil (take i payload)) ∙ ap (λ (l : List ℕ). take i payload ++ l) (sym (pairs_end field i (omega arith))) ∙ laid in
-    let e : length (pairsOf field) ≡ i = pairs-length field ∙ omega arith in
+pub pairs_done : (field lent payload : List ℕ) (i : ℕ) → length field ≡ 2 * i
+    → take i payload ++ pairs_of (drop (2 * i) field) ≡ pairs_of field → drop i payload ≡ drop i lent → payload ≡ front (pairs_of field) lent
+pairs_done field lent payload i n laid rest =
+    let t : take i payload ≡ pairs_of field = sym (append-nil (take i payload)) ∙ ap (λ (l : List ℕ). take i payload ++ l) (sym (pairs_end field i (omega arith))) ∙ laid in
+    let e : length (pairs_of field) ≡ i = pairs_length field ∙ omega arith in
     sym (take-append-drop i payload) ∙ rw (t, rest, e)
 
 -- a payload in hex: `-`, or pairs of digits
 module _ (field : List ℕ) where
-  pub hex-dash : letterOf field ≡ dash → hexBytes field ≡ []
-  unfolding hexBytes
-  hex-dash h = sym (if-eq (letterOf field) dash [] [] (pairsOf field) h refl)
+  pub hex_dash : letter_of field ≡ dash → hex_bytes field ≡ []
+  unfolding hex_bytes
+  hex_dash h = sym (if_eq (letter_of field) dash [] [] (pairs_of field) h refl)
 
-  pub hex-pairs : (letterOf field ≡ dash → ⊥) → hexBytes field ≡ pairsOf field
-  unfolding hexBytes
-  hex-pairs h = sym (if-ne (letterOf field) dash (pairsOf field) [] (pairsOf field) h refl)
+  pub hex_pairs : (letter_of field ≡ dash → ⊥) → hex_bytes field ≡ pairs_of field
+  unfolding hex_bytes
+  hex_pairs h = sym (if_ne (letter_of field) dash (pairs_of field) [] (pairs_of field) h refl)
 
-  pub hex-digits : isHex field ≡ true → (letterOf field ≡ dash → ⊥) → (digitsOf 16 field ≡ true) × (length field % 2 ≡ 0)
-  unfolding isHex
-  hex-digits e h =
-      let p : 1 ≤? length field and length field % 2 =? 0 and digitsOf 16 field ≡ true =
-      if-ne (letterOf field) dash (1 ≤? length field and length field % 2 =? 0 and digitsOf 16 field) true (1 ≤? length field and length field % 2 =? 0 and digitsOf 16 field) h refl ∙ e
+  pub hex_digits : is_hex field ≡ true → (letter_of field ≡ dash → ⊥) → (digits_of 16 field ≡ true) × (length field % 2 ≡ 0)
+  unfolding is_hex
+  hex_digits e h =
+      let p : 1 ≤? length field and length field % 2 =? 0 and digits_of 16 field ≡ true =
+      if_ne (letter_of field) dash (1 ≤? length field and length field % 2 =? 0 and digits_of 16 field) true (1 ≤? length field and length field % 2 =? 0 and digits_of 16 field) h refl ∙ e
       in
-      let q = both-then (1 ≤? length field) (length field % 2 =? 0 and digitsOf 16 field) p in
-      (both-then (length field % 2 =? 0) (digitsOf 16 field) q, eqb-true (length field % 2) 0 (both_first (length field % 2 =? 0) (digitsOf 16 field) q))
+      let q = both_then (1 ≤? length field) (length field % 2 =? 0 and digits_of 16 field) p in
+      (both_then (length field % 2 =? 0) (digits_of 16 field) q, eqb-true (length field % 2) 0 (both_first (length field % 2 =? 0) (digits_of 16 field) q))

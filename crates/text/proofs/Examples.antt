@@ -7,9 +7,9 @@ use Prim.Native.String.{String}
 use lib.ListN.{replicate}
 use Rattle.group.specs.Choice.{if◌then◌else◌}
 use Rattle.group.specs.Fold.{all}
-use Rattle.text.specs.Text.{text_of, digitOf, glyphOf}
-use Rattle.text.specs.Field.{before, lines_of, fields_of, letterOf, valueFrom, upToLargest, number_in, pairsOf, isHex, hexBytes, hexIn}
-use Rattle.text.specs.Written.{decimalDigits, decimalOf, hexOf, payloadText, spaced, line}
+use Rattle.text.specs.Text.{text_of, digit_of, glyph_of}
+use Rattle.text.specs.Field.{before, lines_of, fields_of, letter_of, value_from, up_to_largest, number_in, pairs_of, is_hex, hex_bytes, hex_in}
+use Rattle.text.specs.Written.{decimal_digits, decimal_of, hex_of, payload_text, spaced, line}
 
 -- a line feed at the end begins no line; an empty line is one
 lines : map (λ (input : String). lines_of (text_of input)) ("" ∷ "P" ∷ "P\n" ∷ "P\n\n" ∷ "N 1 7\nP" ∷ [])
@@ -26,16 +26,16 @@ fields = refl
 -- numbers up to the largest, with leading zeros; one over the largest, of other characters or of none is of another form
 numbers : map (λ (field : String). number_in (text_of field)) ("0" ∷ "4294967295" ∷ "0000000000000000000007" ∷ "4294967296" ∷ "-1" ∷ "a" ∷ "" ∷ [])
     ≡ some 0 ∷ some 4294967295 ∷ some 7 ∷ replicate 4 none
-unfolding number_in upToLargest valueFrom digitOf all if◌then◌else◌
+unfolding number_in up_to_largest value_from digit_of all if◌then◌else◌
 numbers = refl
 
 -- hex in lower case, `-` for none; in upper case, of an odd number of digits or of none it is of another form
-hexes : map (λ (field : String). hexIn (text_of field)) ("6162" ∷ "00ff" ∷ "-" ∷ "6A" ∷ "616" ∷ "" ∷ "--" ∷ [])
+hexes : map (λ (field : String). hex_in (text_of field)) ("6162" ∷ "00ff" ∷ "-" ∷ "6A" ∷ "616" ∷ "" ∷ "--" ∷ [])
     ≡ some (0x61 ∷ 0x62 ∷ []) ∷ some (0 ∷ 0xff ∷ []) ∷ some [] ∷ replicate 4 none
-unfolding letterOf digitOf all isHex hexBytes pairsOf if◌then◌else◌
+unfolding letter_of digit_of all is_hex hex_bytes pairs_of if◌then◌else◌
 hexes = refl
 
 -- a line of them
-written : line (text_of "S" ∷ decimalOf 0 ∷ decimalOf 201 ∷ payloadText (0x61 ∷ 0xff ∷ []) ∷ payloadText [] ∷ []) ≡ text_of "S 0 201 61ff -\n"
-unfolding spaced decimalOf decimalDigits glyphOf payloadText hexOf if◌then◌else◌
+written : line (text_of "S" ∷ decimal_of 0 ∷ decimal_of 201 ∷ payload_text (0x61 ∷ 0xff ∷ []) ∷ payload_text [] ∷ []) ≡ text_of "S 0 201 61ff -\n"
+unfolding spaced decimal_of decimal_digits glyph_of payload_text hex_of if◌then◌else◌
 written = refl

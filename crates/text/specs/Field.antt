@@ -3,20 +3,20 @@ use Rattle.std.specs.Prelude.{Bool, true, List, [], ◌∷◌, ℕ, ◌+◌, ◌
 use Rattle.std.proofs.Math.Option.{Option, none, some}
 use Rattle.group.specs.Choice.{if◌then◌else◌, ask◌or◌then◌, ◌and◌, ◌<?◌, ◌≤?◌, ◌=?◌}
 use Rattle.group.specs.Fold.{all}
-use Rattle.group.specs.Limits.{largestNumber}
-use Rattle.text.specs.Text.{space, lineFeed, dash, hexBase, digitOf}
+use Rattle.group.specs.Limits.{largest_number}
+use Rattle.text.specs.Text.{space, line_feed, dash, hex_base, digit_of}
 use Rattle.text.specs.declared.Found.{Found}
 use Rattle.text.specs.declared.Found.TheVariants.{At, Nothing}
 use Rattle.text.specs.declared.Numeral.{Numeral}
 
 -- where a character first stands, if the list begins at index i
-unfoldable pub firstFrom : ℕ → ℕ → List ℕ → Found
-firstFrom character i [] = Nothing
-firstFrom character i (c ∷ rest) = if c =? character then At i else firstFrom character (i + 1) rest
+unfoldable pub first_from : ℕ → ℕ → List ℕ → Found
+first_from character i [] = Nothing
+first_from character i (c ∷ rest) = if c =? character then At i else first_from character (i + 1) rest
 
 -- where the first line ends
-abbrev pub lineEnd : List ℕ → Found
-lineEnd input = firstFrom lineFeed 0 input
+abbrev pub line_end : List ℕ → Found
+line_end input = first_from line_feed 0 input
 
 -- a character before the first of the parts
 unfoldable pub before : ℕ → List (List ℕ) → List (List ℕ)
@@ -26,7 +26,7 @@ before c (part ∷ rest) = (c ∷ part) ∷ rest
 -- a line is what stands before its line feed; what stands behind the last line feed is a line too, unless it is empty
 unfoldable pub lines_of : List ℕ → List (List ℕ)
 lines_of [] = []
-lines_of (c ∷ rest) = if c =? lineFeed then [] ∷ lines_of rest else before c (lines_of rest)
+lines_of (c ∷ rest) = if c =? line_feed then [] ∷ lines_of rest else before c (lines_of rest)
 
 -- one space parts fields
 unfoldable pub fields_of : List ℕ → List (List ℕ)
@@ -34,30 +34,30 @@ fields_of [] = [] ∷ []
 fields_of (c ∷ rest) = if c =? space then [] ∷ fields_of rest else before c (fields_of rest)
 
 -- the character that a field is; 0 for a field of none or several
-unfoldable pub letterOf : List ℕ → ℕ
-letterOf [] = 0
-letterOf (c ∷ []) = c
-letterOf (c ∷ (d ∷ rest)) = 0
+unfoldable pub letter_of : List ℕ → ℕ
+letter_of [] = 0
+letter_of (c ∷ []) = c
+letter_of (c ∷ (d ∷ rest)) = 0
 
 -- whether every character is a digit of that base
-abbrev pub digitsOf : ℕ → List ℕ → Bool
-digitsOf base field = all (λ i c. digitOf c <? base) 0 field
+abbrev pub digits_of : ℕ → List ℕ → Bool
+digits_of base field = all (λ i c. digit_of c <? base) 0 field
 
 -- what digits come to, the highest first, where those before them come to v
-unfoldable pub valueFrom : ℕ → List ℕ → ℕ
-valueFrom v [] = v
-valueFrom v (c ∷ rest) = valueFrom (v * 10 + digitOf c) rest
+unfoldable pub value_from : ℕ → List ℕ → ℕ
+value_from v [] = v
+value_from v (c ∷ rest) = value_from (v * 10 + digit_of c) rest
 
 -- up to the largest
-unfoldable pub upToLargest : ℕ → Option ℕ
-upToLargest v = ask v ≤? largestNumber or none then some v
+unfoldable pub up_to_largest : ℕ → Option ℕ
+up_to_largest v = ask v ≤? largest_number or none then some v
 
 -- numbers are digits, up to the largest; only the value counts
 unfoldable pub number_in : List ℕ → Option ℕ
 number_in field =
     ask 1 ≤? length field or none then
-    ask digitsOf 10 field or none then
-    upToLargest (valueFrom 0 field)
+    ask digits_of 10 field or none then
+    up_to_largest (value_from 0 field)
 
 -- the number that the code read
 abbrev pub read : Numeral → Option ℕ
@@ -65,19 +65,19 @@ read (Numeral.Of v) = some v
 read Numeral.Other = none
 
 -- the bytes that pairs of digits come to
-unfoldable pub pairsOf : List ℕ → List ℕ
-pairsOf [] = []
-pairsOf (c ∷ []) = []
-pairsOf (c ∷ (d ∷ rest)) = (digitOf c * hexBase + digitOf d) ∷ pairsOf rest
+unfoldable pub pairs_of : List ℕ → List ℕ
+pairs_of [] = []
+pairs_of (c ∷ []) = []
+pairs_of (c ∷ (d ∷ rest)) = (digit_of c * hex_base + digit_of d) ∷ pairs_of rest
 
 -- hex is lower case, two digits a byte, and `-` for empty
-unfoldable pub isHex : List ℕ → Bool
-isHex field =
-    if letterOf field =? dash then true else
-    1 ≤? length field and length field % 2 =? 0 and digitsOf hexBase field
+unfoldable pub is_hex : List ℕ → Bool
+is_hex field =
+    if letter_of field =? dash then true else
+    1 ≤? length field and length field % 2 =? 0 and digits_of hex_base field
 
-unfoldable pub hexBytes : List ℕ → List ℕ
-hexBytes field = if letterOf field =? dash then [] else pairsOf field
+unfoldable pub hex_bytes : List ℕ → List ℕ
+hex_bytes field = if letter_of field =? dash then [] else pairs_of field
 
-abbrev pub hexIn : List ℕ → Option (List ℕ)
-hexIn field = ask isHex field or none then some (hexBytes field)
+abbrev pub hex_in : List ℕ → Option (List ℕ)
+hex_in field = ask is_hex field or none then some (hex_bytes field)

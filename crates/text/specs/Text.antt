@@ -15,26 +15,26 @@ abbrev pub space : ℕ
 space = code " "
 
 -- a line is what stands before its line feed
-abbrev pub lineFeed : ℕ
-lineFeed = code "\n"
+abbrev pub line_feed : ℕ
+line_feed = code "\n"
 
 -- what stands for an empty payload
 abbrev pub dash : ℕ
 dash = code "-"
 
 -- the base of a payload's digits; that of a number's is ten
-abbrev pub hexBase : ℕ
-hexBase = 16
+abbrev pub hex_base : ℕ
+hex_base = 16
 
 -- what a digit is worth, `0` to `9` and then `a` to `f`; the base for any other character
-unfoldable pub digitOf : ℕ → ℕ
-digitOf c =
-    if c <? code "0" then hexBase else
+unfoldable pub digit_of : ℕ → ℕ
+digit_of c =
+    if c <? code "0" then hex_base else
     if c ≤? code "9" then c - code "0" else
-    if c <? code "a" then hexBase else
+    if c <? code "a" then hex_base else
     if c ≤? code "f" then c - code "a" + 10 else
-    hexBase
+    hex_base
 
 -- the digit that is worth d, `0` to `9` and then `a` to `f`
-unfoldable pub glyphOf : ℕ → ℕ
-glyphOf d = if d <? 10 then code "0" + d else code "a" + (d - 10)
+unfoldable pub glyph_of : ℕ → ℕ
+glyph_of d = if d <? 10 then code "0" + d else code "a" + (d - 10)

@@ -1,9 +1,9 @@
 // Text as bytes: the lines of an input, the words, numbers and hex of a line, read and written.
 ghost use Rattle.std.specs.Prelude.{◌≡◌, true, [], ◌∷◌, ◌+◌, ◌*◌, ◌%◌, ◌≤◌, ◌<◌, length, drop};
 ghost use Rattle.group.specs.Lent.{front};
-ghost use Rattle.text.specs.Text.{hexBase, digitOf, glyphOf};
-ghost use Rattle.text.specs.Field.{firstFrom, lineEnd, letterOf, digitsOf, valueFrom, upToLargest, number_in, read, pairsOf, isHex, hexBytes};
-ghost use Rattle.text.specs.Written.{decimalDigits, decimalOf, hexOf, payloadText, spaced, numberDigits, countDigits};
+ghost use Rattle.text.specs.Text.{hex_base, digit_of, glyph_of};
+ghost use Rattle.text.specs.Field.{first_from, line_end, letter_of, digits_of, value_from, up_to_largest, number_in, read, pairs_of, is_hex, hex_bytes};
+ghost use Rattle.text.specs.Written.{decimal_digits, decimal_of, hex_of, payload_text, spaced, number_digits, count_digits};
 ghost use Rattle.text.specs.LaidAt.{LaidAt};
 
 use group::Group;
@@ -32,19 +32,19 @@ pub enum Numeral {
 
 // The limits of specs/ are these constants.
 fn hex_base() -> u8
-    ensures { result ≡ hexBase }
+    ensures { result ≡ hex_base }
 {
     HEX_BASE
 }
 
 fn number_digits() -> usize
-    ensures { result ≡ numberDigits }
+    ensures { result ≡ number_digits }
 {
     NUMBER_DIGITS
 }
 
 fn count_digits() -> usize
-    ensures { result ≡ countDigits }
+    ensures { result ≡ count_digits }
 {
     COUNT_DIGITS
 }
@@ -52,7 +52,7 @@ fn count_digits() -> usize
 // Where a character first stands in a text, from an index on.
 pub fn first(text: &[u8], from: usize, character: u8) -> Found
     requires { from ≤ length text.now }
-    ensures { result ≡ firstFrom character from (drop from text.now) }
+    ensures { result ≡ first_from character from (drop from text.now) }
 {
     let mut i = from;
     while i < text.len() {
@@ -66,21 +66,21 @@ pub fn first(text: &[u8], from: usize, character: u8) -> Found
 
 // Where the first line of an input ends.
 pub fn line_end(input: &[u8]) -> Found
-    ensures { result ≡ lineEnd input.now }
+    ensures { result ≡ line_end input.now }
 {
     first(input, 0, b'\n')
 }
 
 // The character that a field is; 0 for a field of none or several.
 pub fn letter(field: &[u8]) -> u8
-    ensures { result ≡ letterOf field.now }
+    ensures { result ≡ letter_of field.now }
 {
     if field.len() == 1 { field[0] } else { 0 }
 }
 
 // What a digit is worth; the base for any other character.
 pub fn digit(c: u8) -> u8
-    ensures { result ≡ digitOf c }
+    ensures { result ≡ digit_of c }
 {
     if c < b'0' {
         return HEX_BASE;
@@ -99,7 +99,7 @@ pub fn digit(c: u8) -> u8
 
 // Whether every character is a digit of that base.
 pub fn all_digits(field: &[u8], base: u8) -> bool
-    ensures { result ≡ digitsOf base field.now }
+    ensures { result ≡ digits_of base field.now }
 {
     let mut i: usize = 0;
     while i < field.len() {
@@ -114,7 +114,7 @@ pub fn all_digits(field: &[u8], base: u8) -> bool
 
 // What digits come to, up to the largest. Past it no digit can bring the value back, so that a long field does not wrap.
 fn value(field: &[u8]) -> Numeral
-    ensures { read result ≡ upToLargest (valueFrom 0 field.now) }
+    ensures { read result ≡ up_to_largest (value_from 0 field.now) }
 {
     let mut value: u64 = 0;
     let mut i: usize = 0;
@@ -145,7 +145,7 @@ pub fn number(field: &[u8]) -> Numeral
 
 // Whether a field is a payload in hex.
 pub fn is_hex(field: &[u8]) -> bool
-    ensures { result ≡ isHex field.now }
+    ensures { result ≡ is_hex field.now }
 {
     if letter(field) == b'-' {
         return true;
@@ -161,18 +161,18 @@ pub fn is_hex(field: &[u8]) -> bool
 
 // The byte of two digits.
 fn pair(high: u8, low: u8) -> u8
-    requires { (digitOf high < hexBase) × (digitOf low < hexBase) }
-    ensures { result ≡ digitOf high * hexBase + digitOf low }
+    requires { (digit_of high < hex_base) × (digit_of low < hex_base) }
+    ensures { result ≡ digit_of high * hex_base + digit_of low }
 {
     digit(high) * HEX_BASE + digit(low)
 }
 
 // Lays the bytes of pairs of digits at the front.
 fn lay_pairs(field: &[u8], payload: &mut [u8])
-    requires field_value { digitsOf hexBase field.now ≡ true }
+    requires field_value { digits_of hex_base field.now ≡ true }
     requires field_len { length field.now % 2 ≡ 0 }
     requires field_len_bound { length field.now ≤ 2 * length payload.old }
-    ensures { payload.new ≡ front (pairsOf field.now) payload.old }
+    ensures { payload.new ≡ front (pairs_of field.now) payload.old }
 {
     let count = field.len() / 2;
     let mut i: usize = 0;
@@ -185,10 +185,10 @@ fn lay_pairs(field: &[u8], payload: &mut [u8])
 
 // Lays a payload that is given in hex at the front, and gives its length.
 pub fn lay_hex(field: &[u8], payload: &mut [u8]) -> usize
-    requires field_value { isHex field.now ≡ true }
+    requires field_value { is_hex field.now ≡ true }
     requires field_len_bound { length field.now ≤ 2 * length payload.old }
-    ensures size { result ≡ length (hexBytes field.now) }
-    ensures lent { payload.new ≡ front (hexBytes field.now) payload.old }
+    ensures size { result ≡ length (hex_bytes field.now) }
+    ensures lent { payload.new ≡ front (hex_bytes field.now) payload.old }
 {
     if letter(field) == b'-' {
         return 0;
@@ -199,8 +199,8 @@ pub fn lay_hex(field: &[u8], payload: &mut [u8]) -> usize
 
 // The digit that is worth d.
 fn glyph(d: u8) -> u8
-    requires { d < hexBase }
-    ensures { result ≡ glyphOf d }
+    requires { d < hex_base }
+    ensures { result ≡ glyph_of d }
 {
     if d < 10 { b'0' + d } else { b'a' + (d - 10) }
 }
@@ -214,8 +214,8 @@ struct Spelled {
 
 // Spells a number from its last digit on.
 fn spell(n: u64) -> Spelled
-    ensures digits { drop result.start result.digits ≡ decimalDigits n n }
-    ensures within { (result.start ≤ countDigits) × (length result.digits ≡ countDigits) }
+    ensures digits { drop result.start result.digits ≡ decimal_digits n n }
+    ensures within { (result.start ≤ count_digits) × (length result.digits ≡ count_digits) }
 {
     let mut digits = [0u8; COUNT_DIGITS];
     let mut start: usize = COUNT_DIGITS;
@@ -248,8 +248,8 @@ pub fn put_text(text: &[u8], out: &mut [u8], at: usize) -> usize
 
 // A number in base ten.
 pub fn put_decimal(n: u64, out: &mut [u8], at: usize) -> usize
-    requires { at + length (decimalOf n) ≤ length out.old }
-    ensures { LaidAt at (decimalOf n) out.old out.new result }
+    requires { at + length (decimal_of n) ≤ length out.old }
+    ensures { LaidAt at (decimal_of n) out.old out.new result }
 {
     if n == 0 {
         return put(b'0', out, at);
@@ -272,9 +272,9 @@ pub fn put_word(text: &[u8], out: &mut [u8], at: usize) -> usize
 
 // A field that is a number up to the largest.
 pub fn put_number(n: u32, out: &mut [u8], at: usize) -> usize
-    requires { at + 1 + numberDigits ≤ length out.old }
-    ensures laid { LaidAt at (spaced (decimalOf n ∷ [])) out.old out.new result }
-    ensures short { result ≤ at + 1 + numberDigits }
+    requires { at + 1 + number_digits ≤ length out.old }
+    ensures laid { LaidAt at (spaced (decimal_of n ∷ [])) out.old out.new result }
+    ensures short { result ≤ at + 1 + number_digits }
 {
     let next = put(b' ', out, at);
     put_decimal(n as u64, out, next)
@@ -282,9 +282,9 @@ pub fn put_number(n: u32, out: &mut [u8], at: usize) -> usize
 
 // A field that is the index of a packet.
 pub fn put_index(index: usize, out: &mut [u8], at: usize) -> usize
-    requires { at + 1 + countDigits ≤ length out.old }
-    ensures laid { LaidAt at (spaced (decimalOf index ∷ [])) out.old out.new result }
-    ensures short { result ≤ at + 1 + countDigits }
+    requires { at + 1 + count_digits ≤ length out.old }
+    ensures laid { LaidAt at (spaced (decimal_of index ∷ [])) out.old out.new result }
+    ensures short { result ≤ at + 1 + count_digits }
 {
     let next = put(b' ', out, at);
     put_decimal(index as u64, out, next)
@@ -293,7 +293,7 @@ pub fn put_index(index: usize, out: &mut [u8], at: usize) -> usize
 // The two digits of a byte.
 pub fn put_byte(byte: u8, out: &mut [u8], at: usize) -> usize
     requires { at + 2 ≤ length out.old }
-    ensures laid_at { LaidAt at (hexOf (byte ∷ [])) out.old out.new result }
+    ensures laid_at { LaidAt at (hex_of (byte ∷ [])) out.old out.new result }
     ensures value { result ≡ at + 2 }
 {
     let high = glyph(byte / HEX_BASE);
@@ -305,7 +305,7 @@ pub fn put_byte(byte: u8, out: &mut [u8], at: usize) -> usize
 // Bytes in hex.
 pub fn put_hex(bytes: &[u8], out: &mut [u8], at: usize) -> usize
     requires { at + 2 * length bytes.now ≤ length out.old }
-    ensures laid { LaidAt at (hexOf bytes.now) out.old out.new result }
+    ensures laid { LaidAt at (hex_of bytes.now) out.old out.new result }
     ensures short { result ≡ at + 2 * length bytes.now }
 {
     let mut next = at;
@@ -320,7 +320,7 @@ pub fn put_hex(bytes: &[u8], out: &mut [u8], at: usize) -> usize
 // A field that is a payload.
 pub fn put_payload(payload: &[u8], out: &mut [u8], at: usize) -> usize
     requires { at + 2 + 2 * length payload.now ≤ length out.old }
-    ensures laid { LaidAt at (spaced (payloadText payload.now ∷ [])) out.old out.new result }
+    ensures laid { LaidAt at (spaced (payload_text payload.now ∷ [])) out.old out.new result }
     ensures short { result ≤ at + 2 + 2 * length payload.now }
 {
     let next = put(b' ', out, at);

@@ -1,46 +1,46 @@
 -- When the parts of a member's state are sound: question 1, sentence by sentence.
 use Rattle.std.specs.Prelude.{Bool, List, ℕ, ◌-◌}
 use Rattle.group.specs.Choice.{if◌then◌else◌, ◌and◌, ◌<?◌, ◌≤?◌, ◌=?◌}
-use Rattle.group.specs.Fold.{allAbove}
-use Rattle.group.specs.Limits.{payloadMost, waitingMost, largestNumber}
-use Rattle.group.specs.Members.{isIn, groupSound}
+use Rattle.group.specs.Fold.{all_above}
+use Rattle.group.specs.Limits.{payload_most, waiting_most, largest_number}
+use Rattle.group.specs.Members.{is_in, group_sound}
 use Rattle.group.specs.declared.Group.{Group}
 use Rattle.group.specs.declared.MemberNumber.{MemberNumber}
-use Rattle.message.specs.Message.{Message, zeroBehind, is_empty}
-use Rattle.window.specs.Places.{messageAt, is_held, queued_at}
+use Rattle.message.specs.Message.{Message, zero_behind, is_empty}
+use Rattle.window.specs.Places.{message_at, is_held, queued_at}
 
 -- held originators are below n with counts of at least 1, lengths at most 240, no held number is over the largest, and every
 -- unused place and byte is zero
-unfoldable pub placeSound : ℕ → List Message → ℕ → Bool
-placeSound n held number =
+unfoldable pub place_sound : ℕ → List Message → ℕ → Bool
+place_sound n held number =
     if is_held held number
-    then (messageAt held number).originator.0 <? n
-    and (messageAt held number).length ≤? payloadMost
-    and zeroBehind (messageAt held number)
-    and number ≤? largestNumber
-    else is_empty (messageAt held number)
+    then (message_at held number).originator.0 <? n
+    and (message_at held number).length ≤? payload_most
+    and zero_behind (message_at held number)
+    and number ≤? largest_number
+    else is_empty (message_at held number)
 
 -- of the five counts above those that were taken: one up to u waits, it is the member's own, its count is its place's, its length
 -- at most 240, and every unused byte is zero; the place of one above u is all zero
-unfoldable pub queueSound : MemberNumber → List Message → ℕ → ℕ → Bool
-queueSound number queue submitted count =
+unfoldable pub queue_sound : MemberNumber → List Message → ℕ → ℕ → Bool
+queue_sound number queue submitted count =
     if count ≤? submitted
     then (queued_at queue count).originator.0 =? number.0
     and (queued_at queue count).count =? count
-    and (queued_at queue count).length ≤? payloadMost
-    and zeroBehind (queued_at queue count)
+    and (queued_at queue count).length ≤? payload_most
+    and zero_behind (queued_at queue count)
     else is_empty (queued_at queue count)
 
 -- at most five messages wait, no more than were submitted: the last ones
-unfoldable pub waitingSound : MemberNumber → ℕ → ℕ → List Message → Bool
-waitingSound number submitted waiting queue =
-    waiting ≤? waitingMost
+unfoldable pub waiting_sound : MemberNumber → ℕ → ℕ → List Message → Bool
+waiting_sound number submitted waiting queue =
+    waiting ≤? waiting_most
     and waiting ≤? submitted
-    and allAbove (queueSound number queue submitted) (submitted - waiting) waitingMost
+    and all_above (queue_sound number queue submitted) (submitted - waiting) waiting_most
 
 -- the group's description is sound, the member is a survivor, and what it took is accepted
-unfoldable pub frameSound : Group → MemberNumber → ℕ → ℕ → Bool
-frameSound group number taken accepted =
-    groupSound group
-    and isIn group.survivors number.0
+unfoldable pub frame_sound : Group → MemberNumber → ℕ → ℕ → Bool
+frame_sound group number taken accepted =
+    group_sound group
+    and is_in group.survivors number.0
     and taken ≤? accepted

@@ -2,20 +2,20 @@
 // choices on plain numbers and on one place that its calls are made of.
 ghost use Rattle.std.specs.Prelude.{◌≡◌, ◌+◌, ◌-◌, ◌*◌, ◌≤◌, ◌<◌, length, take, set};
 ghost use Rattle.group.specs.Choice.{◌and◌, ◌<?◌, ◌≤?◌, ◌=?◌};
-ghost use Rattle.group.specs.Fold.{allAbove};
+ghost use Rattle.group.specs.Fold.{all_above};
 ghost use Rattle.group.specs.Lent.{Laid};
-ghost use Rattle.group.specs.Limits.{heldMost, payloadMost, waitingMost, longestPacket, largestNumber};
-ghost use Rattle.message.specs.Message.{is_empty, messageOf, emptyMessage};
-ghost use Rattle.store.specs.Places.{part_of, Lies, mask_of, messageIn, messagesIn};
-ghost use Rattle.window.specs.Places.{place_of, queuePlace, smallerOf, largerOf};
-ghost use Rattle.window.specs.Sound.{placeSound, queueSound, waitingSound, frameSound};
-ghost use Rattle.window.specs.Steps.{messageSound, queuedSound, lowestUncounted, rowCounted};
+ghost use Rattle.group.specs.Limits.{held_most, payload_most, waiting_most, longest_packet, largest_number};
+ghost use Rattle.message.specs.Message.{is_empty, message_of, empty_message};
+ghost use Rattle.store.specs.Places.{part_of, Lies, mask_of, message_in, messages_in};
+ghost use Rattle.window.specs.Places.{place_of, queue_place, smaller_of, larger_of};
+ghost use Rattle.window.specs.Sound.{place_sound, queue_sound, waiting_sound, frame_sound};
+ghost use Rattle.window.specs.Steps.{message_sound, queued_sound, lowest_uncounted, row_counted};
 
 use group::{Group, MemberNumber, SequenceNumber};
 
 // Number s lies in place s modulo 8: the place of the number that lies `ahead` above a number, which may pass the largest.
 pub fn place(number: SequenceNumber, ahead: usize) -> usize
-    requires { ahead ≤ heldMost }
+    requires { ahead ≤ held_most }
     ensures { result ≡ place_of (number.0 + ahead) }
 {
     (number.0 as usize + ahead) % Group::HELD
@@ -23,8 +23,8 @@ pub fn place(number: SequenceNumber, ahead: usize) -> usize
 
 // The lowest number above the last taken, up to `last`, that is missing by the counts of the places; 0 if none is.
 pub fn lowest_missing(counts: &[u32], taken: SequenceNumber, last: SequenceNumber) -> SequenceNumber
-    requires { length counts.now ≡ heldMost }
-    ensures { result.0 ≡ lowestUncounted counts.now taken.0 (last.0 - taken.0) }
+    requires { length counts.now ≡ held_most }
+    ensures { result.0 ≡ lowest_uncounted counts.now taken.0 (last.0 - taken.0) }
 {
     let mut number = taken;
     while number.0 < last.0 {
@@ -45,7 +45,7 @@ pub fn frame_sound(
     taken: SequenceNumber,
     accepted: SequenceNumber,
 ) -> bool
-    ensures { result ≡ frameSound group number taken.0 accepted.0 }
+    ensures { result ≡ frame_sound group number taken.0 accepted.0 }
 {
     if group.sound() {
         if group::is_in(group.survivors, number) {
@@ -58,7 +58,7 @@ pub fn frame_sound(
 
 // The message with a count lies in place count modulo 5, of those that wait.
 pub fn queue_place(count: usize) -> usize
-    ensures { result ≡ queuePlace count }
+    ensures { result ≡ queue_place count }
 {
     count % Group::WAITING
 }
@@ -73,7 +73,7 @@ fn empty_sound(
     at: usize,
 ) -> bool
     requires { Lies at payloads.now × (mask.now ≡ mask_of) }
-    ensures { result ≡ is_empty (messageIn count originator length (part_of payloads.now at)) }
+    ensures { result ≡ is_empty (message_in count originator length (part_of payloads.now at)) }
 {
     if originator != 0 {
         return false;
@@ -100,7 +100,7 @@ fn queued_sound(
     at: usize,
 ) -> bool
     requires { Lies at payloads.now × (mask.now ≡ mask_of) }
-    ensures { result ≡ queuedSound number submitted (messageIn count originator length (part_of payloads.now at)) place }
+    ensures { result ≡ queued_sound number submitted (message_in count originator length (part_of payloads.now at)) place }
 {
     if place <= (submitted as usize) {
         if originator != number.0 {
@@ -128,8 +128,8 @@ pub fn waiting_sound(
     payloads: &[u8],
     mask: &[u8],
 ) -> bool
-    requires { (length counts.now ≡ waitingMost) × (length originators.now ≡ waitingMost) × (length lengths.now ≡ waitingMost) × (length payloads.now ≡ waitingMost * payloadMost) × (mask.now ≡ mask_of) }
-    ensures { result ≡ waitingSound number submitted waiting (messagesIn counts.now originators.now lengths.now payloads.now) }
+    requires { (length counts.now ≡ waiting_most) × (length originators.now ≡ waiting_most) × (length lengths.now ≡ waiting_most) × (length payloads.now ≡ waiting_most * payload_most) × (mask.now ≡ mask_of) }
+    ensures { result ≡ waiting_sound number submitted waiting (messages_in counts.now originators.now lengths.now payloads.now) }
 {
     if Group::WAITING < (waiting as usize) {
         return false;
@@ -160,8 +160,8 @@ fn queue_sound(
     payloads: &[u8],
     mask: &[u8],
 ) -> bool
-    requires { (taken ≤ submitted) × (length counts.now ≡ waitingMost) × (length originators.now ≡ waitingMost) × (length lengths.now ≡ waitingMost) × (length payloads.now ≡ waitingMost * payloadMost) × (mask.now ≡ mask_of) }
-    ensures { result ≡ allAbove (queueSound number (messagesIn counts.now originators.now lengths.now payloads.now) submitted) taken waitingMost }
+    requires { (taken ≤ submitted) × (length counts.now ≡ waiting_most) × (length originators.now ≡ waiting_most) × (length lengths.now ≡ waiting_most) × (length payloads.now ≡ waiting_most * payload_most) × (mask.now ≡ mask_of) }
+    ensures { result ≡ all_above (queue_sound number (messages_in counts.now originators.now lengths.now payloads.now) submitted) taken waiting_most }
 {
     let mut i: usize = 0;
     while i < Group::WAITING {
@@ -199,7 +199,7 @@ fn message_sound(
     at: usize,
 ) -> bool
     requires { Lies at payloads.now × (mask.now ≡ mask_of) }
-    ensures { result ≡ messageSound n (messageIn count originator length (part_of payloads.now at)) number }
+    ensures { result ≡ message_sound n (message_in count originator length (part_of payloads.now at)) number }
 {
     if 0 < count {
         if n <= originator {
@@ -226,8 +226,8 @@ pub fn held_sound(
     payloads: &[u8],
     mask: &[u8],
 ) -> bool
-    requires { (length counts.now ≡ heldMost) × (length originators.now ≡ heldMost) × (length lengths.now ≡ heldMost) × (length payloads.now ≡ heldMost * payloadMost) × (mask.now ≡ mask_of) }
-    ensures { result ≡ allAbove (placeSound n (messagesIn counts.now originators.now lengths.now payloads.now)) taken.0 heldMost }
+    requires { (length counts.now ≡ held_most) × (length originators.now ≡ held_most) × (length lengths.now ≡ held_most) × (length payloads.now ≡ held_most * payload_most) × (mask.now ≡ mask_of) }
+    ensures { result ≡ all_above (place_sound n (messages_in counts.now originators.now lengths.now payloads.now)) taken.0 held_most }
 {
     let mut i: usize = 0;
     while i < Group::HELD {
@@ -262,8 +262,8 @@ pub fn keep(
     count: u32,
     payload: &[u8],
 )
-    requires { (at < length counts.old) × (at < length originators.old) × (at < length lengths.old) × Lies at payloads.old × (length payload.now ≤ payloadMost) }
-    ensures { messagesIn counts.new originators.new lengths.new payloads.new ≡ set (messagesIn counts.old originators.old lengths.old payloads.old) at (messageOf originator count payload.now) }
+    requires { (at < length counts.old) × (at < length originators.old) × (at < length lengths.old) × Lies at payloads.old × (length payload.now ≤ payload_most) }
+    ensures { messages_in counts.new originators.new lengths.new payloads.new ≡ set (messages_in counts.old originators.old lengths.old payloads.old) at (message_of originator count payload.now) }
 {
     counts[at] = count;
     originators[at] = originator.0;
@@ -280,7 +280,7 @@ pub fn clear(
     at: usize,
 )
     requires { (at < length counts.old) × (at < length originators.old) × (at < length lengths.old) × Lies at payloads.old }
-    ensures { messagesIn counts.new originators.new lengths.new payloads.new ≡ set (messagesIn counts.old originators.old lengths.old payloads.old) at emptyMessage }
+    ensures { messages_in counts.new originators.new lengths.new payloads.new ≡ set (messages_in counts.old originators.old lengths.old payloads.old) at empty_message }
 {
     counts[at] = 0;
     originators[at] = 0;
@@ -290,7 +290,7 @@ pub fn clear(
 
 // Lays the payload of a place at the front of the output, and gives its length.
 pub fn put_payload(payloads: &[u8], at: usize, size: u8, out: &mut [u8]) -> usize
-    requires { Lies at payloads.now × (size ≤ payloadMost) × (longestPacket ≤ length out.old) }
+    requires { Lies at payloads.now × (size ≤ payload_most) × (longest_packet ≤ length out.old) }
     ensures { Laid (take size (part_of payloads.now at)) result out.old out.new }
 {
     let base = at * Group::PAYLOAD;
@@ -301,7 +301,7 @@ pub fn put_payload(payloads: &[u8], at: usize, size: u8, out: &mut [u8]) -> usiz
 
 // The smaller of a poll's top and the last number that a place is for.
 pub fn reach(top: SequenceNumber, taken: SequenceNumber) -> SequenceNumber
-    ensures { result.0 ≡ smallerOf top.0 (taken.0 + heldMost) }
+    ensures { result.0 ≡ smaller_of top.0 (taken.0 + held_most) }
 {
     if (top.0 as usize) < (taken.0 as usize) + Group::HELD {
         return top;
@@ -311,8 +311,8 @@ pub fn reach(top: SequenceNumber, taken: SequenceNumber) -> SequenceNumber
 
 // The last number through which nothing above the last taken is missing, by the counts of the places.
 pub fn row_end(counts: &[u32], taken: SequenceNumber) -> SequenceNumber
-    requires { length counts.now ≡ heldMost }
-    ensures { result.0 ≡ rowCounted counts.now taken.0 (smallerOf largestNumber (taken.0 + heldMost)) }
+    requires { length counts.now ≡ held_most }
+    ensures { result.0 ≡ row_counted counts.now taken.0 (smaller_of largest_number (taken.0 + held_most)) }
 {
     let last = reach(SequenceNumber(Group::LARGEST), taken);
     let first = lowest_missing(counts, taken, last);
@@ -324,7 +324,7 @@ pub fn row_end(counts: &[u32], taken: SequenceNumber) -> SequenceNumber
 
 // The larger of two numbers.
 pub fn later(a: SequenceNumber, b: SequenceNumber) -> SequenceNumber
-    ensures { result.0 ≡ largerOf a.0 b.0 }
+    ensures { result.0 ≡ larger_of a.0 b.0 }
 {
     if a.0 < b.0 {
         return b;
@@ -334,7 +334,7 @@ pub fn later(a: SequenceNumber, b: SequenceNumber) -> SequenceNumber
 
 // The smaller of two numbers.
 pub fn earlier(a: SequenceNumber, b: SequenceNumber) -> SequenceNumber
-    ensures { result.0 ≡ smallerOf a.0 b.0 }
+    ensures { result.0 ≡ smaller_of a.0 b.0 }
 {
     if a.0 < b.0 {
         return a;

@@ -1,34 +1,34 @@
 -- The lines of a load: `N n group`, and then a line each event.
 use Rattle.std.specs.Prelude.{List, [], ◌∷◌, ◌++◌, ℕ, ◌+◌, ◌*◌}
-use Rattle.model.specs.World.{Event, submit, repeat, take, status, poll, copy, handMember, handSequencer}
+use Rattle.model.specs.World.{Event, submit, repeat, take, status, poll, copy, hand_member, hand_sequencer}
 use Rattle.text.specs.Text.{text_of}
-use Rattle.text.specs.Written.{decimalOf, payloadText, line, numberDigits}
-use Rattle.workload.specs.Choice.{eventsFrom}
+use Rattle.text.specs.Written.{decimal_of, payload_text, line, number_digits}
+use Rattle.workload.specs.Choice.{events_from}
 
 -- the first line
-abbrev pub openingFields : ℕ → ℕ → List (List ℕ)
-openingFields n group = text_of "N" ∷ decimalOf n ∷ decimalOf group ∷ []
+abbrev pub opening_fields : ℕ → ℕ → List (List ℕ)
+opening_fields n group = text_of "N" ∷ decimal_of n ∷ decimal_of group ∷ []
 
 -- the fields of an event's line
-unfoldable pub eventFields : Event → List (List ℕ)
-eventFields (submit i payload) = text_of "S" ∷ decimalOf i ∷ payloadText payload ∷ []
-eventFields (repeat i) = text_of "R" ∷ decimalOf i ∷ []
-eventFields (take i) = text_of "T" ∷ decimalOf i ∷ []
-eventFields (status i) = text_of "A" ∷ decimalOf i ∷ []
-eventFields poll = text_of "P" ∷ []
-eventFields (copy number) = text_of "C" ∷ decimalOf number ∷ []
-eventFields (handMember k i) = text_of "M" ∷ decimalOf k ∷ decimalOf i ∷ []
-eventFields (handSequencer k) = text_of "Q" ∷ decimalOf k ∷ []
+unfoldable pub event_fields : Event → List (List ℕ)
+event_fields (submit i payload) = text_of "S" ∷ decimal_of i ∷ payload_text payload ∷ []
+event_fields (repeat i) = text_of "R" ∷ decimal_of i ∷ []
+event_fields (take i) = text_of "T" ∷ decimal_of i ∷ []
+event_fields (status i) = text_of "A" ∷ decimal_of i ∷ []
+event_fields poll = text_of "P" ∷ []
+event_fields (copy number) = text_of "C" ∷ decimal_of number ∷ []
+event_fields (hand_member k i) = text_of "M" ∷ decimal_of k ∷ decimal_of i ∷ []
+event_fields (hand_sequencer k) = text_of "Q" ∷ decimal_of k ∷ []
 
 -- the lines of events
-unfoldable pub eventLines : List Event → List ℕ
-eventLines [] = []
-eventLines (event ∷ rest) = line (eventFields event) ++ eventLines rest
+unfoldable pub event_lines : List Event → List ℕ
+event_lines [] = []
+event_lines (event ∷ rest) = line (event_fields event) ++ event_lines rest
 
 -- the whole text: a first line, and k events from the seed on
 unfoldable pub load_of : ℕ → ℕ → ℕ → ℕ → List ℕ
-load_of seed n group k = line (openingFields n group) ++ eventLines (eventsFrom n seed k)
+load_of seed n group k = line (opening_fields n group) ++ event_lines (events_from n seed k)
 
 -- the room that a line asks for: a letter, two numbers with a space before each, and the line feed
-abbrev pub lineRoom : ℕ
-lineRoom = 1 + 2 * (1 + numberDigits) + 1
+abbrev pub line_room : ℕ
+line_room = 1 + 2 * (1 + number_digits) + 1

@@ -1,23 +1,23 @@
 -- What the private functions promise on the way. No public promise speaks of it.
 use Rattle.std.specs.Prelude.{[], ◌∷◌}
 use Rattle.model.specs.World as world
-use Rattle.model.specs.World.{submit, repeat, take, status, poll, copy, handMember, handSequencer}
+use Rattle.model.specs.World.{submit, repeat, take, status, poll, copy, hand_member, hand_sequencer}
 use Rattle.workload.specs.Choice as choice
 use Rattle.workload.specs.declared.Chosen.{Chosen}
 use Rattle.workload.specs.declared.Event.{Event}
 use Rattle.workload.specs.declared.Event.TheVariants.{Submit, Repeat, Take, Status, Poll, Copy, HandMember, HandSequencer}
 
 -- the event that a value of the code is
-unfoldable pub eventIn : Event → world.Event
-eventIn (Submit i byte) = submit i (byte ∷ [])
-eventIn (Repeat i) = repeat i
-eventIn (Take i) = take i
-eventIn (Status i) = status i
-eventIn Poll = poll
-eventIn (Copy number) = copy number
-eventIn (HandMember k i) = handMember k i
-eventIn (HandSequencer k) = handSequencer k
+unfoldable pub event_in : Event → world.Event
+event_in (Submit i byte) = submit i (byte ∷ [])
+event_in (Repeat i) = repeat i
+event_in (Take i) = take i
+event_in (Status i) = status i
+event_in Poll = poll
+event_in (Copy number) = copy number
+event_in (HandMember k i) = hand_member k i
+event_in (HandSequencer k) = hand_sequencer k
 
 -- and the same with the state behind its choices
-abbrev pub chosenIn : Chosen → choice.Chosen
-chosenIn c = record { event = eventIn c.event; state = c.generator.state }
+abbrev pub chosen_in : Chosen → choice.Chosen
+chosen_in c = record { event = event_in c.event; state = c.generator.state }

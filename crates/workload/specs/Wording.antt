@@ -1,8 +1,8 @@
 -- How an answer is worded: a line that was written lies at the front of the lent output.
 use Rattle.std.specs.Prelude.{[]}
-use Rattle.group.specs.Wording.{Wording, word, refusedWording}
+use Rattle.group.specs.Wording.{Wording, word, refused_wording}
 use Rattle.workload.specs.declared.Answer.{Answer}
 
-unfoldable pub wordingOf : Answer → Wording
-wordingOf Answer.Written = word "written" []
-wordingOf (Answer.Refused r) = refusedWording r
+unfoldable pub wording_of : Answer → Wording
+wording_of Answer.Written = word "written" []
+wording_of (Answer.Refused r) = refused_wording r

@@ -4,12 +4,12 @@ ghost use Rattle.generator.specs.Generator.{stepped};
 ghost use Rattle.group.specs.Lent.{front};
 ghost use Rattle.text.specs.LaidAt.{LaidAt};
 ghost use Rattle.text.specs.Text.{text_of};
-ghost use Rattle.text.specs.Written.{decimalOf, payloadText, line};
-ghost use Rattle.workload.specs.Choice.{lettersMost, bytesMost, drawn, chosen};
-ghost use Rattle.workload.specs.Line.{lineRoom, eventFields};
-ghost use Rattle.workload.specs.Calls.{step_of, refused, openOf, next_of};
-ghost use Rattle.workload.specs.Wording.{wordingOf};
-ghost use Rattle.workload.specs.Steps.{eventIn, chosenIn};
+ghost use Rattle.text.specs.Written.{decimal_of, payload_text, line};
+ghost use Rattle.workload.specs.Choice.{letters_most, bytes_most, drawn, chosen};
+ghost use Rattle.workload.specs.Line.{line_room, event_fields};
+ghost use Rattle.workload.specs.Calls.{step_of, refused, open_of, next_of};
+ghost use Rattle.workload.specs.Wording.{wording_of};
+ghost use Rattle.workload.specs.Steps.{event_in, chosen_in};
 
 use generator::Generator;
 use group::{Group, Opened, Refusal};
@@ -72,19 +72,19 @@ pub struct Step {
 
 // The limits of specs/ are these constants.
 fn letters_most() -> u32
-    ensures { result ≡ lettersMost }
+    ensures { result ≡ letters_most }
 {
     LETTERS
 }
 
 fn bytes_most() -> u32
-    ensures { result ≡ bytesMost }
+    ensures { result ≡ bytes_most }
 {
     BYTES
 }
 
 fn line_room() -> usize
-    ensures { result ≡ lineRoom }
+    ensures { result ≡ line_room }
 {
     Load::LINE
 }
@@ -107,7 +107,7 @@ fn draw(generator: Generator, choices: u32) -> Drawn
 // `S i hex`
 fn choose_submit(generator: Generator, n: u32) -> Chosen
     requires { 1 ≤ n }
-    ensures { chosenIn result ≡ chosen 0 n generator.state }
+    ensures { chosen_in result ≡ chosen 0 n generator.state }
 {
     let member = draw(generator, n);
     let byte = draw(member.generator, BYTES);
@@ -123,7 +123,7 @@ fn choose_call(letter: u32, generator: Generator, n: u32) -> Chosen
     requires le_n { 1 ≤ n }
     requires le_letter { 1 ≤ letter }
     requires letter_bound { letter ≤ 3 }
-    ensures { chosenIn result ≡ chosen letter n generator.state }
+    ensures { chosen_in result ≡ chosen letter n generator.state }
 {
     let member = draw(generator, n);
     let next = member.generator;
@@ -141,7 +141,7 @@ fn choose_call(letter: u32, generator: Generator, n: u32) -> Chosen
 // `M k i`
 fn choose_hand(generator: Generator, n: u32) -> Chosen
     requires { 1 ≤ n }
-    ensures { chosenIn result ≡ chosen 6 n generator.state }
+    ensures { chosen_in result ≡ chosen 6 n generator.state }
 {
     let packets = PACKETS as u32;
     let packet = draw(generator, packets);
@@ -156,7 +156,7 @@ fn choose_hand(generator: Generator, n: u32) -> Chosen
 // The fields of a letter's event, in the order of its line.
 fn choose(letter: u32, generator: Generator, n: u32) -> Chosen
     requires { 1 ≤ n }
-    ensures { chosenIn result ≡ chosen letter n generator.state }
+    ensures { chosen_in result ≡ chosen letter n generator.state }
 {
     match letter {
         0 => choose_submit(generator, n),
@@ -187,8 +187,8 @@ fn choose(letter: u32, generator: Generator, n: u32) -> Chosen
 
 // A letter and one number.
 fn put_one(letter: u8, x: u32, out: &mut [u8]) -> usize
-    requires { lineRoom ≤ length out.old }
-    ensures { LaidAt 0 (line ((letter ∷ []) ∷ decimalOf x ∷ [])) out.old out.new result }
+    requires { line_room ≤ length out.old }
+    ensures { LaidAt 0 (line ((letter ∷ []) ∷ decimal_of x ∷ [])) out.old out.new result }
 {
     let next = put(letter, out, 0);
     let next = put_number(x, out, next);
@@ -197,8 +197,8 @@ fn put_one(letter: u8, x: u32, out: &mut [u8]) -> usize
 
 // A letter and two numbers.
 fn put_two(letter: u8, x: u32, y: u32, out: &mut [u8]) -> usize
-    requires { lineRoom ≤ length out.old }
-    ensures { LaidAt 0 (line ((letter ∷ []) ∷ decimalOf x ∷ decimalOf y ∷ [])) out.old out.new result }
+    requires { line_room ≤ length out.old }
+    ensures { LaidAt 0 (line ((letter ∷ []) ∷ decimal_of x ∷ decimal_of y ∷ [])) out.old out.new result }
 {
     let next = put(letter, out, 0);
     let next = put_number(x, out, next);
@@ -208,8 +208,8 @@ fn put_two(letter: u8, x: u32, y: u32, out: &mut [u8]) -> usize
 
 // `S i hex`
 fn put_submit(member: u32, byte: u8, out: &mut [u8]) -> usize
-    requires { lineRoom ≤ length out.old }
-    ensures { LaidAt 0 (line (text_of "S" ∷ decimalOf member ∷ payloadText (byte ∷ []) ∷ [])) out.old out.new result }
+    requires { line_room ≤ length out.old }
+    ensures { LaidAt 0 (line (text_of "S" ∷ decimal_of member ∷ payload_text (byte ∷ []) ∷ [])) out.old out.new result }
 {
     let payload = [byte];
     let next = put(b'S', out, 0);
@@ -220,7 +220,7 @@ fn put_submit(member: u32, byte: u8, out: &mut [u8]) -> usize
 
 // `P`
 fn put_poll(out: &mut [u8]) -> usize
-    requires { lineRoom ≤ length out.old }
+    requires { line_room ≤ length out.old }
     ensures { LaidAt 0 (line (text_of "P" ∷ [])) out.old out.new result }
 {
     let next = put(b'P', out, 0);
@@ -229,8 +229,8 @@ fn put_poll(out: &mut [u8]) -> usize
 
 // The line of an event.
 fn put_event(event: Event, out: &mut [u8]) -> usize
-    requires { lineRoom ≤ length out.old }
-    ensures { LaidAt 0 (line (eventFields (eventIn event))) out.old out.new result }
+    requires { line_room ≤ length out.old }
+    ensures { LaidAt 0 (line (event_fields (event_in event))) out.old out.new result }
 {
     match event {
         Event::Submit(member, byte) => put_submit(member, byte, out),
@@ -261,10 +261,10 @@ impl Load {
 
     // The first line of a load, or question 18; then the load is all zero, and has no line.
     pub fn open(seed: u32, n: u32, group: u32, out: &mut [u8; Load::LINE]) -> Step
-        ensures answer { result ≡ step_of (openOf seed n group) }
-        ensures lent { out.new ≡ front (openOf seed n group).bytes out.old }
-        ensures wording { wordingOf result.answer ≡ wordingOf (openOf seed n group).answer }
-        ensures within { result.written ≤ lineRoom }
+        ensures answer { result ≡ step_of (open_of seed n group) }
+        ensures lent { out.new ≡ front (open_of seed n group).bytes out.old }
+        ensures wording { wording_of result.answer ≡ wording_of (open_of seed n group).answer }
+        ensures within { result.written ≤ line_room }
     {
         let none = Load {
             generator: Generator { state: 0 },
@@ -295,8 +295,8 @@ impl Load {
     pub fn next(self, out: &mut [u8; Load::LINE]) -> Step
         ensures answer { result ≡ step_of (next_of self) }
         ensures lent { out.new ≡ front (next_of self).bytes out.old }
-        ensures wording { wordingOf result.answer ≡ wordingOf (next_of self).answer }
-        ensures within { result.written ≤ lineRoom }
+        ensures wording { wording_of result.answer ≡ wording_of (next_of self).answer }
+        ensures within { result.written ≤ line_room }
     {
         let n = self.n;
         if n < 1 {

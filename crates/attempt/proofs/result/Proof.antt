@@ -2,7 +2,7 @@
 -- Assumes nothing.
 use native.Mathlib.Omega.{arith}
 use Rattle.recovery.specs.View.{whole}
-use Rattle.attempt.proofs.Resulting.{result-declined, result-entered}
+use Rattle.attempt.proofs.Resulting.{result_declined, result_entered}
 use borrow.Author.Rules.{rules}
 use Rattle.attempt.proofs.result.Statement.{statement}
 use Rattle.attempt.proofs.result.Tie as tie
@@ -29,10 +29,10 @@ declined-requires : tie.Need-declined-requires
 declined-requires c κs = search rules
 
 returns : tie.Need-returns
-returns c = let a = c.before.before.before.before.before.before.before.before.before.before.before.before.before.before.before.before.before.before.before.before.before.args in λ queued queued_originators queued_lengths queued_payloads before. let s = whole a.head queued a.held.now queued_originators queued_lengths a.held-originators.now a.held-lengths.now queued_payloads a.held-payloads.now a.past.now a.past-originators.now a.past-lengths.now a.past-payloads.now a.highest.now a.replies.now a.taken.now a.counts.now a.repeats.now a.kept.now a.marks.now a.originators.now a.lengths.now a.payloads.now in result-entered s a.h.member a.h.a (record { 0 = a.h.b }) (record { 0 = a.h.c }) a.payload.now c.before.before.before.before.before.before.before.before.before.before.before.before.before.before.before.before.before.u16-at.ensures c.before.before.before.before.before.before.before.before.before.before.before.before.before.before.before.before.ask-result.ensures c.before.before.before.before.before.before.before.before.before.before.before.before.before.before.before.before.before.before.before.before.before.requires.0 c.before.before.before.before.before.before.before.before.before.before.before.before.before.before.enum_told.given.1 c.enter-on.ensures
+returns c = let a = c.before.before.before.before.before.before.before.before.before.before.before.before.before.before.before.before.before.before.before.before.before.args in λ queued queued_originators queued_lengths queued_payloads before. let s = whole a.head queued a.held.now queued_originators queued_lengths a.held_originators.now a.held_lengths.now queued_payloads a.held_payloads.now a.past.now a.past_originators.now a.past_lengths.now a.past_payloads.now a.highest.now a.replies.now a.taken.now a.counts.now a.repeats.now a.kept.now a.marks.now a.originators.now a.lengths.now a.payloads.now in result_entered s a.h.member a.h.a (record { 0 = a.h.b }) (record { 0 = a.h.c }) a.payload.now c.before.before.before.before.before.before.before.before.before.before.before.before.before.before.before.before.before.u16-at.ensures c.before.before.before.before.before.before.before.before.before.before.before.before.before.before.before.before.ask-result.ensures c.before.before.before.before.before.before.before.before.before.before.before.before.before.before.before.before.before.before.before.before.before.requires.0 c.before.before.before.before.before.before.before.before.before.before.before.before.before.before.enum_told.given.1 c.enter-on.ensures
 
 returns-2 : tie.Need-returns-2
-returns-2 c = let a = c.before.before.before.before.before.before.before.before.before.args in λ queued queued_originators queued_lengths queued_payloads before. let s = whole a.head queued a.held.now queued_originators queued_lengths a.held-originators.now a.held-lengths.now queued_payloads a.held-payloads.now a.past.now a.past-originators.now a.past-lengths.now a.past-payloads.now a.highest.now a.replies.now a.taken.now a.counts.now a.repeats.now a.kept.now a.marks.now a.originators.now a.lengths.now a.payloads.now in result-declined s a.h.member a.h.a (record { 0 = a.h.b }) (record { 0 = a.h.c }) a.payload.now c.before.before.before.before.before.u16-at.ensures c.before.before.before.before.ask-result.ensures c.before.before.before.before.before.before.before.before.before.requires.0 _ c.before.before.v.given.1 c.declined.ensures
+returns-2 c = let a = c.before.before.before.before.before.before.before.before.before.args in λ queued queued_originators queued_lengths queued_payloads before. let s = whole a.head queued a.held.now queued_originators queued_lengths a.held_originators.now a.held_lengths.now queued_payloads a.held_payloads.now a.past.now a.past_originators.now a.past_lengths.now a.past_payloads.now a.highest.now a.replies.now a.taken.now a.counts.now a.repeats.now a.kept.now a.marks.now a.originators.now a.lengths.now a.payloads.now in result_declined s a.h.member a.h.a (record { 0 = a.h.b }) (record { 0 = a.h.c }) a.payload.now c.before.before.before.before.before.u16-at.ensures c.before.before.before.before.ask-result.ensures c.before.before.before.before.before.before.before.before.before.requires.0 _ c.before.before.v.given.1 c.declined.ensures
 
 pub result-spec : {M : Type 1} → statement M
 result-spec = tie.close (tie.spec cast-t30 u16-at-requires ask-result-requires enum_told enter-on-requires enum-known-v declined-requires returns returns-2)

@@ -1,7 +1,7 @@
 -- The two bytes from the index on are those of the definition.
 -- Assumes nothing.
 use mathlib.Core.Path.{◌∙◌}
-use Rattle.big_endian.proofs.Number.{number-two}
+use Rattle.big_endian.proofs.Number.{number_two}
 use borrow.Author.Rules.{rules}
 use Rattle.big_endian.proofs.u16_at.Statement.{statement}
 use Rattle.big_endian.proofs.u16_at.Tie as tie
@@ -19,7 +19,7 @@ join-two-requires : tie.Need-join-two-requires
 join-two-requires c κs = search rules
 
 returns : tie.Need-returns
-returns c = c.join-two.ensures ∙ number-two c.before.before.before.before.args.bytes.now c.before.before.before.before.args.at
+returns c = c.join-two.ensures ∙ number_two c.before.before.before.before.args.bytes.now c.before.before.before.before.args.at
 
 pub u16-at-spec : {M : Type 1} → statement M
 u16-at-spec =

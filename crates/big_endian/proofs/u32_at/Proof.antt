@@ -1,7 +1,7 @@
 -- The four bytes from the index on are those of the definition.
 -- Assumes nothing.
 use mathlib.Core.Path.{◌∙◌}
-use Rattle.big_endian.proofs.Number.{number-four}
+use Rattle.big_endian.proofs.Number.{number_four}
 use borrow.Author.Rules.{rules}
 use Rattle.big_endian.proofs.u32_at.Statement.{statement}
 use Rattle.big_endian.proofs.u32_at.Tie as tie
@@ -31,7 +31,7 @@ join-four-requires : tie.Need-join-four-requires
 join-four-requires c κs = search rules
 
 returns : tie.Need-returns
-returns c = c.join-four.ensures ∙ number-four c.before.before.before.before.before.before.args.bytes.now c.before.before.before.before.before.before.args.at
+returns c = c.join-four.ensures ∙ number_four c.before.before.before.before.before.before.args.bytes.now c.before.before.before.before.before.before.args.at
 
 pub u32-at-spec : {M : Type 1} → statement M
 u32-at-spec =

@@ -1,9 +1,9 @@
 -- What is written settles the code.
 -- Assumes nothing.
 use mathlib.Core.Path.{sym, ap, ◌∙◌}
-use Rattle.packet.specs.Wording.{writingWording}
-use Rattle.group.specs.Codes.{numbersIn}
-use Rattle.boundary.specs.Codes.{firstNumber, writeCode, headerWith}
+use Rattle.packet.specs.Wording.{writing_wording}
+use Rattle.group.specs.Codes.{numbers_in}
+use Rattle.boundary.specs.Codes.{first_number, write_code, header_with}
 use borrow.Author.Rules.{rules}
 use Rattle.boundary.proofs.boundary_write.Statement.{statement}
 use Rattle.boundary.proofs.boundary_write.Tie as tie
@@ -27,19 +27,19 @@ same_length : tie.Need-same-length
 same_length c = search rules
 
 returns : tie.Need-returns
-unfolding writingWording numbersIn firstNumber headerWith
+unfolding writing_wording numbers_in first_number header_with
 returns c =
     let e = sym c.before.writing.given.1 ∙ c.before.before.before.before.before.write.ensures.0 in
-    (ap writeCode e, c.before.before.before.before.before.write.ensures.1.0)
+    (ap write_code e, c.before.before.before.before.before.write.ensures.1.0)
 
 same-length-2 : tie.Need-same-length-2
 same-length-2 c = search rules
 
 returns-2 : tie.Need-returns-2
-unfolding writingWording numbersIn firstNumber headerWith
+unfolding writing_wording numbers_in first_number header_with
 returns-2 c =
     let e = sym c.before.before.writing2.given.1 ∙ c.before.before.before.before.before.before.write.ensures.0 in
-    (c.number.ensures ∙ ap writeCode e, c.before.before.before.before.before.before.write.ensures.1.0)
+    (c.number.ensures ∙ ap write_code e, c.before.before.before.before.before.before.write.ensures.1.0)
 
 pub boundary-write-spec : {M : Type 1} → statement M
 boundary-write-spec =

@@ -1,7 +1,7 @@
 -- The numbers are laid as their definition says.
 -- Assumes nothing.
 use Rattle.group.specs.Choice.{if◌then◌else◌}
-use Rattle.embedding.specs.Journals.{writerNumbers}
+use Rattle.embedding.specs.Journals.{writer_numbers}
 use borrow.Author.Rules.{rules}
 use Rattle.embedding.proofs.numbers_of.Statement.{statement}
 use Rattle.embedding.proofs.numbers_of.Tie as tie
@@ -13,11 +13,11 @@ cast-used : tie.Need-overflow-cast-used
 cast-used c = search rules
 
 returns : tie.Need-returns
-unfolding writerNumbers if◌then◌else◌
+unfolding writer_numbers if◌then◌else◌
 returns c = rw c.if1.true
 
 returns-2 : tie.Need-returns-2
-unfolding writerNumbers if◌then◌else◌
+unfolding writer_numbers if◌then◌else◌
 returns-2 c = rw c.if1.false
 
 pub numbers-of-spec : {M : Type 1} → statement M

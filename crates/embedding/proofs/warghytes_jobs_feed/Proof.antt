@@ -39,8 +39,8 @@ use denote.Triple.Table.{entered, cited}
 use denote.Triple.Walked.{says, Stays, walk_of, Walks, ends_at, walked, walk_Meets}
 use Rattle.group.specs.contracts.MemberNumber as N
 use Rattle.group.proofs.MemberNumber.TheLaws as N'
-use Rattle.jobs.specs.Feed.{feedOf}
-use Rattle.jobs.specs.Wording.{wordingOf}
+use Rattle.jobs.specs.Feed.{feed_of}
+use Rattle.jobs.specs.Wording.{wording_of}
 use Rattle.jobs.specs.declared.Answer as jobs
 use Rattle.jobs.specs.declared.Job.{Job}
 use Rattle.jobs.specs.declared.Outcome.{Outcome}
@@ -51,9 +51,9 @@ use Rattle.jobs.specs.contracts.feed as on
 use Rattle.jobs.proofs.feed.Symbol as on-def
 use Rattle.jobs.proofs.feed.Symbol.{name as #on}
 use Rattle.jobs.proofs.feed.Met as on-thm
-use Rattle.embedding.specs.Lists.{feedTold, Feeds}
+use Rattle.embedding.specs.Lists.{feed_told, Feeds}
 use Rattle.embedding.specs.declared.Answer.{Answer}
-use Rattle.embedding.proofs.Passing.{all_left, go_left, fits-left}
+use Rattle.embedding.proofs.Passing.{all_left, go_left, fits_left}
 use Rattle.embedding.specs.contracts.Answer as Z
 use Rattle.embedding.proofs.Answer.TheLaws as Z'
 use Rattle.embedding.specs.contracts.feed_tells as tell
@@ -83,17 +83,17 @@ module _ {M : Type 1} {𝓤 : Ura M} (𝓛 : Logic 𝓤) (at_mem : Memory → SP
   a = (list, (member, (payload, tt)))
 
   -- the machine values
-  abbrev list-val : Val
-  list-val = slice_val list.ref_ptr (length list.now)
+  abbrev list_val : Val
+  list_val = slice_val list.ref_ptr (length list.now)
 
-  abbrev member-val : Val
-  member-val = vint w8 member
+  abbrev member_val : Val
+  member_val = vint w8 member
 
-  abbrev payload-val : Val
-  payload-val = slice_val payload.ref_ptr (length payload.now)
+  abbrev payload_val : Val
+  payload_val = slice_val payload.ref_ptr (length payload.now)
 
   abbrev vals : Vals f.signature κs
-  vals = (list-val ∷ [], (member-val ∷ [], (payload-val ∷ [], tt)))
+  vals = (list_val ∷ [], (member_val ∷ [], (payload_val ∷ [], tt)))
 
   abbrev Entry : SProp 𝓤
   Entry = on_entry 𝓛 f.signature κs qs a vals
@@ -103,24 +103,24 @@ module _ {M : Type 1} {𝓤 : Ura M} (𝓛 : Logic 𝓤) (at_mem : Memory → SP
 
   -- what the feed comes to, and what it and the telling promise
   abbrev o : Outcome
-  o = feedOf list.now (record { 0 = member }) payload.now
+  o = feed_of list.now (record { 0 = member }) payload.now
 
   abbrev Told : jobs.Answer → Answer → Type 0
-  Told r t = t ≡ feedTold r
+  Told r t = t ≡ feed_told r
 
   exits : (v : Val) (r : jobs.Answer) (t : Answer) (zs : Lasts f.ended κs a) → r ≡ o.answer → zs.0 ≡ o.jobs → Told r t
       → ent 𝓤 (⋆ 𝓛 (raw (alive 𝓛 f.signature κs qs) ∷ ‵ (lasts f.ended κs a zs) ∷ ‵ ((Z.the_row).own_val t (v ∷ [])) ∷ [])) (Post v)
   exits v r t zs e l d =
       qed 𝓛 (raw (alive 𝓛 f.signature κs qs) ∷ ‵ (lasts f.ended κs a zs) ∷ ‵ ((Z.the_row).own_val t (v ∷ [])) ∷ []) ∵
-      suffices ! _ (ends_at 𝓛 f.ended stayed (f.clauses 𝓛 at_mem run) ((κs, qs, tt, a, vals), tt) v t zs (fits-left 2 κs (f.ended).signature.params (f.ended).kept a zs)) $
-      says ! (record { answers = d ∙ ap feedTold e; jobs = l }) $ frame ! $ frame ! $ done !
+      suffices ! _ (ends_at 𝓛 f.ended stayed (f.clauses 𝓛 at_mem run) ((κs, qs, tt, a, vals), tt) v t zs (fits_left 2 κs (f.ended).signature.params (f.ended).kept a zs)) $
+      says ! (record { answers = d ∙ ap feed_told e; jobs = l }) $ frame ! $ frame ! $ done !
 
   -- what the two callees' triples bind outside
   abbrev to : (On 𝓛 at_mem run).Ghost
-  to = ((κs, qs, tt, (list, (record { 0 = member }, (payload, tt))), (list-val ∷ [], (LL.val N.the_type N'.the_laws (record { 0 = member }) ∷ [], (payload-val ∷ [], tt)))), tt)
+  to = ((κs, qs, tt, (list, (record { 0 = member }, (payload, tt))), (list_val ∷ [], (LL.val N.the_type N'.the_laws (record { 0 = member }) ∷ [], (payload_val ∷ [], tt)))), tt)
 
-  abbrev to-tell : jobs.Answer → Val → (Tell 𝓛 at_mem run).Ghost
-  to-tell r w = ((tt, tt, tt, (r, tt), (w ∷ [], tt)), tt)
+  abbrev to_tell : jobs.Answer → Val → (Tell 𝓛 at_mem run).Ghost
+  to_tell r w = ((tt, tt, tt, (r, tt), (w ∷ [], tt)), tt)
 
   goes_in : ent 𝓤 (⋆ 𝓛 (raw Entry ∷ [])) ((On 𝓛 at_mem run).pre to)
   goes_in =
@@ -128,14 +128,14 @@ module _ {M : Type 1} {𝓤 : Ura M} (𝓛 : Logic 𝓤) (at_mem : Memory → SP
       owned ! N.the_row (Is N.the_row) (LL.makes N.the_type N'.the_plain 𝓛) (record { 0 = member }) _ (LL.owes N.the_type N'.the_laws (record { 0 = member }) (member_is, tt)) $
       fjoin ! $ move ! (1 ∷ 0 ∷ []) $ fjoin ! $ move ! (1 ∷ 0 ∷ []) $ join ! $ frame ! $ done !
 
-  goes-tell : (r : jobs.Answer) (w : Val) → ent 𝓤 (⋆ 𝓛 (‵ ((Y.the_row).own_val r (w ∷ [])) ∷ [])) ((Tell 𝓛 at_mem run).pre (to-tell r w))
-  goes-tell r w = qed 𝓛 (‵ ((Y.the_row).own_val r (w ∷ [])) ∷ []) ∵ nothing ! $ move ! (1 ∷ 0 ∷ []) $ fjoin ! $ nothing ! $ join ! $ frame ! $ done !
+  goes_tell : (r : jobs.Answer) (w : Val) → ent 𝓤 (⋆ 𝓛 (‵ ((Y.the_row).own_val r (w ∷ [])) ∷ [])) ((Tell 𝓛 at_mem run).pre (to_tell r w))
+  goes_tell r w = qed 𝓛 (‵ ((Y.the_row).own_val r (w ∷ [])) ∷ []) ∵ nothing ! $ move ! (1 ∷ 0 ∷ []) $ fjoin ! $ nothing ! $ join ! $ frame ! $ done !
 
   module _ (C : Calls 𝓤 H) (Λ : Loops 𝓤 H) (fm : FmC 𝓤 H 𝓛.laws C) (known : Triple 𝓤 (C #on) (On 𝓛 at_mem run)) (told : Triple 𝓤 (C #tell) (Tell 𝓛 at_mem run)) where
-    walk : ent 𝓤 Entry (WpFn 𝓤 H C Λ code.function (list-val ∷ member-val ∷ payload-val ∷ []) Post)
+    walk : ent 𝓤 Entry (WpFn 𝓤 H C Λ code.function (list_val ∷ member_val ∷ payload_val ∷ []) Post)
     walk =
         qed 𝓛 (raw Entry ∷ []) ∵
-        enter ! C Λ code.function (list-val ∷ member-val ∷ payload-val ∷ []) _ $
+        enter ! C Λ code.function (list_val ∷ member_val ∷ payload_val ∷ []) _ $
         alloc1 ! (λ l₀. alloc1 ! (λ l₁. alloc1 ! (λ l₂. alloc1 ! (λ l₃. alloc1 ! (λ l₄. alloc1 ! (λ l₅. alloc1 ! (λ l₆. alloc1 ! (λ l₇. alloc0 ! $ params1 ! $
         pass1 ! (init ! 12 refl (tt, (tt, (record { fits = list-room.0 }, tt)))) $ pass1 ! (init ! 10 refl ((uint_Lawful 𝓛 w8).typed member _ member_is).0) $ pass1 ! (init ! 8 refl (tt, (tt, (record { fits = payload-room.0 }, tt)))) $ pass0 ! $
         -- [_7; …; _0 (14); …; the entry (16)]
@@ -145,12 +145,12 @@ module _ {M : Type 1} {𝓤 : Ura M} (𝓛 : Logic 𝓤) (at_mem : Memory → SP
         move ! (16 ∷ []) $ use1 𝓛 (raw ((On 𝓛 at_mem run).pre to)) goes_in $
         calls_at ! fm (On 𝓛 at_mem run) known to (and_then ! (load ! (from ! (stop !)) (look ! 3 refl)) (and_then ! (load ! (from ! (stop !)) (look ! 1 refl)) (and_then ! (load ! (from ! (stop !)) (look ! 9 refl)) (no_more !)))) (λ w.
         use1 𝓛 (later (some (λ (r : jobs.Answer). (raw (alive 𝓛 f.signature κs qs) ⊛ ‵ ((Y.the_row).own_val r (w ∷ []))) ⊛ raw (ensured 𝓛 on.ended (on.clauses 𝓛 at_mem run) κs to.0.3 tt r)))) (id⊢ 𝓤 _) $ await ! tt $ pick ! (λ r.
-        split ! $ move ! (1 ∷ []) $ use1 𝓛 (some (λ (zs : Lasts f.ended κs a). ‵ (lasts f.ended κs a zs) ⊛ (raw (fact 𝓤 (r ≡ o.answer)) ⊛ (raw (fact 𝓤 (zs.0 ≡ o.jobs)) ⊛ raw (fact 𝓤 (wordingOf r ≡ wordingOf o.answer)))))) (id⊢ 𝓤 _) $ pick ! (λ zs.
+        split ! $ move ! (1 ∷ []) $ use1 𝓛 (some (λ (zs : Lasts f.ended κs a). ‵ (lasts f.ended κs a zs) ⊛ (raw (fact 𝓤 (r ≡ o.answer)) ⊛ (raw (fact 𝓤 (zs.0 ≡ o.jobs)) ⊛ raw (fact 𝓤 (wording_of r ≡ wording_of o.answer)))))) (id⊢ 𝓤 _) $ pick ! (λ zs.
         split ! $ move ! (1 ∷ []) $ split ! $ heard ! (r ≡ o.answer) (λ e. split ! $ heard ! (zs.0 ≡ o.jobs) (λ l. drop ! $ move ! (1 ∷ []) $ split ! $ move ! (1 ∷ []) $
         -- [the answer; the tokens; the lasts; the locals (3)]
         peeks ! Y.the_row (Is Y.the_row) (shows 𝓛 Y.the_row) r (w ∷ []) (λ is. land ! (from ! (stop !)) (init ! 9 refl ((EL.lawful Y.the_type Y'.the_laws 𝓛 tt).typed r _ is).0) $
-        use1 𝓛 (raw ((Tell 𝓛 at_mem run).pre (to-tell r w))) (goes-tell r w) $
-        calls_at ! fm (Tell 𝓛 at_mem run) told (to-tell r w) (and_then ! (load ! (from ! (stop !)) (look ! 9 refl)) (no_more !)) (λ v.
+        use1 𝓛 (raw ((Tell 𝓛 at_mem run).pre (to_tell r w))) (goes_tell r w) $
+        calls_at ! fm (Tell 𝓛 at_mem run) told (to_tell r w) (and_then ! (load ! (from ! (stop !)) (look ! 9 refl)) (no_more !)) (λ v.
         use1 𝓛 (later (some (λ (t : Answer). (raw (alive 𝓛 tell.signature tt tt) ⊛ ‵ ((Z.the_row).own_val t (v ∷ []))) ⊛ raw (ensured 𝓛 tell.ended (tell.clauses 𝓛 at_mem run) tt (r, tt) tt t)))) (id⊢ 𝓤 _) $ await ! tt $ pick ! (λ t.
         split ! $ move ! (1 ∷ []) $ use1 𝓛 (some (λ (ys : Lasts tell.ended tt (r, tt)). ‵ (lasts tell.ended tt (r, tt) ys) ⊛ raw (fact 𝓤 (Told r t)))) (id⊢ 𝓤 _) $ pick ! (λ ys.
         split ! $ drop ! $ heard ! (Told r t) (λ d. split ! $ drop ! $

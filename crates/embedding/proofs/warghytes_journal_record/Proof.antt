@@ -1,9 +1,9 @@
 -- What the record is settles what is told.
 -- Assumes nothing.
 use mathlib.Core.Path.{sym, ap, ◌∙◌}
-use Rattle.journal.specs.Wording.{entryWording}
-use Rattle.embedding.specs.Journals.{recordTold}
-use Rattle.embedding.proofs.Founds.{right-entry, wrong-entry}
+use Rattle.journal.specs.Wording.{entry_wording}
+use Rattle.embedding.specs.Journals.{record_told}
+use Rattle.embedding.proofs.Founds.{right_entry, wrong_entry}
 use borrow.Author.Rules.{rules}
 use Rattle.embedding.proofs.warghytes_journal_record.Statement.{statement}
 use Rattle.embedding.proofs.warghytes_journal_record.Tie as tie
@@ -21,16 +21,16 @@ enum_told : tie.Need-enum-told
 enum_told c = search rules
 
 returns : tie.Need-returns
-unfolding entryWording
+unfolding entry_wording
 returns c =
     let e = sym c.before.before.entry.given.1 ∙ c.before.before.before.before.record-at.ensures.0 in
-    right-entry _ _ _ _ _ ∙ ap recordTold e
+    right_entry _ _ _ _ _ ∙ ap record_told e
 
 returns-2 : tie.Need-returns-2
-unfolding entryWording
+unfolding entry_wording
 returns-2 c =
     let e = sym c.enum_told.given.1 ∙ c.before.before.record-at.ensures.0 in
-    wrong-entry ∙ ap recordTold e
+    wrong_entry ∙ ap record_told e
 
 pub warghytes-journal-record-spec : {M : Type 1} → statement M
 warghytes-journal-record-spec = tie.close (tie.spec record-at-requires enum-known-entry cast-t8 enum_told returns returns-2)

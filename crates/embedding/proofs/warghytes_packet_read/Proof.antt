@@ -1,10 +1,10 @@
 -- What is read settles the code and the fields.
 -- Assumes nothing.
 use mathlib.Core.Path.{sym, ap, ◌∙◌}
-use Rattle.packet.specs.Wording.{readingWording}
-use Rattle.embedding.specs.Codes.{code_of, numbersIn, numbersOf}
-use Rattle.embedding.specs.Packets.{read_code, fieldsAfter}
-use Rattle.embedding.proofs.Codes.{fields-code}
+use Rattle.packet.specs.Wording.{reading_wording}
+use Rattle.embedding.specs.Codes.{code_of, numbers_in, numbers_of}
+use Rattle.embedding.specs.Packets.{read_code, fields_after}
+use Rattle.embedding.proofs.Codes.{fields_code}
 use borrow.Author.Rules.{rules}
 use Rattle.embedding.proofs.warghytes_packet_read.Statement.{statement}
 use Rattle.embedding.proofs.warghytes_packet_read.Tie as tie
@@ -31,16 +31,16 @@ cast-result : tie.Need-overflow-cast-result
 cast-result c = search rules
 
 returns : tie.Need-returns
-unfolding readingWording code_of numbersOf numbersIn fieldsAfter
+unfolding reading_wording code_of numbers_of numbers_in fields_after
 returns c =
     let e = sym c.before.before.before.before.reading.given.1 ∙ c.before.before.before.before.before.before.read.ensures.0 in
-    (sym fields-code ∙ ap read_code e, ap (λ r. fieldsAfter r c.before.before.before.before.before.before.before.before.args.fields.now) e)
+    (sym fields_code ∙ ap read_code e, ap (λ r. fields_after r c.before.before.before.before.before.before.before.before.args.fields.now) e)
 
 returns-2 : tie.Need-returns-2
-unfolding readingWording code_of numbersOf numbersIn fieldsAfter
+unfolding reading_wording code_of numbers_of numbers_in fields_after
 returns-2 c =
     let e = sym c.before.before.reading2.given.1 ∙ c.before.before.before.before.read.ensures.0 in
-    (c.number.ensures ∙ ap read_code e, ap (λ r. fieldsAfter r c.before.before.before.before.before.before.args.fields.now) e)
+    (c.number.ensures ∙ ap read_code e, ap (λ r. fields_after r c.before.before.before.before.before.before.args.fields.now) e)
 
 pub warghytes-packet-read-spec : {M : Type 1} → statement M
 warghytes-packet-read-spec = tie.close (tie.spec read-requires enum-known-reading cast-t7 cast-t8 enum-known-reading-2 number-requires cast-result returns returns-2)

@@ -1,10 +1,10 @@
 -- What is written settles the code and the number.
 -- Assumes nothing.
 use mathlib.Core.Path.{sym, ap, ◌∙◌}
-use Rattle.packet.specs.Wording.{writingWording}
+use Rattle.packet.specs.Wording.{writing_wording}
 use Rattle.embedding.specs.Codes.{answer_of}
-use Rattle.embedding.specs.Packets.{headerWith}
-use Rattle.embedding.proofs.Answers.{bytes-answer, refused-answer}
+use Rattle.embedding.specs.Packets.{header_with}
+use Rattle.embedding.proofs.Answers.{bytes_answer, refused_answer}
 use borrow.Author.Rules.{rules}
 use Rattle.embedding.proofs.warghytes_packet_write.Statement.{statement}
 use Rattle.embedding.proofs.warghytes_packet_write.Tie as tie
@@ -28,19 +28,19 @@ same_length : tie.Need-same-length
 same_length c = search rules
 
 returns : tie.Need-returns
-unfolding writingWording headerWith
+unfolding writing_wording header_with
 returns c =
     let e = sym c.before.writing.given.1 ∙ c.before.before.before.before.before.write.ensures.0 in
-    (bytes-answer _ _ ∙ ap (λ w. answer_of (writingWording w)) e, c.before.before.before.before.before.write.ensures.1.0)
+    (bytes_answer _ _ ∙ ap (λ w. answer_of (writing_wording w)) e, c.before.before.before.before.before.write.ensures.1.0)
 
 same-length-2 : tie.Need-same-length-2
 same-length-2 c = search rules
 
 returns-2 : tie.Need-returns-2
-unfolding writingWording headerWith
+unfolding writing_wording header_with
 returns-2 c =
     let e = sym c.before.before.writing2.given.1 ∙ c.before.before.before.before.before.before.write.ensures.0 in
-    (refused-answer c.number.ensures ∙ ap (λ w. answer_of (writingWording w)) e, c.before.before.before.before.before.before.write.ensures.1.0)
+    (refused_answer c.number.ensures ∙ ap (λ w. answer_of (writing_wording w)) e, c.before.before.before.before.before.before.write.ensures.1.0)
 
 pub warghytes-packet-write-spec : {M : Type 1} → statement M
 warghytes-packet-write-spec = tie.close (tie.spec write-requires enum-known-writing enum-known-writing-2 number-requires cast-t18 same_length returns same-length-2 returns-2)

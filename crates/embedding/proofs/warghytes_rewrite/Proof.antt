@@ -1,7 +1,7 @@
 -- What is laid settles what is told.
 -- Assumes nothing.
 use mathlib.Core.Path.{ap, ◌∙◌}
-use Rattle.plan.specs.Wording.{wordingOf}
+use Rattle.plan.specs.Wording.{wording_of}
 use Rattle.embedding.specs.Codes.{answer_of}
 use borrow.Author.Rules.{rules}
 use Rattle.embedding.proofs.warghytes_rewrite.Statement.{statement}
@@ -18,7 +18,7 @@ same_length c = search rules
 
 returns : tie.Need-returns
 returns c =
-    (c.plan-tells.ensures ∙ ap (λ a. answer_of (wordingOf a)) c.before.before.before.rewrite.ensures.0, c.before.before.before.rewrite.ensures.1.0)
+    (c.plan-tells.ensures ∙ ap (λ a. answer_of (wording_of a)) c.before.before.before.rewrite.ensures.0, c.before.before.before.rewrite.ensures.1.0)
 
 pub warghytes-rewrite-spec : {M : Type 1} → statement M
 warghytes-rewrite-spec = tie.close (tie.spec rewrite-requires plan-tells-requires same_length returns)

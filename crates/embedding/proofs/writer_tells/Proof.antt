@@ -1,8 +1,8 @@
 -- The answer settles what is told.
 -- Assumes nothing.
 use mathlib.Core.Path.{sym, ap, ◌∙◌}
-use Rattle.embedding.specs.Journals.{writerTold}
-use Rattle.embedding.proofs.Writing.{kept-told, closed-told, refused-told}
+use Rattle.embedding.specs.Journals.{writer_told}
+use Rattle.embedding.proofs.Writing.{kept_told_lem, closed_told, refused_told_lem}
 use borrow.Author.Rules.{rules}
 use Rattle.embedding.proofs.writer_tells.Statement.{statement}
 use Rattle.embedding.proofs.writer_tells.Tie as tie
@@ -23,14 +23,14 @@ cast-t6 : tie.Need-overflow-cast-t6
 cast-t6 c = search rules
 
 returns : tie.Need-returns
-returns c = kept-told _ ∙ ap (λ a. writerTold a c.before.before.args.written) (sym c.enum_told.given.1)
+returns c = kept_told_lem _ ∙ ap (λ a. writer_told a c.before.before.args.written) (sym c.enum_told.given.1)
 
 returns-2 : tie.Need-returns-2
-returns-2 c = closed-told _ ∙ ap (λ a. writerTold a c.before.before.args.written) (sym c.enum-told2.given.1)
+returns-2 c = closed_told _ ∙ ap (λ a. writer_told a c.before.before.args.written) (sym c.enum-told2.given.1)
 
 returns-3 : tie.Need-returns-3
 returns-3 c =
-    refused-told _ _ c.number.ensures ∙ ap (λ a. writerTold a c.before.before.before.before.args.written) (sym c.before.before.answer.given.1)
+    refused_told_lem _ _ c.number.ensures ∙ ap (λ a. writer_told a c.before.before.before.before.args.written) (sym c.before.before.answer.given.1)
 
 pub writer-tells-spec : {M : Type 1} → statement M
 writer-tells-spec = tie.close (tie.spec enum_told enum-told-2 enum-known-answer number-requires cast-t6 returns returns-2 returns-3)

@@ -3,10 +3,10 @@
 use mathlib.Core.Path.{◌≡◌, refl, sym, ap, ◌∙◌}
 use Prim.Native.Nat.{ℕ}
 use Rattle.group.specs.Choice.{if◌then◌else◌}
-use Rattle.group.specs.Codes.{code_of, wordCode, numbersOf, numbersIn, moreOf, moreIn, flagOf}
-use Rattle.ends.specs.Telling.{toldOf}
+use Rattle.group.specs.Codes.{code_of, word_code, numbers_of, numbers_in, more_of, more_in, flag_of}
+use Rattle.ends.specs.Telling.{told_of}
 use Rattle.ends.specs.declared.Told.{Told}
-use Rattle.member.specs.Wording.{wordingOf}
+use Rattle.member.specs.Wording.{wording_of}
 use borrow.Author.Rules.{rules}
 use Rattle.ends.proofs.member_tells.Statement.{statement}
 use Rattle.ends.proofs.member_tells.Tie as tie
@@ -107,59 +107,59 @@ flag-requires : tie.Need-flag-requires
 flag-requires c κs = search rules
 
 returns : tie.Need-returns
-unfolding toldOf code_of wordCode numbersOf numbersIn moreOf moreIn flagOf if◌then◌else◌ wordingOf
-returns c = c.word.ensures ∙ ap (λ (k : ℕ). plain k c.before.before.before.before.before.args.reply.written) c.before.number.ensures ∙ ap (λ a. toldOf (wordingOf a) c.before.before.before.before.before.args.reply.written) (sym c.before.before.before.answer.given.1)
+unfolding told_of code_of word_code numbers_of numbers_in more_of more_in flag_of if◌then◌else◌ wording_of
+returns c = c.word.ensures ∙ ap (λ (k : ℕ). plain k c.before.before.before.before.before.args.reply.written) c.before.number.ensures ∙ ap (λ a. told_of (wording_of a) c.before.before.before.before.before.args.reply.written) (sym c.before.before.before.answer.given.1)
 
 returns-2 : tie.Need-returns-2
-unfolding toldOf code_of wordCode numbersOf numbersIn moreOf moreIn flagOf if◌then◌else◌ wordingOf
-returns-2 c = c.word2.ensures ∙ ap (λ a. toldOf (wordingOf a) c.before.before.before.args.reply.written) (sym c.before.enum_told.given.1)
+unfolding told_of code_of word_code numbers_of numbers_in more_of more_in flag_of if◌then◌else◌ wording_of
+returns-2 c = c.word2.ensures ∙ ap (λ a. told_of (wording_of a) c.before.before.before.args.reply.written) (sym c.before.enum_told.given.1)
 
 returns-3 : tie.Need-returns-3
-unfolding toldOf code_of wordCode numbersOf numbersIn moreOf moreIn flagOf if◌then◌else◌ wordingOf
-returns-3 c = c.numbered.ensures ∙ ap (λ a. toldOf (wordingOf a) c.before.before.before.before.args.reply.written) (sym c.before.before.answer2.given.1)
+unfolding told_of code_of word_code numbers_of numbers_in more_of more_in flag_of if◌then◌else◌ wording_of
+returns-3 c = c.numbered.ensures ∙ ap (λ a. told_of (wording_of a) c.before.before.before.before.args.reply.written) (sym c.before.before.answer2.given.1)
 
 returns-4 : tie.Need-returns-4
-unfolding toldOf code_of wordCode numbersOf numbersIn moreOf moreIn flagOf if◌then◌else◌ wordingOf
-returns-4 c = c.word3.ensures ∙ ap (λ a. toldOf (wordingOf a) c.before.before.before.args.reply.written) (sym c.before.enum-told2.given.1)
+unfolding told_of code_of word_code numbers_of numbers_in more_of more_in flag_of if◌then◌else◌ wording_of
+returns-4 c = c.word3.ensures ∙ ap (λ a. told_of (wording_of a) c.before.before.before.args.reply.written) (sym c.before.enum-told2.given.1)
 
 returns-5 : tie.Need-returns-5
-unfolding toldOf code_of wordCode numbersOf numbersIn moreOf moreIn flagOf if◌then◌else◌ wordingOf
-returns-5 c = c.word4.ensures ∙ ap (λ a. toldOf (wordingOf a) c.before.before.before.args.reply.written) (sym c.before.enum-told3.given.1)
+unfolding told_of code_of word_code numbers_of numbers_in more_of more_in flag_of if◌then◌else◌ wording_of
+returns-5 c = c.word4.ensures ∙ ap (λ a. told_of (wording_of a) c.before.before.before.args.reply.written) (sym c.before.enum-told3.given.1)
 
 returns-6 : tie.Need-returns-6
-unfolding toldOf code_of wordCode numbersOf numbersIn moreOf moreIn flagOf if◌then◌else◌ wordingOf
-returns-6 c = c.word5.ensures ∙ ap (λ a. toldOf (wordingOf a) c.before.before.before.args.reply.written) (sym c.before.enum-told4.given.1)
+unfolding told_of code_of word_code numbers_of numbers_in more_of more_in flag_of if◌then◌else◌ wording_of
+returns-6 c = c.word5.ensures ∙ ap (λ a. told_of (wording_of a) c.before.before.before.args.reply.written) (sym c.before.enum-told4.given.1)
 
 returns-7 : tie.Need-returns-7
-unfolding toldOf code_of wordCode numbersOf numbersIn moreOf moreIn flagOf if◌then◌else◌ wordingOf
-returns-7 c = c.word6.ensures ∙ ap (λ a. toldOf (wordingOf a) c.before.before.before.args.reply.written) (sym c.before.enum-told5.given.1)
+unfolding told_of code_of word_code numbers_of numbers_in more_of more_in flag_of if◌then◌else◌ wording_of
+returns-7 c = c.word6.ensures ∙ ap (λ a. told_of (wording_of a) c.before.before.before.args.reply.written) (sym c.before.enum-told5.given.1)
 
 returns-8 : tie.Need-returns-8
-unfolding toldOf code_of wordCode numbersOf numbersIn moreOf moreIn flagOf if◌then◌else◌ wordingOf
-returns-8 c = c.word7.ensures ∙ ap (λ a. toldOf (wordingOf a) c.before.before.before.args.reply.written) (sym c.before.enum-told6.given.1)
+unfolding told_of code_of word_code numbers_of numbers_in more_of more_in flag_of if◌then◌else◌ wording_of
+returns-8 c = c.word7.ensures ∙ ap (λ a. told_of (wording_of a) c.before.before.before.args.reply.written) (sym c.before.enum-told6.given.1)
 
 returns-9 : tie.Need-returns-9
-unfolding toldOf code_of wordCode numbersOf numbersIn moreOf moreIn flagOf if◌then◌else◌ wordingOf
-returns-9 c = c.word8.ensures ∙ ap (λ a. toldOf (wordingOf a) c.before.before.before.args.reply.written) (sym c.before.enum-told7.given.1)
+unfolding told_of code_of word_code numbers_of numbers_in more_of more_in flag_of if◌then◌else◌ wording_of
+returns-9 c = c.word8.ensures ∙ ap (λ a. told_of (wording_of a) c.before.before.before.args.reply.written) (sym c.before.enum-told7.given.1)
 
 returns-10 : tie.Need-returns-10
-unfolding toldOf code_of wordCode numbersOf numbersIn moreOf moreIn flagOf if◌then◌else◌ wordingOf
-returns-10 c = c.word9.ensures ∙ ap (λ a. toldOf (wordingOf a) c.before.before.before.args.reply.written) (sym c.before.enum-told8.given.1)
+unfolding told_of code_of word_code numbers_of numbers_in more_of more_in flag_of if◌then◌else◌ wording_of
+returns-10 c = c.word9.ensures ∙ ap (λ a. told_of (wording_of a) c.before.before.before.args.reply.written) (sym c.before.enum-told8.given.1)
 
 returns-11 : tie.Need-returns-11
-unfolding toldOf code_of wordCode numbersOf numbersIn moreOf moreIn flagOf if◌then◌else◌ wordingOf
-returns-11 c = c.word10.ensures ∙ ap (λ a. toldOf (wordingOf a) c.before.before.before.args.reply.written) (sym c.before.enum-told9.given.1)
+unfolding told_of code_of word_code numbers_of numbers_in more_of more_in flag_of if◌then◌else◌ wording_of
+returns-11 c = c.word10.ensures ∙ ap (λ a. told_of (wording_of a) c.before.before.before.args.reply.written) (sym c.before.enum-told9.given.1)
 
 returns-12 : tie.Need-returns-12
-unfolding toldOf code_of wordCode numbersOf numbersIn moreOf moreIn flagOf if◌then◌else◌ wordingOf
-returns-12 c = c.word11.ensures ∙ ap (λ a. toldOf (wordingOf a) c.before.before.before.args.reply.written) (sym c.before.enum-told10.given.1)
+unfolding told_of code_of word_code numbers_of numbers_in more_of more_in flag_of if◌then◌else◌ wording_of
+returns-12 c = c.word11.ensures ∙ ap (λ a. told_of (wording_of a) c.before.before.before.args.reply.written) (sym c.before.enum-told10.given.1)
 
 returns-13 : tie.Need-returns-13
-unfolding toldOf code_of wordCode numbersOf numbersIn moreOf moreIn flagOf if◌then◌else◌ wordingOf
+unfolding told_of code_of word_code numbers_of numbers_in more_of more_in flag_of if◌then◌else◌ wording_of
 returns-13 c =
     let v = c.before.before.before.answer3.given.0 in
     ap (λ (m : ℕ). took v.0.0 v.1.0.0 v.1.1.0 m c.before.before.before.before.before.args.reply.written) c.flag.ensures
-    ∙ ap (λ a. toldOf (wordingOf a) c.before.before.before.before.before.args.reply.written) (sym c.before.before.before.answer3.given.1)
+    ∙ ap (λ a. told_of (wording_of a) c.before.before.before.before.before.args.reply.written) (sym c.before.before.before.answer3.given.1)
 
 pub member-tells-spec : {M : Type 1} → statement M
 member-tells-spec =

@@ -3,10 +3,10 @@
 use mathlib.Core.Path.{◌≡◌, refl, sym, ap, ◌∙◌}
 use Prim.Native.Nat.{ℕ}
 use Rattle.group.specs.Choice.{if◌then◌else◌}
-use Rattle.group.specs.Codes.{code_of, wordCode, numbersOf, numbersIn, moreOf, moreIn, flagOf}
-use Rattle.ends.specs.Telling.{toldOf}
+use Rattle.group.specs.Codes.{code_of, word_code, numbers_of, numbers_in, more_of, more_in, flag_of}
+use Rattle.ends.specs.Telling.{told_of}
 use Rattle.ends.specs.declared.Told.{Told}
-use Rattle.group.specs.Wording.{verdictWording}
+use Rattle.group.specs.Wording.{verdict_wording}
 use borrow.Author.Rules.{rules}
 use Rattle.ends.proofs.opening_tells.Statement.{statement}
 use Rattle.ends.proofs.opening_tells.Tie as tie
@@ -34,12 +34,12 @@ word-requires-2 : tie.Need-word-requires-2
 word-requires-2 c κs = search rules
 
 returns : tie.Need-returns
-unfolding toldOf code_of wordCode numbersOf numbersIn moreOf moreIn flagOf if◌then◌else◌ verdictWording
-returns c = c.word.ensures ∙ ap (λ a. toldOf (verdictWording a) 0) (sym c.before.enum_told.given.1)
+unfolding told_of code_of word_code numbers_of numbers_in more_of more_in flag_of if◌then◌else◌ verdict_wording
+returns c = c.word.ensures ∙ ap (λ a. told_of (verdict_wording a) 0) (sym c.before.enum_told.given.1)
 
 returns-2 : tie.Need-returns-2
-unfolding toldOf code_of wordCode numbersOf numbersIn moreOf moreIn flagOf if◌then◌else◌ verdictWording
-returns-2 c = c.word2.ensures ∙ ap (λ (k : ℕ). plain k 0) c.before.number.ensures ∙ ap (λ a. toldOf (verdictWording a) 0) (sym c.before.before.before.verdict.given.1)
+unfolding told_of code_of word_code numbers_of numbers_in more_of more_in flag_of if◌then◌else◌ verdict_wording
+returns-2 c = c.word2.ensures ∙ ap (λ (k : ℕ). plain k 0) c.before.number.ensures ∙ ap (λ a. told_of (verdict_wording a) 0) (sym c.before.before.before.verdict.given.1)
 
 pub opening-tells-spec : {M : Type 1} → statement M
 opening-tells-spec =

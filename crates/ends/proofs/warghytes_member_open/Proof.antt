@@ -35,13 +35,13 @@ use denote.Triple.Call.{calls_at}
 use denote.Triple.Clauses.{Lasts, ensured, lasts}
 use denote.Triple.Table.{entered, cited}
 use denote.Triple.Walked.{says, Stays, walk_of, Walks, ends_at, walked, walk_Meets}
-use Rattle.ends.proofs.Passing.{all_left, go_left, fits-left}
+use Rattle.ends.proofs.Passing.{all_left, go_left, fits_left}
 use Rattle.states.specs.declared.Member.{Member}
 use Rattle.group.specs.declared.Verdict.{Verdict}
 use Rattle.ends.specs.declared.Told.{Told}
 use Rattle.states.specs.Member.{Begins}
 use Rattle.ends.specs.Telling.{OpeningTells}
-use Rattle.ends.proofs.Carried.{member-opens}
+use Rattle.ends.proofs.Carried.{member_opens}
 use Rattle.states.specs.contracts.Member as T
 use Rattle.group.specs.contracts.Verdict as Y
 use Rattle.group.proofs.Verdict.TheLaws as Y'
@@ -72,30 +72,30 @@ abbrev Tell : {M : Type 1} {𝓤 : Ura M} (𝓛 : Logic 𝓤) (at_mem : Memory �
 Tell 𝓛 at_mem run = triple_of 𝓛 tell.signature (tell.spec 𝓛 at_mem run)
 
 module _ {M : Type 1} {𝓤 : Ura M} (𝓛 : Logic 𝓤) (at_mem : Memory → SProp 𝓤) (run : Routine → Fun 𝓤) (κs : Lfts 1) (qs : Shares 1) (s : MutBor Member)
-    (n : ℕ) (n-is : Is u8 n (vint w8 n ∷ [])) (number : ℕ) (number_is : Is u8 number (vint w8 number ∷ [])) (group : ℕ) (group-is : Is u32 group (vint w32 group ∷ [])) (resilience : ℕ) (resilience-is : Is u8 resilience (vint w8 resilience ∷ [])) where
+    (n : ℕ) (n_is : Is u8 n (vint w8 n ∷ [])) (number : ℕ) (number_is : Is u8 number (vint w8 number ∷ [])) (group : ℕ) (group_is : Is u32 group (vint w32 group ∷ [])) (resilience : ℕ) (resilience-is : Is u8 resilience (vint w8 resilience ∷ [])) where
   open 𝓛 use {H}
 
   abbrev a : Args f.signature κs
   a = (s, (n, (number, (group, (resilience, tt)))))
 
   -- the machine values
-  abbrev s-val : Val
-  s-val = vptr s.ptr.0 s.ptr.1
+  abbrev s_val : Val
+  s_val = vptr s.ptr.0 s.ptr.1
 
-  abbrev n-val : Val
-  n-val = vint w8 n
+  abbrev n_val : Val
+  n_val = vint w8 n
 
-  abbrev number-val : Val
-  number-val = vint w8 number
+  abbrev number_val : Val
+  number_val = vint w8 number
 
-  abbrev group-val : Val
-  group-val = vint w32 group
+  abbrev group_val : Val
+  group_val = vint w32 group
 
-  abbrev resilience-val : Val
-  resilience-val = vint w8 resilience
+  abbrev resilience_val : Val
+  resilience_val = vint w8 resilience
 
   abbrev vals : Vals f.signature κs
-  vals = (s-val ∷ [], (n-val ∷ [], (number-val ∷ [], (group-val ∷ [], (resilience-val ∷ [], tt)))))
+  vals = (s_val ∷ [], (n_val ∷ [], (number_val ∷ [], (group_val ∷ [], (resilience_val ∷ [], tt)))))
 
   abbrev Entry : SProp 𝓤
   Entry = on_entry 𝓛 f.signature κs qs a vals
@@ -114,28 +114,28 @@ module _ {M : Type 1} {𝓤 : Ura M} (𝓛 : Logic 𝓤) (at_mem : Memory → SP
       → ent 𝓤 (⋆ 𝓛 (raw (alive 𝓛 f.signature κs qs) ∷ ‵ (lasts f.ended κs a zs) ∷ ‵ ((Z.the_row).own_val t (v ∷ [])) ∷ [])) (Post v)
   exits v r t zs e d =
       qed 𝓛 (raw (alive 𝓛 f.signature κs qs) ∷ ‵ (lasts f.ended κs a zs) ∷ ‵ ((Z.the_row).own_val t (v ∷ [])) ∷ []) ∵
-      suffices ! _ (ends_at 𝓛 f.ended stayed (f.clauses 𝓛 at_mem run) ((κs, qs, tt, a, vals), tt) v t zs (fits-left 1 κs (f.ended).signature.params (f.ended).kept a zs)) $ says ! (member-opens e d) $ frame ! $ frame ! $ done !
+      suffices ! _ (ends_at 𝓛 f.ended stayed (f.clauses 𝓛 at_mem run) ((κs, qs, tt, a, vals), tt) v t zs (fits_left 1 κs (f.ended).signature.params (f.ended).kept a zs)) $ says ! (member_opens e d) $ frame ! $ frame ! $ done !
 
   -- what the two callees' triples bind outside
   abbrev to : (On 𝓛 at_mem run).Ghost
-  to = ((κs, qs, tt, (s, (n, ((record { 0 = number }), (group, (resilience, tt))))), (s-val ∷ [], (n-val ∷ [], (LL.val V₁.the_type V₁'.the_laws (record { 0 = number }) ∷ [], (group-val ∷ [], (resilience-val ∷ [], tt)))))), tt)
+  to = ((κs, qs, tt, (s, (n, ((record { 0 = number }), (group, (resilience, tt))))), (s_val ∷ [], (n_val ∷ [], (LL.val V₁.the_type V₁'.the_laws (record { 0 = number }) ∷ [], (group_val ∷ [], (resilience_val ∷ [], tt)))))), tt)
 
-  abbrev to-tell : Verdict → Val → (Tell 𝓛 at_mem run).Ghost
-  to-tell r w = ((tt, tt, tt, (r, tt), (w ∷ [], tt)), tt)
+  abbrev to_tell : Verdict → Val → (Tell 𝓛 at_mem run).Ghost
+  to_tell r w = ((tt, tt, tt, (r, tt), (w ∷ [], tt)), tt)
 
   goes_in : ent 𝓤 (⋆ 𝓛 (raw Entry ∷ [])) ((On 𝓛 at_mem run).pre to)
   goes_in = qed 𝓛 ((raw (alive 𝓛 f.signature κs qs) ⊛ ‵ (owns (types_at (f.signature).params κs) a vals)) ∷ []) ∵ split ! $ move ! (1 ∷ []) $ fsplit ! $ move ! (1 ∷ []) $ fsplit ! $ move ! (1 ∷ []) $ fsplit ! $ drop ! $ owned ! V₁.the_row (Is V₁.the_row) (LL.makes V₁.the_type V₁'.the_plain 𝓛) (record { 0 = number }) _ (LL.owes V₁.the_type V₁'.the_laws (record { 0 = number }) (number_is, tt)) $ fjoin ! $ move ! (1 ∷ 0 ∷ []) $ fjoin ! $ move ! (1 ∷ 0 ∷ []) $ fjoin ! $ move ! (1 ∷ 0 ∷ []) $ join ! $ frame ! $ done !
 
-  goes-tell : (r : Verdict) (w : Val) → ent 𝓤 (⋆ 𝓛 (‵ ((Y.the_row).own_val r (w ∷ [])) ∷ [])) ((Tell 𝓛 at_mem run).pre (to-tell r w))
-  goes-tell r w = qed 𝓛 (‵ ((Y.the_row).own_val r (w ∷ [])) ∷ []) ∵ nothing ! $ move ! (1 ∷ 0 ∷ []) $ fjoin ! $ nothing ! $ join ! $ frame ! $ done !
+  goes_tell : (r : Verdict) (w : Val) → ent 𝓤 (⋆ 𝓛 (‵ ((Y.the_row).own_val r (w ∷ [])) ∷ [])) ((Tell 𝓛 at_mem run).pre (to_tell r w))
+  goes_tell r w = qed 𝓛 (‵ ((Y.the_row).own_val r (w ∷ [])) ∷ []) ∵ nothing ! $ move ! (1 ∷ 0 ∷ []) $ fjoin ! $ nothing ! $ join ! $ frame ! $ done !
 
   module _ (C : Calls 𝓤 H) (Λ : Loops 𝓤 H) (fm : FmC 𝓤 H 𝓛.laws C) (known : Triple 𝓤 (C #on) (On 𝓛 at_mem run)) (told : Triple 𝓤 (C #tell) (Tell 𝓛 at_mem run)) where
-    walk : ent 𝓤 Entry (WpFn 𝓤 H C Λ code.function (s-val ∷ n-val ∷ number-val ∷ group-val ∷ resilience-val ∷ []) Post)
+    walk : ent 𝓤 Entry (WpFn 𝓤 H C Λ code.function (s_val ∷ n_val ∷ number_val ∷ group_val ∷ resilience_val ∷ []) Post)
     walk =
         qed 𝓛 (raw Entry ∷ []) ∵
-        enter ! C Λ code.function (s-val ∷ n-val ∷ number-val ∷ group-val ∷ resilience-val ∷ []) _ $
+        enter ! C Λ code.function (s_val ∷ n_val ∷ number_val ∷ group_val ∷ resilience_val ∷ []) _ $
         alloc1 ! (λ l₀. alloc1 ! (λ l₁. alloc1 ! (λ l₂. alloc1 ! (λ l₃. alloc1 ! (λ l₄. alloc1 ! (λ l₅. alloc1 ! (λ l₆. alloc1 ! (λ l₇. alloc1 ! (λ l₈. alloc0 ! $ params1 ! $
-        pass1 ! (init ! 14 refl (tt, tt)) $ pass1 ! (init ! 12 refl ((uint_Lawful 𝓛 w8).typed n _ n-is).0) $ pass1 ! (init ! 10 refl ((uint_Lawful 𝓛 w8).typed number _ number_is).0) $ pass1 ! (init ! 8 refl ((uint_Lawful 𝓛 w32).typed group _ group-is).0) $ pass1 ! (init ! 6 refl ((uint_Lawful 𝓛 w8).typed resilience _ resilience-is).0) $ pass0 ! $
+        pass1 ! (init ! 14 refl (tt, tt)) $ pass1 ! (init ! 12 refl ((uint_Lawful 𝓛 w8).typed n _ n_is).0) $ pass1 ! (init ! 10 refl ((uint_Lawful 𝓛 w8).typed number _ number_is).0) $ pass1 ! (init ! 8 refl ((uint_Lawful 𝓛 w32).typed group _ group_is).0) $ pass1 ! (init ! 6 refl ((uint_Lawful 𝓛 w8).typed resilience _ resilience-is).0) $ pass0 ! $
         -- [_8; …; _0 (16); …; the entry (18)]
         assigns ! (addr ! (from ! (hop ! (look ! 14 refl) (stop !)))) (from ! (stop !)) (init ! 2 refl (tt, tt)) $
         assigns ! (agg ! (and_then ! (load ! (from ! (stop !)) (look ! 10 refl)) (no_more !))) (from ! (stop !)) (init ! 0 refl ((LL.lawful V₁.the_type V₁'.the_laws 𝓛).typed (record { 0 = number }) _ (LL.owes V₁.the_type V₁'.the_laws (record { 0 = number }) (number_is, tt))).0) $
@@ -146,8 +146,8 @@ module _ {M : Type 1} {𝓤 : Ura M} (𝓛 : Logic 𝓤) (at_mem : Memory → SP
         split ! $ move ! (1 ∷ []) $ heard ! (Said r zs) (λ e. move ! (1 ∷ []) $ split ! $ move ! (1 ∷ []) $
         -- [the reply; the tokens; the lasts; the locals (3)]
         peeks ! Y.the_row (Is Y.the_row) (shows 𝓛 Y.the_row) r (w ∷ []) (λ is. land ! (from ! (stop !)) (init ! 7 refl ((EL.lawful Y.the_type Y'.the_laws 𝓛 tt).typed r _ is).0) $
-        use1 𝓛 (raw ((Tell 𝓛 at_mem run).pre (to-tell r w))) (goes-tell r w) $
-        calls_at ! fm (Tell 𝓛 at_mem run) told (to-tell r w) (and_then ! (load ! (from ! (stop !)) (look ! 7 refl)) (no_more !)) (λ v.
+        use1 𝓛 (raw ((Tell 𝓛 at_mem run).pre (to_tell r w))) (goes_tell r w) $
+        calls_at ! fm (Tell 𝓛 at_mem run) told (to_tell r w) (and_then ! (load ! (from ! (stop !)) (look ! 7 refl)) (no_more !)) (λ v.
         use1 𝓛 (later (some (λ (t : Told). (raw (alive 𝓛 tell.signature tt tt) ⊛ ‵ ((Z.the_row).own_val t (v ∷ []))) ⊛ raw (ensured 𝓛 tell.ended (tell.clauses 𝓛 at_mem run) tt (r, tt) tt t)))) (id⊢ 𝓤 _) $ await ! tt $ pick ! (λ t.
         split ! $ move ! (1 ∷ []) $ use1 𝓛 (some (λ (ys : Lasts tell.ended tt (r, tt)). ‵ (lasts tell.ended tt (r, tt) ys) ⊛ raw (fact 𝓤 (Telling r t)))) (id⊢ 𝓤 _) $ pick ! (λ ys.
         split ! $ drop ! $ heard ! (Telling r t) (λ d. split ! $ drop ! $

@@ -33,13 +33,13 @@ use denote.Triple.Call.{calls_at}
 use denote.Triple.Clauses.{Lasts, ensured, lasts}
 use denote.Triple.Table.{entered, cited}
 use denote.Triple.Walked.{says, Stays, walk_of, Walks, ends_at, walked, walk_Meets}
-use Rattle.ends.proofs.Passing.{all_left, go_left, fits-left}
+use Rattle.ends.proofs.Passing.{all_left, go_left, fits_left}
 use Rattle.states.specs.declared.Member.{Member}
 use Rattle.member.specs.declared.Reply.{Reply}
 use Rattle.ends.specs.declared.Told.{Told}
 use Rattle.states.specs.Member.{Received}
 use Rattle.ends.specs.Telling.{MemberTells}
-use Rattle.ends.proofs.Carried.{member-leaves}
+use Rattle.ends.proofs.Carried.{member_leaves}
 use Rattle.states.specs.contracts.Member as T
 use Rattle.member.specs.contracts.Reply as Y
 use Rattle.member.proofs.Reply.TheLaws as Y'
@@ -75,17 +75,17 @@ module _ {M : Type 1} {𝓤 : Ura M} (𝓛 : Logic 𝓤) (at_mem : Memory → SP
   a = (s, (packet, (out, tt)))
 
   -- the machine values
-  abbrev s-val : Val
-  s-val = vptr s.ptr.0 s.ptr.1
+  abbrev s_val : Val
+  s_val = vptr s.ptr.0 s.ptr.1
 
-  abbrev packet-val : Val
-  packet-val = slice_val packet.ref_ptr (length packet.now)
+  abbrev packet_val : Val
+  packet_val = slice_val packet.ref_ptr (length packet.now)
 
-  abbrev out-val : Val
-  out-val = slice_val out.ref_ptr (length out.now)
+  abbrev out_val : Val
+  out_val = slice_val out.ref_ptr (length out.now)
 
   abbrev vals : Vals f.signature κs
-  vals = (s-val ∷ [], (packet-val ∷ [], (out-val ∷ [], tt)))
+  vals = (s_val ∷ [], (packet_val ∷ [], (out_val ∷ [], tt)))
 
   abbrev Entry : SProp 𝓤
   Entry = on_entry 𝓛 f.signature κs qs a vals
@@ -104,26 +104,26 @@ module _ {M : Type 1} {𝓤 : Ura M} (𝓛 : Logic 𝓤) (at_mem : Memory → SP
       → ent 𝓤 (⋆ 𝓛 (raw (alive 𝓛 f.signature κs qs) ∷ ‵ (lasts f.ended κs a zs) ∷ ‵ ((Z.the_row).own_val t (v ∷ [])) ∷ [])) (Post v)
   exits v r t zs e d =
       qed 𝓛 (raw (alive 𝓛 f.signature κs qs) ∷ ‵ (lasts f.ended κs a zs) ∷ ‵ ((Z.the_row).own_val t (v ∷ [])) ∷ []) ∵
-      suffices ! _ (ends_at 𝓛 f.ended stayed (f.clauses 𝓛 at_mem run) ((κs, qs, tt, a, vals), tt) v t zs (fits-left 3 κs (f.ended).signature.params (f.ended).kept a zs)) $ says ! (member-leaves e d) $ frame ! $ frame ! $ done !
+      suffices ! _ (ends_at 𝓛 f.ended stayed (f.clauses 𝓛 at_mem run) ((κs, qs, tt, a, vals), tt) v t zs (fits_left 3 κs (f.ended).signature.params (f.ended).kept a zs)) $ says ! (member_leaves e d) $ frame ! $ frame ! $ done !
 
   -- what the two callees' triples bind outside
   abbrev to : (On 𝓛 at_mem run).Ghost
-  to = ((κs, qs, tt, (s, (packet, (out, tt))), (s-val ∷ [], (packet-val ∷ [], (out-val ∷ [], tt)))), tt)
+  to = ((κs, qs, tt, (s, (packet, (out, tt))), (s_val ∷ [], (packet_val ∷ [], (out_val ∷ [], tt)))), tt)
 
-  abbrev to-tell : Reply → Val → (Tell 𝓛 at_mem run).Ghost
-  to-tell r w = ((tt, tt, tt, (r, tt), (w ∷ [], tt)), tt)
+  abbrev to_tell : Reply → Val → (Tell 𝓛 at_mem run).Ghost
+  to_tell r w = ((tt, tt, tt, (r, tt), (w ∷ [], tt)), tt)
 
   goes_in : ent 𝓤 (⋆ 𝓛 (raw Entry ∷ [])) ((On 𝓛 at_mem run).pre to)
   goes_in = qed 𝓛 (raw Entry ∷ []) ∵ frame ! $ done !
 
-  goes-tell : (r : Reply) (w : Val) → ent 𝓤 (⋆ 𝓛 (‵ ((Y.the_row).own_val r (w ∷ [])) ∷ [])) ((Tell 𝓛 at_mem run).pre (to-tell r w))
-  goes-tell r w = qed 𝓛 (‵ ((Y.the_row).own_val r (w ∷ [])) ∷ []) ∵ nothing ! $ move ! (1 ∷ 0 ∷ []) $ fjoin ! $ nothing ! $ join ! $ frame ! $ done !
+  goes_tell : (r : Reply) (w : Val) → ent 𝓤 (⋆ 𝓛 (‵ ((Y.the_row).own_val r (w ∷ [])) ∷ [])) ((Tell 𝓛 at_mem run).pre (to_tell r w))
+  goes_tell r w = qed 𝓛 (‵ ((Y.the_row).own_val r (w ∷ [])) ∷ []) ∵ nothing ! $ move ! (1 ∷ 0 ∷ []) $ fjoin ! $ nothing ! $ join ! $ frame ! $ done !
 
   module _ (C : Calls 𝓤 H) (Λ : Loops 𝓤 H) (fm : FmC 𝓤 H 𝓛.laws C) (known : Triple 𝓤 (C #on) (On 𝓛 at_mem run)) (told : Triple 𝓤 (C #tell) (Tell 𝓛 at_mem run)) where
-    walk : ent 𝓤 Entry (WpFn 𝓤 H C Λ code.function (s-val ∷ packet-val ∷ out-val ∷ []) Post)
+    walk : ent 𝓤 Entry (WpFn 𝓤 H C Λ code.function (s_val ∷ packet_val ∷ out_val ∷ []) Post)
     walk =
         qed 𝓛 (raw Entry ∷ []) ∵
-        enter ! C Λ code.function (s-val ∷ packet-val ∷ out-val ∷ []) _ $
+        enter ! C Λ code.function (s_val ∷ packet_val ∷ out_val ∷ []) _ $
         alloc1 ! (λ l₀. alloc1 ! (λ l₁. alloc1 ! (λ l₂. alloc1 ! (λ l₃. alloc1 ! (λ l₄. alloc1 ! (λ l₅. alloc1 ! (λ l₆. alloc1 ! (λ l₇. alloc0 ! $ params1 ! $
         pass1 ! (init ! 12 refl (tt, tt)) $ pass1 ! (init ! 10 refl (tt, (tt, (record { fits = packet-room.0 }, tt)))) $ pass1 ! (init ! 8 refl (tt, (tt, (record { fits = out-room.0 }, tt)))) $ pass0 ! $
         -- [_7; …; _0 (14); …; the entry (16)]
@@ -137,8 +137,8 @@ module _ {M : Type 1} {𝓤 : Ura M} (𝓛 : Logic 𝓤) (at_mem : Memory → SP
         split ! $ move ! (1 ∷ []) $ heard ! (Said r zs) (λ e. move ! (1 ∷ []) $ split ! $ move ! (1 ∷ []) $
         -- [the reply; the tokens; the lasts; the locals (3)]
         peeks ! Y.the_row (Is Y.the_row) (shows 𝓛 Y.the_row) r (w ∷ []) (λ is. land ! (from ! (stop !)) (init ! 9 refl ((LL.lawful Y.the_type Y'.the_laws 𝓛).typed r _ is).0) $
-        use1 𝓛 (raw ((Tell 𝓛 at_mem run).pre (to-tell r w))) (goes-tell r w) $
-        calls_at ! fm (Tell 𝓛 at_mem run) told (to-tell r w) (and_then ! (load ! (from ! (stop !)) (look ! 9 refl)) (no_more !)) (λ v.
+        use1 𝓛 (raw ((Tell 𝓛 at_mem run).pre (to_tell r w))) (goes_tell r w) $
+        calls_at ! fm (Tell 𝓛 at_mem run) told (to_tell r w) (and_then ! (load ! (from ! (stop !)) (look ! 9 refl)) (no_more !)) (λ v.
         use1 𝓛 (later (some (λ (t : Told). (raw (alive 𝓛 tell.signature tt tt) ⊛ ‵ ((Z.the_row).own_val t (v ∷ []))) ⊛ raw (ensured 𝓛 tell.ended (tell.clauses 𝓛 at_mem run) tt (r, tt) tt t)))) (id⊢ 𝓤 _) $ await ! tt $ pick ! (λ t.
         split ! $ move ! (1 ∷ []) $ use1 𝓛 (some (λ (ys : Lasts tell.ended tt (r, tt)). ‵ (lasts tell.ended tt (r, tt) ys) ⊛ raw (fact 𝓤 (Telling r t)))) (id⊢ 𝓤 _) $ pick ! (λ ys.
         split ! $ drop ! $ heard ! (Telling r t) (λ d. split ! $ drop ! $
@@ -168,4 +168,4 @@ warghytes-member-receive-spec 𝓤 𝓛 𝓜 𝓡 =
     (tables 𝓤 𝓛.H 𝓜 𝓡 code.env).C (tables 𝓤 𝓛.H 𝓜 𝓡 code.env).Λ #of code.function (code.unfolded 𝓤 𝓛.H 𝓜 𝓡)
     (meets 𝓛 𝓜.mem 𝓡.run (tables_of 𝓤 𝓛.H 𝓜 (tables 𝓤 𝓛.H 𝓜 𝓡 code.env))
     (cited 𝓤 𝓛.H (On 𝓛 𝓜.mem 𝓡.run) 𝓜 𝓡 code.env #on on-def.routine code.calls-states::Member::receive (on-thm.met 𝓤 𝓛 𝓜 𝓡))
-    (cited 𝓤 𝓛.H (Tell 𝓛 𝓜.mem 𝓡.run) 𝓜 𝓡 code.env #tell tell-def.routine code.calls-ends::member-tells (tell-thm.met 𝓤 𝓛 𝓜 𝓡)))
+    (cited 𝓤 𝓛.H (Tell 𝓛 𝓜.mem 𝓡.run) 𝓜 𝓡 code.env #tell tell-def.routine code.calls-ends::member_tells_lem (tell-thm.met 𝓤 𝓛 𝓜 𝓡)))

@@ -5,12 +5,12 @@ use Prim.Native.Nat.{ℕ, ◌*◌, ◌%◌, ◌^◌, ◌≤◌}
 use native.Mathlib.Omega.{arith}
 use lib.Pow.{pow_pos, pow_mono}
 use borrow.Author.Rules.{rules}
-use Rattle.group.specs.Limits.{membersMost}
+use Rattle.group.specs.Limits.{members_most}
 use Rattle.group.proofs.Members.{one_shifted}
 use Rattle.group.proofs.all_of.Statement.{statement}
 use Rattle.group.proofs.all_of.Tie as tie
 
-shifted : (n : ℕ) → n ≤ membersMost → (1 * 2 ^ n) % 4294967296 ≡ 2 ^ n
+shifted : (n : ℕ) → n ≤ members_most → (1 * 2 ^ n) % 4294967296 ≡ 2 ^ n
 shifted n h = one_shifted n 32 (omega arith)
 
 shl-all : tie.Need-overflow-shl-all
@@ -23,7 +23,7 @@ cast-result : tie.Need-overflow-cast-result
 cast-result c =
     let n = c.args.n in
     let p = pow_pos n in
-    let m = pow_mono {i = n} {j = membersMost} c.requires in
+    let m = pow_mono {i = n} {j = members_most} c.requires in
     rw (shifted n c.requires) (record { fits = omega arith })
 
 returns : tie.Need-returns

@@ -1,7 +1,7 @@
 -- A member is in the mask by its digit, and beyond the most members by none.
 -- Assumes nothing.
 use mathlib.Core.Path.{sym}
-use Rattle.group.proofs.Members.{in-beyond}
+use Rattle.group.proofs.Members.{in_beyond}
 use borrow.Author.Rules.{rules}
 use Rattle.group.proofs.is_in.Statement.{statement}
 use Rattle.group.proofs.is_in.Tie as tie
@@ -28,7 +28,7 @@ returns c = search rules
 
 -- src/lib.rt:203:1
 returns-2 : tie.Need-returns-2
-returns-2 c = sym (in-beyond c.before.before.args.mask c.before.before.args.member.0 (search rules) (search rules))
+returns-2 c = sym (in_beyond c.before.before.args.mask c.before.before.args.member.0 (search rules) (search rules))
 
 pub is-in-spec : {M : Type 1} → statement M
 is-in-spec = tie.close (tie.spec cast-if1 cast-result cast-result-2 shr-result returns returns-2)

@@ -1,6 +1,6 @@
 -- Each kind of packet as the definition has it.
 -- Assumes nothing.
-use Rattle.history.specs.Ask.{contentVerdict}
+use Rattle.history.specs.Ask.{content_verdict}
 use borrow.Author.Rules.{rules}
 use Rattle.history.proofs.ask_content.Statement.{statement}
 use Rattle.history.proofs.ask_content.Tie as tie
@@ -51,47 +51,47 @@ enum-told-7 : tie.Need-enum-told-7
 enum-told-7 c = search rules
 
 returns : tie.Need-returns
-unfolding contentVerdict
+unfolding content_verdict
 returns c = rw c.before.before.packet.given.1 c.ask-request.ensures
 
 returns-2 : tie.Need-returns-2
-unfolding contentVerdict
+unfolding content_verdict
 returns-2 c = rw c.enum_told.given.1
 
 returns-3 : tie.Need-returns-3
-unfolding contentVerdict
+unfolding content_verdict
 returns-3 c = rw c.before.before.packet2.given.1 c.ask-gap.ensures
 
 returns-4 : tie.Need-returns-4
-unfolding contentVerdict
+unfolding content_verdict
 returns-4 c = rw c.before.before.packet3.given.1 c.ask-sender.ensures
 
 returns-5 : tie.Need-returns-5
-unfolding contentVerdict
+unfolding content_verdict
 returns-5 c = rw c.enum-told2.given.1
 
 returns-6 : tie.Need-returns-6
-unfolding contentVerdict
+unfolding content_verdict
 returns-6 c = rw c.enum-told3.given.1
 
 returns-7 : tie.Need-returns-7
-unfolding contentVerdict
+unfolding content_verdict
 returns-7 c = rw c.before.before.packet4.given.1 c.ask-confirm.ensures
 
 returns-8 : tie.Need-returns-8
-unfolding contentVerdict
+unfolding content_verdict
 returns-8 c = rw c.enum-told4.given.1
 
 returns-9 : tie.Need-returns-9
-unfolding contentVerdict
+unfolding content_verdict
 returns-9 c = rw c.enum-told5.given.1
 
 returns-10 : tie.Need-returns-10
-unfolding contentVerdict
+unfolding content_verdict
 returns-10 c = rw c.enum-told6.given.1
 
 returns-11 : tie.Need-returns-11
-unfolding contentVerdict
+unfolding content_verdict
 returns-11 c = rw c.enum-told7.given.1
 
 pub ask-content-spec : {M : Type 1} → statement M

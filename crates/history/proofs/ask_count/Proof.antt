@@ -1,7 +1,7 @@
 -- Each question is one of the definition's, in its order.
 -- Assumes nothing.
 use Rattle.group.proofs.Choice.{choices}
-use Rattle.history.specs.Ask.{countVerdict}
+use Rattle.history.specs.Ask.{count_verdict}
 use borrow.Author.Rules.{rules}
 use Rattle.history.proofs.ask_count.Statement.{statement}
 use Rattle.history.proofs.ask_count.Tie as tie
@@ -10,18 +10,18 @@ add-if1 : tie.Need-overflow-add-if1
 add-if1 c = search rules
 
 returns : tie.Need-returns
-unfolding countVerdict
+unfolding count_verdict
 returns c = search (choices, rules) depth 9
 
 number-left-requires : tie.Need-number-left-requires
 number-left-requires c κs = search rules
 
 returns-2 : tie.Need-returns-2
-unfolding countVerdict
+unfolding count_verdict
 returns-2 c = search (choices, rules) depth 9
 
 returns-3 : tie.Need-returns-3
-unfolding countVerdict
+unfolding count_verdict
 returns-3 c = search (choices, rules) depth 9
 
 pub ask-count-spec : {M : Type 1} → statement M

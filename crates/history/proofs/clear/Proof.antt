@@ -4,23 +4,23 @@ use mathlib.Core.Path.{◌≡◌}
 use Prim.Native.Nat.{ℕ, ◌-◌, ◌≤◌, ◌<◌}
 use lib.ListN.{length-replicate, replicate}
 use native.Mathlib.Omega.{arith}
-use Rattle.group.specs.Limits.{placesMost, payloadMost}
-use Rattle.store.specs.Places.{messagesIn}
-use Rattle.history.specs.Note.{clearedOf}
+use Rattle.group.specs.Limits.{places_most, payload_most}
+use Rattle.store.specs.Places.{messages_in}
+use Rattle.history.specs.Note.{cleared_of}
 use Rattle.history.specs.View.{Places}
-use Rattle.history.proofs.Laying.{laid-sizes, clear-on}
+use Rattle.history.proofs.Laying.{laid_sizes, clear_on}
 use borrow.Author.Rules.{rules}
 use Rattle.history.proofs.clear.Statement.{statement}
 use Rattle.history.proofs.clear.Tie as tie
 
 abbrev invariant-loop : tie.invariant-loop
-invariant-loop floor kept₀ originators₀ lengths₀ payloads₀ passed₀ kept originators lengths payloads passed = Places kept₀ originators₀ lengths₀ payloads₀ × Places kept originators lengths payloads × (passed₀ ≤ passed) × (passed - passed₀ ≤ floor.0 - passed₀) × (messagesIn kept originators lengths payloads ≡ clearedOf (messagesIn kept₀ originators₀ lengths₀ payloads₀) passed₀ (passed - passed₀))
+invariant-loop floor kept₀ originators₀ lengths₀ payloads₀ passed₀ kept originators lengths payloads passed = Places kept₀ originators₀ lengths₀ payloads₀ × Places kept originators lengths payloads × (passed₀ ≤ passed) × (passed - passed₀ ≤ floor.0 - passed₀) × (messages_in kept originators lengths payloads ≡ cleared_of (messages_in kept₀ originators₀ lengths₀ payloads₀) passed₀ (passed - passed₀))
 
 abbrev decreases-loop : tie.decreases-loop
 decreases-loop floor kept₀ originators₀ lengths₀ payloads₀ passed₀ kept originators lengths payloads passed = floor.0 - passed
 
 loop-holds : tie.Need-loop-init invariant-loop decreases-loop
-unfolding clearedOf
+unfolding cleared_of
 loop-holds c = let a = c.before.before.before.before.args in let e : a.was.0 - a.was.0 ≡ 0 = omega arith in (c.before.before.before.before.requires, c.before.before.before.before.requires, search rules, search rules, rw e)
 
 add-passed : tie.Need-overflow-add-passed invariant-loop decreases-loop
@@ -45,7 +45,7 @@ slice-write-lengths : tie.Need-slice-write-lengths invariant-loop decreases-loop
 slice-write-lengths c = search rules
 
 clear-requires : tie.Need-clear-requires invariant-loop decreases-loop
-clear-requires c κs = let p = c.before.place.ensures in omega (arith, p, c.before.before.before.before.loop.invariant.1.payloads-size)
+clear-requires c κs = let p = c.before.place.ensures in omega (arith, p, c.before.before.before.before.loop.invariant.1.payloads_size)
 
 loop-less : tie.Need-loop-smaller invariant-loop decreases-loop
 loop-less c = search rules
@@ -54,8 +54,8 @@ loop-again : tie.Need-loop-preserved invariant-loop decreases-loop
 loop-again c =
     let l = c.before.before.before.before.before.before.before.loop in
     let p = c.before.before.before.before.place.ensures in
-    let inside : c.before.before.before.before.place.result < placesMost = omega (arith, p) in
-    rw c.before.before.clear.ensures (l.invariant.0, laid-sizes _ _ _ _ l.invariant.1 _ inside 0 0 0 (replicate payloadMost 0) (length-replicate {A = ℕ} payloadMost 0), search rules, omega arith, clear-on _ _ _ _ l.invariant.1 _ inside _ _ l.passed l.invariant.2 p l.invariant.4)
+    let inside : c.before.before.before.before.place.result < places_most = omega (arith, p) in
+    rw c.before.before.clear.ensures (l.invariant.0, laid_sizes _ _ _ _ l.invariant.1 _ inside 0 0 0 (replicate payload_most 0) (length-replicate {A = ℕ} payload_most 0), search rules, omega arith, clear_on _ _ _ _ l.invariant.1 _ inside _ _ l.passed l.invariant.2 p l.invariant.4)
 
 same_length : tie.Need-same-length invariant-loop decreases-loop
 same_length c = let l = c.before.before.loop in omega (arith, l.invariant.0, l.invariant.1)

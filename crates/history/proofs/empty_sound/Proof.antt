@@ -1,7 +1,7 @@
 -- Each test is one of the definition's.
 -- Assumes nothing.
 use Rattle.group.proofs.Choice.{choices}
-use Rattle.message.specs.Message.{is_empty, zeroBehind}
+use Rattle.message.specs.Message.{is_empty, zero_behind}
 use borrow.Author.Rules.{rules}
 use Rattle.history.proofs.empty_sound.Statement.{statement}
 use Rattle.history.proofs.empty_sound.Tie as tie
@@ -22,7 +22,7 @@ zero-from-requires : tie.Need-zero-from-requires
 zero-from-requires c κs = search rules
 
 returns-4 : tie.Need-returns-4
-unfolding is_empty zeroBehind
+unfolding is_empty zero_behind
 returns-4 c = search (choices, rules) depth 9
 
 pub empty-sound-spec : {M : Type 1} → statement M

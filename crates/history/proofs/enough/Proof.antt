@@ -4,15 +4,15 @@ use mathlib.Core.Path.{◌≡◌, refl}
 use Prim.Native.Nat.{◌-◌, ◌≤◌}
 use lib.ListN.{length}
 use native.Mathlib.Omega.{arith}
-use Rattle.group.specs.Limits.{placesMost}
-use Rattle.history.specs.Marks.{enoughOf}
-use Rattle.history.proofs.Marking.{enough-asked, enough-found, enough-on, enough-end}
+use Rattle.group.specs.Limits.{places_most}
+use Rattle.history.specs.Marks.{enough_of}
+use Rattle.history.proofs.Marking.{enough_asked, enough_found, enough_on, enough_end}
 use borrow.Author.Rules.{rules}
 use Rattle.history.proofs.enough.Statement.{statement}
 use Rattle.history.proofs.enough.Tie as tie
 
 abbrev invariant-loop : tie.invariant-loop
-invariant-loop marks needed from last₀ last = (length marks ≡ placesMost) × (last ≤ last₀) × (enoughOf marks needed from.0 (last₀ - from.0) ≡ enoughOf marks needed from.0 (last - from.0))
+invariant-loop marks needed from last₀ last = (length marks ≡ places_most) × (last ≤ last₀) × (enough_of marks needed from.0 (last₀ - from.0) ≡ enough_of marks needed from.0 (last - from.0))
 
 abbrev decreases-loop : tie.decreases-loop
 decreases-loop marks needed from last₀ last = last
@@ -38,7 +38,7 @@ has-enough-requires c κs = search rules
 returns : tie.Need-returns invariant-loop decreases-loop
 returns c =
     let l = c.before.before.before.before.before.before.loop in
-    enough-found _ _ _ _ l.last l.invariant.2 c.before.has-enough.result (omega arith) (enough-asked c.before.before.before.before.before.before.before.before.args.marks.now _ l.last _ _ c.before.before.before.place.ensures c.before.has-enough.ensures) c.if2.true
+    enough_found _ _ _ _ l.last l.invariant.2 c.before.has-enough.result (omega arith) (enough_asked c.before.before.before.before.before.before.before.before.args.marks.now _ l.last _ _ c.before.before.before.place.ensures c.before.has-enough.ensures) c.if2.true
 
 sub-last : tie.Need-overflow-sub-last invariant-loop decreases-loop
 sub-last c = search rules
@@ -49,12 +49,12 @@ loop-less c = search rules
 loop-again : tie.Need-loop-preserved invariant-loop decreases-loop
 loop-again c =
     let l = c.before.before.before.before.before.before.loop in
-    (l.invariant.0, search rules, enough-on _ _ _ _ l.last l.invariant.2 c.before.has-enough.result (omega arith) (enough-asked c.before.before.before.before.before.before.before.before.args.marks.now _ l.last _ _ c.before.before.before.place.ensures c.before.has-enough.ensures) c.if2.false)
+    (l.invariant.0, search rules, enough_on _ _ _ _ l.last l.invariant.2 c.before.has-enough.result (omega arith) (enough_asked c.before.before.before.before.before.before.before.before.args.marks.now _ l.last _ _ c.before.before.before.place.ensures c.before.has-enough.ensures) c.if2.false)
 
 returns-2 : tie.Need-returns-2 invariant-loop decreases-loop
 returns-2 c =
     let l = c.before.before.loop in
-    enough-end _ _ _ _ l.last l.invariant.2 (omega arith)
+    enough_end _ _ _ _ l.last l.invariant.2 (omega arith)
 
 pub enough-spec : {M : Type 1} → statement M
 enough-spec = tie.close (tie.spec invariant-loop decreases-loop loop-holds cast-place place-requires mul-has-enough shared-slice-read-has-enough has-enough-requires returns sub-last loop-less loop-again returns-2)

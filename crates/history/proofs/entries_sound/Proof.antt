@@ -5,20 +5,20 @@ use Prim.Native.Nat.{◌-◌}
 use lib.ListN.{drop}
 use native.Mathlib.Omega.{arith}
 use Rattle.group.specs.Fold.{all}
-use Rattle.group.specs.Limits.{membersMost}
-use Rattle.group.proofs.Fold.{all-on, all-off, all_done}
-use Rattle.history.specs.Sound.{entrySound}
-use Rattle.history.specs.View.{Entries, tableIn}
-use Rattle.history.proofs.View.{entry-asked, length-table}
+use Rattle.group.specs.Limits.{members_most}
+use Rattle.group.proofs.Fold.{all_on, all_off, all_done}
+use Rattle.history.specs.Sound.{entry_sound}
+use Rattle.history.specs.View.{Entries, table_in}
+use Rattle.history.proofs.View.{entry_asked, length_table}
 use borrow.Author.Rules.{rules}
 use Rattle.history.proofs.entries_sound.Statement.{statement}
 use Rattle.history.proofs.entries_sound.Tie as tie
 
 abbrev invariant-loop : tie.invariant-loop
-invariant-loop group top taken counts repeats i₀ i = Entries taken counts repeats × (all (entrySound group top.0) 0 (tableIn taken counts repeats) ≡ all (entrySound group top.0) i (drop i (tableIn taken counts repeats)))
+invariant-loop group top taken counts repeats i₀ i = Entries taken counts repeats × (all (entry_sound group top.0) 0 (table_in taken counts repeats) ≡ all (entry_sound group top.0) i (drop i (table_in taken counts repeats)))
 
 abbrev decreases-loop : tie.decreases-loop
-decreases-loop group top taken counts repeats i₀ i = membersMost - i
+decreases-loop group top taken counts repeats i₀ i = members_most - i
 
 loop-holds : tie.Need-loop-init invariant-loop decreases-loop
 loop-holds c = (c.before.before.before.requires, refl)
@@ -54,21 +54,21 @@ loop-again : tie.Need-loop-preserved invariant-loop decreases-loop
 loop-again c =
     let l = c.before.before.before.before.before.before.loop in
     let a = c.before.before.before.before.before.before.before.before.before.before.args in
-    let z = length-table a.taken.now a.counts.now a.repeats.now in
-    (l.invariant.0, all-on _ _ l.i l.invariant.1 _ c.before.entry-sound.result (omega arith) (entry-asked (entrySound a.group a.top.0) a.taken.now a.counts.now a.repeats.now l.i _ (omega arith) c.before.entry-sound.ensures) c.if1.true)
+    let z = length_table a.taken.now a.counts.now a.repeats.now in
+    (l.invariant.0, all_on _ _ l.i l.invariant.1 _ c.before.entry_sound_lem.result (omega arith) (entry_asked (entry_sound a.group a.top.0) a.taken.now a.counts.now a.repeats.now l.i _ (omega arith) c.before.entry_sound_lem.ensures) c.if1.true)
 
 returns : tie.Need-returns invariant-loop decreases-loop
 returns c =
     let l = c.before.before.before.before.before.before.loop in
     let a = c.before.before.before.before.before.before.before.before.before.before.args in
-    let z = length-table a.taken.now a.counts.now a.repeats.now in
-    all-off _ _ l.i l.invariant.1 _ c.before.entry-sound.result (omega arith) (entry-asked (entrySound a.group a.top.0) a.taken.now a.counts.now a.repeats.now l.i _ (omega arith) c.before.entry-sound.ensures) c.if1.false
+    let z = length_table a.taken.now a.counts.now a.repeats.now in
+    all_off _ _ l.i l.invariant.1 _ c.before.entry_sound_lem.result (omega arith) (entry_asked (entry_sound a.group a.top.0) a.taken.now a.counts.now a.repeats.now l.i _ (omega arith) c.before.entry_sound_lem.ensures) c.if1.false
 
 returns-2 : tie.Need-returns-2 invariant-loop decreases-loop
 returns-2 c =
     let l = c.before.loop in
     let a = c.before.before.before.before.before.args in
-    let z = length-table a.taken.now a.counts.now a.repeats.now in
+    let z = length_table a.taken.now a.counts.now a.repeats.now in
     all_done _ _ l.i l.invariant.1 (omega arith)
 
 pub entries-sound-spec : {M : Type 1} → statement M

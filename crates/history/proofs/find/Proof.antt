@@ -4,17 +4,17 @@ use mathlib.Core.Path.{◌≡◌, refl}
 use Prim.Native.Nat.{◌-◌, ◌≤◌}
 use lib.ListN.{length}
 use native.Mathlib.Omega.{arith}
-use Rattle.group.specs.Limits.{placesMost}
-use Rattle.history.specs.Repeat.{findOf}
+use Rattle.group.specs.Limits.{places_most}
+use Rattle.history.specs.Repeat.{find_of}
 use Rattle.history.specs.View.{listed}
-use Rattle.history.proofs.Finding.{find-found, find-on, find-end}
-use Rattle.history.proofs.View.{of-asked}
+use Rattle.history.proofs.Finding.{find_found, find_on, find_end}
+use Rattle.history.proofs.View.{of_asked}
 use borrow.Author.Rules.{rules}
 use Rattle.history.proofs.find.Statement.{statement}
 use Rattle.history.proofs.find.Tie as tie
 
 abbrev invariant-loop : tie.invariant-loop
-invariant-loop kept originators sender count floor number₀ number = (length kept ≡ placesMost) × (length originators ≡ placesMost) × (number ≤ number₀) × (findOf (listed kept originators) sender count floor.0 (number₀ - floor.0) ≡ findOf (listed kept originators) sender count floor.0 (number - floor.0))
+invariant-loop kept originators sender count floor number₀ number = (length kept ≡ places_most) × (length originators ≡ places_most) × (number ≤ number₀) × (find_of (listed kept originators) sender count floor.0 (number₀ - floor.0) ≡ find_of (listed kept originators) sender count floor.0 (number - floor.0))
 
 abbrev decreases-loop : tie.decreases-loop
 decreases-loop kept originators sender count floor number₀ number = number
@@ -43,7 +43,7 @@ is-of-requires c κs = search rules
 returns : tie.Need-returns invariant-loop decreases-loop
 returns c =
     let l = c.before.before.before.before.before.before.before.loop in
-    find-found _ _ _ _ _ l.number l.invariant.3 c.before.is-of.result (omega arith) (of-asked _ _ _ _ l.number _ _ c.before.before.before.before.place.ensures (let p = c.before.before.before.before.place.ensures in omega (arith, p, l.invariant.0)) c.before.is-of.ensures) c.if2.true
+    find_found _ _ _ _ _ l.number l.invariant.3 c.before.is_of_lem.result (omega arith) (of_asked _ _ _ _ l.number _ _ c.before.before.before.before.place.ensures (let p = c.before.before.before.before.place.ensures in omega (arith, p, l.invariant.0)) c.before.is_of_lem.ensures) c.if2.true
 
 sub_number : tie.Need-overflow-sub-number invariant-loop decreases-loop
 sub_number c = search rules
@@ -54,12 +54,12 @@ loop-less c = search rules
 loop-again : tie.Need-loop-preserved invariant-loop decreases-loop
 loop-again c =
     let l = c.before.before.before.before.before.before.before.loop in
-    (l.invariant.0, l.invariant.1, search rules, find-on _ _ _ _ _ l.number l.invariant.3 c.before.is-of.result (omega arith) (of-asked _ _ _ _ l.number _ _ c.before.before.before.before.place.ensures (let p = c.before.before.before.before.place.ensures in omega (arith, p, l.invariant.0)) c.before.is-of.ensures) c.if2.false)
+    (l.invariant.0, l.invariant.1, search rules, find_on _ _ _ _ _ l.number l.invariant.3 c.before.is_of_lem.result (omega arith) (of_asked _ _ _ _ l.number _ _ c.before.before.before.before.place.ensures (let p = c.before.before.before.before.place.ensures in omega (arith, p, l.invariant.0)) c.before.is_of_lem.ensures) c.if2.false)
 
 returns-2 : tie.Need-returns-2 invariant-loop decreases-loop
 returns-2 c =
     let l = c.before.before.loop in
-    find-end _ _ _ _ _ l.number l.invariant.3 (omega arith)
+    find_end _ _ _ _ _ l.number l.invariant.3 (omega arith)
 
 pub find_spec : {M : Type 1} → statement M
 find_spec =

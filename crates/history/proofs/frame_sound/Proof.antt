@@ -1,7 +1,7 @@
 -- Each test is one of the definition's.
 -- Assumes nothing.
 use Rattle.group.proofs.Choice.{choices}
-use Rattle.history.specs.Sound.{frameSound}
+use Rattle.history.specs.Sound.{frame_sound}
 use borrow.Author.Rules.{rules}
 use Rattle.history.proofs.frame_sound.Statement.{statement}
 use Rattle.history.proofs.frame_sound.Tie as tie
@@ -13,18 +13,18 @@ smallest-requires : tie.Need-smallest-requires
 smallest-requires c κs = search rules
 
 returns : tie.Need-returns
-unfolding frameSound
+unfolding frame_sound
 returns c = search (choices, rules) depth 9
 
 span-sound-requires : tie.Need-span-sound-requires
 span-sound-requires c κs = search rules
 
 returns-2 : tie.Need-returns-2
-unfolding frameSound
+unfolding frame_sound
 returns-2 c = search (choices, rules) depth 9
 
 returns-3 : tie.Need-returns-3
-unfolding frameSound
+unfolding frame_sound
 returns-3 c = search (choices, rules) depth 9
 
 pub frame-sound-spec : {M : Type 1} → statement M

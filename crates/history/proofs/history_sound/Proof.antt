@@ -4,22 +4,22 @@ use mathlib.Core.Path.{◌≡◌}
 use Prim.Native.Nat.{◌+◌, ◌-◌}
 use lib.ListN.{length}
 use native.Mathlib.Omega.{arith}
-use Rattle.group.specs.Fold.{allAbove}
-use Rattle.group.specs.Limits.{membersMost, placesMost}
-use Rattle.group.proofs.Fold.{above_on, above-off, above-done}
-use Rattle.store.specs.Places.{messagesIn, mask_of}
-use Rattle.history.specs.Sound.{placeSound}
-use Rattle.history.specs.View.{Places, countsOnly}
-use Rattle.history.proofs.View.{place-asked}
+use Rattle.group.specs.Fold.{all_above}
+use Rattle.group.specs.Limits.{members_most, places_most}
+use Rattle.group.proofs.Fold.{above_on, above_off, above_done}
+use Rattle.store.specs.Places.{messages_in, mask_of}
+use Rattle.history.specs.Sound.{place_sound}
+use Rattle.history.specs.View.{Places, counts_only}
+use Rattle.history.proofs.View.{place_asked}
 use borrow.Author.Rules.{rules}
 use Rattle.history.proofs.history_sound.Statement.{statement}
 use Rattle.history.proofs.history_sound.Tie as tie
 
 abbrev invariant-loop : tie.invariant-loop
-invariant-loop n floor top counts kept originators lengths payloads mask i₀ i = (length counts ≡ membersMost) × Places kept originators lengths payloads × (mask ≡ mask_of) × (allAbove (placeSound n (countsOnly counts) (messagesIn kept originators lengths payloads) top.0) floor.0 placesMost ≡ allAbove (placeSound n (countsOnly counts) (messagesIn kept originators lengths payloads) top.0) (floor.0 + i) (placesMost - i))
+invariant-loop n floor top counts kept originators lengths payloads mask i₀ i = (length counts ≡ members_most) × Places kept originators lengths payloads × (mask ≡ mask_of) × (all_above (place_sound n (counts_only counts) (messages_in kept originators lengths payloads) top.0) floor.0 places_most ≡ all_above (place_sound n (counts_only counts) (messages_in kept originators lengths payloads) top.0) (floor.0 + i) (places_most - i))
 
 abbrev decreases-loop : tie.decreases-loop
-decreases-loop n floor top counts kept originators lengths payloads mask i₀ i = placesMost - i
+decreases-loop n floor top counts kept originators lengths payloads mask i₀ i = places_most - i
 
 mask-requires : tie.Need-mask-requires invariant-loop decreases-loop
 mask-requires c κs = search rules
@@ -55,7 +55,7 @@ slice-aggregate-place-sound : tie.Need-slice-aggregate-place-sound invariant-loo
 slice-aggregate-place-sound c = search rules
 
 place-sound-requires : tie.Need-place-sound-requires invariant-loop decreases-loop
-place-sound-requires c κs = let p = c.before.before.before.before.place.ensures in let i = c.before.before.before.before.before.before.before.loop.invariant in (c.before.before.before.before.before.before.before.before.before.before.before.before.before.before.requires.0, omega (arith, p, i.1.payloads-size), i.2, i.0)
+place-sound-requires c κs = let p = c.before.before.before.before.place.ensures in let i = c.before.before.before.before.before.before.before.loop.invariant in (c.before.before.before.before.before.before.before.before.before.before.before.before.before.before.requires.0, omega (arith, p, i.1.payloads_size), i.2, i.0)
 
 add-i : tie.Need-overflow-add-i invariant-loop decreases-loop
 add-i c = search rules
@@ -67,18 +67,18 @@ loop-again : tie.Need-loop-preserved invariant-loop decreases-loop
 loop-again c =
     let l = c.before.before.before.before.before.before.before.before.before.loop in
     let p = c.before.before.before.before.before.before.place.ensures in
-    (l.invariant.0, l.invariant.1, l.invariant.2, above_on _ _ _ l.i l.invariant.3 c.before.place-sound.result (omega arith) (place-asked _ _ _ _ _ _ _ _ _ _ p (omega (arith, p, l.invariant.1)) c.before.place-sound.ensures) c.if1.true)
+    (l.invariant.0, l.invariant.1, l.invariant.2, above_on _ _ _ l.i l.invariant.3 c.before.place_sound_lem.result (omega arith) (place_asked _ _ _ _ _ _ _ _ _ _ p (omega (arith, p, l.invariant.1)) c.before.place_sound_lem.ensures) c.if1.true)
 
 returns : tie.Need-returns invariant-loop decreases-loop
 returns c =
     let l = c.before.before.before.before.before.before.before.before.before.loop in
     let p = c.before.before.before.before.before.before.place.ensures in
-    above-off _ _ _ l.i l.invariant.3 c.before.place-sound.result (omega arith) (place-asked _ _ _ _ _ _ _ _ _ _ p (omega (arith, p, l.invariant.1)) c.before.place-sound.ensures) c.if1.false
+    above_off _ _ _ l.i l.invariant.3 c.before.place_sound_lem.result (omega arith) (place_asked _ _ _ _ _ _ _ _ _ _ p (omega (arith, p, l.invariant.1)) c.before.place_sound_lem.ensures) c.if1.false
 
 returns-2 : tie.Need-returns-2 invariant-loop decreases-loop
 returns-2 c =
     let l = c.before.loop in
-    above-done _ _ _ l.i l.invariant.3 (omega arith)
+    above_done _ _ _ l.i l.invariant.3 (omega arith)
 
 pub history-sound-spec : {M : Type 1} → statement M
 history-sound-spec =

@@ -1,13 +1,13 @@
 -- A number up to top has its own message; one above it gets the message that is laid.
 -- Assumes nothing.
 use native.Mathlib.Omega.{arith}
-use Rattle.history.proofs.Laying.{lay-own, lay-new}
+use Rattle.history.proofs.Laying.{lay_own, lay_new}
 use borrow.Author.Rules.{rules}
 use Rattle.history.proofs.lay.Statement.{statement}
 use Rattle.history.proofs.lay.Tie as tie
 
 returns : tie.Need-returns
-returns c = lay-own _ _ _ _ c.if1.true
+returns c = lay_own _ _ _ _ c.if1.true
 
 cast-place : tie.Need-overflow-cast-place
 cast-place c = search rules
@@ -31,7 +31,7 @@ slice-write-lengths : tie.Need-slice-write-lengths
 slice-write-lengths c = search rules
 
 keep-requires : tie.Need-keep-requires
-keep-requires c κs = let p = c.before.place.ensures in (omega (arith, p, c.before.before.before.before.before.before.before.before.before.before.before.requires.1.payloads-size), c.before.before.before.before.before.before.before.before.before.before.before.requires.0)
+keep-requires c κs = let p = c.before.place.ensures in (omega (arith, p, c.before.before.before.before.before.before.before.before.before.before.before.requires.1.payloads_size), c.before.before.before.before.before.before.before.before.before.before.before.requires.0)
 
 same_length : tie.Need-same-length
 same_length c = search rules
@@ -48,7 +48,7 @@ same-length-4 c = search rules
 returns-2 : tie.Need-returns-2
 returns-2 c =
     let p = c.before.before.before.before.place.ensures in
-    rw c.before.before.keep.ensures (lay-new _ _ _ _ c.before.before.before.before.before.before.before.before.before.before.before.before.before.before.requires.1 _ (omega (arith, p)) _ _ _ _ _ p c.before.before.before.before.before.before.if1.false c.before.before.before.before.before.before.before.before.before.before.before.before.before.before.requires.0)
+    rw c.before.before.keep.ensures (lay_new _ _ _ _ c.before.before.before.before.before.before.before.before.before.before.before.before.before.before.requires.1 _ (omega (arith, p)) _ _ _ _ _ p c.before.before.before.before.before.before.if1.false c.before.before.before.before.before.before.before.before.before.before.before.before.before.before.requires.0)
 
 pub lay-spec : {M : Type 1} → statement M
 lay-spec =

@@ -5,21 +5,21 @@ use Prim.Native.Nat.{◌-◌, ◌≤◌, ◌<◌}
 use lib.Bits.{bit_or}
 use lib.ListN.{length, get_or, length-set}
 use native.Mathlib.Omega.{arith}
-use Rattle.group.specs.Limits.{membersMost, placesMost}
-use Rattle.history.specs.Marks.{markedOf}
+use Rattle.group.specs.Limits.{members_most, places_most}
+use Rattle.history.specs.Marks.{marked_of}
 use Rattle.history.proofs.Marking.{mark_on}
 use borrow.Author.Rules.{rules}
 use Rattle.history.proofs.mark.Statement.{statement}
 use Rattle.history.proofs.mark.Tie as tie
 
 abbrev invariant-loop : tie.invariant-loop
-invariant-loop marks₀ member to confirmed₀ marks confirmed = (length marks₀ ≡ placesMost) × (length marks ≡ placesMost) × (confirmed₀ ≤ confirmed) × (confirmed - confirmed₀ ≤ to.0 - confirmed₀) × (member.0 < membersMost) × (marks ≡ markedOf marks₀ member confirmed₀ (confirmed - confirmed₀))
+invariant-loop marks₀ member to confirmed₀ marks confirmed = (length marks₀ ≡ places_most) × (length marks ≡ places_most) × (confirmed₀ ≤ confirmed) × (confirmed - confirmed₀ ≤ to.0 - confirmed₀) × (member.0 < members_most) × (marks ≡ marked_of marks₀ member confirmed₀ (confirmed - confirmed₀))
 
 abbrev decreases-loop : tie.decreases-loop
 decreases-loop marks₀ member to confirmed₀ marks confirmed = to.0 - confirmed
 
 loop-holds : tie.Need-loop-init invariant-loop decreases-loop
-unfolding markedOf
+unfolding marked_of
 loop-holds c = let a = c.before.args in let e : a.from.0 - a.from.0 ≡ 0 = omega arith in (c.before.requires.0, c.before.requires.0, search rules, search rules, c.before.requires.1, rw e)
 
 add-confirmed : tie.Need-overflow-add-confirmed invariant-loop decreases-loop

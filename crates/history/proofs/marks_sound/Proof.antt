@@ -4,20 +4,20 @@ use mathlib.Core.Path.{◌≡◌}
 use Prim.Native.Nat.{◌+◌, ◌-◌}
 use lib.ListN.{length}
 use native.Mathlib.Omega.{arith}
-use Rattle.group.specs.Fold.{allAbove}
-use Rattle.group.specs.Limits.{placesMost}
-use Rattle.group.proofs.Fold.{above_on, above-off, above-done}
-use Rattle.history.specs.Marks.{markSound}
-use Rattle.history.proofs.Marking.{mark-asked}
+use Rattle.group.specs.Fold.{all_above}
+use Rattle.group.specs.Limits.{places_most}
+use Rattle.group.proofs.Fold.{above_on, above_off, above_done}
+use Rattle.history.specs.Marks.{mark_sound}
+use Rattle.history.proofs.Marking.{mark_asked}
 use borrow.Author.Rules.{rules}
 use Rattle.history.proofs.marks_sound.Statement.{statement}
 use Rattle.history.proofs.marks_sound.Tie as tie
 
 abbrev invariant-loop : tie.invariant-loop
-invariant-loop expected floor accepted top marks i₀ i = (length marks ≡ placesMost) × (allAbove (markSound expected marks accepted.0 top.0) floor.0 placesMost ≡ allAbove (markSound expected marks accepted.0 top.0) (floor.0 + i) (placesMost - i))
+invariant-loop expected floor accepted top marks i₀ i = (length marks ≡ places_most) × (all_above (mark_sound expected marks accepted.0 top.0) floor.0 places_most ≡ all_above (mark_sound expected marks accepted.0 top.0) (floor.0 + i) (places_most - i))
 
 abbrev decreases-loop : tie.decreases-loop
-decreases-loop expected floor accepted top marks i₀ i = placesMost - i
+decreases-loop expected floor accepted top marks i₀ i = places_most - i
 
 loop-holds : tie.Need-loop-init invariant-loop decreases-loop
 loop-holds c = let e : c.before.args.floor.0 + 0 ≡ c.before.args.floor.0 = omega arith in (c.before.requires, rw e)
@@ -53,18 +53,18 @@ loop-again : tie.Need-loop-preserved invariant-loop decreases-loop
 loop-again c =
     let l = c.before.before.before.before.before.before.loop in
     let p = c.before.before.before.place.ensures in
-    (l.invariant.0, above_on _ _ _ l.i l.invariant.1 c.before.mark-sound.result (omega arith) (mark-asked _ _ _ _ _ _ _ p c.before.mark-sound.ensures) c.if1.true)
+    (l.invariant.0, above_on _ _ _ l.i l.invariant.1 c.before.mark_sound_lem.result (omega arith) (mark_asked _ _ _ _ _ _ _ p c.before.mark_sound_lem.ensures) c.if1.true)
 
 returns : tie.Need-returns invariant-loop decreases-loop
 returns c =
     let l = c.before.before.before.before.before.before.loop in
     let p = c.before.before.before.place.ensures in
-    above-off _ _ _ l.i l.invariant.1 c.before.mark-sound.result (omega arith) (mark-asked _ _ _ _ _ _ _ p c.before.mark-sound.ensures) c.if1.false
+    above_off _ _ _ l.i l.invariant.1 c.before.mark_sound_lem.result (omega arith) (mark_asked _ _ _ _ _ _ _ p c.before.mark_sound_lem.ensures) c.if1.false
 
 returns-2 : tie.Need-returns-2 invariant-loop decreases-loop
 returns-2 c =
     let l = c.before.loop in
-    above-done _ _ _ l.i l.invariant.1 (omega arith)
+    above_done _ _ _ l.i l.invariant.1 (omega arith)
 
 pub marks-sound-spec : {M : Type 1} → statement M
 marks-sound-spec = tie.close (tie.spec invariant-loop decreases-loop loop-holds cast-number add-number add-number-2 place-requires mul-mark-sound shared-slice-read-mark-sound mark-sound-requires add-i loop-less loop-again returns returns-2)

@@ -5,20 +5,20 @@ use mathlib.Core.List.{[]}
 use Prim.Native.Nat.{◌+◌, ◌-◌, ◌*◌, ◌≤◌}
 use lib.ListN.{length, drop}
 use native.Mathlib.Omega.{arith}
-use Rattle.group.specs.Limits.{membersMost, largestNumber}
-use Rattle.history.specs.Repeat.{repeatsSum}
-use Rattle.history.specs.View.{repeatsOnly}
-use Rattle.history.proofs.Repeating.{sum_step, sum-end, held_low, held_high}
-use Rattle.history.proofs.View.{length-table, repeat-in}
+use Rattle.group.specs.Limits.{members_most, largest_number}
+use Rattle.history.specs.Repeat.{repeats_sum}
+use Rattle.history.specs.View.{repeats_only}
+use Rattle.history.proofs.Repeating.{sum_step, sum_end, held_low, held_high}
+use Rattle.history.proofs.View.{length_table, repeat_in}
 use borrow.Author.Rules.{rules}
 use Rattle.history.proofs.repeats.Statement.{statement}
 use Rattle.history.proofs.repeats.Tie as tie
 
 abbrev invariant-loop : tie.invariant-loop
-invariant-loop repeats sum₀ i₀ sum i = (i ≤ membersMost) × (length repeats ≡ membersMost) × (sum ≤ i * largestNumber) × (sum + repeatsSum (drop i (repeatsOnly repeats)) ≡ repeatsSum (repeatsOnly repeats))
+invariant-loop repeats sum₀ i₀ sum i = (i ≤ members_most) × (length repeats ≡ members_most) × (sum ≤ i * largest_number) × (sum + repeats_sum (drop i (repeats_only repeats)) ≡ repeats_sum (repeats_only repeats))
 
 abbrev decreases-loop : tie.decreases-loop
-decreases-loop repeats sum₀ i₀ sum i = membersMost - i
+decreases-loop repeats sum₀ i₀ sum i = members_most - i
 
 loop-holds : tie.Need-loop-init invariant-loop decreases-loop
 loop-holds c = (search rules, c.requires, search rules, omega arith)
@@ -45,10 +45,10 @@ loop-again : tie.Need-loop-preserved invariant-loop decreases-loop
 loop-again c =
     let l = c.before.before.loop in
     let repeats = c.before.before.before.args.repeats.now in
-    let n = length-table repeats [] repeats in
+    let n = length_table repeats [] repeats in
     let f = c.shared-slice-known.given l.i in
-    let z = sum_step (repeatsOnly repeats) l.i (omega arith) in
-    let y = repeat-in repeats l.i (omega arith) in
+    let z = sum_step (repeats_only repeats) l.i (omega arith) in
+    let y = repeat_in repeats l.i (omega arith) in
     (search rules, l.invariant.1, search rules, omega arith)
 
 cast-if1 : tie.Need-overflow-cast-if1 invariant-loop decreases-loop
@@ -61,18 +61,18 @@ returns : tie.Need-returns invariant-loop decreases-loop
 returns c =
     let l = c.before.before.loop in
     let repeats = c.before.before.before.args.repeats.now in
-    let n = length-table repeats [] repeats in
-    let e = sum-end (repeatsOnly repeats) l.i (omega arith) in
-    let sum : l.sum ≡ repeatsSum (repeatsOnly repeats) = omega arith in
-    sum ∙ sym (held_low (repeatsOnly repeats) (omega arith))
+    let n = length_table repeats [] repeats in
+    let e = sum_end (repeats_only repeats) l.i (omega arith) in
+    let sum : l.sum ≡ repeats_sum (repeats_only repeats) = omega arith in
+    sum ∙ sym (held_low (repeats_only repeats) (omega arith))
 
 returns-2 : tie.Need-returns-2 invariant-loop decreases-loop
 returns-2 c =
     let l = c.before.before.loop in
     let repeats = c.before.before.before.args.repeats.now in
-    let n = length-table repeats [] repeats in
-    let e = sum-end (repeatsOnly repeats) l.i (omega arith) in
-    sym (held_high (repeatsOnly repeats) (omega arith))
+    let n = length_table repeats [] repeats in
+    let e = sum_end (repeats_only repeats) l.i (omega arith) in
+    sym (held_high (repeats_only repeats) (omega arith))
 
 pub repeats-spec : {M : Type 1} → statement M
 repeats-spec =

@@ -1,6 +1,6 @@
 -- Each kind of packet as the definition has it.
 -- Assumes nothing.
-use Rattle.history.specs.Ask.{senderOf}
+use Rattle.history.specs.Ask.{sender_of}
 use borrow.Author.Rules.{rules}
 use Rattle.history.proofs.sender_of.Statement.{statement}
 use Rattle.history.proofs.sender_of.Tie as tie
@@ -39,47 +39,47 @@ enum-told-7 : tie.Need-enum-told-7
 enum-told-7 c = search rules
 
 returns : tie.Need-returns
-unfolding senderOf
+unfolding sender_of
 returns c = rw c.before.packet.given.1
 
 returns-2 : tie.Need-returns-2
-unfolding senderOf
+unfolding sender_of
 returns-2 c = rw c.enum_told.given.1
 
 returns-3 : tie.Need-returns-3
-unfolding senderOf
+unfolding sender_of
 returns-3 c = rw c.before.packet2.given.1
 
 returns-4 : tie.Need-returns-4
-unfolding senderOf
+unfolding sender_of
 returns-4 c = rw c.before.packet3.given.1
 
 returns-5 : tie.Need-returns-5
-unfolding senderOf
+unfolding sender_of
 returns-5 c = rw c.enum-told2.given.1
 
 returns-6 : tie.Need-returns-6
-unfolding senderOf
+unfolding sender_of
 returns-6 c = rw c.enum-told3.given.1
 
 returns-7 : tie.Need-returns-7
-unfolding senderOf
+unfolding sender_of
 returns-7 c = rw c.before.packet4.given.1
 
 returns-8 : tie.Need-returns-8
-unfolding senderOf
+unfolding sender_of
 returns-8 c = rw c.enum-told4.given.1
 
 returns-9 : tie.Need-returns-9
-unfolding senderOf
+unfolding sender_of
 returns-9 c = rw c.enum-told5.given.1
 
 returns-10 : tie.Need-returns-10
-unfolding senderOf
+unfolding sender_of
 returns-10 c = rw c.enum-told6.given.1
 
 returns-11 : tie.Need-returns-11
-unfolding senderOf
+unfolding sender_of
 returns-11 c = rw c.enum-told7.given.1
 
 pub sender-of-spec : {M : Type 1} → statement M

@@ -4,24 +4,24 @@ use mathlib.Core.Path.{◌≡◌, refl, sym, ◌∙◌}
 use Prim.Native.Nat.{◌-◌, ◌≤◌}
 use lib.ListN.{length, drop}
 use native.Mathlib.Omega.{arith}
-use Rattle.group.specs.Fold.{leastOf}
-use Rattle.group.specs.Limits.{membersMost}
-use Rattle.group.specs.Members.{isIn}
-use Rattle.history.specs.State.{Acknowledgement, floorOf}
-use Rattle.history.specs.View.{takenOnly}
-use Rattle.history.proofs.View.{smallest-on, smallest-end}
+use Rattle.group.specs.Fold.{least_of}
+use Rattle.group.specs.Limits.{members_most}
+use Rattle.group.specs.Members.{is_in}
+use Rattle.history.specs.State.{Acknowledgement, floor_of}
+use Rattle.history.specs.View.{taken_only}
+use Rattle.history.proofs.View.{smallest_on, smallest_end}
 use borrow.Author.Rules.{rules}
 use Rattle.history.proofs.smallest.Statement.{statement}
 use Rattle.history.proofs.smallest.Tie as tie
 
 abbrev invariant-loop : tie.invariant-loop
-invariant-loop survivors taken low₀ i₀ low i = (i ≤ membersMost) × (length taken ≡ membersMost) × (leastOf (isIn survivors) (λ (a : Acknowledgement). a.taken.0) i low (drop i (takenOnly taken)) ≡ floorOf survivors (takenOnly taken))
+invariant-loop survivors taken low₀ i₀ low i = (i ≤ members_most) × (length taken ≡ members_most) × (least_of (is_in survivors) (λ (a : Acknowledgement). a.taken.0) i low (drop i (taken_only taken)) ≡ floor_of survivors (taken_only taken))
 
 abbrev decreases-loop : tie.decreases-loop
-decreases-loop survivors taken low₀ i₀ low i = membersMost - i
+decreases-loop survivors taken low₀ i₀ low i = members_most - i
 
 loop-holds : tie.Need-loop-init invariant-loop decreases-loop
-unfolding floorOf
+unfolding floor_of
 loop-holds c = (search rules, search rules, refl)
 
 mul-smaller : tie.Need-overflow-mul-smaller invariant-loop decreases-loop
@@ -43,13 +43,13 @@ loop-again : tie.Need-loop-preserved invariant-loop decreases-loop
 loop-again c =
     let l = c.before.before.loop in
     let a = c.before.before.before.args in
-    (search rules, l.invariant.1, sym (smallest-on a.survivors l.low l.i c.smaller.result a.t2 (omega arith) c.smaller.ensures) ∙ l.invariant.2)
+    (search rules, l.invariant.1, sym (smallest_on a.survivors l.low l.i c.smaller.result a.t2 (omega arith) c.smaller.ensures) ∙ l.invariant.2)
 
 returns : tie.Need-returns invariant-loop decreases-loop
 returns c =
     let l = c.before.loop in
     let a = c.before.before.args in
-    sym (smallest-end a.survivors l.low l.i a.t2 (omega arith)) ∙ l.invariant.2
+    sym (smallest_end a.survivors l.low l.i a.t2 (omega arith)) ∙ l.invariant.2
 
 pub smallest-spec : {M : Type 1} → statement M
 smallest-spec =

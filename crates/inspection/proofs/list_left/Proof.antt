@@ -3,10 +3,10 @@
 use mathlib.Core.Path.{◌≡◌, refl, sym, ap, ◌∙◌}
 use Prim.Native.Nat.{ℕ, ◌+◌, ◌-◌, ◌≤◌}
 use native.Mathlib.Omega.{arith}
-use Rattle.simulator.specs.Whole.{list_of, packetsOf, packetAt}
-use Rattle.terminal.specs.Left.{heardAll, freshLeft}
+use Rattle.simulator.specs.Whole.{list_of, packets_of, packet_at}
+use Rattle.terminal.specs.Left.{heard_all, fresh_left}
 use Rattle.terminal.specs.declared.Left.{Left}
-use Rattle.inspection.proofs.Lists.{heard-on, heard-end}
+use Rattle.inspection.proofs.Lists.{heard_on, heard_end}
 use borrow.Author.Rules.{rules}
 use Rattle.inspection.proofs.list_left.Statement.{statement}
 use Rattle.inspection.proofs.list_left.Tie as tie
@@ -14,7 +14,7 @@ use Rattle.inspection.proofs.list_left.Tie as tie
 abbrev invariant-loop : tie.invariant-loop
 invariant-loop sizes packets count taken left₀ k₀ left k =
     (k ≤ count)
-    × (heardAll taken.0 left (list_of (packetAt (packetsOf sizes packets count)) k (count - k)) ≡ heardAll taken.0 freshLeft (list_of (packetAt (packetsOf sizes packets count)) 0 count))
+    × (heard_all taken.0 left (list_of (packet_at (packets_of sizes packets count)) k (count - k)) ≡ heard_all taken.0 fresh_left (list_of (packet_at (packets_of sizes packets count)) 0 count))
 
 abbrev decreases-loop : tie.decreases-loop
 decreases-loop sizes packets count taken left₀ k₀ left k = count - k
@@ -25,11 +25,11 @@ fresh-requires c κs = search rules
 loop-holds : tie.Need-loop-init invariant-loop decreases-loop
 loop-holds c =
     let a = c.before.args in
-    let packet = packetAt (packetsOf a.sizes.now a.packets.now a.count) in
+    let packet = packet_at (packets_of a.sizes.now a.packets.now a.count) in
     let z : a.count - 0 ≡ a.count = omega arith in (
       search rules,
-      ap (λ (n : ℕ). heardAll a.taken.0 c.fresh.result (list_of packet 0 n)) z
-          ∙ ap (λ (x : Left). heardAll a.taken.0 x (list_of packet 0 a.count)) c.fresh.ensures,
+      ap (λ (n : ℕ). heard_all a.taken.0 c.fresh.result (list_of packet 0 n)) z
+          ∙ ap (λ (x : Left). heard_all a.taken.0 x (list_of packet 0 a.count)) c.fresh.ensures,
     )
 
 mul-packet : tie.Need-overflow-mul-packet invariant-loop decreases-loop
@@ -54,23 +54,23 @@ loop-less : tie.Need-loop-smaller invariant-loop decreases-loop
 loop-less c = search rules
 
 loop-again : tie.Need-loop-preserved invariant-loop decreases-loop
-unfolding packetAt
+unfolding packet_at
 loop-again c =
     let l = c.before.before.before.before.loop in
     let a = c.before.before.before.before.before.before.args in
-    let p = packetsOf a.sizes.now a.packets.now a.count in
-    let rest = list_of (packetAt p) (l.k + 1) (a.count - (l.k + 1)) in (
+    let p = packets_of a.sizes.now a.packets.now a.count in
+    let rest = list_of (packet_at p) (l.k + 1) (a.count - (l.k + 1)) in (
       search rules,
-      ap (λ (x : Left). heardAll a.taken.0 x rest) c.hear.ensures ∙ sym (heard-on a.taken.0 l.left p a.count l.k c.before.before.before.loop-test.true) ∙ l.invariant.1,
+      ap (λ (x : Left). heard_all a.taken.0 x rest) c.hear.ensures ∙ sym (heard_on a.taken.0 l.left p a.count l.k c.before.before.before.loop-test.true) ∙ l.invariant.1,
     )
 
 returns : tie.Need-returns invariant-loop decreases-loop
 returns c =
     let l = c.before.before.loop in
     let a = c.before.before.before.before.args in
-    let p = packetsOf a.sizes.now a.packets.now a.count in
+    let p = packets_of a.sizes.now a.packets.now a.count in
     let t = c.before.loop-test.false in
-    ap (λ (x : Left). x.jobs) (sym (heard-end a.taken.0 l.left p a.count l.k (omega arith)) ∙ l.invariant.1)
+    ap (λ (x : Left). x.jobs) (sym (heard_end a.taken.0 l.left p a.count l.k (omega arith)) ∙ l.invariant.1)
 
 pub list-left-spec : {M : Type 1} → statement M
 list-left-spec =

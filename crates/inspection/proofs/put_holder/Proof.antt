@@ -1,9 +1,9 @@
 -- The test is the definition's.
 -- Assumes nothing.
 use Rattle.text.specs.Text.{text_of}
-use Rattle.text.specs.Written.{decimalOf}
-use Rattle.inspection.specs.Lists.{holderText}
-use Rattle.inspection.proofs.Lists.{waiting-text, holder-text, field-as}
+use Rattle.text.specs.Written.{decimal_of}
+use Rattle.inspection.specs.Lists.{holder_text}
+use Rattle.inspection.proofs.Lists.{waiting_text, holder_text_lem, field_as}
 use borrow.Author.Rules.{rules}
 use Rattle.inspection.proofs.put_holder.Statement.{statement}
 use Rattle.inspection.proofs.put_holder.Tie as tie
@@ -20,7 +20,7 @@ same_length c = search rules
 returns : tie.Need-returns
 returns c =
     let a = c.before.before.before.before.before.before.before.args in
-    (field-as (text_of "waiting") (holderText a.state a.member) (waiting-text a.state a.member c.before.before.before.before.before.if1.true) c.before.before.put_word.ensures.0, search rules)
+    (field_as (text_of "waiting") (holder_text a.state a.member) (waiting_text a.state a.member c.before.before.before.before.before.if1.true) c.before.before.put_word.ensures.0, search rules)
 
 cast-put-number : tie.Need-overflow-cast-put-number
 cast-put-number c = search rules
@@ -34,7 +34,7 @@ same-length-2 c = search rules
 returns-2 : tie.Need-returns-2
 returns-2 c =
     let a = c.before.before.before.before.before.before.before.args in
-    (field-as (decimalOf a.member.0) (holderText a.state a.member) (holder-text a.state a.member c.before.before.before.before.before.if1.false) c.before.before.put-number.ensures.0, search rules)
+    (field_as (decimal_of a.member.0) (holder_text a.state a.member) (holder_text_lem a.state a.member c.before.before.before.before.before.if1.false) c.before.before.put-number.ensures.0, search rules)
 
 pub put-holder-spec : {M : Type 1} → statement M
 put-holder-spec =

@@ -5,11 +5,11 @@ use mathlib.Core.List.{◌∷◌, map}
 use Prim.Native.Nat.{◌+◌, ◌*◌, ◌-◌, ◌≤◌}
 use native.Mathlib.Omega.{arith}
 use lib.ListN.{length}
-use Rattle.simulator.specs.Whole.{rows_of, terminalsOf}
+use Rattle.simulator.specs.Whole.{rows_of, terminals_of}
 use Rattle.text.proofs.Pieces.{laid_none, laid_then}
 use Rattle.text.specs.LaidAt.{LaidAt}
-use Rattle.text.specs.Written.{decimalOf, line}
-use Rattle.inspection.specs.Table.{row_at, row_lines, rowRoom}
+use Rattle.text.specs.Written.{decimal_of, line}
+use Rattle.inspection.specs.Table.{row_at, row_lines, row_room}
 use Rattle.inspection.proofs.Rows.{rows_on}
 use borrow.Author.Rules.{rules}
 use Rattle.inspection.proofs.put_rows.Statement.{statement}
@@ -17,7 +17,7 @@ use Rattle.inspection.proofs.put_rows.Tie as tie
 
 abbrev invariant-loop : tie.invariant-loop
 invariant-loop group numbers queued held qo ql ho hl qp hp taken repeats n out₀ at next₀ i₀ out next i =
-    (i ≤ n) × (next ≤ at + rowRoom * i) × (length out ≡ length out₀) × LaidAt at (row_lines (row_at (terminalsOf group numbers (rows_of queued held qo ql ho hl qp hp)) taken repeats) i) out₀ out next
+    (i ≤ n) × (next ≤ at + row_room * i) × (length out ≡ length out₀) × LaidAt at (row_lines (row_at (terminals_of group numbers (rows_of queued held qo ql ho hl qp hp)) taken repeats) i) out₀ out next
 
 abbrev decreases-loop : tie.decreases-loop
 decreases-loop group numbers queued held qo ql ho hl qp hp taken repeats n out₀ at next₀ i₀ out next i = n - i
@@ -48,11 +48,11 @@ loop-again : tie.Need-loop-preserved invariant-loop decreases-loop
 loop-again c =
     let l = c.before.before.before.before.before.before.before.before.before.before.before.before.before.before.before.before.before.before.loop in
     let a = c.before.before.before.before.before.before.before.before.before.before.before.before.before.before.before.before.before.before.before.before.args in
-    let row = row_at (terminalsOf a.group a.numbers.now (rows_of a.queued.now a.held.now a.queued-originators.now a.queued-lengths.now a.held-originators.now a.held-lengths.now a.queued-payloads.now a.held-payloads.now)) a.taken.now a.repeats.now in (
+    let row = row_at (terminals_of a.group a.numbers.now (rows_of a.queued.now a.held.now a.queued_originators.now a.queued_lengths.now a.held_originators.now a.held_lengths.now a.queued_payloads.now a.held_payloads.now)) a.taken.now a.repeats.now in (
       search rules,
       search rules,
       search rules,
-      rw (rows_on row l.i) (laid_then (row_lines row l.i) (line (decimalOf l.i ∷ map decimalOf (row l.i))) l.invariant.3 (rw c.before.before.before.before.before.row.ensures at c.before.before.put-row.ensures.0)),
+      rw (rows_on row l.i) (laid_then (row_lines row l.i) (line (decimal_of l.i ∷ map decimal_of (row l.i))) l.invariant.3 (rw c.before.before.before.before.before.row.ensures at c.before.before.put-row.ensures.0)),
     )
 
 same_length : tie.Need-same-length invariant-loop decreases-loop

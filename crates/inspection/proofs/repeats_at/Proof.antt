@@ -2,7 +2,7 @@
 -- Assumes nothing.
 use mathlib.Core.Path.{◌≡◌, refl, sym, ap, ◌∙◌}
 use native.Mathlib.Omega.{arith}
-use Rattle.inspection.proofs.Rows.{repeats-there, repeats-none}
+use Rattle.inspection.proofs.Rows.{repeats_there, repeats_none}
 use borrow.Author.Rules.{rules}
 use Rattle.inspection.proofs.repeats_at.Statement.{statement}
 use Rattle.inspection.proofs.repeats_at.Tie as tie
@@ -14,10 +14,10 @@ shared-slice-read-result : tie.Need-shared-slice-read-result
 shared-slice-read-result c = search rules
 
 returns : tie.Need-returns
-returns c = let a = c.before.before.args in repeats-there a.taken.now a.repeats.now a.i (search rules)
+returns c = let a = c.before.before.args in repeats_there a.taken.now a.repeats.now a.i (search rules)
 
 returns-2 : tie.Need-returns-2
-returns-2 c = let a = c.before.args in repeats-none a.taken.now a.repeats.now a.i (search rules)
+returns-2 c = let a = c.before.args in repeats_none a.taken.now a.repeats.now a.i (search rules)
 
 pub repeats-at-spec : {M : Type 1} → statement M
 repeats-at-spec =

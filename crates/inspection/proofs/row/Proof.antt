@@ -73,7 +73,7 @@ repeats-at-requires c κs = search rules
 returns : tie.Need-returns
 returns c =
     let a = c.before.before.before.before.before.before.before.before.before.before.before.before.before.before.args in
-    row_is a.group a.numbers.now (rows_of a.queued.now a.held.now a.queued-originators.now a.queued-lengths.now a.held-originators.now a.held-lengths.now a.queued-payloads.now a.held-payloads.now) a.taken.now a.repeats.now a.i c.before.before.before.before.before.before.before.before.before.before.head_of.result _ _ c.before.before.before.before.before.before.before.before.before.before.head_of.ensures c.before.row-end-on.ensures c.repeats-at.ensures
+    row_is a.group a.numbers.now (rows_of a.queued.now a.held.now a.queued_originators.now a.queued_lengths.now a.held_originators.now a.held_lengths.now a.queued_payloads.now a.held_payloads.now) a.taken.now a.repeats.now a.i c.before.before.before.before.before.before.before.before.before.before.head_of.result _ _ c.before.before.before.before.before.before.before.before.before.before.head_of.ensures c.before.row-end-on.ensures c.repeats-at.ensures
 
 pub row-spec : {M : Type 1} → statement M
 row-spec =

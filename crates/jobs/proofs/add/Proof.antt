@@ -1,7 +1,7 @@
 -- Question 20, then the job lies in the place that was found.
 -- Assumes nothing.
 use Rattle.group.proofs.Choice.{choices}
-use Rattle.jobs.specs.Feed.{addOf}
+use Rattle.jobs.specs.Feed.{add_of}
 use borrow.Author.Rules.{rules}
 use Rattle.jobs.proofs.add.Statement.{statement}
 use Rattle.jobs.proofs.add.Tie as tie
@@ -19,14 +19,14 @@ array-set-from-all : tie.Need-array-set-from-all
 array-set-from-all c = search rules
 
 returns : tie.Need-returns
-unfolding addOf
+unfolding add_of
 returns c = rw (← c.waiting.ensures, ← c.before.before.find.ensures) (search (choices, rules) depth 9)
 
 refused-requires : tie.Need-refused-requires
 refused-requires c κs = search rules
 
 returns-2 : tie.Need-returns-2
-unfolding addOf
+unfolding add_of
 returns-2 c = rw (← c.before.before.find.ensures) (search (choices, rules) depth 9)
 
 pub add_spec : {M : Type 1} → statement M

@@ -4,22 +4,22 @@ use mathlib.Core.Path.{◌≡◌}
 use Prim.Native.Nat.{◌-◌, ◌≤◌, ◌<◌}
 use native.Mathlib.Omega.{arith}
 use lib.ListN.{length}
-use Rattle.group.specs.Limits.{jobsMost}
+use Rattle.group.specs.Limits.{jobs_most}
 use Rattle.message.proofs.Laying.{over}
-use Rattle.jobs.specs.Feed.{withoutPlace}
-use Rattle.jobs.proofs.Closing.{moved-first, moved-next, moved-last}
+use Rattle.jobs.specs.Feed.{without_place}
+use Rattle.jobs.proofs.Closing.{moved_first, moved_next, moved_last}
 use borrow.Author.Rules.{rules}
 use Rattle.jobs.proofs.close.Statement.{statement}
 use Rattle.jobs.proofs.close.Tie as tie
 
 abbrev invariant-loop : tie.invariant-loop
-invariant-loop place all₀ i₀ all i = (place < length all₀) × (length all₀ ≡ jobsMost) × (place ≤ i) × (i < jobsMost) × (all ≡ over i (withoutPlace place all₀) all₀)
+invariant-loop place all₀ i₀ all i = (place < length all₀) × (length all₀ ≡ jobs_most) × (place ≤ i) × (i < jobs_most) × (all ≡ over i (without_place place all₀) all₀)
 
 abbrev decreases-loop : tie.decreases-loop
-decreases-loop place all₀ i₀ all i = jobsMost - i
+decreases-loop place all₀ i₀ all i = jobs_most - i
 
 loop-holds : tie.Need-loop-init invariant-loop decreases-loop
-loop-holds c = let n : length c.args.jobs ≡ jobsMost = search rules in (omega (arith, n), n, search rules, search rules, moved-first c.args.place c.args.jobs (omega (arith, n)))
+loop-holds c = let n : length c.args.jobs ≡ jobs_most = search rules in (omega (arith, n), n, search rules, search rules, moved_first c.args.place c.args.jobs (omega (arith, n)))
 
 add-next : tie.Need-overflow-add-next invariant-loop decreases-loop
 add-next c = omega arith
@@ -45,7 +45,7 @@ loop-less c = omega arith
 loop-again : tie.Need-loop-preserved invariant-loop decreases-loop
 loop-again c =
     let l = c.before.before.loop in
-    (l.invariant.0, l.invariant.1, omega arith, omega arith, moved-next _ _ l.invariant.0 l.i l.all _ l.invariant.2 (omega arith) l.invariant.4)
+    (l.invariant.0, l.invariant.1, omega arith, omega arith, moved_next _ _ l.invariant.0 l.i l.all _ l.invariant.2 (omega arith) l.invariant.4)
 
 empty-requires : tie.Need-empty-requires invariant-loop decreases-loop
 empty-requires c κs = search rules
@@ -56,7 +56,7 @@ array-set-from-all-2 c = omega arith
 returns : tie.Need-returns invariant-loop decreases-loop
 returns c =
     let l = c.before.before.loop in
-    moved-last _ _ l.invariant.0 _ l.all _ (omega arith) (omega arith) (let e : l.i ≡ jobsMost - 1 = omega arith in rw e at l.invariant.4) c.empty.ensures
+    moved_last _ _ l.invariant.0 _ l.all _ (omega arith) (omega arith) (let e : l.i ≡ jobs_most - 1 = omega arith in rw e at l.invariant.4) c.empty.ensures
 
 pub close_spec : {M : Type 1} → statement M
 close_spec =

@@ -5,18 +5,18 @@ use Prim.Native.Nat.{◌+◌, ◌-◌, ◌≤◌}
 use native.Mathlib.Nat.{zero-add}
 use native.Mathlib.Omega.{arith}
 use lib.ListN.{length, drop}
-use Rattle.group.specs.Limits.{jobsMost}
+use Rattle.group.specs.Limits.{jobs_most}
 use Rattle.jobs.specs.Job.{place_of}
-use Rattle.jobs.proofs.Places.{place_here, place-on, place_none}
+use Rattle.jobs.proofs.Places.{place_here, place_on, place_none}
 use borrow.Author.Rules.{rules}
 use Rattle.jobs.proofs.find.Statement.{statement}
 use Rattle.jobs.proofs.find.Tie as tie
 
 abbrev invariant-loop : tie.invariant-loop
-invariant-loop state member jobs i₀ i = (length jobs ≡ jobsMost) × (i ≤ jobsMost) × (place_of state member jobs ≡ i + place_of state member (drop i jobs))
+invariant-loop state member jobs i₀ i = (length jobs ≡ jobs_most) × (i ≤ jobs_most) × (place_of state member jobs ≡ i + place_of state member (drop i jobs))
 
 abbrev decreases-loop : tie.decreases-loop
-decreases-loop state member jobs i₀ i = jobsMost - i
+decreases-loop state member jobs i₀ i = jobs_most - i
 
 loop-holds : tie.Need-loop-init invariant-loop decreases-loop
 loop-holds c = (search rules, search rules, sym (zero-add _))
@@ -44,7 +44,7 @@ loop-less c = omega arith
 loop-again : tie.Need-loop-preserved invariant-loop decreases-loop
 loop-again c =
     let l = c.before.before.before.before.loop in
-    (l.invariant.0, omega arith, place-on _ _ _ l.i l.invariant.2 _ c.before.is.result (omega arith) c.before.is.ensures c.if1.false)
+    (l.invariant.0, omega arith, place_on _ _ _ l.i l.invariant.2 _ c.before.is.result (omega arith) c.before.is.ensures c.if1.false)
 
 returns-2 : tie.Need-returns-2 invariant-loop decreases-loop
 returns-2 c =

@@ -1,7 +1,7 @@
 -- The record at the place that was found is removed.
 -- Assumes nothing.
 use Rattle.group.proofs.Choice.{choices}
-use Rattle.jobs.specs.Feed.{finishOf}
+use Rattle.jobs.specs.Feed.{finish_of}
 use borrow.Author.Rules.{rules}
 use Rattle.jobs.proofs.finish.Statement.{statement}
 use Rattle.jobs.proofs.finish.Tie as tie
@@ -13,11 +13,11 @@ close-requires : tie.Need-close-requires
 close-requires c κs = search rules
 
 returns : tie.Need-returns
-unfolding finishOf
+unfolding finish_of
 returns c = rw (← c.before.before.find.ensures) (search (choices, rules) depth 9)
 
 returns-2 : tie.Need-returns-2
-unfolding finishOf
+unfolding finish_of
 returns-2 c = rw (← c.before.find.ensures) (search (choices, rules) depth 9)
 
 pub finish_spec : {M : Type 1} → statement M

@@ -3,7 +3,7 @@
 use mathlib.Core.Path.{sym, ◌∙◌}
 use Rattle.group.proofs.Choice.{choices}
 use Rattle.jobs.specs.Feed.{form_of}
-use Rattle.jobs.proofs.Forms.{for-list-adds}
+use Rattle.jobs.proofs.Forms.{for_list_adds}
 use borrow.Author.Rules.{rules}
 use Rattle.jobs.proofs.form.Statement.{statement}
 use Rattle.jobs.proofs.form.Tie as tie
@@ -22,7 +22,7 @@ unfolding form_of
 returns c = rw (← c.before.finish.ensures) (search (choices, rules) depth 9)
 
 add-requires : tie.Need-add-requires
-add-requires c κs = let f = for-list-adds _ _ c.before.before.before.requires (sym c.before.is-fetch.ensures ∙ c.if1.false) in (f.1, f.2)
+add-requires c κs = let f = for_list_adds _ _ c.before.before.before.requires (sym c.before.is-fetch.ensures ∙ c.if1.false) in (f.1, f.2)
 
 returns-2 : tie.Need-returns-2
 unfolding form_of

@@ -1,7 +1,7 @@
 -- Each test is one of the definition's.
 -- Assumes nothing.
 use Rattle.group.proofs.Choice.{choices}
-use Rattle.jobs.specs.Feed.{isFetch}
+use Rattle.jobs.specs.Feed.{is_fetch}
 use borrow.Author.Rules.{rules}
 use Rattle.jobs.proofs.is_fetch.Statement.{statement}
 use Rattle.jobs.proofs.is_fetch.Tie as tie
@@ -10,11 +10,11 @@ shared-slice-read-result : tie.Need-shared-slice-read-result
 shared-slice-read-result c = search rules
 
 returns : tie.Need-returns
-unfolding isFetch
+unfolding is_fetch
 returns c = search (choices, rules) depth 9
 
 returns-2 : tie.Need-returns-2
-unfolding isFetch
+unfolding is_fetch
 returns-2 c = search (choices, rules) depth 9
 
 pub is-fetch-spec : {M : Type 1} → statement M

@@ -41,9 +41,9 @@ use denote.Triple.Table.{entered, cited}
 use denote.Triple.Walked.{says, Stays, stay_dropped, walk_of, AllGo, Goes-dropped, Walks, ends_at, walked, walk_Meets}
 use denote.Exit.{yes}
 use Rattle.jobs.specs.declared.Job.{Job}
-use Rattle.jobs.specs.Job.{noJob}
+use Rattle.jobs.specs.Job.{no_job}
 use Rattle.jobs.proofs.Job.TheLaws as T'
-use Rattle.jobs.proofs.Record.{R, size, fits-at, vals, val, tells, makes, copies, lawful}
+use Rattle.jobs.proofs.Record.{R, size, fits_at, vals, val, tells, makes, copies, lawful}
 use Rattle.jobs.specs.contracts.Job.empty as empty
 use Rattle.jobs.proofs.Job.empty.Symbol as empty_def
 use Rattle.jobs.proofs.Job.empty.Symbol.{name as #jobs·Job·empty}
@@ -68,8 +68,8 @@ module _ {M : Type 1} {𝓤 : Ura M} (𝓛 : Logic 𝓤) (mem : Memory → SProp
   abbrev Empty : Contract 𝓤
   Empty = triple_of 𝓛 empty.signature (empty.spec 𝓛 mem run)
 
-  empty-said : (r : Job) → ent 𝓤 (ensured 𝓛 empty.ended (empty.clauses 𝓛 mem run) tt tt tt r) (fact 𝓤 (r ≡ noJob))
-  empty-said r = ex_e 𝓤 _ (λ ws. snd∗ 𝓤 (sem 𝓛 (lasts empty.ended tt tt ws)) (fact 𝓤 (r ≡ noJob)))
+  empty_said : (r : Job) → ent 𝓤 (ensured 𝓛 empty.ended (empty.clauses 𝓛 mem run) tt tt tt r) (fact 𝓤 (r ≡ no_job))
+  empty_said r = ex_e 𝓤 _ (λ ws. snd∗ 𝓤 (sem 𝓛 (lasts empty.ended tt tt ws)) (fact 𝓤 (r ≡ no_job)))
 
 module _ {M : Type 1} {𝓤 : Ura M} (𝓛 : Logic 𝓤) (mem : Memory → SProp 𝓤) (run : Routine → Fun 𝓤) (κ : Lft) (q : Share) (b o : ℕ) (γ : GName) (ys : List Job) (i : ℕ)
     (room : Room R (length ys)) (fits : i < 2 ^ 64) where
@@ -79,7 +79,7 @@ module _ {M : Type 1} {𝓤 : Ura M} (𝓛 : Logic 𝓤) (mem : Memory → SProp
   x = (record { ref_ptr = (b, o); now = ys }, (i, tt))
 
   abbrev elem : Job
-  elem = get_or ys i noJob
+  elem = get_or ys i no_job
 
   abbrev at : Vals read.signature (κ, tt)
   at = (slice_val (b, o) (length ys) ∷ [], (vint w64 i ∷ [], tt))
@@ -92,11 +92,11 @@ module _ {M : Type 1} {𝓤 : Ura M} (𝓛 : Logic 𝓤) (mem : Memory → SProp
       qed 𝓛 (‵ (flft κ q) ∷ []) ∵ suffices ! _ (ends_at 𝓛 read.ended stayed (read.clauses 𝓛 mem run) (((κ, tt), (q, tt), tt, x, at), tt) w r (tt, (tt, tt)) (tt, (tt, tt))) $ says ! e $
       nothing ! $ move ! (1 ∷ 0 ∷ []) $ join ! $ frame ! $ nothing ! $ nothing ! $ fjoin ! $ nothing ! $ fjoin ! $ frame ! $ owned ! R (Is R) (makes 𝓛) r _ is $ done !
 
-  abbrev to-empty : (Empty 𝓛 mem run).Ghost
-  to-empty = ((tt, tt, tt, tt, tt), tt)
+  abbrev to_empty : (Empty 𝓛 mem run).Ghost
+  to_empty = ((tt, tt, tt, tt, tt), tt)
 
-  goes-empty : ent 𝓤 (emp 𝓤) ((Empty 𝓛 mem run).pre to-empty)
-  goes-empty = qed 𝓛 [] ∵ nothing ! $ nothing ! $ join ! $ frame ! $ done !
+  goes_empty : ent 𝓤 (emp 𝓤) ((Empty 𝓛 mem run).pre to_empty)
+  goes_empty = qed 𝓛 [] ∵ nothing ! $ nothing ! $ join ! $ frame ! $ done !
 
   module _ (C : Calls 𝓤 H) (Λ : Loops 𝓤 H) (l₀ l₁ l₂ l₃ l₄ l₅ l₆ l₇ : ℕ) where
     abbrev En : Env 𝓤 H
@@ -112,28 +112,28 @@ module _ {M : Type 1} {𝓤 : Ura M} (𝓛 : Logic 𝓤) (mem : Memory → SProp
     module _ (fm : FmC 𝓤 H 𝓛.laws C) (known-empty : Triple 𝓤 (C #jobs·Job·empty) (Empty 𝓛 mem run)) where
       past : Holds (not (ltb i (length ys))) → Sq 𝓛 Tested (runs C Λ En mir.t-4 (at_ret En Post))
       past h =
-          use0 𝓛 (raw ((Empty 𝓛 mem run).pre to-empty)) goes-empty $ calls_at ! fm (Empty 𝓛 mem run) known-empty to-empty (no_more !) (λ w.
+          use0 𝓛 (raw ((Empty 𝓛 mem run).pre to_empty)) goes_empty $ calls_at ! fm (Empty 𝓛 mem run) known-empty to_empty (no_more !) (λ w.
           use1 𝓛 (later (some (λ (r : Job). (‵ ftrue ⊛ ‵ (R.own r (w ∷ []))) ⊛ raw (ensured 𝓛 empty.ended (empty.clauses 𝓛 mem run) tt tt tt r)))) (id⊢ 𝓤 _) $ await ! tt $ pick ! (λ r.
-          split ! $ move ! (1 ∷ []) $ use1 𝓛 (raw (fact 𝓤 (r ≡ noJob))) (empty-said 𝓛 mem run r) $ heard ! (r ≡ noJob) (λ e.
+          split ! $ move ! (1 ∷ []) $ use1 𝓛 (raw (fact 𝓤 (r ≡ no_job))) (empty_said 𝓛 mem run r) $ heard ! (r ≡ no_job) (λ e.
           split ! $ drop ! $ facts ! R (Is R) (shows 𝓛 R) r (w ∷ []) (λ is. land ! (from ! (stop !)) (init ! 16 refl ((lawful 𝓛).typed r _ is).0) $
           returns ! (look ! 16 refl) $ forget ! 8 refl $ forget ! 10 refl $ forget ! 12 refl $ forget ! 14 refl $ forget ! 16 refl $
           move ! (16 ∷ 17 ∷ []) $ free1 ! $ move ! (14 ∷ 15 ∷ []) $ free1 ! $ move ! (12 ∷ 13 ∷ []) $ free1 ! $ move ! (10 ∷ 11 ∷ []) $ free1 ! $ move ! (8 ∷ 9 ∷ []) $ free1 ! $ move ! (6 ∷ 7 ∷ []) $ free1 ! $
           move ! (4 ∷ 5 ∷ []) $ free1 ! $ move ! (2 ∷ 3 ∷ []) $ free1 ! $ free0 ! $
-          keep ! (0 ∷ []) $ by ! (exits r w is (e ∙ sym (get_or-eq_default ys noJob (nltb→le i (length ys) h))))))))
+          keep ! (0 ∷ []) $ by ! (exits r w is (e ∙ sym (get_or-eq_default ys no_job (nltb→le i (length ys) h))))))))
 
       tests : Sq 𝓛 Tested (runs C Λ En mir.t-3 (at_ret En Post))
       tests =
           first ! $ branches ! (load ! (from ! (stop !)) (look ! 8 refl))
           (λ h.
-          assigns ! (bin ! (load ! (from ! (stop !)) (look ! 12 refl)) (lit ! tt) (record { fits = fits-at (length ys) i room.1 (inside h) })) (from ! (stop !)) (init ! 6 refl (tt, record { fits = fits-at (length ys) i room.1 (inside h) })) $
+          assigns ! (bin ! (load ! (from ! (stop !)) (look ! 12 refl)) (lit ! tt) (record { fits = fits_at (length ys) i room.1 (inside h) })) (from ! (stop !)) (init ! 6 refl (tt, record { fits = fits_at (length ys) i room.1 (inside h) })) $
           assigns ! (bin ! (load ! (from ! (fld ! refl (stop !))) (look_in ! 14 (sub ! 0 refl (whole !)))) (load ! (from ! (stop !)) (look ! 6 refl)) tt) (from ! (stop !)) (init ! 4 refl (tt, tt)) $
           rewrite ! 4 (λ (p : ℕ). ‵ (fat full_share ty_ptr l₆ 0 (vptr b p))) (sym (place_is size o i)) refl $
           move ! (1 ∷ []) $ fsplit ! $ move ! (1 ∷ []) $ fsplit ! $ move ! (1 ∷ 3 ∷ []) $
-          looks_slice ! tt R (Is R) (shows 𝓛 R) vals tells (copies 𝓛) ys b o (λ q'. elem_out ! R (Is R) (shows 𝓛 R) vals tells q' ys i noJob b o (inside h) (λ g.
+          looks_slice ! tt R (Is R) (shows 𝓛 R) vals tells (copies 𝓛) ys b o (λ q'. elem_out ! R (Is R) (shows 𝓛 R) vals tells q' ys i no_job b o (inside h) (λ g.
           -- [jobs[i]; what it owns; the others; what shuts; the fractured borrow; res; jobs's fact; _7; …]
           assigns ! (of_opd ! (load ! (from ! (hop ! (look ! 9 refl) (stop !))) (look_raw ! 0 refl))) (from ! (stop !)) (init ! 7 refl ((lawful 𝓛).typed elem _ g).0) $
           assigns ! (of_opd ! (load ! (from ! (stop !)) (look ! 7 refl))) (from ! (stop !)) (init ! 21 refl ((lawful 𝓛).typed elem _ g).0) $
-          elem_back ! R q' ys i noJob (vals elem) b o (inside h) $ shuts_slice ! tt R q' ys b o $
+          elem_back ! R q' ys i no_job (vals elem) b o (inside h) $ shuts_slice ! tt R q' ys b o $
           -- [the token; the fractured borrow; res; jobs's fact; _7; …]
           returns_within ! Post refl (look ! 18 refl) $ forget ! 4 refl $ forget ! 6 refl $ forget ! 8 refl $ forget ! 10 refl $ forget ! 12 refl $ forget ! 14 refl $ forget ! 16 refl $ forget ! 18 refl $
           move ! (18 ∷ 19 ∷ []) $ free1 ! $ move ! (16 ∷ 17 ∷ []) $ free1 ! $ move ! (14 ∷ 15 ∷ []) $ free1 ! $ move ! (12 ∷ 13 ∷ []) $ free1 ! $ move ! (10 ∷ 11 ∷ []) $ free1 ! $ move ! (8 ∷ 9 ∷ []) $ free1 ! $
@@ -159,8 +159,8 @@ module _ {M : Type 1} {𝓤 : Ura M} (𝓛 : Logic 𝓤) (mem : Memory → SProp
 module _ {M : Type 1} {𝓤 : Ura M} (𝓛 : Logic 𝓤) (mem : Memory → SProp 𝓤) (run : Routine → Fun 𝓤) where
   open 𝓛 use {H}
 
-  read-walks : (C : Calls 𝓤 H) (Λ : Loops 𝓤 H) → FmC 𝓤 H 𝓛.laws C → Triple 𝓤 (C #jobs·Job·empty) (Empty 𝓛 mem run) → Walks 𝓛 read.ended stayed (WpFn 𝓤 H C Λ code.function) (read.clauses 𝓛 mem run)
-  read-walks C Λ fm ke = walked 𝓛 read.ended stayed (read.clauses 𝓛 mem run) (WpFn 𝓤 H C Λ code.function) (λ κs. (shr_slice_vals, (uint_vals w64, tt))) (λ κs. (shr_slice_Tells (named 0) κs.0 R, (uint_Tells w64, tt)))
+  read_walks : (C : Calls 𝓤 H) (Λ : Loops 𝓤 H) → FmC 𝓤 H 𝓛.laws C → Triple 𝓤 (C #jobs·Job·empty) (Empty 𝓛 mem run) → Walks 𝓛 read.ended stayed (WpFn 𝓤 H C Λ code.function) (read.clauses 𝓛 mem run)
+  read_walks C Λ fm ke = walked 𝓛 read.ended stayed (read.clauses 𝓛 mem run) (WpFn 𝓤 H C Λ code.function) (λ κs. (shr_slice_vals, (uint_vals w64, tt))) (λ κs. (shr_slice_Tells (named 0) κs.0 R, (uint_Tells w64, tt)))
       (λ κs qs bounds a g are. via 𝓤 _ (fst∗ 𝓤 _ (emp 𝓤))
       (walk 𝓛 mem run κs.0 qs.0 a.0.ref_ptr.0 a.0.ref_ptr.1 0 a.0.now a.1.0 are.0.0.1 are.1.0.1 C Λ fm ke))
 
@@ -171,7 +171,7 @@ read_meets : {M : Type 1} {𝓤 : Ura M} (𝓛 : Logic 𝓤) (mem : Memory → S
     → Meets 𝓛 read.signature (WpFn 𝓤 𝓛.H 𝓣.C 𝓣.Λ code.function) (read.spec 𝓛 mem run)
 read_meets {𝓤 = 𝓤} 𝓛 mem run 𝓣 ke =
     walk_Meets 𝓛 read.ended stayed (goes 𝓛 mem run) (read.clauses 𝓛 mem run)
-    (WpFn 𝓤 𝓛.H 𝓣.C 𝓣.Λ code.function) (WpFn-mono 𝓤 𝓛.H 𝓛.laws 𝓣 code.function) (read-walks 𝓛 mem run 𝓣.C 𝓣.Λ (fm_of 𝓤 𝓛.H 𝓛.laws 𝓣) ke)
+    (WpFn 𝓤 𝓛.H 𝓣.C 𝓣.Λ code.function) (WpFn-mono 𝓤 𝓛.H 𝓛.laws 𝓣 code.function) (read_walks 𝓛 mem run 𝓣.C 𝓣.Λ (fm_of 𝓤 𝓛.H 𝓛.laws 𝓣) ke)
 
 pub read_spec : {M : Type 1} → stated.statement M
 unfolding code.routine tables_of

@@ -1,7 +1,7 @@
 -- Each test is one of the definition's.
 -- Assumes nothing.
 use Rattle.group.proofs.Choice.{choices}
-use Rattle.jobs.specs.Sound.{recordSound}
+use Rattle.jobs.specs.Sound.{record_sound}
 use borrow.Author.Rules.{rules}
 use Rattle.jobs.proofs.record_sound.Statement.{statement}
 use Rattle.jobs.proofs.record_sound.Tie as tie
@@ -13,11 +13,11 @@ place-sound-requires : tie.Need-place-sound-requires
 place-sound-requires c κs = search rules
 
 returns : tie.Need-returns
-unfolding recordSound
+unfolding record_sound
 returns c = search (choices, rules) depth 9
 
 returns-2 : tie.Need-returns-2
-unfolding recordSound
+unfolding record_sound
 returns-2 c = search (choices, rules) depth 9
 
 pub record-sound-spec : {M : Type 1} → statement M

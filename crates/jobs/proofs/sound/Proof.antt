@@ -5,20 +5,20 @@ use Prim.Native.Nat.{◌-◌}
 use native.Mathlib.Omega.{arith}
 use lib.ListN.{length, drop}
 use Rattle.group.specs.Fold.{all}
-use Rattle.group.specs.Limits.{jobsMost}
-use Rattle.group.proofs.Choice.{if-eq}
-use Rattle.group.proofs.Fold.{all-on, all-off, all_done}
-use Rattle.jobs.specs.Job.{unusedState, place_of}
-use Rattle.jobs.specs.Sound.{recordSound, soundOf}
+use Rattle.group.specs.Limits.{jobs_most}
+use Rattle.group.proofs.Choice.{if_eq}
+use Rattle.group.proofs.Fold.{all_on, all_off, all_done}
+use Rattle.jobs.specs.Job.{unused_state, place_of}
+use Rattle.jobs.specs.Sound.{record_sound, sound_of}
 use borrow.Author.Rules.{rules}
 use Rattle.jobs.proofs.sound.Statement.{statement}
 use Rattle.jobs.proofs.sound.Tie as tie
 
 abbrev invariant-loop : tie.invariant-loop
-invariant-loop jobs used i₀ i = (length jobs ≡ jobsMost) × (used ≡ place_of unusedState 0 jobs) × (all (recordSound jobs) 0 jobs ≡ all (recordSound jobs) i (drop i jobs))
+invariant-loop jobs used i₀ i = (length jobs ≡ jobs_most) × (used ≡ place_of unused_state 0 jobs) × (all (record_sound jobs) 0 jobs ≡ all (record_sound jobs) i (drop i jobs))
 
 abbrev decreases-loop : tie.decreases-loop
-decreases-loop jobs used i₀ i = jobsMost - i
+decreases-loop jobs used i₀ i = jobs_most - i
 
 find-requires : tie.Need-find-requires invariant-loop decreases-loop
 find-requires c κs = search rules
@@ -44,20 +44,20 @@ loop-less c = omega arith
 loop-again : tie.Need-loop-preserved invariant-loop decreases-loop
 loop-again c =
     let l = c.before.before.before.before.loop in
-    (l.invariant.0, l.invariant.1, all-on _ _ l.i l.invariant.2 _ c.before.record-sound.result (omega arith) c.before.record-sound.ensures c.if1.true)
+    (l.invariant.0, l.invariant.1, all_on _ _ l.i l.invariant.2 _ c.before.record-sound.result (omega arith) c.before.record-sound.ensures c.if1.true)
 
 returns : tie.Need-returns invariant-loop decreases-loop
-unfolding soundOf
+unfolding sound_of
 returns c =
     let l = c.before.before.before.before.loop in
-    all-off _ _ l.i l.invariant.2 _ c.before.record-sound.result (omega arith) c.before.record-sound.ensures c.if1.false
-    ∙ if-eq (length c.before.before.before.before.before.before.args.t1) jobsMost _ _ _ l.invariant.0 refl
+    all_off _ _ l.i l.invariant.2 _ c.before.record-sound.result (omega arith) c.before.record-sound.ensures c.if1.false
+    ∙ if_eq (length c.before.before.before.before.before.before.args.t1) jobs_most _ _ _ l.invariant.0 refl
 
 returns-2 : tie.Need-returns-2 invariant-loop decreases-loop
-unfolding soundOf
+unfolding sound_of
 returns-2 c =
     let l = c.before.loop in
-    all_done _ _ l.i l.invariant.2 (omega arith) ∙ if-eq (length c.before.before.before.args.t1) jobsMost _ _ _ l.invariant.0 refl
+    all_done _ _ l.i l.invariant.2 (omega arith) ∙ if_eq (length c.before.before.before.args.t1) jobs_most _ _ _ l.invariant.0 refl
 
 pub sound-spec : {M : Type 1} → statement M
 sound-spec =

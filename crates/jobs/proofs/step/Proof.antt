@@ -2,7 +2,7 @@
 -- Assumes nothing.
 use mathlib.Core.Path.{sym, ◌∙◌}
 use Rattle.group.proofs.Choice.{choices}
-use Rattle.jobs.specs.Feed.{feedOf}
+use Rattle.jobs.specs.Feed.{feed_of}
 use borrow.Author.Rules.{rules}
 use Rattle.jobs.proofs.step.Statement.{statement}
 use Rattle.jobs.proofs.step.Tie as tie
@@ -17,21 +17,21 @@ form-requires : tie.Need-form-requires
 form-requires c κs = sym c.before.for-list.ensures ∙ c.if2.true
 
 returns : tie.Need-returns
-unfolding feedOf
+unfolding feed_of
 returns c = search (choices, rules) depth 9
 
 refused-requires : tie.Need-refused-requires
 refused-requires c κs = search rules
 
 returns-2 : tie.Need-returns-2
-unfolding feedOf
+unfolding feed_of
 returns-2 c = search (choices, rules) depth 9
 
 refused-requires-2 : tie.Need-refused-requires-2
 refused-requires-2 c κs = search rules
 
 returns-3 : tie.Need-returns-3
-unfolding feedOf
+unfolding feed_of
 returns-3 c = search (choices, rules) depth 9
 
 pub step_spec : {M : Type 1} → statement M

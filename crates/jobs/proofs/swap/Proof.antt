@@ -44,12 +44,12 @@ use denote.Triple.Table.{entered}
 use denote.Triple.Walked.{says, needs, Stays, stay_slice, stay_dropped, walk_of, Walks, ends_at, walked, Goes-slice, Goes-dropped, walk_Meets}
 use denote.Exit.{yes}
 use Rattle.jobs.specs.declared.Job.{Job}
-use Rattle.message.proofs.Laying.{over, over-next}
-use Rattle.jobs.specs.Job.{noJob}
+use Rattle.message.proofs.Laying.{over, over_next}
+use Rattle.jobs.specs.Job.{no_job}
 use Rattle.jobs.proofs.Job.TheLaws as T'
 use Rattle.jobs.proofs.Record.{R, size, vals, tells, makes, lawful}
-use Rattle.jobs.proofs.Rows.{N, Rs, τs, all_vals, all_val, all-tells, all-makes, all-lawful, rows_in, rows_out}
-use Rattle.jobs.proofs.Moving.{over-length, over-behind, over-whole}
+use Rattle.jobs.proofs.Rows.{N, Rs, τs, all_vals, all_val, all_tells, all_makes, all_lawful, rows_in, rows_out}
+use Rattle.jobs.proofs.Moving.{over_length, over_behind, over_whole}
 use Rattle.jobs.specs.contracts.swap.Key.{name as #jobs·swap}
 use Rattle.jobs.specs.contracts.swap as swap
 use Rattle.jobs.proofs.swap.Statement as stated
@@ -78,8 +78,8 @@ Nearer j i = N - j.0 < N - i.0
 Nearer-wf : WellFounded Nearer
 Nearer-wf = InvImage.wf (λ (i : Upto). N - i.0) lt-wf_rel.wf
 
-fits-at : (i : ℕ) → i < N → i * size < 2 ^ 64
-fits-at i l = omega arith
+fits_at : (i : ℕ) → i < N → i * size < 2 ^ 64
+fits_at i l = omega arith
 
 fits_next : (i : ℕ) → i < N → i + 1 < 2 ^ 64
 fits_next i l = omega arith
@@ -118,7 +118,7 @@ module _ {M : Type 1} {𝓤 : Ura M} (𝓛 : Logic 𝓤) (mem : Memory → SProp
       suffices ! _ (ends_at 𝓛 swap.ended stayed (swap.clauses 𝓛 mem run) (((κ, tt), (q, tt), tt, x, at), tt) (all_val ys) ys (zs, (tt, tt)) (same, (tt, tt))) $ says ! (refl, refl) $
       nothing ! $ move ! (3 ∷ 0 ∷ []) $ join ! $ frame ! $
       fjoin ! $ pure_i ! (mut_slice_at R (record { ref_ptr = (b, o); ghost_name = γ; now = zs }) at.0) (tt, (tt, tt)) (ap (λ (m : ℕ). slice_val (b, o) m ∷ []) (sym same), subst (Room R) (sym same) room) $ fjoin ! $
-      nothing ! $ nothing ! $ fjoin ! $ move ! (1 ∷ 0 ∷ []) $ fjoin ! $ owned ! Rs (Is Rs) (all-makes 𝓛) ys _ g $ move ! (1 ∷ 0 ∷ []) $ done !
+      nothing ! $ nothing ! $ fjoin ! $ move ! (1 ∷ 0 ∷ []) $ fjoin ! $ owned ! Rs (Is Rs) (all_makes 𝓛) ys _ g $ move ! (1 ∷ 0 ∷ []) $ done !
 
   module _ (𝓣 : Tables 𝓤 H) (l₀ l₁ l₂ l₃ l₄ l₅ l₆ l₇ l₈ l₉ l₁₀ l₁₁ l₁₂ l₁₃ l₁₄ l₁₅ : ℕ) where
     abbrev C : Calls 𝓤 H
@@ -152,38 +152,38 @@ module _ {M : Type 1} {𝓤 : Ura M} (𝓛 : Logic 𝓤) (mem : Memory → SProp
         assigns ! (bin ! (load ! (from ! (stop !)) (look ! 2 refl)) (lit ! tt) tt) (from ! (stop !)) (init ! 4 refl (tt, tt)) $
         rewrite ! 4 (λ (t : Bool). ‵ (fat full_share ty_bool l₆ 0 (vbool t))) e refl $ stays ! (load ! (from ! (stop !)) (look ! 4 refl)) $
         -- job = jobs[i]
-        assigns ! (bin ! (load ! (from ! (stop !)) (look ! 2 refl)) (lit ! tt) (record { fits = fits-at k l })) (from ! (stop !)) (init ! 5 refl (tt, record { fits = fits-at k l })) $
+        assigns ! (bin ! (load ! (from ! (stop !)) (look ! 2 refl)) (lit ! tt) (record { fits = fits_at k l })) (from ! (stop !)) (init ! 5 refl (tt, record { fits = fits_at k l })) $
         assigns ! (bin ! (load ! (from ! (fld ! refl (stop !))) (look_in ! 14 (sub ! 0 refl (whole !)))) (load ! (from ! (stop !)) (look ! 5 refl)) tt) (from ! (stop !)) (init ! 6 refl (tt, tt)) $
         rewrite ! 6 (λ (p : ℕ). ‵ (fat full_share ty_ptr l₈ 0 (vptr b p))) (sym (place_is size o k)) refl $
-        elem_out ! R (Is R) (shows 𝓛 R) vals tells full_share P k noJob b o lp (λ gp.
+        elem_out ! R (Is R) (shows 𝓛 R) vals tells full_share P k no_job b o lp (λ gp.
         assigns ! (of_opd ! (load ! (from ! (hop ! (look ! 8 refl) (stop !))) (look_raw ! 0 refl))) (from ! (stop !)) (init ! 9 refl ((lawful 𝓛).typed u _ gp).0) $
-        elem_back ! R full_share P k noJob (vals u) b o lp $
+        elem_back ! R full_share P k no_job (vals u) b o lp $
         assigns ! (of_opd ! (load ! (from ! (stop !)) (look ! 7 refl))) (from ! (stop !)) (init ! 3 refl ((lawful 𝓛).typed u _ gp).0) $
         -- all[i] is read
-        assigns ! (bin ! (load ! (from ! (stop !)) (look ! 2 refl)) (lit ! tt) (record { fits = fits-at k l })) (from ! (stop !)) (store ! 5 refl (tt, record { fits = fits-at k l })) $
+        assigns ! (bin ! (load ! (from ! (stop !)) (look ! 2 refl)) (lit ! tt) (record { fits = fits_at k l })) (from ! (stop !)) (store ! 5 refl (tt, record { fits = fits_at k l })) $
         assigns ! (addr ! (from ! (stop !))) (from ! (stop !)) (init ! 8 refl (tt, tt)) $
         assigns ! (bin ! (load ! (from ! (stop !)) (look ! 8 refl)) (load ! (from ! (stop !)) (look ! 5 refl)) tt) (from ! (stop !)) (init ! 9 refl (tt, tt)) $
         rewrite ! 9 (λ (p : ℕ). ‵ (fat full_share ty_ptr l₁₁ 0 (vptr l₃ p))) (sym (place_is size 0 k)) refl $
-        move ! (1 ∷ []) $ elem_out ! R (Is R) (shows 𝓛 R) vals tells full_share Q k noJob l₃ 0 lq (λ gq.
+        move ! (1 ∷ []) $ elem_out ! R (Is R) (shows 𝓛 R) vals tells full_share Q k no_job l₃ 0 lq (λ gq.
         assigns ! (of_opd ! (load ! (from ! (hop ! (look ! 11 refl) (stop !))) (look_raw ! 0 refl))) (from ! (stop !)) (store ! 9 refl ((lawful 𝓛).typed v _ gq).0) $
-        elem_back ! R full_share Q k noJob (vals v) l₃ 0 lq $
+        elem_back ! R full_share Q k no_job (vals v) l₃ 0 lq $
         -- jobs[i] = it
-        assigns ! (bin ! (load ! (from ! (stop !)) (look ! 2 refl)) (lit ! tt) (record { fits = fits-at k l })) (from ! (stop !)) (init ! 10 refl (tt, record { fits = fits-at k l })) $
+        assigns ! (bin ! (load ! (from ! (stop !)) (look ! 2 refl)) (lit ! tt) (record { fits = fits_at k l })) (from ! (stop !)) (init ! 10 refl (tt, record { fits = fits_at k l })) $
         assigns ! (bin ! (load ! (from ! (fld ! refl (stop !))) (look_in ! 14 (sub ! 0 refl (whole !)))) (load ! (from ! (stop !)) (look ! 10 refl)) tt) (from ! (stop !)) (init ! 11 refl (tt, tt)) $
         rewrite ! 11 (λ (p : ℕ). ‵ (fat full_share ty_ptr l₁₃ 0 (vptr b p))) (sym (place_is size o k)) refl $
-        move ! (1 ∷ []) $ elem_out ! R (Is R) (shows 𝓛 R) vals tells full_share P k noJob b o lp (λ _.
+        move ! (1 ∷ []) $ elem_out ! R (Is R) (shows 𝓛 R) vals tells full_share P k no_job b o lp (λ _.
         assigns ! (of_opd ! (load ! (from ! (stop !)) (look ! 9 refl))) (from ! (hop ! (look ! 13 refl) (stop !))) (store_raw ! 0 refl ((lawful 𝓛).typed v _ gq).0) $
         move ! (1 ∷ []) $ drop ! $ owned ! R (Is R) (makes 𝓛) v _ gq $ move ! (1 ∷ 0 ∷ []) $ elem_put ! R full_share P k v (vals v) b o lp $
-        rewrite ! 0 (λ (ps : List Job). ‵ (row R full_share ps b o)) put-p refl $
+        rewrite ! 0 (λ (ps : List Job). ‵ (row R full_share ps b o)) put_p refl $
         -- all[i] = job
-        assigns ! (bin ! (load ! (from ! (stop !)) (look ! 2 refl)) (lit ! tt) (record { fits = fits-at k l })) (from ! (stop !)) (store ! 5 refl (tt, record { fits = fits-at k l })) $
+        assigns ! (bin ! (load ! (from ! (stop !)) (look ! 2 refl)) (lit ! tt) (record { fits = fits_at k l })) (from ! (stop !)) (store ! 5 refl (tt, record { fits = fits_at k l })) $
         assigns ! (addr ! (from ! (stop !))) (from ! (stop !)) (init ! 12 refl (tt, tt)) $
         assigns ! (bin ! (load ! (from ! (stop !)) (look ! 12 refl)) (load ! (from ! (stop !)) (look ! 5 refl)) tt) (from ! (stop !)) (init ! 13 refl (tt, tt)) $
         rewrite ! 13 (λ (p : ℕ). ‵ (fat full_share ty_ptr l₁₅ 0 (vptr l₃ p))) (sym (place_is size 0 k)) refl $
-        move ! (1 ∷ []) $ elem_out ! R (Is R) (shows 𝓛 R) vals tells full_share Q k noJob l₃ 0 lq (λ _.
+        move ! (1 ∷ []) $ elem_out ! R (Is R) (shows 𝓛 R) vals tells full_share Q k no_job l₃ 0 lq (λ _.
         assigns ! (of_opd ! (load ! (from ! (stop !)) (look ! 5 refl))) (from ! (hop ! (look ! 15 refl) (stop !))) (store_raw ! 0 refl ((lawful 𝓛).typed u _ gp).0) $
         move ! (1 ∷ []) $ drop ! $ owned ! R (Is R) (makes 𝓛) u _ gp $ move ! (1 ∷ 0 ∷ []) $ elem_put ! R full_share Q k u (vals u) l₃ 0 lq $
-        rewrite ! 0 (λ (ps : List Job). ‵ (row R full_share ps l₃ 0)) put-q refl $ move ! (1 ∷ []) $
+        rewrite ! 0 (λ (ps : List Job). ‵ (row R full_share ps l₃ 0)) put_q refl $ move ! (1 ∷ []) $
         -- i = i + 1
         assigns_last ! (bin ! (load ! (from ! (stop !)) (look ! 2 refl)) (lit ! tt) (record { fits = fits_next k l })) (from ! (stop !)) (store ! 2 refl (tt, record { fits = fits_next k l })) $
         forget ! 3 refl $ forget ! 4 refl $ forget ! 5 refl $ forget ! 6 refl $ forget ! 7 refl $ forget ! 8 refl $ forget ! 9 refl $ forget ! 10 refl $ forget ! 11 refl $ forget ! 12 refl $ forget ! 13 refl $
@@ -202,29 +202,29 @@ module _ {M : Type 1} {𝓤 : Ura M} (𝓛 : Logic 𝓤) (mem : Memory → SProp
         Q = over k ys zs
 
         lp : k < length P
-        lp = within k (length P) (over-length k zs ys same (most k (length ys) ly l) ∙ ly) l
+        lp = within k (length P) (over_length k zs ys same (most k (length ys) ly l) ∙ ly) l
 
         lq : k < length Q
-        lq = within k (length Q) (over-length k ys zs (sym same) (most k (length zs) lz l) ∙ lz) l
+        lq = within k (length Q) (over_length k ys zs (sym same) (most k (length zs) lz l) ∙ lz) l
 
         u : Job
-        u = get_or P k noJob
+        u = get_or P k no_job
 
         v : Job
-        v = get_or Q k noJob
+        v = get_or Q k no_job
 
-        put-p : set P k v ≡ over (k + 1) zs ys
-        put-p = over-next zs ys k v noJob (sym (over-behind k ys zs k noJob (omega arith) (most k (length ys) ly l))) (within k (length zs) lz l) (within k (length ys) ly l)
+        put_p : set P k v ≡ over (k + 1) zs ys
+        put_p = over_next zs ys k v no_job (sym (over_behind k ys zs k no_job (omega arith) (most k (length ys) ly l))) (within k (length zs) lz l) (within k (length ys) ly l)
 
-        put-q : set Q k u ≡ over (k + 1) ys zs
-        put-q = over-next ys zs k u noJob (sym (over-behind k zs ys k noJob (omega arith) (most k (length zs) lz l))) (within k (length ys) ly l) (within k (length zs) lz l)
+        put_q : set Q k u ≡ over (k + 1) ys zs
+        put_q = over_next ys zs k u no_job (sym (over_behind k zs ys k no_job (omega arith) (most k (length zs) lz l))) (within k (length ys) ly l) (within k (length zs) lz l)
     turn_at i false e =
         assigns ! (bin ! (load ! (from ! (stop !)) (look ! 2 refl)) (lit ! tt) tt) (from ! (stop !)) (init ! 4 refl (tt, tt)) $
         rewrite ! 4 (λ (t : Bool). ‵ (fat full_share ty_bool l₆ 0 (vbool t))) e refl $ leaves_loop ! (load ! (from ! (stop !)) (look ! 4 refl)) $ exec ! C Λ En mir.t-4 (at_ret En Post) $
-        rewrite ! 0 (λ (ps : List Job). ‵ (row R full_share ps b o)) (ap (λ (j : ℕ). over j zs ys) at-end ∙ over-whole N zs ys lz ly) refl $
-        rewrite ! 1 (λ (ps : List Job). ‵ (row R full_share ps l₃ 0)) (ap (λ (j : ℕ). over j ys zs) at-end ∙ over-whole N ys zs ly lz) refl $
+        rewrite ! 0 (λ (ps : List Job). ‵ (row R full_share ps b o)) (ap (λ (j : ℕ). over j zs ys) at_end ∙ over_whole N zs ys lz ly) refl $
+        rewrite ! 1 (λ (ps : List Job). ‵ (row R full_share ps l₃ 0)) (ap (λ (j : ℕ). over j ys zs) at_end ∙ over_whole N ys zs ly lz) refl $
         move ! (1 ∷ []) $ use1 𝓛 (given (Is Rs ys (all_vals ys)) (‵ (fat full_share τs l₃ 0 (all_val ys)))) (rows_out 𝓛 ys l₃ ly) $ learn ! (λ g.
-        assigns ! (of_opd ! (load ! (from ! (stop !)) (look ! 0 refl))) (from ! (stop !)) (init ! 16 refl ((all-lawful 𝓛).typed ys _ g).0) $
+        assigns ! (of_opd ! (load ! (from ! (stop !)) (look ! 0 refl))) (from ! (stop !)) (init ! 16 refl ((all_lawful 𝓛).typed ys _ g).0) $
         move ! (1 ∷ 17 ∷ 18 ∷ 19 ∷ []) $ closes_slice ! tt R ys zs same b o $
         -- [obs; the borrow; the token; _3; i; _5; …; _15; _1; _2; _0; and that each local dies]
         returns ! (look ! 18 refl) $ forget ! 3 refl $ forget ! 4 refl $ forget ! 6 refl $ forget ! 16 refl $ forget ! 17 refl $ forget ! 18 refl $
@@ -233,8 +233,8 @@ module _ {M : Type 1} {𝓤 : Ura M} (𝓛 : Logic 𝓤) (mem : Memory → SProp
         move ! (3 ∷ 9 ∷ []) $ free1 ! $ move ! (3 ∷ 8 ∷ []) $ free1 ! $ move ! (3 ∷ 7 ∷ []) $ free1 ! $ move ! (3 ∷ 6 ∷ []) $ free1 ! $ move ! (3 ∷ 5 ∷ []) $ free1 ! $ move ! (3 ∷ 4 ∷ []) $ free1 ! $ free0 ! $
         by ! (exits g))
       where
-        at-end : i.0 ≡ N
-        at-end = le_antisymm i.1 (nltb→le i.0 N (subst (λ (t : Bool). T (not t)) (sym e) tt))
+        at_end : i.0 ≡ N
+        at_end = le_antisymm i.1 (nltb→le i.0 N (subst (λ (t : Bool). T (not t)) (sym e) tt))
 
     turns : (i : Upto) → Sq 𝓛 (At i) (runs C Λ En mir.turn-1 (any_q (Turned i)))
     turns i = turn_at i (ltb i.0 N) refl
@@ -244,8 +244,8 @@ module _ {M : Type 1} {𝓤 : Ura M} (𝓛 : Logic 𝓤) (mem : Memory → SProp
   walk 𝓣 =
       qed 𝓛 ((‵ (flft κ q) ⊛ ‵ ftrue) ∷ ‵ (owns (MutSlice (named 0) κ R ∷ Rs ∷ []) x at) ∷ []) ∵ enter ! 𝓣.C 𝓣.Λ code.function (slice_val (b, o) (length ys) ∷ all_val zs ∷ []) _ $
       alloc1 ! (λ l₀. alloc1 ! (λ l₁. alloc1 ! (λ l₂. alloc1 ! (λ l₃. alloc1 ! (λ l₄. alloc1 ! (λ l₅. alloc1 ! (λ l₆. alloc1 ! (λ l₇. alloc1 ! (λ l₈. alloc1 ! (λ l₉. alloc1 ! (λ l₁₀. alloc1 ! (λ l₁₁. alloc1 ! (λ l₁₂. alloc1 ! (λ l₁₃. alloc1 ! (λ l₁₄. alloc1 ! (λ l₁₅. alloc0 ! $ params1 ! $
-      pass1 ! (init ! 28 refl (tt, (tt, (record { fits = room.0 }, tt)))) $ pass1 ! (init ! 26 refl ((all-lawful 𝓛).typed zs _ gz).0) $ pass0 ! $
-      assigns ! (of_opd ! (load ! (from ! (stop !)) (look ! 26 refl))) (from ! (stop !)) (init ! 24 refl ((all-lawful 𝓛).typed zs _ gz).0) $
+      pass1 ! (init ! 28 refl (tt, (tt, (record { fits = room.0 }, tt)))) $ pass1 ! (init ! 26 refl ((all_lawful 𝓛).typed zs _ gz).0) $ pass0 ! $
+      assigns ! (of_opd ! (load ! (from ! (stop !)) (look ! 26 refl))) (from ! (stop !)) (init ! 24 refl ((all_lawful 𝓛).typed zs _ gz).0) $
       assigns ! (of_opd ! (lit ! tt)) (from ! (stop !)) (init ! 22 refl (tt, record { fits = lit< tt })) $
       -- local j stands at 2 · (15 − j); then the token, and what jobs and all own
       move ! (24 ∷ []) $ use1 𝓛 (‵ (row R full_share zs l₃ 0)) (rows_in 𝓛 zs l₃ gz) $
@@ -258,7 +258,7 @@ module _ {M : Type 1} {𝓤 : Ura M} (𝓛 : Logic 𝓤) (mem : Memory → SProp
   open 𝓛 use {H}
 
   swap_walks : (𝓣 : Tables 𝓤 H) → Walks 𝓛 swap.ended stayed (WpFn 𝓤 H 𝓣.C 𝓣.Λ code.function) (swap.clauses 𝓛 mem run)
-  swap_walks 𝓣 = walked 𝓛 swap.ended stayed (swap.clauses 𝓛 mem run) (WpFn 𝓤 H 𝓣.C 𝓣.Λ code.function) (λ κs. (mut_slice_vals, (all_vals, tt))) (λ κs. (mut_slice_Tells (named 0) κs.0 R, (all-tells, tt)))
+  swap_walks 𝓣 = walked 𝓛 swap.ended stayed (swap.clauses 𝓛 mem run) (WpFn 𝓤 H 𝓣.C 𝓣.Λ code.function) (λ κs. (mut_slice_vals, (all_vals, tt))) (λ κs. (mut_slice_Tells (named 0) κs.0 R, (all_tells, tt)))
       (λ κs qs bounds a g are. needs 𝓤 (length a.0.now ≡ N) _ (λ ly.
       walk 𝓛 mem run κs.0 qs.0 a.0.ref_ptr.0 a.0.ref_ptr.1 a.0.ghost_name a.0.now a.1.0 are.0.0.1 are.1.0 ly are.1.0.1.0.1 𝓣))
 

@@ -4,18 +4,18 @@ use mathlib.Core.Path.{◌≡◌, refl}
 use Prim.Native.Nat.{◌-◌}
 use native.Mathlib.Omega.{arith}
 use lib.ListN.{length, drop}
-use Rattle.group.specs.Limits.{jobMost}
-use Rattle.message.specs.Message.{allZero}
-use Rattle.jobs.proofs.Places.{zero-on, zero-off, zero-done}
+use Rattle.group.specs.Limits.{job_most}
+use Rattle.message.specs.Message.{all_zero}
+use Rattle.jobs.proofs.Places.{zero_on, zero_off, zero_done}
 use borrow.Author.Rules.{rules}
 use Rattle.jobs.proofs.zero_from.Statement.{statement}
 use Rattle.jobs.proofs.zero_from.Tie as tie
 
 abbrev invariant-loop : tie.invariant-loop
-invariant-loop from bytes i₀ i = (length bytes ≡ jobMost) × (allZero (drop from bytes) ≡ allZero (drop i bytes))
+invariant-loop from bytes i₀ i = (length bytes ≡ job_most) × (all_zero (drop from bytes) ≡ all_zero (drop i bytes))
 
 abbrev decreases-loop : tie.decreases-loop
-decreases-loop from bytes i₀ i = jobMost - i
+decreases-loop from bytes i₀ i = job_most - i
 
 loop-holds : tie.Need-loop-init invariant-loop decreases-loop
 loop-holds c = (search rules, refl)
@@ -32,17 +32,17 @@ loop-less c = omega arith
 loop-again : tie.Need-loop-preserved invariant-loop decreases-loop
 loop-again c =
     let l = c.before.before.loop in
-    (l.invariant.0, zero-on _ c.before.before.before.args.from l.i l.invariant.1 (omega arith) c.if1.true)
+    (l.invariant.0, zero_on _ c.before.before.before.args.from l.i l.invariant.1 (omega arith) c.if1.true)
 
 returns : tie.Need-returns invariant-loop decreases-loop
 returns c =
     let l = c.before.before.loop in
-    zero-off _ c.before.before.before.args.from l.i l.invariant.1 (omega arith) c.if1.false
+    zero_off _ c.before.before.before.args.from l.i l.invariant.1 (omega arith) c.if1.false
 
 returns-2 : tie.Need-returns-2 invariant-loop decreases-loop
 returns-2 c =
     let l = c.before.loop in
-    zero-done _ c.before.before.args.from l.i l.invariant.1 (omega arith)
+    zero_done _ c.before.before.args.from l.i l.invariant.1 (omega arith)
 
 pub zero-from-spec : {M : Type 1} → statement M
 zero-from-spec =

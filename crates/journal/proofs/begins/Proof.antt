@@ -5,7 +5,7 @@ use Prim.Native.Nat.{◌-◌, ◌≤◌}
 use lib.ListN.{length, get_or, drop}
 use Rattle.group.specs.Choice.{◌=?◌}
 use Rattle.group.specs.Fold.{all}
-use Rattle.group.proofs.Fold.{all-on, all-off, all_done}
+use Rattle.group.proofs.Fold.{all_on, all_off, all_done}
 use native.Mathlib.Omega.{arith}
 use borrow.Author.Tests.{eq-eqb, ne_eqb}
 use borrow.Author.Rules.{rules}
@@ -38,14 +38,14 @@ loop-again c =
     let l = c.before.before.before.loop in
     let a = c.before.before.before.before.args in
     let e = eq-eqb (get_or a.block.now l.i 0) (get_or a.t2 l.i 0) c.if1.true in
-    (l.invariant.0, search rules, all-on _ a.t2 l.i l.invariant.2 0 _ (omega arith) refl e)
+    (l.invariant.0, search rules, all_on _ a.t2 l.i l.invariant.2 0 _ (omega arith) refl e)
 
 returns : tie.Need-returns invariant-loop decreases-loop
 returns c =
     let l = c.before.before.before.loop in
     let a = c.before.before.before.before.args in
     let e = ne_eqb (get_or a.block.now l.i 0) (get_or a.t2 l.i 0) c.if1.false in
-    all-off _ a.t2 l.i l.invariant.2 0 _ (omega arith) refl e
+    all_off _ a.t2 l.i l.invariant.2 0 _ (omega arith) refl e
 
 returns-2 : tie.Need-returns-2 invariant-loop decreases-loop
 returns-2 c = let l = c.before.loop in all_done _ c.before.before.args.t2 l.i l.invariant.2 (omega arith)

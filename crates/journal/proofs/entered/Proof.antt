@@ -23,7 +23,7 @@ cast-left c = search rules
 
 returns : tie.Need-returns
 unfolding entered_in
-returns c = rw (c.before.before.before.form-of.ensures, c.before.below.ensures, c.before.before.u32-at.ensures, c.u16-at.ensures)
+returns c = rw (c.before.before.before.form_of_lem.ensures, c.before.below.ensures, c.before.before.u32-at.ensures, c.u16-at.ensures)
 
 pub entered-spec : {M : Type 1} → statement M
 entered-spec =

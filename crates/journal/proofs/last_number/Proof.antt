@@ -3,17 +3,17 @@
 use mathlib.Core.Path.{◌≡◌, refl, sym, ap, ◌∙◌}
 use Prim.Native.Nat.{◌≤◌}
 use native.Mathlib.Omega.{arith}
-use Rattle.journal.specs.Limits.{recordsAt, recordsEnd}
+use Rattle.journal.specs.Limits.{records_at, records_end}
 use Rattle.journal.specs.Walk.{last_or}
-use Rattle.group.proofs.Choice.{if-true, if-false}
-use Rattle.journal.proofs.Walking.{passed-off, passed_on, passed-done}
+use Rattle.group.proofs.Choice.{if_true, if_false}
+use Rattle.journal.proofs.Walking.{passed_off, passed_on, passed_done}
 use borrow.Author.Rules.{rules}
 use Rattle.journal.proofs.last_number.Statement.{statement}
 use Rattle.journal.proofs.last_number.Tie as tie
 
 abbrev invariant-loop : tie.invariant-loop
 invariant-loop form block before records at₀ number₀ left₀ at number left =
-    (at ≤ recordsEnd) × (last_or form block recordsAt before records ≡ last_or form block at number left)
+    (at ≤ records_end) × (last_or form block records_at before records ≡ last_or form block at number left)
 
 abbrev decreases-loop : tie.decreases-loop
 decreases-loop form block before records at₀ number₀ left₀ at number left = left
@@ -28,7 +28,7 @@ returns : tie.Need-returns invariant-loop decreases-loop
 returns c =
     let l = c.before.before.before.before.loop in
     let a = c.before.before.before.before.before.before.args in
-    passed-off a.form a.block.now l.at l.number l.left _ l.invariant.1 _ _ (search rules) c.before.before.pass.ensures c.if1.true
+    passed_off a.form a.block.now l.at l.number l.left _ l.invariant.1 _ _ (search rules) c.before.before.pass.ensures c.if1.true
 
 sub-left : tie.Need-overflow-sub-left invariant-loop decreases-loop
 sub-left c = search rules
@@ -58,13 +58,13 @@ returns-2 : tie.Need-returns-2 invariant-loop decreases-loop
 returns-2 c =
     let l = c.before.before.before.before.loop in
     let a = c.before.before.before.before.before.before.args in
-    if-true _ _ _ _ c.if2.true refl ∙ sym (passed-done a.form a.block.now l.at l.number l.left _ l.invariant.1 (search rules) _ c.before.zeros.ensures)
+    if_true _ _ _ _ c.if2.true refl ∙ sym (passed_done a.form a.block.now l.at l.number l.left _ l.invariant.1 (search rules) _ c.before.zeros.ensures)
 
 returns-3 : tie.Need-returns-3 invariant-loop decreases-loop
 returns-3 c =
     let l = c.before.before.before.before.loop in
     let a = c.before.before.before.before.before.before.args in
-    if-false _ _ _ _ c.if2.false refl ∙ sym (passed-done a.form a.block.now l.at l.number l.left _ l.invariant.1 (search rules) _ c.before.zeros.ensures)
+    if_false _ _ _ _ c.if2.false refl ∙ sym (passed_done a.form a.block.now l.at l.number l.left _ l.invariant.1 (search rules) _ c.before.zeros.ensures)
 
 pub last-number-spec : {M : Type 1} → statement M
 last-number-spec =

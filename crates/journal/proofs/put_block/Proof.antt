@@ -1,6 +1,6 @@
 -- The frame, and behind it the sum of what it laid (`block-laid`).
 -- Assumes nothing.
-use Rattle.journal.proofs.Laying.{frame-ends, block-laid}
+use Rattle.journal.proofs.Laying.{frame_ends, block_laid}
 use borrow.Author.Rules.{rules}
 use Rattle.journal.proofs.put_block.Statement.{statement}
 use Rattle.journal.proofs.put_block.Tie as tie
@@ -20,7 +20,7 @@ slice-aggregate-put-text c = search rules
 put-text-requires : tie.Need-put-text-requires
 put-text-requires c κs =
     let a = c.before.before.before.before.before.before.before.before.before.before.before.args in
-    let e = frame-ends a.mark (search rules) a.first a.records a.body.now c.before.before.before.before.before.before.before.put-frame.ensures (search rules) (search rules) in
+    let e = frame_ends a.mark (search rules) a.first a.records a.body.now c.before.before.before.before.before.before.before.put-frame.ensures (search rules) (search rules) in
     search rules
 
 same_length : tie.Need-same-length
@@ -29,7 +29,7 @@ same_length c = search rules
 returns : tie.Need-returns
 returns c =
     let a = c.before.before.before.before.before.before.before.before.before.before.before.before.before.before.args in
-    block-laid a.mark (search rules) a.first a.records a.body.now c.before.before.before.before.before.before.before.before.before.before.put-frame.ensures (search rules) (search rules) c.before.before.before.before.before.before.sum.ensures
+    block_laid a.mark (search rules) a.first a.records a.body.now c.before.before.before.before.before.before.before.before.before.before.put-frame.ensures (search rules) (search rules) c.before.before.before.before.before.before.sum.ensures
     (rw c.before.before.before.before.before.u32-bytes.ensures at c.before.before.put-text.ensures)
 
 pub put-block-spec : {M : Type 1} → statement M

@@ -1,6 +1,6 @@
 -- Each piece is laid behind the one before it (`frame-laid`).
 -- Assumes nothing.
-use Rattle.journal.proofs.Laying.{frame-laid}
+use Rattle.journal.proofs.Laying.{frame_laid}
 use borrow.Author.Rules.{rules}
 use Rattle.journal.proofs.put_frame.Statement.{statement}
 use Rattle.journal.proofs.put_frame.Tie as tie
@@ -44,7 +44,7 @@ same_length c = search rules
 returns : tie.Need-returns
 returns c =
     let a = c.before.before.before.before.before.before.before.before.before.before.before.before.before.before.before.before.before.before.before.before.before.before.before.before.before.before.before.args in
-    frame-laid a.t1 c.before.before.before.before.before.before.before.before.before.before.before.before.before.before.before.before.before.before.before.before.before.before.before.before.before.before.before.well-formed.0.1.0.1 a.first a.records a.body.now c.before.before.before.before.before.before.before.before.before.before.before.before.before.before.before.before.before.before.before.before.put-text.ensures (rw c.before.before.before.before.before.before.before.before.before.before.before.before.before.before.before.before.before.before.before.before.before.before.before.before.u32-bytes.ensures at c.before.before.before.before.before.before.before.before.before.before.before.before.before.before.before.put-text2.ensures)
+    frame_laid a.t1 c.before.before.before.before.before.before.before.before.before.before.before.before.before.before.before.before.before.before.before.before.before.before.before.before.before.before.before.well-formed.0.1.0.1 a.first a.records a.body.now c.before.before.before.before.before.before.before.before.before.before.before.before.before.before.before.before.before.before.before.before.put-text.ensures (rw c.before.before.before.before.before.before.before.before.before.before.before.before.before.before.before.before.before.before.before.before.before.before.before.before.u32-bytes.ensures at c.before.before.before.before.before.before.before.before.before.before.before.before.before.before.before.put-text2.ensures)
     (rw c.before.before.before.before.before.before.before.before.before.before.before.before.before.before.before.before.before.before.before.before.before.before.before.u16-bytes.ensures at c.before.before.before.before.before.before.before.before.before.before.put-text3.ensures) c.before.before.before.before.before.before.put-text4.ensures c.before.before.put-zeros.ensures
 
 pub put-frame-spec : {M : Type 1} → statement M

@@ -7,18 +7,18 @@ use Prim.Native.Nat.{ℕ, ◌+◌, ◌-◌, ◌≤◌}
 use native.Mathlib.Omega.{arith}
 use lib.ListN.{length, replicate, length-set}
 use Rattle.text.specs.LaidAt.{LaidAt}
-use Rattle.text.proofs.Pieces.{laid_none, laid-byte, laid_then}
-use Rattle.journal.specs.Limits.{blockSize, recordsEnd}
-use Rattle.journal.proofs.Lists.{zeros-on}
+use Rattle.text.proofs.Pieces.{laid_none, laid_byte, laid_then}
+use Rattle.journal.specs.Limits.{block_size, records_end}
+use Rattle.journal.proofs.Lists.{zeros_on}
 use borrow.Author.Rules.{rules}
 use Rattle.journal.proofs.put_zeros.Statement.{statement}
 use Rattle.journal.proofs.put_zeros.Tie as tie
 
 abbrev invariant-loop : tie.invariant-loop
-invariant-loop out₀ at i₀ out i = (at ≤ i) × (i ≤ recordsEnd) × (length out ≡ blockSize) × LaidAt at (replicate (i - at) 0) out₀ out i
+invariant-loop out₀ at i₀ out i = (at ≤ i) × (i ≤ records_end) × (length out ≡ block_size) × LaidAt at (replicate (i - at) 0) out₀ out i
 
 abbrev decreases-loop : tie.decreases-loop
-decreases-loop out₀ at i₀ out i = recordsEnd - i
+decreases-loop out₀ at i₀ out i = records_end - i
 
 loop-holds : tie.Need-loop-init invariant-loop decreases-loop
 loop-holds c = (search rules, search rules, search rules, rw sub_self (laid_none c.args.at c.args.out.now (search rules)))
@@ -39,7 +39,7 @@ loop-again c =
       search rules,
       search rules,
       simp length-set l.invariant.2,
-      rw (← (zeros-on at l.i l.invariant.0)) (laid_then (replicate (l.i - at) 0) (0 ∷ []) l.invariant.3 (laid-byte l.i l.out 0 (search rules))),
+      rw (← (zeros_on at l.i l.invariant.0)) (laid_then (replicate (l.i - at) 0) (0 ∷ []) l.invariant.3 (laid_byte l.i l.out 0 (search rules))),
     )
 
 same_length : tie.Need-same-length invariant-loop decreases-loop
@@ -48,7 +48,7 @@ same_length c = search rules
 returns : tie.Need-returns invariant-loop decreases-loop
 returns c =
     let l = c.before.loop in
-    let e : l.i ≡ recordsEnd = omega arith in
+    let e : l.i ≡ records_end = omega arith in
     rw e (rw e at l.invariant.3)
 
 pub put-zeros-spec : {M : Type 1} → statement M

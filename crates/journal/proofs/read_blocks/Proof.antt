@@ -5,17 +5,17 @@ use Prim.Native.Nat.{◌*◌, ◌-◌, ◌/◌, ◌≤◌}
 use native.Mathlib.Nat.{add-sub_cancel_left}
 use native.Mathlib.Omega.{arith}
 use lib.ListN.{length, drop}
-use Rattle.journal.specs.Limits.{blockSize}
-use Rattle.journal.specs.Read.{found_from, foundIn, counted}
-use Rattle.journal.proofs.Walking.{onto, blocks_start, blocks-on, blocks-off, blocks-done}
+use Rattle.journal.specs.Limits.{block_size}
+use Rattle.journal.specs.Read.{found_from, found_in, counted}
+use Rattle.journal.proofs.Walking.{onto, blocks_start, blocks_on, blocks_off, blocks_done}
 use borrow.Author.Rules.{rules}
 use Rattle.journal.proofs.read_blocks.Statement.{statement}
 use Rattle.journal.proofs.read_blocks.Tie as tie
 
 abbrev invariant-loop : tie.invariant-loop
 invariant-loop journal total tail₀ blocks₀ messages₀ tail blocks messages =
-    (total ≡ length journal / blockSize) × (blocks ≤ total) × (messages ≤ 71 * blocks)
-    × (counted (foundIn journal) ≡ onto blocks messages (counted (found_from tail (drop (blocks * blockSize) journal) (total - blocks))))
+    (total ≡ length journal / block_size) × (blocks ≤ total) × (messages ≤ 71 * blocks)
+    × (counted (found_in journal) ≡ onto blocks messages (counted (found_from tail (drop (blocks * block_size) journal) (total - blocks))))
 
 abbrev decreases-loop : tie.decreases-loop
 decreases-loop journal total tail₀ blocks₀ messages₀ tail blocks messages = total - blocks
@@ -52,7 +52,7 @@ add-messages c =
     let l = c.before.before.before.before.before.before.before.loop in
     let j = c.before.before.before.before.before.before.before.before.before.before.args.journal.now in
     let e = rw add-sub_cancel_left at c.before.before.before.before.next.ensures.0 in
-    let (_, most) = blocks-on j l.tail l.blocks l.messages _ _ l.invariant.3 (search rules) _ (sym e ∙ c.before.before.next2.given.1) in
+    let (_, most) = blocks_on j l.tail l.blocks l.messages _ _ l.invariant.3 (search rules) _ (sym e ∙ c.before.before.next2.given.1) in
     search rules
 
 add-blocks : tie.Need-overflow-add-blocks invariant-loop decreases-loop
@@ -66,7 +66,7 @@ loop-again c =
     let l = c.before.before.before.before.before.before.before.before.loop in
     let j = c.before.before.before.before.before.before.before.before.before.before.before.args.journal.now in
     let e = rw add-sub_cancel_left at c.before.before.before.before.before.next.ensures.0 in
-    let (on, most) = blocks-on j l.tail l.blocks l.messages _ _ l.invariant.3 (search rules) _ (sym e ∙ c.before.before.before.next2.given.1) in
+    let (on, most) = blocks_on j l.tail l.blocks l.messages _ _ l.invariant.3 (search rules) _ (sym e ∙ c.before.before.before.next2.given.1) in
     (l.invariant.0, search rules, omega arith, on)
 
 enum_told : tie.Need-enum-told invariant-loop decreases-loop
@@ -77,13 +77,13 @@ returns c =
     let l = c.before.before.before.before.before.loop in
     let j = c.before.before.before.before.before.before.before.before.args.journal.now in
     let e = rw add-sub_cancel_left at c.before.before.next.ensures.0 in
-    blocks-off j l.tail l.blocks l.messages _ _ l.invariant.3 (search rules) (sym e ∙ c.enum_told.given.1)
+    blocks_off j l.tail l.blocks l.messages _ _ l.invariant.3 (search rules) (sym e ∙ c.enum_told.given.1)
 
 returns-2 : tie.Need-returns-2 invariant-loop decreases-loop
 returns-2 c =
     let l = c.before.loop in
     let j = c.before.before.before.before.args.journal.now in
-    blocks-done j l.tail l.blocks l.messages _ _ l.invariant.3 (search rules)
+    blocks_done j l.tail l.blocks l.messages _ _ l.invariant.3 (search rules)
 
 pub read-blocks-spec : {M : Type 1} → statement M
 read-blocks-spec =

@@ -5,16 +5,16 @@ use Prim.Native.Nat.{◌+◌, ◌*◌, ◌-◌, ◌≤◌}
 use native.Mathlib.Nat.{zero-add}
 use native.Mathlib.Omega.{arith}
 use lib.ListN.{length, take, drop}
-use Rattle.journal.specs.Limits.{blockSize, recordsEnd}
-use Rattle.journal.specs.Block.{sumFrom}
-use Rattle.journal.proofs.Summing.{turn, halves-done}
+use Rattle.journal.specs.Limits.{block_size, records_end}
+use Rattle.journal.specs.Block.{sum_from}
+use Rattle.journal.proofs.Summing.{turn, halves_done}
 use borrow.Author.Rules.{rules}
 use Rattle.journal.proofs.sum.Statement.{statement}
 use Rattle.journal.proofs.sum.Tie as tie
 
 abbrev invariant-loop : tie.invariant-loop
 invariant-loop block total₀ weight₀ i₀ total weight i =
-    (weight ≡ i + 1) × (i ≤ 254) × (total ≤ 194310 * i) × (total + (sumFrom i (drop i (take recordsEnd block)) + sumFrom (i + 254) (drop (i + 254) (take recordsEnd block))) ≡ sumFrom 0 (take recordsEnd block) + sumFrom 254 (drop 254 (take recordsEnd block)))
+    (weight ≡ i + 1) × (i ≤ 254) × (total ≤ 194310 * i) × (total + (sum_from i (drop i (take records_end block)) + sum_from (i + 254) (drop (i + 254) (take records_end block))) ≡ sum_from 0 (take records_end block) + sum_from 254 (drop 254 (take records_end block)))
 
 abbrev decreases-loop : tie.decreases-loop
 decreases-loop block total₀ weight₀ i₀ total weight i = 254 - i
@@ -58,7 +58,7 @@ returns : tie.Need-returns invariant-loop decreases-loop
 returns c =
     let l = c.before.loop in
     let block = c.before.before.before.args.block.now in
-    halves-done block l.i l.total (search rules) l.invariant.3 l.invariant.1 (omega arith)
+    halves_done block l.i l.total (search rules) l.invariant.3 l.invariant.1 (omega arith)
 
 pub sum-spec : {M : Type 1} → statement M
 sum-spec =

@@ -1,6 +1,6 @@
 -- The number in the last bytes is compared with the sum of the others.
 -- Assumes nothing.
-use Rattle.journal.specs.Block.{sumRight}
+use Rattle.journal.specs.Block.{sum_right}
 use borrow.Author.Rules.{rules}
 use Rattle.journal.proofs.sum_right.Statement.{statement}
 use Rattle.journal.proofs.sum_right.Tie as tie
@@ -12,7 +12,7 @@ sum-requires : tie.Need-sum-requires
 sum-requires c κs = search rules
 
 returns : tie.Need-returns
-unfolding sumRight
+unfolding sum_right
 returns c = rw (c.before.u32-at.ensures, c.sum.ensures)
 
 pub sum-right-spec : {M : Type 1} → statement M

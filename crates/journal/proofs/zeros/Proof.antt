@@ -2,19 +2,19 @@
 -- Assumes nothing.
 use lib.ListN.{get_or}
 use native.Mathlib.Omega.{arith}
-use Rattle.journal.proofs.Lists.{zero-byte}
+use Rattle.journal.proofs.Lists.{zero_byte}
 use mathlib.Core.Path.{◌≡◌, refl}
 use Prim.Native.Nat.{◌+◌, ◌-◌, ◌≤◌}
 use lib.ListN.{length, drop}
 use Rattle.group.specs.Choice.{if◌then◌else◌, ◌and◌, ◌=?◌}
-use Rattle.message.specs.Message.{allZero}
-use Rattle.message.proofs.Zero.{zero-on, zero-done}
+use Rattle.message.specs.Message.{all_zero}
+use Rattle.message.proofs.Zero.{zero_on, zero_done}
 use borrow.Author.Rules.{rules}
 use Rattle.journal.proofs.zeros.Statement.{statement}
 use Rattle.journal.proofs.zeros.Tie as tie
 
 abbrev invariant-loop : tie.invariant-loop
-invariant-loop bytes seen₀ i₀ seen i = (i ≤ length bytes) × (seen =? 0 and allZero (drop (i + (0 - i)) bytes) ≡ allZero (drop 0 bytes))
+invariant-loop bytes seen₀ i₀ seen i = (i ≤ length bytes) × (seen =? 0 and all_zero (drop (i + (0 - i)) bytes) ≡ all_zero (drop 0 bytes))
 
 abbrev decreases-loop : tie.decreases-loop
 decreases-loop bytes seen₀ i₀ seen i = length bytes - i
@@ -36,10 +36,10 @@ loop-again : tie.Need-loop-preserved invariant-loop decreases-loop
 loop-again c =
     let l = c.before.before.loop in
     let b = c.before.before.before.args.bytes.now in
-    (search rules, zero-on b 0 l.seen l.i l.invariant.1 (get_or b l.i 0) (omega arith) (zero-byte (get_or b l.i 0) l.i))
+    (search rules, zero_on b 0 l.seen l.i l.invariant.1 (get_or b l.i 0) (omega arith) (zero_byte (get_or b l.i 0) l.i))
 
 returns : tie.Need-returns invariant-loop decreases-loop
-returns c = let l = c.before.loop in zero-done c.before.before.args.bytes.now 0 l.seen l.i l.invariant.1 (omega arith)
+returns c = let l = c.before.loop in zero_done c.before.before.args.bytes.now 0 l.seen l.i l.invariant.1 (omega arith)
 
 pub zeros-spec : {M : Type 1} → statement M
 zeros-spec =

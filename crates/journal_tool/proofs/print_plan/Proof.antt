@@ -1,7 +1,7 @@
 -- What is laid lies in the output.
 -- Assumes nothing.
 use Rattle.std.proofs.Common.{sym, ◌∙◌, length-take-le, rules}
-use Rattle.journal_tool.proofs.Within.{plan-within}
+use Rattle.journal_tool.proofs.Within.{plan_within}
 use Rattle.journal_tool.proofs.print_plan.Statement.{statement}
 use Rattle.journal_tool.proofs.print_plan.Tie as tie
 
@@ -13,12 +13,12 @@ enum-known-answer c = search rules
 
 slice-reshare-prefix-print-rows : tie.Need-slice-reshare-prefix-print-rows
 slice-reshare-prefix-print-rows c =
-    let w = plan-within c.before.before.before.before.before.before.before.before.before.args.journal.now _ _ (sym c.before.before.before.before.before.plan.ensures.0 ∙ c.before.answer.given.1) in
+    let w = plan_within c.before.before.before.before.before.before.before.before.before.args.journal.now _ _ (sym c.before.before.before.before.before.plan.ensures.0 ∙ c.before.answer.given.1) in
     search rules
 
 slice-aggregate-print-rows : tie.Need-slice-aggregate-print-rows
 slice-aggregate-print-rows c =
-    let w = plan-within c.before.before.before.before.before.before.before.before.before.before.args.journal.now _ _ (sym c.before.before.before.before.before.before.plan.ensures.0 ∙ c.before.before.answer.given.1) in
+    let w = plan_within c.before.before.before.before.before.before.before.before.before.before.args.journal.now _ _ (sym c.before.before.before.before.before.before.plan.ensures.0 ∙ c.before.before.answer.given.1) in
     sym (length-take-le _ _ (search rules))
 
 print-rows-requires : tie.Need-print-rows-requires

@@ -1,7 +1,7 @@
 -- What is laid lies in the output.
 -- Assumes nothing.
 use Rattle.std.proofs.Common.{sym, ◌∙◌, length-take-le, rules}
-use Rattle.journal_tool.proofs.Within.{rewrite-within}
+use Rattle.journal_tool.proofs.Within.{rewrite_within}
 use Rattle.journal_tool.proofs.rewrite.Statement.{statement}
 use Rattle.journal_tool.proofs.rewrite.Tie as tie
 
@@ -13,12 +13,12 @@ enum-known-answer c = search rules
 
 slice-reshare-prefix-write-blocks : tie.Need-slice-reshare-prefix-write-blocks
 slice-reshare-prefix-write-blocks c =
-    let w = rewrite-within c.before.before.before.before.before.before.before.before.before.before.args.journal.now _ _ (sym c.before.before.before.before.before.rewrite.ensures.0 ∙ c.before.answer.given.1) in
+    let w = rewrite_within c.before.before.before.before.before.before.before.before.before.before.args.journal.now _ _ (sym c.before.before.before.before.before.rewrite.ensures.0 ∙ c.before.answer.given.1) in
     search rules
 
 slice-aggregate-write-blocks : tie.Need-slice-aggregate-write-blocks
 slice-aggregate-write-blocks c =
-    let w = rewrite-within c.before.before.before.before.before.before.before.before.before.before.before.args.journal.now _ _ (sym c.before.before.before.before.before.before.rewrite.ensures.0 ∙ c.before.before.answer.given.1) in
+    let w = rewrite_within c.before.before.before.before.before.before.before.before.before.before.before.args.journal.now _ _ (sym c.before.before.before.before.before.before.rewrite.ensures.0 ∙ c.before.before.answer.given.1) in
     sym (length-take-le _ _ (search rules))
 
 write-blocks-requires : tie.Need-write-blocks-requires

@@ -5,7 +5,7 @@ use Prim.Native.Nat.{◌≤◌}
 use native.Mathlib.Omega.{arith}
 use lib.ListN.{length}
 use Rattle.load.specs.Steps.{Lays}
-use Rattle.load.proofs.Lines.{lays-none, lays-on, gathered}
+use Rattle.load.proofs.Lines.{lays_none, lays_on, gathered}
 use borrow.Author.Rules.{rules}
 use Rattle.load.proofs.gather.Statement.{statement}
 use Rattle.load.proofs.gather.Tie as tie
@@ -18,7 +18,7 @@ abbrev decreases-loop : tie.decreases-loop
 decreases-loop load₀ events out₀ left₀ size₀ load out left size = left
 
 loop-holds : tie.Need-loop-init invariant-loop decreases-loop
-loop-holds c = let a = c.before.args in (refl, omega arith, omega arith, λ e. refl, lays-none a.load a.events a.out.now)
+loop-holds c = let a = c.before.args in (refl, omega arith, omega arith, λ e. refl, lays_none a.load a.events a.out.now)
 
 sub-if1 : tie.Need-overflow-sub-if1 invariant-loop decreases-loop
 sub-if1 c = search rules
@@ -51,7 +51,7 @@ loop-again c =
       search rules,
       search rules,
       λ e. absurd (omega arith),
-      lays-on _ _ l.invariant.4 t r.0 r.1,
+      lays_on _ _ l.invariant.4 t r.0 r.1,
     )
 
 same-length-2 : tie.Need-same-length-2 invariant-loop decreases-loop

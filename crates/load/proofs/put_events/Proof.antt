@@ -1,6 +1,6 @@
 -- The lines of the events that are left go behind those that the sink took.
 -- Assumes nothing.
-use Rattle.load.proofs.Lines.{Hands, hands_none, hands_on, hands-failed, hands-all}
+use Rattle.load.proofs.Lines.{Hands, hands_none, hands_on, hands_failed, hands_all}
 use borrow.Author.Rules.{rules}
 use Rattle.load.proofs.put_events.Statement.{statement}
 use Rattle.load.proofs.put_events.Tie as tie
@@ -18,7 +18,7 @@ failed-requires : tie.Need-failed-requires invariant-loop decreases-loop
 failed-requires c κs = search rules
 
 returns : tie.Need-returns invariant-loop decreases-loop
-returns c = hands-failed c.before.before.before.loop.invariant (search rules)
+returns c = hands_failed c.before.before.before.loop.invariant (search rules)
 
 slice-aggregate-gather : tie.Need-slice-aggregate-gather invariant-loop decreases-loop
 slice-aggregate-gather c = search rules
@@ -42,7 +42,7 @@ loop-again : tie.Need-loop-preserved invariant-loop decreases-loop
 loop-again c = hands_on c.before.before.before.before.before.before.before.before.before.loop.invariant c.before.before.before.before.gather.ensures.lays c.before.write.ensures
 
 returns-2 : tie.Need-returns-2 invariant-loop decreases-loop
-returns-2 c = hands-all c.before.loop.invariant (search rules)
+returns-2 c = hands_all c.before.loop.invariant (search rules)
 
 pub put-events-spec : {M : Type 1} → statement M
 put-events-spec =

@@ -4,7 +4,7 @@ use mathlib.Core.Path.{◌≡◌, sym}
 use native.Mathlib.Omega.{arith}
 use lib.ListN.{length}
 use lib.Seq.{length-take-le}
-use Rattle.workload.specs.Line.{lineRoom}
+use Rattle.workload.specs.Line.{line_room}
 use borrow.Author.Rules.{rules}
 use Rattle.load.proofs.put_first.Statement.{statement}
 use Rattle.load.proofs.put_first.Tie as tie
@@ -15,7 +15,7 @@ array-share-prefix-line c = search rules
 slice-aggregate-write : tie.Need-slice-aggregate-write
 slice-aggregate-write c =
     let a = c.before.args in
-    let n : length a.t1 ≡ lineRoom = search rules in
+    let n : length a.t1 ≡ line_room = search rules in
     let p = c.before.requires in
     sym (length-take-le a.size a.t1 (omega arith))
 

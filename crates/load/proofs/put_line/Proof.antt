@@ -4,7 +4,7 @@ use mathlib.Core.Path.{◌≡◌, sym}
 use native.Mathlib.Omega.{arith}
 use lib.ListN.{length}
 use lib.Seq.{length-take-le}
-use Rattle.workload.specs.Line.{lineRoom}
+use Rattle.workload.specs.Line.{line_room}
 use borrow.Author.Rules.{rules}
 use Rattle.load.proofs.put_line.Statement.{statement}
 use Rattle.load.proofs.put_line.Tie as tie
@@ -15,14 +15,14 @@ array-share-prefix-line c = search rules
 slice-aggregate-put-text : tie.Need-slice-aggregate-put-text
 slice-aggregate-put-text c =
     let a = c.before.before.args in
-    let n : length a.t1 ≡ lineRoom = search rules in
+    let n : length a.t1 ≡ line_room = search rules in
     let p = c.before.before.requires.0 in
     sym (length-take-le a.size a.t1 (omega arith))
 
 put-text-requires : tie.Need-put-text-requires
 put-text-requires c κs =
     let a = c.before.before.before.args in
-    let n : length a.t1 ≡ lineRoom = search rules in
+    let n : length a.t1 ≡ line_room = search rules in
     let p = c.before.before.before.requires.0 in
     let q = c.before.before.before.requires.1 in
     let e = length-take-le a.size a.t1 (omega arith) in

@@ -1,7 +1,7 @@
 -- Each test is one of the definition's.
 -- Assumes nothing.
 use Rattle.group.proofs.Choice.{choices}
-use Rattle.member.specs.Steps.{confirmsBy}
+use Rattle.member.specs.Steps.{confirms_by}
 use borrow.Author.Rules.{rules}
 use Rattle.member.proofs.confirmed.Statement.{statement}
 use Rattle.member.proofs.confirmed.Tie as tie
@@ -16,15 +16,15 @@ expects-requires : tie.Need-expects-requires
 expects-requires c κs = search rules
 
 returns : tie.Need-returns
-unfolding confirmsBy
+unfolding confirms_by
 returns c = search (choices, rules) depth 9
 
 returns-2 : tie.Need-returns-2
-unfolding confirmsBy
+unfolding confirms_by
 returns-2 c = search (choices, rules) depth 9
 
 returns-3 : tie.Need-returns-3
-unfolding confirmsBy
+unfolding confirms_by
 returns-3 c = search (choices, rules) depth 9
 
 pub confirmed-spec : {M : Type 1} → statement M

@@ -5,14 +5,14 @@ use mathlib.Core.Bool.{true, false}
 use Prim.Native.Nat.{◌+◌, ◌<◌}
 use native.Mathlib.Omega.{arith}
 use lib.ListN.{length, get_or}
-use Rattle.group.specs.Limits.{heldMost}
-use Rattle.message.specs.Message.{payloadOf}
-use Rattle.store.specs.Places.{part_of, messageIn, messagesIn}
+use Rattle.group.specs.Limits.{held_most}
+use Rattle.message.specs.Message.{payload_of}
+use Rattle.store.specs.Places.{part_of, message_in, messages_in}
 use Rattle.window.specs.Places.{place_of}
-use Rattle.window.proofs.Places.{counted-in, here-is}
-use Rattle.member.specs.Calls.{tookOf}
-use Rattle.member.specs.Steps.{memberOf, emptyHanded}
-use Rattle.member.proofs.Outcomes.{replied-as, own_is, own-some, own-count, ready-is, taken_own, taken-other, took}
+use Rattle.window.proofs.Places.{counted_in_lem, here_is}
+use Rattle.member.specs.Calls.{took_of}
+use Rattle.member.specs.Steps.{member_of, empty_handed}
+use Rattle.member.proofs.Outcomes.{replied_as, own_is, own_some, own_count, ready_is, taken_own, taken_other, took}
 use borrow.Author.Rules.{rules}
 use Rattle.member.proofs.hand_out.Statement.{statement}
 use Rattle.member.proofs.hand_out.Tie as tie
@@ -58,9 +58,9 @@ own-requires c κs = c.before.before.before.before.before.before.before.before.b
 
 cast-queue-place : tie.Need-overflow-cast-queue-place
 cast-queue-place c =
-    let m = emptyHanded c.before.before.before.before.before.before.before.before.before.before.before.before.before.before.before.before.before.before.before.before.before.before.args.head in
-    let n = own-count m _ _ _ c.before.own.ensures c.if1.true in
-    let w = own-some m _ _ _ c.before.own.ensures c.if1.true in
+    let m = empty_handed c.before.before.before.before.before.before.before.before.before.before.before.before.before.before.before.before.before.before.before.before.before.before.args.head in
+    let n = own_count m _ _ _ c.before.own.ensures c.if1.true in
+    let w = own_some m _ _ _ c.before.own.ensures c.if1.true in
     let p = c.before.before.before.before.before.before.before.before.before.before.before.before.before.before.before.before.before.before.before.before.before.before.requires.2 in
     let g = c.before.before.before.before.before.before.before.before.before.before.before.before.before.before.before.before.before.before.before.before.before.before.well-formed.0 in
     record { fits = omega (arith, n, w, p, g) }
@@ -72,46 +72,46 @@ clear-requires-2 : tie.Need-clear-requires-2
 clear-requires-2 c κs = let q = c.before.before.before.before.queue-place.ensures in (omega (arith, q), omega (arith, q), omega (arith, q), omega (arith, q))
 
 sub-head : tie.Need-overflow-sub-head
-sub-head c = own-some (emptyHanded c.before.before.before.before.before.before.before.before.before.before.before.before.before.before.before.before.before.before.before.before.before.before.before.before.before.before.before.before.before.args.head) _ _ _ c.before.before.before.before.before.before.before.before.own.ensures c.before.before.before.before.before.before.before.if1.true
+sub-head c = own_some (empty_handed c.before.before.before.before.before.before.before.before.before.before.before.before.before.before.before.before.before.before.before.before.before.before.before.before.before.before.before.before.before.args.head) _ _ _ c.before.before.before.before.before.before.before.before.own.ensures c.before.before.before.before.before.before.before.if1.true
 
 same_length : tie.Need-same-length
 same_length c = search rules
 
 returns : tie.Need-returns
-unfolding payloadOf
+unfolding payload_of
 returns c =
     let a = c.before.before.before.before.before.before.before.before.before.before.before.before.before.before.before.before.before.before.before.before.before.before.before.before.before.before.before.before.before.args in
-    let queue = messagesIn a.queued.now a.queued-originators.now a.queued-lengths.now a.queued-payloads.now in
-    let held = messagesIn a.held.now a.held-originators.now a.held-lengths.now a.held-payloads.now in
-    let m = memberOf a.head queue held in
+    let queue = messages_in a.queued.now a.queued_originators.now a.queued_lengths.now a.queued_payloads.now in
+    let held = messages_in a.held.now a.held_originators.now a.held_lengths.now a.held_payloads.now in
+    let m = member_of a.head queue held in
     let q = c.before.before.before.before.before.before.before.before.before.before.before.before.before.before.before.before.before.before.before.before.before.before.before.before.before.before.before.place.ensures in
     let at = c.before.before.before.before.before.before.before.before.before.before.before.before.before.before.before.before.before.before.before.before.before.before.before.before.before.before.before.place.result in
-    let here = messageIn (get_or a.held.now at 0) (get_or a.held-originators.now at 0) (get_or a.held-lengths.now at 0) (part_of a.held-payloads.now at) in
-    let long : length a.held.now ≡ heldMost = let k = c.before.before.before.before.before.before.before.before.before.before.before.before.before.clear-arg in search rules in
+    let here = message_in (get_or a.held.now at 0) (get_or a.held_originators.now at 0) (get_or a.held_lengths.now at 0) (part_of a.held_payloads.now at) in
+    let long : length a.held.now ≡ held_most = let k = c.before.before.before.before.before.before.before.before.before.before.before.before.before.clear-arg in search rules in
     let inside : at < length a.held.now = omega (arith, q, long) in
     let t = taken_own m here _ (rw q at c.before.before.before.before.before.before.before.before.before.clear.ensures) _ (rw c.before.before.before.before.before.before.queue-place.ensures at c.before.clear2.ensures) (own_is m here _ true c.before.before.before.before.before.before.before.before.own.ensures c.before.before.before.before.before.before.before.if1.true) in
-    let more = ready-is m a.held.now (counted-in a.held.now a.held-originators.now a.held-lengths.now a.held-payloads.now) _ (a.head.taken.0 + 1) (a.head.taken.0 + 2) _ c.before.before.before.before.before.before.before.before.before.before.before.before.before.before.before.before.before.before.before.before.before.before.before.before.before.before.place2.ensures (omega arith) c.before.before.before.before.before.before.before.before.before.before.before.before.before.before.before.before.before.before.before.before.before.before.before.ready.ensures in
-    replied-as (ap (tookOf m) (here-is a.held.now a.held-originators.now a.held-lengths.now a.held-payloads.now at inside (place_of (a.head.taken.0 + 1)) q))
+    let more = ready_is m a.held.now (counted_in_lem a.held.now a.held_originators.now a.held_lengths.now a.held_payloads.now) _ (a.head.taken.0 + 1) (a.head.taken.0 + 2) _ c.before.before.before.before.before.before.before.before.before.before.before.before.before.before.before.before.before.before.before.before.before.before.before.before.before.before.place2.ensures (omega arith) c.before.before.before.before.before.before.before.before.before.before.before.before.before.before.before.before.before.before.before.before.before.before.before.ready.ensures in
+    replied_as (ap (took_of m) (here_is a.held.now a.held_originators.now a.held_lengths.now a.held_payloads.now at inside (place_of (a.head.taken.0 + 1)) q))
     (took m _ here _ _ _ _ t more c.before.before.before.before.before.before.before.before.before.before.before.before.before.before.before.before.put_payload.ensures)
 
 same-length-2 : tie.Need-same-length-2
 same-length-2 c = search rules
 
 returns-2 : tie.Need-returns-2
-unfolding payloadOf
+unfolding payload_of
 returns-2 c =
     let a = c.before.before.before.before.before.before.before.before.before.before.before.before.before.before.before.before.before.before.before.before.before.before.args in
-    let queue = messagesIn a.queued.now a.queued-originators.now a.queued-lengths.now a.queued-payloads.now in
-    let held = messagesIn a.held.now a.held-originators.now a.held-lengths.now a.held-payloads.now in
-    let m = memberOf a.head queue held in
+    let queue = messages_in a.queued.now a.queued_originators.now a.queued_lengths.now a.queued_payloads.now in
+    let held = messages_in a.held.now a.held_originators.now a.held_lengths.now a.held_payloads.now in
+    let m = member_of a.head queue held in
     let q = c.before.before.before.before.before.before.before.before.before.before.before.before.before.before.before.before.before.before.before.before.place.ensures in
     let at = c.before.before.before.before.before.before.before.before.before.before.before.before.before.before.before.before.before.before.before.before.place.result in
-    let here = messageIn (get_or a.held.now at 0) (get_or a.held-originators.now at 0) (get_or a.held-lengths.now at 0) (part_of a.held-payloads.now at) in
-    let long : length a.held.now ≡ heldMost = search rules in
+    let here = message_in (get_or a.held.now at 0) (get_or a.held_originators.now at 0) (get_or a.held_lengths.now at 0) (part_of a.held_payloads.now at) in
+    let long : length a.held.now ≡ held_most = search rules in
     let inside : at < length a.held.now = omega (arith, q, long) in
-    let t = taken-other m here _ (rw q at c.before.before.clear.ensures) (own_is m here _ false c.before.own.ensures c.if1.false) in
-    let more = ready-is m a.held.now (counted-in a.held.now a.held-originators.now a.held-lengths.now a.held-payloads.now) _ (a.head.taken.0 + 1) (a.head.taken.0 + 2) _ c.before.before.before.before.before.before.before.before.before.before.before.before.before.before.before.before.before.before.before.place2.ensures (omega arith) c.before.before.before.before.before.before.before.before.before.before.before.before.before.before.before.before.ready.ensures in
-    replied-as (ap (tookOf m) (here-is a.held.now a.held-originators.now a.held-lengths.now a.held-payloads.now at inside (place_of (a.head.taken.0 + 1)) q))
+    let t = taken_other m here _ (rw q at c.before.before.clear.ensures) (own_is m here _ false c.before.own.ensures c.if1.false) in
+    let more = ready_is m a.held.now (counted_in_lem a.held.now a.held_originators.now a.held_lengths.now a.held_payloads.now) _ (a.head.taken.0 + 1) (a.head.taken.0 + 2) _ c.before.before.before.before.before.before.before.before.before.before.before.before.before.before.before.before.before.before.before.place2.ensures (omega arith) c.before.before.before.before.before.before.before.before.before.before.before.before.before.before.before.before.ready.ensures in
+    replied_as (ap (took_of m) (here_is a.held.now a.held_originators.now a.held_lengths.now a.held_payloads.now at inside (place_of (a.head.taken.0 + 1)) q))
     (took m _ here _ _ _ _ t more c.before.before.before.before.before.before.before.before.before.put_payload.ensures)
 
 pub hand-out-spec : {M : Type 1} → statement M

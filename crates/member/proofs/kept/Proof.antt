@@ -6,11 +6,11 @@ use Prim.Native.Nat.{◌+◌, ◌-◌}
 use native.Mathlib.Omega.{arith}
 use Rattle.message.specs.Message.{Message}
 use Rattle.window.specs.Places.{place_of}
-use Rattle.window.proofs.Places.{counted-in}
-use Rattle.member.specs.Calls.{answered, gapUpTo, withHeld, keptOf}
-use Rattle.member.specs.Steps.{memberOf}
+use Rattle.window.proofs.Places.{counted_in_lem}
+use Rattle.member.specs.Calls.{answered, gap_up_to, with_held, kept_of}
+use Rattle.member.specs.Steps.{member_of}
 use Rattle.member.specs.declared.Answer.{Answer}
-use Rattle.member.proofs.Outcomes.{replied-as}
+use Rattle.member.proofs.Outcomes.{replied_as}
 use borrow.Author.Rules.{rules}
 use Rattle.member.proofs.kept.Statement.{statement}
 use Rattle.member.proofs.kept.Tie as tie
@@ -31,12 +31,12 @@ same_length : tie.Need-same-length
 same_length c = search rules
 
 returns : tie.Need-returns
-unfolding keptOf withHeld
+unfolding kept_of with_held
 returns c =
     λ queue. let a = c.before.before.before.before.before.before.before.before.before.before.before.before.before.before.args in
     let e : a.number.0 + 0 ≡ a.number.0 = omega arith in
-    replied-as (ap (λ (held : List Message). gapUpTo (memberOf a.head queue held) (a.number.0 - 1) Answer.KeptGap (answered (memberOf a.head queue held) Answer.Kept)) (rw (c.before.before.before.before.before.before.before.before.before.before.before.place.ensures, e) at c.before.before.before.before.before.before.keep.ensures))
-    (c.before.before.gap-up-to.ensures queue _ (counted-in _ _ _ _))
+    replied_as (ap (λ (held : List Message). gap_up_to (member_of a.head queue held) (a.number.0 - 1) Answer.KeptGap (answered (member_of a.head queue held) Answer.Kept)) (rw (c.before.before.before.before.before.before.before.before.before.before.before.place.ensures, e) at c.before.before.before.before.before.before.keep.ensures))
+    (c.before.before.gap-up-to.ensures queue _ (counted_in_lem _ _ _ _))
 
 pub kept-spec : {M : Type 1} → statement M
 kept-spec =

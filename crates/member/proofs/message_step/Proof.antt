@@ -4,18 +4,18 @@ use mathlib.Core.Path.{◌≡◌, refl, ◌∙◌}
 use Prim.Native.Nat.{◌+◌, ◌≤◌, ◌<◌}
 use native.Mathlib.Omega.{arith}
 use Rattle.group.proofs.Choice.{choices}
-use Rattle.store.specs.Places.{messagesIn}
-use Rattle.window.specs.Places.{place_of, messageAt}
-use Rattle.window.proofs.Places.{counted-in}
-use Rattle.member.specs.Calls.{messageStep}
-use Rattle.member.proofs.Outcomes.{replied-as, quiet}
+use Rattle.store.specs.Places.{messages_in}
+use Rattle.window.specs.Places.{place_of, message_at}
+use Rattle.window.proofs.Places.{counted_in_lem}
+use Rattle.member.specs.Calls.{message_step}
+use Rattle.member.proofs.Outcomes.{replied_as, quiet}
 use borrow.Author.Rules.{rules}
 use Rattle.member.proofs.message_step.Statement.{statement}
 use Rattle.member.proofs.message_step.Tie as tie
 
 returns : tie.Need-returns
-unfolding messageStep
-returns c = λ queue. replied-as (search (choices, rules) depth 9) (quiet _ _ _ c.before.before.before.before.before.before.args.out.now refl)
+unfolding message_step
+returns c = λ queue. replied_as (search (choices, rules) depth 9) (quiet _ _ _ c.before.before.before.before.before.before.args.out.now refl)
 
 cast-if2 : tie.Need-overflow-cast-if2
 cast-if2 c = search rules
@@ -39,8 +39,8 @@ same_length : tie.Need-same-length
 same_length c = search rules
 
 returns-2 : tie.Need-returns-2
-unfolding messageStep
-returns-2 c = λ queue. replied-as (search (choices, rules) depth 9) (c.before.before.gap-up-to.ensures queue _ (counted-in _ _ _ _))
+unfolding message_step
+returns-2 c = λ queue. replied_as (search (choices, rules) depth 9) (c.before.before.gap-up-to.ensures queue _ (counted_in_lem _ _ _ _))
 
 place-requires : tie.Need-place-requires
 place-requires c κs = search rules
@@ -52,13 +52,13 @@ element-copy-out-if3 : tie.Need-element-copy-out-if3
 element-copy-out-if3 c = search rules
 
 returns-3 : tie.Need-returns-3
-unfolding messageStep
+unfolding message_step
 returns-3 c =
     λ queue. let a = c.before.before.before.before.before.before.before.before.before.before.before.before.args in
-    let held = messagesIn a.held.now a.held-originators.now a.held-lengths.now a.held-payloads.now in
+    let held = messages_in a.held.now a.held_originators.now a.held_lengths.now a.held_payloads.now in
     let e : a.number.0 + 0 ≡ a.number.0 = omega arith in
-    let h : 0 < (messageAt held a.number.0).count = rw (c.before.before.place.ensures, e, counted-in a.held.now a.held-originators.now a.held-lengths.now a.held-payloads.now (place_of a.number.0)) at c.if3.true in
-    replied-as (search (choices, rules) depth 9) (quiet _ _ _ a.out.now refl)
+    let h : 0 < (message_at held a.number.0).count = rw (c.before.before.place.ensures, e, counted_in_lem a.held.now a.held_originators.now a.held_lengths.now a.held_payloads.now (place_of a.number.0)) at c.if3.true in
+    replied_as (search (choices, rules) depth 9) (quiet _ _ _ a.out.now refl)
 
 kept-requires : tie.Need-kept-requires
 kept-requires c κs = let p = c.before.before.before.before.before.before.before.before.before.before.before.before.before.before.before.before.before.requires in (search rules, search rules, p.0, p.1)
@@ -67,13 +67,13 @@ same-length-2 : tie.Need-same-length-2
 same-length-2 c = search rules
 
 returns-4 : tie.Need-returns-4
-unfolding messageStep
+unfolding message_step
 returns-4 c =
     λ queue. let a = c.before.before.before.before.before.before.before.before.before.before.before.before.before.before.before.before.before.before.before.before.args in
-    let held = messagesIn a.held.now a.held-originators.now a.held-lengths.now a.held-payloads.now in
+    let held = messages_in a.held.now a.held_originators.now a.held_lengths.now a.held_payloads.now in
     let e : a.number.0 + 0 ≡ a.number.0 = omega arith in
-    let h : (messageAt held a.number.0).count ≤ 0 = rw (c.before.before.before.before.before.before.before.before.before.before.place.ensures, e, counted-in a.held.now a.held-originators.now a.held-lengths.now a.held-payloads.now (place_of a.number.0)) at c.before.before.before.before.before.before.before.before.if3.false in
-    replied-as (search (choices, rules) depth 9) (c.before.before.kept.ensures queue)
+    let h : (message_at held a.number.0).count ≤ 0 = rw (c.before.before.before.before.before.before.before.before.before.before.place.ensures, e, counted_in_lem a.held.now a.held_originators.now a.held_lengths.now a.held_payloads.now (place_of a.number.0)) at c.before.before.before.before.before.before.before.before.if3.false in
+    replied_as (search (choices, rules) depth 9) (c.before.before.kept.ensures queue)
 
 pub message-step-spec : {M : Type 1} → statement M
 message-step-spec =

@@ -1,12 +1,12 @@
 -- The fields of a confirmation may be written.
 -- Assumes nothing.
-use Rattle.packet.proofs.Permitted.{confirm-fields}
+use Rattle.packet.proofs.Permitted.{confirm_fields}
 use borrow.Author.Rules.{rules}
 use Rattle.member.proofs.put_confirm.Statement.{statement}
 use Rattle.member.proofs.put_confirm.Tie as tie
 
 put-bare-requires : tie.Need-put-bare-requires
-put-bare-requires c κs = let a = c.before.before.before.args in let p = c.before.before.before.requires in (confirm-fields a.head.group.number a.head.number a.number p.0, p.1)
+put-bare-requires c κs = let a = c.before.before.before.args in let p = c.before.before.before.requires in (confirm_fields a.head.group.number a.head.number a.number p.0, p.1)
 
 same_length : tie.Need-same-length
 same_length c = search rules

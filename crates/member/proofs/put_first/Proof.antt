@@ -2,7 +2,7 @@
 -- Assumes nothing.
 use mathlib.Core.Path.{◌≡◌}
 use lib.ListN.{length, length-take, length-drop}
-use Rattle.window.proofs.Places.{front-part}
+use Rattle.window.proofs.Places.{front_part}
 use native.Mathlib.Omega.{arith}
 use borrow.Author.Rules.{rules}
 use Rattle.member.proofs.put_first.Statement.{statement}
@@ -50,7 +50,7 @@ same_length c = search rules
 returns : tie.Need-returns
 returns c =
     let p = c.before.before.before.before.before.before.before.before.before.before.before.requires in
-    rw (c.before.before.before.before.before.before.queue-place.ensures, front-part _ _ _ p.3) at c.before.before.put-request.ensures
+    rw (c.before.before.before.before.before.before.queue-place.ensures, front_part _ _ _ p.3) at c.before.before.put-request.ensures
 
 pub put-first-spec : {M : Type 1} → statement M
 put-first-spec =

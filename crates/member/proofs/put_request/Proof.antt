@@ -2,8 +2,8 @@
 -- Assumes nothing.
 use mathlib.Core.Path.{◌≡◌, ap, ◌∙◌}
 use Prim.Native.Nat.{ℕ}
-use Rattle.packet.proofs.Permitted.{request-fields, laid-whole}
-use Rattle.window.specs.Places.{smallerOf}
+use Rattle.packet.proofs.Permitted.{request_fields, laid_whole}
+use Rattle.window.specs.Places.{smaller_of}
 use Rattle.member.proofs.View.{requested}
 use borrow.Author.Rules.{rules}
 use Rattle.member.proofs.put_request.Statement.{statement}
@@ -25,8 +25,8 @@ returns : tie.Need-returns
 returns c =
     let a = c.before.before.before.before.before.before.before.before.before.before.args in
     let p = c.before.before.before.before.before.before.before.before.before.before.requires in
-    requested a.head a.held.now a.count a.payload.now _ (c.before.before.before.before.earlier.ensures ∙ ap (λ (k : ℕ). smallerOf k a.head.accepted.0) c.before.before.before.before.before.row-end.ensures)
-    (laid-whole _ a.payload.now _ (request-fields a.head.group.number a.head.number _ a.count a.payload.now p.0) p.1 p.2 c.before.before.put.ensures)
+    requested a.head a.held.now a.count a.payload.now _ (c.before.before.before.before.earlier.ensures ∙ ap (λ (k : ℕ). smaller_of k a.head.accepted.0) c.before.before.before.before.before.row-end.ensures)
+    (laid_whole _ a.payload.now _ (request_fields a.head.group.number a.head.number _ a.count a.payload.now p.0) p.1 p.2 c.before.before.put.ensures)
 
 pub put-request-spec : {M : Type 1} → statement M
 put-request-spec = tie.close (tie.spec row-end-requires earlier-requires put-requires same_length returns)

@@ -1,7 +1,7 @@
 -- Each part of the state is one of the definition's.
 -- Assumes nothing.
 use Rattle.group.proofs.Choice.{choices}
-use Rattle.member.specs.Sound.{soundOf}
+use Rattle.member.specs.Sound.{sound_of}
 use Rattle.member.specs.View.{view_of}
 use borrow.Author.Rules.{rules}
 use Rattle.member.proofs.sound.Statement.{statement}
@@ -17,24 +17,24 @@ slice-aggregate-waiting-sound : tie.Need-slice-aggregate-waiting-sound
 slice-aggregate-waiting-sound c = search rules
 
 waiting-sound-requires : tie.Need-waiting-sound-requires
-waiting-sound-requires c κs = let p = c.before.before.before.before.before.before.before.before.before.before.before.before.before.requires in (p.queued-size, p.queued-originators-size, p.queued-lengths-size, p.queued-payloads-size, c.before.mask.ensures)
+waiting-sound-requires c κs = let p = c.before.before.before.before.before.before.before.before.before.before.before.before.before.requires in (p.queued_size, p.queued_originators_size, p.queued_lengths_size, p.queued_payloads_size, c.before.mask.ensures)
 
 slice-aggregate-held-sound : tie.Need-slice-aggregate-held-sound
 slice-aggregate-held-sound c = search rules
 
 held-sound-requires : tie.Need-held-sound-requires
-held-sound-requires c κs = let p = c.before.before.before.before.before.before.before.before.before.before.before.before.before.before.before.before.requires in (p.held-size, p.held-originators-size, p.held-lengths-size, p.held-payloads-size, c.before.before.before.before.mask.ensures)
+held-sound-requires c κs = let p = c.before.before.before.before.before.before.before.before.before.before.before.before.before.before.before.before.requires in (p.held_size, p.held_originators_size, p.held_lengths_size, p.held_payloads_size, c.before.before.before.before.mask.ensures)
 
 returns : tie.Need-returns
-unfolding soundOf view_of
+unfolding sound_of view_of
 returns c = search (choices, rules) depth 9
 
 returns-2 : tie.Need-returns-2
-unfolding soundOf view_of
+unfolding sound_of view_of
 returns-2 c = search (choices, rules) depth 9
 
 returns-3 : tie.Need-returns-3
-unfolding soundOf view_of
+unfolding sound_of view_of
 returns-3 c = search (choices, rules) depth 9
 
 pub sound-spec : {M : Type 1} → statement M

@@ -4,10 +4,10 @@ use mathlib.Core.Path.{◌≡◌}
 use Prim.Native.Nat.{◌+◌, ◌<◌}
 use native.Mathlib.Omega.{arith}
 use lib.ListN.{length}
-use Rattle.store.specs.Places.{messagesIn}
-use Rattle.store.proofs.Places.{length-messages}
-use Rattle.window.specs.Places.{queuePlace}
-use Rattle.member.proofs.Submitting.{submits-first, submits-behind}
+use Rattle.store.specs.Places.{messages_in}
+use Rattle.store.proofs.Places.{length_messages}
+use Rattle.window.specs.Places.{queue_place}
+use Rattle.member.proofs.Submitting.{submits_first, submits_behind}
 use borrow.Author.Rules.{rules}
 use Rattle.member.proofs.submitted.Statement.{statement}
 use Rattle.member.proofs.submitted.Tie as tie
@@ -33,8 +33,8 @@ same_length c = search rules
 returns : tie.Need-returns
 returns c =
     λ held n v w. let a = c.before.before.before.before.before.before.before.before.before.before.before.before.before.before.before.before.args in
-    let inside : queuePlace (a.head.submitted + 1) < length (messagesIn a.queued.now a.queued-originators.now a.queued-lengths.now a.queued-payloads.now) = rw (length-messages a.queued.now a.queued-originators.now a.queued-lengths.now a.queued-payloads.now, ← c.before.before.before.before.before.before.before.before.before.before.before.before.queue-place.ensures) (search rules) in
-    submits-first a.head _ held _ a.payload.now (rw c.before.before.before.before.before.before.before.before.before.before.before.before.queue-place.ensures at c.before.before.before.before.before.before.keep.ensures) v w c.before.before.before.before.if1.true a.held.now n (search rules) inside c.before.before.put-request.ensures
+    let inside : queue_place (a.head.submitted + 1) < length (messages_in a.queued.now a.queued_originators.now a.queued_lengths.now a.queued_payloads.now) = rw (length_messages a.queued.now a.queued_originators.now a.queued_lengths.now a.queued_payloads.now, ← c.before.before.before.before.before.before.before.before.before.before.before.before.queue-place.ensures) (search rules) in
+    submits_first a.head _ held _ a.payload.now (rw c.before.before.before.before.before.before.before.before.before.before.before.before.queue-place.ensures at c.before.before.before.before.before.before.keep.ensures) v w c.before.before.before.before.if1.true a.held.now n (search rules) inside c.before.before.put-request.ensures
 
 add-head : tie.Need-overflow-add-head
 add-head c = let p = c.before.before.before.before.before.before.before.before.before.before.before.before.before.requires.1 in record { fits = omega (arith, p) }
@@ -42,7 +42,7 @@ add-head c = let p = c.before.before.before.before.before.before.before.before.b
 returns-2 : tie.Need-returns-2
 returns-2 c =
     λ held n v w. let a = c.before.before.before.before.before.before.before.before.before.before.before.before.before.args in
-    submits-behind a.head _ held _ a.payload.now (rw c.before.before.before.before.before.before.before.before.before.queue-place.ensures at c.before.before.before.keep.ensures) v w c.before.if1.false
+    submits_behind a.head _ held _ a.payload.now (rw c.before.before.before.before.before.before.before.before.before.queue-place.ensures at c.before.before.before.keep.ensures) v w c.before.if1.false
 
 pub submitted-spec : {M : Type 1} → statement M
 submitted-spec =

@@ -1,11 +1,11 @@
 -- The kinds are told apart as in the definition; question 9 is asked of a broadcast and of an offer.
 -- Assumes nothing.
 use Rattle.group.proofs.Choice.{choices}
-use Rattle.window.proofs.Places.{counted-in}
-use Rattle.member.specs.Calls.{withAccepted, contentStep}
+use Rattle.window.proofs.Places.{counted_in_lem}
+use Rattle.member.specs.Calls.{with_accepted, content_step}
 use Rattle.member.specs.Steps.{accepting}
-use Rattle.member.proofs.Confirming.{offer-number}
-use Rattle.member.proofs.Outcomes.{replied-as, quiet-done}
+use Rattle.member.proofs.Confirming.{offer_number}
+use Rattle.member.proofs.Outcomes.{replied_as, quiet_done}
 use borrow.Author.Rules.{rules}
 use Rattle.member_calls.proofs.content.Statement.{statement}
 use Rattle.member_calls.proofs.content.Tie as tie
@@ -20,8 +20,8 @@ same_length : tie.Need-same-length
 same_length c = search rules
 
 returns : tie.Need-returns
-unfolding contentStep
-returns c = λ queue. replied-as (rw c.before.before.before.before.before.before.before.before.before.before.before.before.packet.given.1 (search (choices, rules) depth 9)) (c.before.before.broadcast.ensures queue)
+unfolding content_step
+returns c = λ queue. replied_as (rw c.before.before.before.before.before.before.before.before.before.before.before.before.packet.given.1 (search (choices, rules) depth 9)) (c.before.before.broadcast.ensures queue)
 
 declined-requires : tie.Need-declined-requires
 declined-requires c κs = search rules
@@ -36,14 +36,14 @@ enum-known-packet-3 : tie.Need-enum-known-packet-3
 enum-known-packet-3 c = search rules
 
 offer-requires : tie.Need-offer-requires
-offer-requires c κs = let a = c.before.before.before.before.before.before.before.before.before.before.before.before.before.args in let p = c.before.before.before.before.before.before.before.before.before.before.before.before.before.requires in (offer-number a.head.group.number _ _ _ _ _ (rw c.before.before.before.before.before.before.before.before.before.packet3.given.1 at p.0), p.1, p.2)
+offer-requires c κs = let a = c.before.before.before.before.before.before.before.before.before.before.before.before.before.args in let p = c.before.before.before.before.before.before.before.before.before.before.before.before.before.requires in (offer_number a.head.group.number _ _ _ _ _ (rw c.before.before.before.before.before.before.before.before.before.packet3.given.1 at p.0), p.1, p.2)
 
 same-length-2 : tie.Need-same-length-2
 same-length-2 c = search rules
 
 returns-2 : tie.Need-returns-2
-unfolding contentStep
-returns-2 c = λ queue. replied-as (rw c.before.before.before.before.before.before.before.before.before.before.before.before.packet3.given.1 (search (choices, rules) depth 9)) (c.before.before.offer.ensures queue)
+unfolding content_step
+returns-2 c = λ queue. replied_as (rw c.before.before.before.before.before.before.before.before.before.before.before.before.packet3.given.1 (search (choices, rules) depth 9)) (c.before.before.offer.ensures queue)
 
 declined-requires-2 : tie.Need-declined-requires-2
 declined-requires-2 c κs = search rules
@@ -97,51 +97,51 @@ declined-requires-9 : tie.Need-declined-requires-9
 declined-requires-9 c κs = search rules
 
 returns-3 : tie.Need-returns-3
-unfolding contentStep
-returns-3 c = λ queue. replied-as (rw c.before.before.before.before.before.packet.given.1 (search (choices, rules) depth 9)) (quiet-done c.before.before.before.before.before.before.before.before.before.args.head queue _ _ _ c.before.before.before.before.before.before.before.before.before.args.out.now c.declined.ensures)
+unfolding content_step
+returns-3 c = λ queue. replied_as (rw c.before.before.before.before.before.packet.given.1 (search (choices, rules) depth 9)) (quiet_done c.before.before.before.before.before.before.before.before.before.args.head queue _ _ _ c.before.before.before.before.before.before.before.before.before.args.out.now c.declined.ensures)
 
 same-length-3 : tie.Need-same-length-3
 same-length-3 c = search rules
 
 returns-4 : tie.Need-returns-4
-unfolding contentStep
-returns-4 c = λ queue. replied-as (rw c.before.before.before.before.before.before.packet2.given.1) (c.before.before.poll.ensures queue _ (counted-in _ _ _ _))
+unfolding content_step
+returns-4 c = λ queue. replied_as (rw c.before.before.before.before.before.before.packet2.given.1) (c.before.before.poll.ensures queue _ (counted_in_lem _ _ _ _))
 
 returns-5 : tie.Need-returns-5
-unfolding contentStep
-returns-5 c = λ queue. replied-as (rw c.before.before.before.before.before.packet3.given.1 (search (choices, rules) depth 9)) (quiet-done c.before.before.before.before.before.before.before.before.before.args.head queue _ _ _ c.before.before.before.before.before.before.before.before.before.args.out.now c.declined2.ensures)
+unfolding content_step
+returns-5 c = λ queue. replied_as (rw c.before.before.before.before.before.packet3.given.1 (search (choices, rules) depth 9)) (quiet_done c.before.before.before.before.before.before.before.before.before.args.head queue _ _ _ c.before.before.before.before.before.before.before.before.before.args.out.now c.declined2.ensures)
 
 returns-6 : tie.Need-returns-6
-unfolding contentStep withAccepted
-returns-6 c = λ queue. replied-as (rw c.before.before.packet4.given.1) (quiet-done (accepting c.before.before.before.before.before.before.args.head _) queue _ _ _ c.before.before.before.before.before.before.args.out.now c.noted.ensures)
+unfolding content_step with_accepted
+returns-6 c = λ queue. replied_as (rw c.before.before.packet4.given.1) (quiet_done (accepting c.before.before.before.before.before.before.args.head _) queue _ _ _ c.before.before.before.before.before.before.args.out.now c.noted.ensures)
 
 returns-7 : tie.Need-returns-7
-unfolding contentStep
-returns-7 c = λ queue. replied-as (rw c.before.enum_told.given.1) (quiet-done c.before.before.before.before.before.args.head queue _ _ _ c.before.before.before.before.before.args.out.now c.declined3.ensures)
+unfolding content_step
+returns-7 c = λ queue. replied_as (rw c.before.enum_told.given.1) (quiet_done c.before.before.before.before.before.args.head queue _ _ _ c.before.before.before.before.before.args.out.now c.declined3.ensures)
 
 returns-8 : tie.Need-returns-8
-unfolding contentStep
-returns-8 c = λ queue. replied-as (rw c.before.enum-told2.given.1) (quiet-done c.before.before.before.before.before.args.head queue _ _ _ c.before.before.before.before.before.args.out.now c.declined4.ensures)
+unfolding content_step
+returns-8 c = λ queue. replied_as (rw c.before.enum-told2.given.1) (quiet_done c.before.before.before.before.before.args.head queue _ _ _ c.before.before.before.before.before.args.out.now c.declined4.ensures)
 
 returns-9 : tie.Need-returns-9
-unfolding contentStep
-returns-9 c = λ queue. replied-as (rw c.before.enum-told3.given.1) (quiet-done c.before.before.before.before.before.args.head queue _ _ _ c.before.before.before.before.before.args.out.now c.declined5.ensures)
+unfolding content_step
+returns-9 c = λ queue. replied_as (rw c.before.enum-told3.given.1) (quiet_done c.before.before.before.before.before.args.head queue _ _ _ c.before.before.before.before.before.args.out.now c.declined5.ensures)
 
 returns-10 : tie.Need-returns-10
-unfolding contentStep
-returns-10 c = λ queue. replied-as (rw c.before.enum-told4.given.1) (quiet-done c.before.before.before.before.before.args.head queue _ _ _ c.before.before.before.before.before.args.out.now c.declined6.ensures)
+unfolding content_step
+returns-10 c = λ queue. replied_as (rw c.before.enum-told4.given.1) (quiet_done c.before.before.before.before.before.args.head queue _ _ _ c.before.before.before.before.before.args.out.now c.declined6.ensures)
 
 returns-11 : tie.Need-returns-11
-unfolding contentStep
-returns-11 c = λ queue. replied-as (rw c.before.enum-told5.given.1) (quiet-done c.before.before.before.before.before.args.head queue _ _ _ c.before.before.before.before.before.args.out.now c.declined7.ensures)
+unfolding content_step
+returns-11 c = λ queue. replied_as (rw c.before.enum-told5.given.1) (quiet_done c.before.before.before.before.before.args.head queue _ _ _ c.before.before.before.before.before.args.out.now c.declined7.ensures)
 
 returns-12 : tie.Need-returns-12
-unfolding contentStep
-returns-12 c = λ queue. replied-as (rw c.before.enum-told6.given.1) (quiet-done c.before.before.before.before.before.args.head queue _ _ _ c.before.before.before.before.before.args.out.now c.declined8.ensures)
+unfolding content_step
+returns-12 c = λ queue. replied_as (rw c.before.enum-told6.given.1) (quiet_done c.before.before.before.before.before.args.head queue _ _ _ c.before.before.before.before.before.args.out.now c.declined8.ensures)
 
 returns-13 : tie.Need-returns-13
-unfolding contentStep
-returns-13 c = λ queue. replied-as (rw c.before.enum-told7.given.1) (quiet-done c.before.before.before.before.before.args.head queue _ _ _ c.before.before.before.before.before.args.out.now c.declined9.ensures)
+unfolding content_step
+returns-13 c = λ queue. replied_as (rw c.before.enum-told7.given.1) (quiet_done c.before.before.before.before.before.args.head queue _ _ _ c.before.before.before.before.before.args.out.now c.declined9.ensures)
 
 pub content-spec : {M : Type 1} → statement M
 content-spec =

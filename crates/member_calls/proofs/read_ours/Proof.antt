@@ -5,7 +5,7 @@ use native.Mathlib.Omega.{arith}
 use Rattle.big_endian.specs.Laws.{Bytes}
 use Rattle.group.proofs.Choice.{choices}
 use Rattle.packet.proofs.Verdicts.{read_named}
-use Rattle.member.specs.Steps.{readOurs}
+use Rattle.member.specs.Steps.{read_ours}
 use borrow.Author.Rules.{rules}
 use Rattle.member_calls.proofs.read_ours.Statement.{statement}
 use Rattle.member_calls.proofs.read_ours.Tie as tie
@@ -24,22 +24,22 @@ from-elected-requires : tie.Need-from-elected-requires
 from-elected-requires c κs = search rules
 
 returns : tie.Need-returns
-unfolding readOurs
+unfolding read_ours
 returns c = rw (← c.before.before.before.before.before.before.before.before.before.read.ensures.0, c.before.before.before.before.before.before.before.r.given.1, ← c.before.before.before.before.before.of.ensures) (search (choices, rules) depth 9)
 
 returns-2 : tie.Need-returns-2
-unfolding readOurs
+unfolding read_ours
 returns-2 c = rw (← c.before.before.before.before.before.before.before.before.before.read.ensures.0, c.before.before.before.before.before.before.before.r.given.1, ← c.before.before.before.before.before.of.ensures) (search (choices, rules) depth 9)
 
 enum-known-r-2 : tie.Need-enum-known-r-2
 enum-known-r-2 c = search rules
 
 returns-3 : tie.Need-returns-3
-unfolding readOurs
+unfolding read_ours
 returns-3 c = rw (← c.before.before.before.before.before.before.read.ensures.0, c.before.before.before.before.r.given.1, ← c.before.before.of.ensures) (search (choices, rules) depth 9)
 
 returns-4 : tie.Need-returns-4
-unfolding readOurs
+unfolding read_ours
 returns-4 c = rw (← c.before.before.before.read.ensures.0, c.before.r2.given.1)
 
 pub read-ours-spec : {M : Type 1} → statement M

@@ -5,7 +5,7 @@ use mathlib.Core.List.{List}
 use Prim.Native.Nat.{ℕ, ◌-◌, ◌≤◌}
 use native.Mathlib.Omega.{arith}
 use lib.ListN.{length, set, get_or, length-set}
-use Rattle.message.proofs.Laying.{over, over-next, over-all}
+use Rattle.message.proofs.Laying.{over, over_next, over_all}
 use borrow.Author.Rules.{rules}
 use Rattle.message.proofs.copy.Statement.{statement}
 use Rattle.message.proofs.copy.Tie as tie
@@ -38,7 +38,7 @@ loop-again c =
     let x = get_or a.bytes.now l.i 0 in (
       omega arith,
       length-set l.part l.i x ∙ l.invariant.1,
-      ap (λ (p : List ℕ). set p l.i x) l.invariant.2 ∙ over-next a.bytes.now a.part.now l.i x 0 refl (omega arith) (omega arith),
+      ap (λ (p : List ℕ). set p l.i x) l.invariant.2 ∙ over_next a.bytes.now a.part.now l.i x 0 refl (omega arith) (omega arith),
     )
 
 same_length : tie.Need-same-length invariant-loop decreases-loop
@@ -48,7 +48,7 @@ returns : tie.Need-returns invariant-loop decreases-loop
 returns c =
     let l = c.before.loop in
     let a = c.before.before.args in
-    l.invariant.2 ∙ over-all a.bytes.now a.part.now l.i (omega arith)
+    l.invariant.2 ∙ over_all a.bytes.now a.part.now l.i (omega arith)
 
 pub copy_spec : {M : Type 1} → statement M
 copy_spec =

@@ -5,14 +5,14 @@ use mathlib.Core.List.{List}
 use Prim.Native.Nat.{ℕ, ◌-◌, ◌≤◌}
 use native.Mathlib.Omega.{arith}
 use lib.ListN.{length, set, length-set}
-use Rattle.message.specs.Message.{zeroedFrom}
-use Rattle.message.proofs.Laying.{over, over-next, zeroed-length, zeroed_start, zeroed-end, zeroed-zero}
+use Rattle.message.specs.Message.{zeroed_from}
+use Rattle.message.proofs.Laying.{over, over_next, zeroed_length, zeroed_start, zeroed_end, zeroed_zero}
 use borrow.Author.Rules.{rules}
 use Rattle.message.proofs.fill.Statement.{statement}
 use Rattle.message.proofs.fill.Tie as tie
 
 abbrev invariant-loop : tie.invariant-loop
-invariant-loop part₀ from i₀ part i = (from ≤ i) × (i ≤ length part₀) × (length part ≡ length part₀) × (part ≡ over i (zeroedFrom from part₀) part₀)
+invariant-loop part₀ from i₀ part i = (from ≤ i) × (i ≤ length part₀) × (length part ≡ length part₀) × (part ≡ over i (zeroed_from from part₀) part₀)
 
 abbrev decreases-loop : tie.decreases-loop
 decreases-loop part₀ from i₀ part i = length part₀ - i
@@ -34,11 +34,11 @@ loop-again c =
     let l = c.before.loop in
     let s = c.before.before in
     let p = s.args.part.now in
-    let n = zeroed-length s.args.from p s.requires in (
+    let n = zeroed_length s.args.from p s.requires in (
       omega arith,
       omega arith,
       length-set l.part l.i 0 ∙ l.invariant.2,
-      ap (λ (q : List ℕ). set q l.i 0) l.invariant.3 ∙ over-next (zeroedFrom s.args.from p) p l.i 0 0 (zeroed-zero s.args.from p s.requires l.i (omega arith) (omega arith)) (omega (arith, n)) (omega arith),
+      ap (λ (q : List ℕ). set q l.i 0) l.invariant.3 ∙ over_next (zeroed_from s.args.from p) p l.i 0 0 (zeroed_zero s.args.from p s.requires l.i (omega arith) (omega arith)) (omega (arith, n)) (omega arith),
     )
 
 same_length : tie.Need-same-length invariant-loop decreases-loop
@@ -48,7 +48,7 @@ returns : tie.Need-returns invariant-loop decreases-loop
 returns c =
     let l = c.before.loop in
     let s = c.before.before in
-    l.invariant.3 ∙ zeroed-end s.args.from s.args.part.now s.requires l.i (omega arith)
+    l.invariant.3 ∙ zeroed_end s.args.from s.args.part.now s.requires l.i (omega arith)
 
 pub fill_spec : {M : Type 1} → statement M
 fill_spec =

@@ -3,8 +3,8 @@
 use mathlib.Core.Path.{sym, ◌∙◌}
 use lib.ListN.{length}
 use Rattle.group.proofs.Choice.{choices}
-use Rattle.packet.proofs.Verdicts.{fits-size}
-use Rattle.packet.specs.Packet.{fieldsVerdict}
+use Rattle.packet.proofs.Verdicts.{fits_size}
+use Rattle.packet.specs.Packet.{fields_verdict}
 use borrow.Author.Rules.{rules}
 use Rattle.packet.proofs.ask_fields.Statement.{statement}
 use Rattle.packet.proofs.ask_fields.Tie as tie
@@ -18,22 +18,22 @@ fits-requires c κs = search rules
 obeys-requires : tie.Need-obeys-requires
 obeys-requires c κs =
     let a = c.before.before.before.before.before.args in
-    (sym c.before.before.before.known.ensures ∙ c.before.before.if1.true, fits-size a.h.kind a.l (length a.payload.now) (sym c.before.fits2.ensures ∙ c.if2.true))
+    (sym c.before.before.before.known.ensures ∙ c.before.before.if1.true, fits_size a.h.kind a.l (length a.payload.now) (sym c.before.fits2.ensures ∙ c.if2.true))
 
 returns : tie.Need-returns
-unfolding fieldsVerdict
+unfolding fields_verdict
 returns c = search (choices, rules) depth 9
 
 returns-2 : tie.Need-returns-2
-unfolding fieldsVerdict
+unfolding fields_verdict
 returns-2 c = search (choices, rules) depth 9
 
 returns-3 : tie.Need-returns-3
-unfolding fieldsVerdict
+unfolding fields_verdict
 returns-3 c = search (choices, rules) depth 9
 
 returns-4 : tie.Need-returns-4
-unfolding fieldsVerdict
+unfolding fields_verdict
 returns-4 c = search (choices, rules) depth 9
 
 pub ask-fields-spec : {M : Type 1} → statement M

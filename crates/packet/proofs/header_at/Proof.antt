@@ -1,6 +1,6 @@
 -- The fields are put together from what stands at their offsets.
 -- Assumes nothing.
-use Rattle.packet.specs.Packet.{headerOf}
+use Rattle.packet.specs.Packet.{header_of}
 use borrow.Author.Rules.{rules}
 use Rattle.packet.proofs.header_at.Statement.{statement}
 use Rattle.packet.proofs.header_at.Tie as tie
@@ -24,7 +24,7 @@ shared-slice-read-t9 : tie.Need-shared-slice-read-t9
 shared-slice-read-t9 c = search rules
 
 returns : tie.Need-returns
-unfolding headerOf
+unfolding header_of
 returns c =
     rw (c.before.before.before.before.before.u32-at.ensures, c.before.before.before.before.u32-at2.ensures, c.before.before.before.u32-at3.ensures, c.before.before.u32-at4.ensures)
 

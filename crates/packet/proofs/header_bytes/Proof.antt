@@ -1,7 +1,7 @@
 -- The bytes of each field, one after the other, by computation.
 -- Assumes nothing.
 use Rattle.big_endian.specs.Number.{bytes_of}
-use Rattle.packet.specs.Packet.{headerBytes}
+use Rattle.packet.specs.Packet.{header_bytes}
 use borrow.Author.Rules.{rules}
 use Rattle.packet.proofs.header_bytes.Statement.{statement}
 use Rattle.packet.proofs.header_bytes.Tie as tie
@@ -79,7 +79,7 @@ array-read-t64 : tie.Need-array-read-t64
 array-read-t64 c = search rules
 
 returns : tie.Need-returns
-unfolding headerBytes bytes_of
+unfolding header_bytes bytes_of
 returns c =
     rw (c.u32-bytes4.ensures, c.before.u32-bytes3.ensures, c.before.before.u32-bytes2.ensures, c.before.before.before.u32-bytes.ensures, c.before.before.before.before.u16-bytes.ensures)
 

@@ -4,10 +4,10 @@ use mathlib.Core.Path.{ap, ◌∙◌}
 use mathlib.Core.List.{List}
 use Prim.Native.Nat.{ℕ}
 use lib.ListN.{length}
-use Rattle.group.specs.Limits.{headerSize}
+use Rattle.group.specs.Limits.{header_size}
 use Rattle.group.specs.Lent.{front}
-use Rattle.packet.specs.Packet.{headerBytes, packetOf}
-use Rattle.packet.proofs.RoundTrip.{headerBytes-length}
+use Rattle.packet.specs.Packet.{header_bytes, packet_of}
+use Rattle.packet.proofs.RoundTrip.{header_bytes-length}
 use Rattle.packet.proofs.Parts.{behind}
 use borrow.Author.Rules.{rules}
 use Rattle.packet.proofs.lay.Statement.{statement}
@@ -38,13 +38,13 @@ same_length : tie.Need-same-length
 same_length c = search rules
 
 returns : tie.Need-returns
-unfolding packetOf
+unfolding packet_of
 returns c =
     let f = c.before.before.before.before.before.before in
     let a = f.before.before.before.before.before.before.args in
-    let h = headerBytes a.h (length a.payload.now) in
-    behind headerSize h a.payload.now a.out.now f.copy.new.1.0 c.before.before.copy2.new.1.0
-    (headerBytes-length a.h (length a.payload.now)) (search rules)
+    let h = header_bytes a.h (length a.payload.now) in
+    behind header_size h a.payload.now a.out.now f.copy.new.1.0 c.before.before.copy2.new.1.0
+    (header_bytes-length a.h (length a.payload.now)) (search rules)
     (f.copy.ensures ∙ ap (λ (l : List ℕ). front l a.out.now) f.before.before.before.header-bytes.ensures)
     c.before.before.copy2.ensures
 

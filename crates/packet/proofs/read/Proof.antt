@@ -7,7 +7,7 @@ use Prim.Native.Nat.{ℕ, ◌-◌}
 use native.Mathlib.Omega.{arith}
 use lib.ListN.{length, take, length-drop}
 use lib.Seq.{take_all}
-use Rattle.group.specs.Limits.{headerSize}
+use Rattle.group.specs.Limits.{header_size}
 use Rattle.packet.specs.declared.Header.{Header}
 use Rattle.group.specs.Question.{judged}
 use Rattle.group.specs.declared.Verdict.{Verdict}
@@ -15,23 +15,23 @@ use Rattle.group.proofs.Choice.{choices, tests}
 use Rattle.packet.specs.declared.Reading.{Reading}
 use Rattle.packet.proofs.Verdicts.{read_by}
 use Rattle.group.proofs.Wording.{worded}
-use Rattle.packet.specs.Wording.{readingWording}
-use Rattle.packet.specs.Packet.{payloadAt, fieldsVerdict, read_of}
+use Rattle.packet.specs.Wording.{reading_wording}
+use Rattle.packet.specs.Packet.{payload_at, fields_verdict, read_of}
 use borrow.Author.Rules.{rules}
 use Rattle.packet.proofs.read.Statement.{statement}
 use Rattle.packet.proofs.read.Tie as tie
 
 -- the part lent is the payload: the stretch behind the header, whole
-part : (p : List ℕ) (h : Header) (l : ℕ) → fieldsVerdict h l (take (length p - headerSize) (payloadAt p)) ≡ fieldsVerdict h l (payloadAt p)
-part p h l = ap (λ (x : List ℕ). fieldsVerdict h l x) (take_all (length p - headerSize) (payloadAt p) (simp length-drop (omega arith)))
+part : (p : List ℕ) (h : Header) (l : ℕ) → fields_verdict h l (take (length p - header_size) (payload_at p)) ≡ fields_verdict h l (payload_at p)
+part p h l = ap (λ (x : List ℕ). fields_verdict h l x) (take_all (length p - header_size) (payload_at p) (simp length-drop (omega arith)))
 
 returns : tie.Need-returns
 unfolding read_of
-returns c = worded readingWording (search (choices, tests, rules) depth 9)
+returns c = worded reading_wording (search (choices, tests, rules) depth 9)
 
 returns-2 : tie.Need-returns-2
 unfolding read_of
-returns-2 c = worded readingWording (search (choices, tests, rules) depth 9)
+returns-2 c = worded reading_wording (search (choices, tests, rules) depth 9)
 
 header-at-requires : tie.Need-header-at-requires
 header-at-requires c κs = search rules
@@ -61,10 +61,10 @@ returns-3 : tie.Need-returns-3
 unfolding judged
 returns-3 c =
     let h = c.before.before.before.before.before.header_at in
-    let l = c.before.before.before.before.payload-length in
+    let l = c.before.before.before.before.payload_length in
     let v = c.before.before.ask-fields in
     let p = c.before.before.before.before.before.before.before.before.before.args.packet.now in
-    worded readingWording
+    worded reading_wording
     (ap (λ (v : Verdict). judged v Reading.Refused (Reading.Fields h.result)) (sym c.enum_told.given.1)
     ∙ read_by p h.result l.result v.result (search rules) (search rules) h.ensures l.ensures (v.ensures ∙ part p h.result l.result))
 
@@ -72,10 +72,10 @@ returns-4 : tie.Need-returns-4
 unfolding judged
 returns-4 c =
     let h = c.before.before.before.before.before.before.header_at in
-    let l = c.before.before.before.before.before.payload-length in
+    let l = c.before.before.before.before.before.payload_length in
     let v = c.before.before.before.ask-fields in
     let p = c.before.before.before.before.before.before.before.before.before.before.args.packet.now in
-    worded readingWording
+    worded reading_wording
     (ap (λ (v : Verdict). judged v Reading.Refused (Reading.Fields h.result)) (sym c.before.v.given.1)
     ∙ read_by p h.result l.result v.result (search rules) (search rules) h.ensures l.ensures (v.ensures ∙ part p h.result l.result))
 

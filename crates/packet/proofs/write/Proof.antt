@@ -6,8 +6,8 @@ use Prim.Native.Nat.{ℕ}
 use native.Mathlib.Omega.{arith}
 use lib.ListN.{length}
 use Rattle.group.specs.Lent.{front}
-use Rattle.packet.proofs.Verdicts.{writable, written, written-not}
-use Rattle.packet.specs.Wording.{writingWording}
+use Rattle.packet.proofs.Verdicts.{writable, written, written_not}
+use Rattle.packet.specs.Wording.{writing_wording}
 use borrow.Author.Rules.{rules}
 use Rattle.packet.proofs.write.Statement.{statement}
 use Rattle.packet.proofs.write.Tie as tie
@@ -36,13 +36,13 @@ returns : tie.Need-returns
 returns c =
     let a = c.before.before.before.before.before.before.before.before.before.args in
     let w = written a.h a.payload.now (length a.out.now) (sym c.before.before.before.before.before.before.ask-writing.ensures ∙ c.before.before.before.before.enum_told.given.1) in
-    (w.0, (c.before.before.lay.ensures ∙ ap (λ (l : List ℕ). front l a.out.now) w.1, ap writingWording w.0))
+    (w.0, (c.before.before.lay.ensures ∙ ap (λ (l : List ℕ). front l a.out.now) w.1, ap writing_wording w.0))
 
 returns-2 : tie.Need-returns-2
 returns-2 c =
     let a = c.before.before.before.before.before.before.args in
-    let w = written-not a.h a.payload.now (length a.out.now) _ (sym c.before.before.before.ask-writing.ensures ∙ c.before.v.given.1) in
-    (w.0, (ap (λ (l : List ℕ). front l a.out.now) w.1, ap writingWording w.0))
+    let w = written_not a.h a.payload.now (length a.out.now) _ (sym c.before.before.before.ask-writing.ensures ∙ c.before.v.given.1) in
+    (w.0, (ap (λ (l : List ℕ). front l a.out.now) w.1, ap writing_wording w.0))
 
 pub write_spec : {M : Type 1} → statement M
 write_spec =

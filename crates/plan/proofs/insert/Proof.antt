@@ -7,7 +7,7 @@ use native.Mathlib.Omega.{arith}
 use lib.ListN.{length, set, get_or, take, length-set}
 use Rattle.message.proofs.Laying.{over}
 use Rattle.plan.specs.Table.{inserted}
-use Rattle.plan.proofs.Tables.{grown-start, grown-at, grown-behind, over-behind, over-on, over_done}
+use Rattle.plan.proofs.Tables.{grown_start, grown_at, grown_behind, over_behind, over_on, over_done}
 use borrow.Author.Rules.{rules}
 use Rattle.plan.proofs.insert.Statement.{statement}
 use Rattle.plan.proofs.insert.Tie as tie
@@ -26,8 +26,8 @@ loop-holds c =
       search rules,
       search rules,
       refl,
-      sym (grown-start t a.count a.at a.number (search rules) (search rules)),
-      λ h. sym (grown-at t a.count a.at a.number (search rules) (search rules)),
+      sym (grown_start t a.count a.at a.number (search rules) (search rules)),
+      λ h. sym (grown_at t a.count a.at a.number (search rules) (search rules)),
     )
 
 mul-old : tie.Need-overflow-mul-old invariant-loop decreases-loop
@@ -58,12 +58,12 @@ loop-again c =
     let p : a.at ≤ a.count = search rules in
     let q = c.before.before.before.requires.1 in
     let old : get_or l.table l.i 0 ≡ get_or t l.i 0 =
-    ap (λ (x : List ℕ). get_or x l.i 0) same ∙ over-behind t a.count a.at a.number p q l.i h in (
+    ap (λ (x : List ℕ). get_or x l.i 0) same ∙ over_behind t a.count a.at a.number p q l.i h in (
       omega arith,
       omega arith,
       length-set l.table l.i l.carried ∙ size,
-      ap (λ (x : List ℕ). set x l.i l.carried) same ∙ over-on t a.count a.at a.number p q l.i l.carried h (next h),
-      λ k. old ∙ sym (grown-behind t a.count a.at a.number p q l.i low (omega arith)),
+      ap (λ (x : List ℕ). set x l.i l.carried) same ∙ over_on t a.count a.at a.number p q l.i l.carried h (next h),
+      λ k. old ∙ sym (grown_behind t a.count a.at a.number p q l.i low (omega arith)),
     )
 
 same_length : tie.Need-same-length invariant-loop decreases-loop

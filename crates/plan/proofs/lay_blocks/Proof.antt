@@ -1,7 +1,7 @@
 -- The blocks are counted, the room is asked, and they are laid.
 -- Assumes nothing.
 use native.Mathlib.Omega.{arith}
-use Rattle.plan.proofs.Planning.{lays-short, lays_all}
+use Rattle.plan.proofs.Planning.{lays_short, lays_all}
 use borrow.Author.Rules.{rules}
 use Rattle.plan.proofs.lay_blocks.Statement.{statement}
 use Rattle.plan.proofs.lay_blocks.Tie as tie
@@ -16,7 +16,7 @@ returns : tie.Need-returns
 returns c =
     let s = c.before.before.pack.ensures.size in
     let t = c.if1.true in
-    lays-short _ _ c.before.before.before.before.before.before.before.args.out.now (omega arith)
+    lays_short _ _ c.before.before.before.before.before.before.before.args.out.now (omega arith)
 
 pack-requires-2 : tie.Need-pack-requires-2
 pack-requires-2 c κs = search rules

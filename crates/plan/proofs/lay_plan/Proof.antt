@@ -1,7 +1,7 @@
 -- The room is asked, and the plan is laid.
 -- Assumes nothing.
 use mathlib.Core.Path.{◌≡◌, refl, sym, ap, ◌∙◌}
-use Rattle.plan.proofs.Planning.{lays-short, lays_all}
+use Rattle.plan.proofs.Planning.{lays_short, lays_all}
 use borrow.Author.Rules.{rules}
 use Rattle.plan.proofs.lay_plan.Statement.{statement}
 use Rattle.plan.proofs.lay_plan.Tie as tie
@@ -12,7 +12,7 @@ plan-size-requires c κs = search rules
 returns : tie.Need-returns
 returns c =
     let e = c.before.plan-size.ensures in
-    lays-short _ _ c.before.before.before.before.before.args.out.now (rw e at c.if1.true)
+    lays_short _ _ c.before.before.before.before.before.args.out.now (rw e at c.if1.true)
 
 put-plan-requires : tie.Need-put-plan-requires
 put-plan-requires c κs = search rules

@@ -8,7 +8,7 @@ use lib.ListN.{length, take}
 use lib.Seq.{length-take-le}
 use Rattle.group.specs.Choice.{◌<?◌}
 use Rattle.group.proofs.Choice.{both_first}
-use Rattle.plan.proofs.Noting.{noted-over, noted-full, noted-new}
+use Rattle.plan.proofs.Noting.{noted_over, noted_full, noted_new}
 use borrow.Author.Rules.{rules}
 use Rattle.plan.proofs.note.Statement.{statement}
 use Rattle.plan.proofs.note.Tie as tie
@@ -47,7 +47,7 @@ returns c =
     let p = c.before.before.before.place.ensures in
     let pre = c.before.before.before.before.before.before.before.requires in
     let t = sym c.before.stands.ensures ∙ c.if1.true in
-    noted-over a.units.now a.places.now a.count a.unit a.start _ pre.0 pre.1 pre.2 p t
+    noted_over a.units.now a.places.now a.count a.unit a.start _ pre.0 pre.1 pre.2 p t
 
 add-result : tie.Need-overflow-add-result
 add-result c = search rules
@@ -61,7 +61,7 @@ returns-2 c =
     let p = c.before.before.before.before.place.ensures in
     let pre = c.before.before.before.before.before.before.before.before.requires in
     let t = sym c.before.before.stands.ensures ∙ c.before.if1.false in
-    noted-full a.units.now a.places.now a.count a.unit a.start _ pre.0 pre.1 pre.2 p t (search rules)
+    noted_full a.units.now a.places.now a.count a.unit a.start _ pre.0 pre.1 pre.2 p t (search rules)
 
 insert-requires : tie.Need-insert-requires
 insert-requires c κs =
@@ -94,7 +94,7 @@ returns-3 c =
     let p = c.before.before.before.before.before.before.before.before.before.before.before.before.place.ensures in
     let pre = c.before.before.before.before.before.before.before.before.before.before.before.before.before.before.before.before.requires in
     let t = sym c.before.before.before.before.before.before.before.before.before.before.stands.ensures ∙ c.before.before.before.before.before.before.before.before.before.if1.false in
-    noted-new a.units.now a.places.now a.count a.unit a.start _ pre.0 pre.1 pre.2 p _ _ t c.before.before.before.before.before.before.insert.ensures c.before.before.insert2.ensures (search rules)
+    noted_new a.units.now a.places.now a.count a.unit a.start _ pre.0 pre.1 pre.2 p _ _ t c.before.before.before.before.before.before.insert.ensures c.before.before.insert2.ensures (search rules)
 
 pub note-spec : {M : Type 1} → statement M
 note-spec =

@@ -1,7 +1,7 @@
 -- A record that sets no unit leaves the tables; another is noted.
 -- Assumes nothing.
 use mathlib.Core.Path.{sym, ◌∙◌}
-use Rattle.plan.proofs.Gathering.{spot-long, spot-unit, spot-unnoted, spot-noted}
+use Rattle.plan.proofs.Gathering.{spot_long, spot_unit, spot_unnoted, spot_noted}
 use borrow.Author.Rules.{rules}
 use Rattle.plan.proofs.note_spot.Statement.{statement}
 use Rattle.plan.proofs.note_spot.Tie as tie
@@ -17,7 +17,7 @@ add-u16-at c = search rules
 
 u16-at-requires : tie.Need-u16-at-requires
 u16-at-requires c κs =
-    let long = spot-long c.before.before.before.before.before.before.args.journal.now c.before.before.before.before.before.before.args.spot c.before.before.before.before.before.before.requires.0 (sym c.before.before.sets-unit.ensures ∙ c.before.if1.true) in
+    let long = spot_long c.before.before.before.before.before.before.args.journal.now c.before.before.before.before.before.before.args.spot c.before.before.before.before.before.before.requires.0 (sym c.before.before.sets-unit.ensures ∙ c.before.if1.true) in
     search rules
 
 cast-unit : tie.Need-overflow-cast-unit
@@ -37,14 +37,14 @@ returns c =
     let a = c.before.before.before.before.before.before.before.before.before.before.before.before.before.before.args in
     let stands = c.before.before.before.before.before.before.before.before.before.before.before.before.before.before.requires.0 in
     let setting = sym c.before.before.before.before.before.before.before.before.before.before.sets-unit.ensures ∙ c.before.before.before.before.before.before.before.before.before.if1.true in
-    let long = spot-long a.journal.now a.spot stands setting in
-    spot-noted a.journal.now a.spot stands _ _ _ _ _ _ _ setting (spot-unit a.journal.now a.spot stands long ∙ sym c.before.before.before.before.before.before.before.u16-at.ensures) c.before.before.before.before.note.ensures
+    let long = spot_long a.journal.now a.spot stands setting in
+    spot_noted a.journal.now a.spot stands _ _ _ _ _ _ _ setting (spot_unit a.journal.now a.spot stands long ∙ sym c.before.before.before.before.before.before.before.u16-at.ensures) c.before.before.before.before.note.ensures
 
 returns-2 : tie.Need-returns-2
 returns-2 c =
     let a = c.before.before.before.before.before.args in
     let (stands, sizes) = c.before.before.before.before.before.requires in
-    spot-unnoted a.journal.now a.spot stands _ _ _ sizes.2 (sym c.before.sets-unit.ensures ∙ c.if1.false)
+    spot_unnoted a.journal.now a.spot stands _ _ _ sizes.2 (sym c.before.sets-unit.ensures ∙ c.if1.false)
 
 pub note-spot-spec : {M : Type 1} → statement M
 note-spot-spec =

@@ -3,8 +3,8 @@
 use Prim.Native.Nat.{ℕ}
 use native.Mathlib.Omega.{arith}
 use lib.ListN.{take, length-replicate}
-use Rattle.plan.proofs.Stepping.{messages-small}
-use Rattle.plan.proofs.Filling.{packed_none, packed-last}
+use Rattle.plan.proofs.Stepping.{messages_small}
+use Rattle.plan.proofs.Filling.{packed_none, packed_last}
 use borrow.Author.Rules.{rules}
 use Rattle.plan.proofs.pack.Statement.{statement}
 use Rattle.plan.proofs.pack.Tie as tie
@@ -21,7 +21,7 @@ same_length c = search rules
 returns : tie.Need-returns
 returns c =
     let a = c.before.before.before.before.before.before.before.before.before.before.before.args in
-    packed_none _ (messages-small a.journal.now (take a.count a.places.now) c.before.before.before.before.before.before.before.before.before.before.before.requires.1) _ a.out.now (length-replicate {A = ℕ} 512 0) _ _ _ c.before.before.before.before.before.pack-all.ensures.0 c.if1.true
+    packed_none _ (messages_small a.journal.now (take a.count a.places.now) c.before.before.before.before.before.before.before.before.before.before.before.requires.1) _ a.out.now (length-replicate {A = ℕ} 512 0) _ _ _ c.before.before.before.before.before.pack-all.ensures.0 c.if1.true
 
 slice-aggregate-close : tie.Need-slice-aggregate-close
 slice-aggregate-close c = search rules
@@ -45,7 +45,7 @@ same-length-2 c = search rules
 returns-2 : tie.Need-returns-2
 returns-2 c =
     let a = c.before.before.before.before.before.before.before.before.before.before.before.before.before.before.before.before.before.args in
-    packed-last _ (messages-small a.journal.now (take a.count a.places.now) c.before.before.before.before.before.before.before.before.before.before.before.before.before.before.before.before.before.requires.1) _ a.out.now (length-replicate {A = ℕ} 512 0) _ _ _ c.before.before.before.before.before.before.before.before.before.before.before.pack-all.ensures.0 _ c.before.before.before.before.before.before.if1.false c.before.before.before.close.ensures
+    packed_last _ (messages_small a.journal.now (take a.count a.places.now) c.before.before.before.before.before.before.before.before.before.before.before.before.before.before.before.before.before.requires.1) _ a.out.now (length-replicate {A = ℕ} 512 0) _ _ _ c.before.before.before.before.before.before.before.before.before.before.before.pack-all.ensures.0 _ c.before.before.before.before.before.before.if1.false c.before.before.before.close.ensures
 
 pub pack-spec : {M : Type 1} → statement M
 pack-spec =

@@ -4,15 +4,15 @@ use mathlib.Core.Path.{sym, ◌∙◌}
 use Prim.Native.Nat.{◌-◌, ◌<◌}
 use native.Mathlib.Omega.{arith}
 use lib.ListN.{length, take}
-use Rattle.plan.specs.Pack.{messagesAt, packs, freshPacker, packedBy}
-use Rattle.plan.proofs.Stepping.{Stepping, stepping-start, stepping-spotted, stepping-on, stepping-done}
+use Rattle.plan.specs.Pack.{messages_at, packs, fresh_packer, packed_by}
+use Rattle.plan.proofs.Stepping.{Stepping, stepping_start, stepping_spotted, stepping_on, stepping_done}
 use borrow.Author.Rules.{rules}
 use Rattle.plan.proofs.pack_all.Statement.{statement}
 use Rattle.plan.proofs.pack_all.Tie as tie
 
 abbrev invariant-loop : tie.invariant-loop
 invariant-loop journal places count hand₀ out₀ packer₀ i₀ hand out packer i =
-    Stepping journal places count (length out₀) (packedBy (packs freshPacker hand₀ out₀) (messagesAt journal (take count places))) (packs packer hand out) i
+    Stepping journal places count (length out₀) (packed_by (packs fresh_packer hand₀ out₀) (messages_at journal (take count places))) (packs packer hand out) i
 
 abbrev decreases-loop : tie.decreases-loop
 decreases-loop journal places count hand₀ out₀ packer₀ i₀ hand out packer i = count - i
@@ -23,7 +23,7 @@ fresh-requires c κs = search rules
 loop-holds : tie.Need-loop-init invariant-loop decreases-loop
 loop-holds c =
     let a = c.before.before.before.before.before.args in
-    stepping-start a.journal.now a.places.now a.count a.hand.now a.out.now _ c.before.before.before.before.before.requires.2 c.fresh.ensures
+    stepping_start a.journal.now a.places.now a.count a.hand.now a.out.now _ c.before.before.before.before.before.requires.2 c.fresh.ensures
 
 mul-spot-at : tie.Need-overflow-mul-spot-at invariant-loop decreases-loop
 mul-spot-at c = search rules
@@ -36,7 +36,7 @@ spot-at-requires c κs =
     let l = c.before.before.loop in
     let a = c.before.before.before.before.before.before.before.before.args in
     let (fits, all, sized) = c.before.before.before.before.before.before.before.before.requires in
-    (stepping-spotted a.journal.now a.places.now a.count _ _ (packs l.packer l.hand l.out) l.i fits all l.invariant c.before.loop-test.true).within
+    (stepping_spotted a.journal.now a.places.now a.count _ _ (packs l.packer l.hand l.out) l.i fits all l.invariant c.before.loop-test.true).within
 
 keep-requires : tie.Need-keep-requires invariant-loop decreases-loop
 keep-requires c κs =
@@ -49,7 +49,7 @@ keep-requires c κs =
     let met = s.met in
     let machine = c.before.before.before.before.before.before.before.before.before.before.before.ranges in
     let most : a.count < 18446744073709551616 = omega arith in
-    ((rw (← c.before.before.spot-at.ensures) at (stepping-spotted a.journal.now a.places.now a.count _ _ (packs l.packer l.hand l.out) l.i fits all i t).stands, i.fit.hand-size), (s.few, s.room, omega arith))
+    ((rw (← c.before.before.spot-at.ensures) at (stepping_spotted a.journal.now a.places.now a.count _ _ (packs l.packer l.hand l.out) l.i fits all i t).stands, i.fit.hand_size), (s.few, s.room, omega arith))
 
 add-i : tie.Need-overflow-add-i invariant-loop decreases-loop
 add-i c = search rules
@@ -62,20 +62,20 @@ loop-again c =
     let l = c.before.before.before.before.before.before.before.before.before.before.loop in
     let a = c.before.before.before.before.before.before.before.before.before.before.before.before.before.before.before.before.args in
     let (fits, all, sized) = c.before.before.before.before.before.before.before.before.before.before.before.before.before.before.before.before.requires in
-    stepping-on a.journal.now a.places.now a.count _ _ (packs l.packer l.hand l.out) l.i fits all l.invariant _ _ c.before.before.before.before.before.before.before.before.before.loop-test.true c.before.before.before.before.before.before.before.spot-at.ensures c.before.before.before.before.keep.ensures
+    stepping_on a.journal.now a.places.now a.count _ _ (packs l.packer l.hand l.out) l.i fits all l.invariant _ _ c.before.before.before.before.before.before.before.before.before.loop-test.true c.before.before.before.before.before.before.before.spot-at.ensures c.before.before.before.before.keep.ensures
 
 same_length : tie.Need-same-length invariant-loop decreases-loop
-same_length c = c.before.loop.invariant.fit.hand-size ∙ sym c.before.before.before.before.before.before.before.requires.2
+same_length c = c.before.loop.invariant.fit.hand_size ∙ sym c.before.before.before.before.before.before.before.requires.2
 
 same-length-2 : tie.Need-same-length-2 invariant-loop decreases-loop
-same-length-2 c = c.before.loop.invariant.fit.out-size
+same-length-2 c = c.before.loop.invariant.fit.out_size
 
 returns : tie.Need-returns invariant-loop decreases-loop
 returns c =
     let l = c.before.loop in
     let a = c.before.before.before.before.before.before.before.args in
     let (fits, all, sized) = c.before.before.before.before.before.before.before.requires in
-    stepping-done a.journal.now a.places.now a.count _ _ (packs l.packer l.hand l.out) l.i fits all l.invariant (search rules)
+    stepping_done a.journal.now a.places.now a.count _ _ (packs l.packer l.hand l.out) l.i fits all l.invariant (search rules)
 
 pub pack-all-spec : {M : Type 1} → statement M
 pack-all-spec =

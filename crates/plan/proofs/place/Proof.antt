@@ -6,7 +6,7 @@ use native.Mathlib.Omega.{arith}
 use lib.ListN.{length, get_or, take}
 use lib.Seq.{length-take-le, get_or-take}
 use Rattle.plan.specs.Table.{Rising}
-use Rattle.plan.proofs.Tables.{Bounds, bounds-all, bounds-up, bounds-down, place_is}
+use Rattle.plan.proofs.Tables.{Bounds, bounds_all, bounds_up, bounds_down, place_is}
 use borrow.Author.Rules.{rules}
 use Rattle.plan.proofs.place.Statement.{statement}
 use Rattle.plan.proofs.place.Tie as tie
@@ -22,7 +22,7 @@ loop-holds c =
     let a = c.args in
     let l = take a.count a.table.now in
     let n : length l ≡ a.count = length-take-le a.count a.table.now c.requires in
-    (search rules, search rules, λ r. rw n at (bounds-all a.number l))
+    (search rules, search rules, λ r. rw n at (bounds_all a.number l))
 
 sub-middle : tie.Need-overflow-sub-middle invariant-loop decreases-loop
 sub-middle c = search rules
@@ -51,7 +51,7 @@ loop-again c =
     let middle = l.low + (l.high - l.low) / 2 in
     let m : middle < a.count = search rules in
     let same : get_or t middle 0 ≡ get_or a.table.now middle 0 = get_or-take a.count a.table.now middle 0 m in
-    (search rules, search rules, λ r. bounds-up a.number t l.low l.high middle r (l.invariant.2 r) (rw n m) (rw same (search rules)))
+    (search rules, search rules, λ r. bounds_up a.number t l.low l.high middle r (l.invariant.2 r) (rw n m) (rw same (search rules)))
 
 loop-less-2 : tie.Need-loop-smaller-2 invariant-loop decreases-loop
 loop-less-2 c = search rules
@@ -65,7 +65,7 @@ loop-again-2 c =
     let middle = l.low + (l.high - l.low) / 2 in
     let m : middle < a.count = search rules in
     let same : get_or t middle 0 ≡ get_or a.table.now middle 0 = get_or-take a.count a.table.now middle 0 m in
-    (search rules, search rules, λ r. bounds-down a.number t l.low l.high middle r (l.invariant.2 r) (rw same (search rules)))
+    (search rules, search rules, λ r. bounds_down a.number t l.low l.high middle r (l.invariant.2 r) (rw same (search rules)))
 
 returns : tie.Need-returns invariant-loop decreases-loop
 returns c =

@@ -5,7 +5,7 @@ use Prim.Native.Nat.{ℕ, ◌+◌, ◌*◌, ◌-◌, ◌≤◌, ◌<◌}
 use native.Mathlib.Omega.{arith}
 use lib.ListN.{length, take}
 use Rattle.plan.specs.Table.{plan_at}
-use Rattle.plan.proofs.Printing.{stands_at, table-size, table-all}
+use Rattle.plan.proofs.Printing.{stands_at, table_size, table_all}
 use borrow.Author.Rules.{rules}
 use Rattle.plan.proofs.plan_size.Statement.{statement}
 use Rattle.plan.proofs.plan_size.Tie as tie
@@ -53,7 +53,7 @@ loop-again c =
     let a = c.before.before.before.before.before.before.args in
     let (fits, most, all) = c.before.before.before.before.before.before.requires in
     let h : l.i < a.count = search rules in
-    let e = table-size a.journal.now a.places.now a.count l.i fits h all in
+    let e = table_size a.journal.now a.places.now a.count l.i fits h all in
     let (same, small) = c.length_before.ensures in
     let inv = l.invariant.2 in
     (search rules, search rules, omega arith)
@@ -62,7 +62,7 @@ returns : tie.Need-returns invariant-loop decreases-loop
 returns c =
     let l = c.before.loop in
     let a = c.before.before.before.before.args in
-    l.invariant.2 ∙ ap length (table-all a.journal.now a.places.now a.count l.i c.before.before.before.before.requires.0 (search rules))
+    l.invariant.2 ∙ ap length (table_all a.journal.now a.places.now a.count l.i c.before.before.before.before.requires.0 (search rules))
 
 pub plan-size-spec : {M : Type 1} → statement M
 plan-size-spec =

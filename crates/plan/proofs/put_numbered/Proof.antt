@@ -1,6 +1,6 @@
 -- The number, and the record behind it.
 -- Assumes nothing.
-use Rattle.plan.proofs.Stepping.{numbered-laid}
+use Rattle.plan.proofs.Stepping.{numbered_laid}
 use borrow.Author.Rules.{rules}
 use Rattle.plan.proofs.put_numbered.Statement.{statement}
 use Rattle.plan.proofs.put_numbered.Tie as tie
@@ -44,7 +44,7 @@ same_length c = search rules
 returns : tie.Need-returns
 returns c =
     let a = c.before.before.before.before.before.before.before.before.before.before.before.before.before.before.before.before.args in
-    numbered-laid a.journal.now a.spot c.before.before.before.before.before.before.before.before.before.before.before.before.before.before.before.before.requires.0 _ _ c.before.before.before.before.before.before.before.before.before.before.before.before.u32-bytes.ensures c.before.before.before.before.before.before.u32-at.ensures c.before.before.before.before.before.before.before.before.before.put-text.ensures c.before.before.put_record.ensures
+    numbered_laid a.journal.now a.spot c.before.before.before.before.before.before.before.before.before.before.before.before.before.before.before.before.requires.0 _ _ c.before.before.before.before.before.before.before.before.before.before.before.before.u32-bytes.ensures c.before.before.before.before.before.before.u32-at.ensures c.before.before.before.before.before.before.before.before.before.put-text.ensures c.before.before.put_record.ensures
 
 pub put-numbered-spec : {M : Type 1} → statement M
 put-numbered-spec =

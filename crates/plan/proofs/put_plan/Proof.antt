@@ -8,7 +8,7 @@ use native.Mathlib.Nat.{zero-add}
 use Rattle.text.specs.LaidAt.{LaidAt}
 use Rattle.text.proofs.Pieces.{laid_none, laid_then}
 use Rattle.plan.specs.Table.{row_at, plan_at}
-use Rattle.plan.proofs.Printing.{stands_at, table_on, table-room, table-all}
+use Rattle.plan.proofs.Printing.{stands_at, table_on, table_room_lem, table_all}
 use borrow.Author.Rules.{rules}
 use Rattle.plan.proofs.put_plan.Statement.{statement}
 use Rattle.plan.proofs.put_plan.Tie as tie
@@ -38,7 +38,7 @@ put-row-requires c κs =
     let t = a.places.now in
     let (fits, all, room) = c.before.before.before.before.before.before.before.requires in
     let h : l.i < a.count = search rules in
-    let r = table-room j t a.count l.i fits h all in
+    let r = table_room_lem j t a.count l.i fits h all in
     let e = l.invariant.2.ends in
     (stands_at j t a.count l.i fits h all, search rules)
 
@@ -68,7 +68,7 @@ returns : tie.Need-returns invariant-loop decreases-loop
 returns c =
     let l = c.before.loop in
     let a = c.before.before.before.before.before.args in
-    let e = table-all a.journal.now a.places.now a.count l.i c.before.before.before.before.before.requires.0 (search rules) in
+    let e = table_all a.journal.now a.places.now a.count l.i c.before.before.before.before.before.requires.0 (search rules) in
     l.invariant.2.lays ∙ rw (e, zero-add)
 
 pub put-plan-spec : {M : Type 1} → statement M

@@ -8,7 +8,7 @@ use lib.ListN.{length, take, drop}
 use Rattle.big_endian.specs.Number.{number_at, bytes_of}
 use Rattle.text.specs.LaidAt.{LaidAt}
 use Rattle.text.proofs.Pieces.{laid_then}
-use Rattle.plan.specs.Table.{lengthBefore, row_at}
+use Rattle.plan.specs.Table.{length_before, row_at}
 use borrow.Author.Rules.{rules}
 use Rattle.plan.proofs.put_row.Statement.{statement}
 use Rattle.plan.proofs.put_row.Tie as tie
@@ -73,11 +73,11 @@ returns c =
     let a = c.before.before.before.before.before.before.before.before.before.before.before.before.before.before.before.before.before.before.before.before.before.args in
     let j = a.journal.now in
     let unit = bytes_of 2 (number_at 2 j (a.start + 1)) in
-    let size = bytes_of 2 (lengthBefore j a.start - 3) in
-    let text = take (lengthBefore j a.start - 3) (drop (a.start + 3) j) in
+    let size = bytes_of 2 (length_before j a.start - 3) in
+    let text = take (length_before j a.start - 3) (drop (a.start + 3) j) in
     let n = c.before.before.before.before.before.before.before.before.before.before.before.before.before.before.before.before.before.before.length_before.result in
-    let same : n ≡ lengthBefore j a.start = c.before.before.before.before.before.before.before.before.before.before.before.before.before.before.before.before.before.before.length_before.ensures.0 in
-    let e : a.start + n - (a.start + 3) ≡ lengthBefore j a.start - 3 = omega arith in
+    let same : n ≡ length_before j a.start = c.before.before.before.before.before.before.before.before.before.before.before.before.before.before.before.before.before.before.length_before.ensures.0 in
+    let e : a.start + n - (a.start + 3) ≡ length_before j a.start - 3 = omega arith in
     let u : _ ≡ unit = c.before.before.before.before.before.before.before.before.before.before.before.before.before.before.before.before.u16-bytes.ensures ∙ ap (bytes_of 2) c.before.before.before.before.before.before.before.before.before.before.before.before.before.before.before.before.before.u16-at.ensures in
     let z : _ ≡ size = c.before.before.before.before.before.before.before.before.before.before.before.before.before.before.before.u16-bytes2.ensures ∙ ap (λ (x : ℕ). bytes_of 2 (x - 3)) same in
     laid_then unit (size ++ text) (rw u at c.before.before.before.before.before.before.before.before.before.before.before.before.put-text.ensures) (laid_then size text (rw z at c.before.before.before.before.before.before.before.put-text2.ensures) (rw e at c.before.before.put-text3.ensures))

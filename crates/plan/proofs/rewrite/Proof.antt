@@ -1,8 +1,8 @@
 -- Question 21 is that of reading; the others are those of what was found.
 -- Assumes nothing.
 use mathlib.Core.Path.{sym, ◌∙◌}
-use Rattle.plan.specs.Calls.{rewriteOf}
-use Rattle.plan.proofs.Planning.{lays-says, read_found, asked-refused}
+use Rattle.plan.specs.Calls.{rewrite_of}
+use Rattle.plan.proofs.Planning.{lays_says, read_found, asked_refused}
 use borrow.Author.Rules.{rules}
 use Rattle.plan.proofs.rewrite.Statement.{statement}
 use Rattle.plan.proofs.rewrite.Tie as tie
@@ -23,14 +23,14 @@ same_length : tie.Need-same-length
 same_length c = search rules
 
 returns : tie.Need-returns
-returns c = lays-says c.before.before.rewrite-found.ensures
+returns c = lays_says c.before.before.rewrite-found.ensures
 
 returns-2 : tie.Need-returns-2
-unfolding rewriteOf
+unfolding rewrite_of
 returns-2 c =
     let a = c.before.before.before.before.before.before.args in
-    let l = asked-refused a.journal.now _ _ _ a.out.now (sym c.before.before.before.read.ensures.0 ∙ c.before.reading2.given.1) in
-    lays-says l
+    let l = asked_refused a.journal.now _ _ _ a.out.now (sym c.before.before.before.read.ensures.0 ∙ c.before.reading2.given.1) in
+    lays_says l
 
 pub rewrite-spec : {M : Type 1} → statement M
 rewrite-spec =

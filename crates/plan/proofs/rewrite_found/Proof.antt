@@ -3,9 +3,9 @@
 use Prim.Native.Nat.{ℕ}
 use native.Mathlib.Omega.{arith}
 use lib.ListN.{length-replicate}
-use Rattle.plan.specs.Calls.{rewriteOf}
-use Rattle.plan.proofs.Planning.{found_within, asked-many}
-use Rattle.plan.proofs.Latest.{rewrite-apart, rewrite-spotted, rewrite-laid}
+use Rattle.plan.specs.Calls.{rewrite_of}
+use Rattle.plan.proofs.Planning.{found_within, asked_many}
+use Rattle.plan.proofs.Latest.{rewrite_apart, rewrite_spotted, rewrite_laid}
 use borrow.Author.Rules.{rules}
 use Rattle.plan.proofs.rewrite_found.Statement.{statement}
 use Rattle.plan.proofs.rewrite_found.Tie as tie
@@ -22,10 +22,10 @@ gather-requires c κs =
     (found_within a.journal.now _ _ c.before.before.before.before.requires, length-replicate {A = ℕ} 512 0, length-replicate {A = ℕ} 512 0)
 
 returns : tie.Need-returns
-unfolding rewriteOf
+unfolding rewrite_of
 returns c =
     let a = c.before.before.before.before.before.before.before.before.args in
-    asked-many a.journal.now _ _ c.before.before.before.before.before.before.before.before.requires _ _ _ c.before.before.before.gather.ensures _ _ _ c.if1.true
+    asked_many a.journal.now _ _ c.before.before.before.before.before.before.before.before.requires _ _ _ c.before.before.before.gather.ensures _ _ _ c.if1.true
 
 slice-aggregate-sort : tie.Need-slice-aggregate-sort
 slice-aggregate-sort c = search rules
@@ -37,10 +37,10 @@ sort-requires : tie.Need-sort-requires
 sort-requires c κs =
     let a = c.before.before.before.before.before.before.before.before.before.before.args in
     let g = c.before.before.before.before.before.gather.ensures in
-    let p = g.places-size in
-    let u = g.units-size in
+    let p = g.places_size in
+    let u = g.units_size in
     let most = c.before.before.if1.false in
-    (omega arith, omega arith, rewrite-apart a.journal.now _ _ c.before.before.before.before.before.before.before.before.before.before.requires _ _ _ g most)
+    (omega arith, omega arith, rewrite_apart a.journal.now _ _ c.before.before.before.before.before.before.before.before.before.before.requires _ _ _ g most)
 
 slice-aggregate-lay-blocks : tie.Need-slice-aggregate-lay-blocks
 slice-aggregate-lay-blocks c = search rules
@@ -49,10 +49,10 @@ lay-blocks-requires : tie.Need-lay-blocks-requires
 lay-blocks-requires c κs =
     let a = c.before.before.before.before.before.before.before.before.before.before.before.before.before.before.args in
     let g = c.before.before.before.before.before.before.before.before.before.gather.ensures in
-    let u = g.units-size in
+    let u = g.units_size in
     let most = c.before.before.before.before.before.before.if1.false in
     let (order, size) = c.before.before.before.sort.ensures in
-    (omega arith, rewrite-spotted a.journal.now _ _ c.before.before.before.before.before.before.before.before.before.before.before.before.before.before.requires _ _ _ g most _ order)
+    (omega arith, rewrite_spotted a.journal.now _ _ c.before.before.before.before.before.before.before.before.before.before.before.before.before.before.requires _ _ _ g most _ order)
 
 same_length : tie.Need-same-length
 same_length c = search rules
@@ -60,7 +60,7 @@ same_length c = search rules
 returns-2 : tie.Need-returns-2
 returns-2 c =
     let a = c.before.before.before.before.before.before.before.before.before.before.before.before.before.before.before.before.before.args in
-    rewrite-laid a.journal.now _ _ c.before.before.before.before.before.before.before.before.before.before.before.before.before.before.before.before.before.requires _ _ _ c.before.before.before.before.before.before.before.before.before.before.before.before.gather.ensures c.before.before.before.before.before.before.before.before.before.if1.false _ c.before.before.before.before.before.before.sort.ensures.0 _ _ _ _ c.before.before.lay-blocks.ensures
+    rewrite_laid a.journal.now _ _ c.before.before.before.before.before.before.before.before.before.before.before.before.before.before.before.before.before.requires _ _ _ c.before.before.before.before.before.before.before.before.before.before.before.before.gather.ensures c.before.before.before.before.before.before.before.before.before.if1.false _ c.before.before.before.before.before.before.sort.ensures.0 _ _ _ _ c.before.before.lay-blocks.ensures
 
 pub rewrite-found-spec : {M : Type 1} → statement M
 rewrite-found-spec =

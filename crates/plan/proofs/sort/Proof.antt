@@ -7,7 +7,7 @@ use native.Mathlib.Omega.{arith}
 use lib.ListN.{length, take}
 use lib.Seq.{length-take-le, get_or-take, take_all}
 use Rattle.plan.specs.Pack.{sorted}
-use Rattle.plan.proofs.Sorting.{order-on}
+use Rattle.plan.proofs.Sorting.{order_on_lem}
 use borrow.Author.Rules.{rules}
 use Rattle.plan.proofs.sort.Statement.{statement}
 use Rattle.plan.proofs.sort.Tie as tie
@@ -65,7 +65,7 @@ loop-again c =
     let (laid, long) = c.before.before.insert.ensures in (
       omega arith,
       long ∙ same,
-      order-on (take a.count a.places.now) apart l.i l.order held _ _ _ (omega arith) (sym (get_or-take a.count a.places.now l.i 0 t)) c.before.before.before.before.before.place.ensures laid,
+      order_on_lem (take a.count a.places.now) apart l.i l.order held _ _ _ (omega arith) (sym (get_or-take a.count a.places.now l.i 0 t)) c.before.before.before.before.before.place.ensures laid,
     )
 
 same_length : tie.Need-same-length invariant-loop decreases-loop

@@ -6,9 +6,9 @@ use Prim.Native.Nat.{ℕ, ◌+◌, ◌-◌, ◌≤◌, ◌<◌}
 use native.Mathlib.Omega.{arith}
 use lib.ListN.{length, take, drop, length-drop}
 use lib.Seq.{length-take-le}
-use Rattle.player.proofs.Keeping.{smaller-fits, whole-text}
-use Rattle.player.specs.Player.{outputRoom}
-use Rattle.playback.proofs.Showing.{put-shows, put-within, as-shown}
+use Rattle.player.proofs.Keeping.{smaller_fits, whole_text}
+use Rattle.player.specs.Player.{output_room}
+use Rattle.playback.proofs.Showing.{put_shows, put_within, as_shown}
 use borrow.Author.Rules.{rules}
 use Rattle.playback.proofs.put.Statement.{statement}
 use Rattle.playback.proofs.put.Tie as tie
@@ -26,12 +26,12 @@ array-share-prefix-text : tie.Need-array-share-prefix-text
 array-share-prefix-text c =
     let a = c.before.before.before.args in
     let text = a.t1 in
-    let room : length text ≡ outputRoom = search rules in
+    let room : length text ≡ output_room = search rules in
     let out = a.out.now in
     let most = c.before.smaller.result in
-    let m = (smaller-fits a.size outputRoom most c.before.smaller.ensures).1 in
+    let m = (smaller_fits a.size output_room most c.before.smaller.ensures).1 in
     let n = c.smaller2.result in
-    let l = smaller-fits most (length out - a.at) n c.smaller2.ensures in
+    let l = smaller_fits most (length out - a.at) n c.smaller2.ensures in
     let l₀ = l.0 in
     let l₁ = l.1 in
     let p = c.before.before.before.pre in
@@ -42,12 +42,12 @@ slice-aggregate-copy : tie.Need-slice-aggregate-copy
 slice-aggregate-copy c =
     let a = c.before.before.before.before.args in
     let text = a.t1 in
-    let room : length text ≡ outputRoom = search rules in
+    let room : length text ≡ output_room = search rules in
     let out = a.out.now in
     let most = c.before.before.smaller.result in
-    let m = (smaller-fits a.size outputRoom most c.before.before.smaller.ensures).1 in
+    let m = (smaller_fits a.size output_room most c.before.before.smaller.ensures).1 in
     let n = c.before.smaller2.result in
-    let l = smaller-fits most (length out - a.at) n c.before.smaller2.ensures in
+    let l = smaller_fits most (length out - a.at) n c.before.smaller2.ensures in
     let l₀ = l.0 in
     let l₁ = l.1 in
     let p = c.before.before.before.before.pre in
@@ -67,12 +67,12 @@ copy-requires : tie.Need-copy-requires
 copy-requires c κs =
     let a = c.before.before.before.before.before.args in
     let text = a.t1 in
-    let room : length text ≡ outputRoom = search rules in
+    let room : length text ≡ output_room = search rules in
     let out = a.out.now in
     let most = c.before.before.before.smaller.result in
-    let m = (smaller-fits a.size outputRoom most c.before.before.before.smaller.ensures).1 in
+    let m = (smaller_fits a.size output_room most c.before.before.before.smaller.ensures).1 in
     let n = c.before.before.smaller2.result in
-    let l = smaller-fits most (length out - a.at) n c.before.before.smaller2.ensures in
+    let l = smaller_fits most (length out - a.at) n c.before.before.smaller2.ensures in
     let l₀ = l.0 in
     let l₁ = l.1 in
     let p = c.before.before.before.before.before.pre in
@@ -86,12 +86,12 @@ add-result : tie.Need-add-result
 add-result c =
     let a = c.before.before.before.before.before.before.before.before.args in
     let text = a.t1 in
-    let room : length text ≡ outputRoom = search rules in
+    let room : length text ≡ output_room = search rules in
     let out = a.out.now in
     let most = c.before.before.before.before.before.before.smaller.result in
-    let m = (smaller-fits a.size outputRoom most c.before.before.before.before.before.before.smaller.ensures).1 in
+    let m = (smaller_fits a.size output_room most c.before.before.before.before.before.before.smaller.ensures).1 in
     let n = c.before.before.before.before.before.smaller2.result in
-    let l = smaller-fits most (length out - a.at) n c.before.before.before.before.before.smaller2.ensures in
+    let l = smaller_fits most (length out - a.at) n c.before.before.before.before.before.smaller2.ensures in
     let l₀ = l.0 in
     let l₁ = l.1 in
     let p = c.before.before.before.before.before.before.before.before.pre in
@@ -106,20 +106,20 @@ returns : tie.Need-returns
 returns c =
     let a = c.before.before.before.before.before.before.before.before.args in
     let text = a.t1 in
-    let room : length text ≡ outputRoom = search rules in
+    let room : length text ≡ output_room = search rules in
     let out = a.out.now in
     let most = c.before.before.before.before.before.before.smaller.result in
-    let m = (smaller-fits a.size outputRoom most c.before.before.before.before.before.before.smaller.ensures).1 in
+    let m = (smaller_fits a.size output_room most c.before.before.before.before.before.before.smaller.ensures).1 in
     let n = c.before.before.before.before.before.smaller2.result in
-    let l = smaller-fits most (length out - a.at) n c.before.before.before.before.before.smaller2.ensures in
+    let l = smaller_fits most (length out - a.at) n c.before.before.before.before.before.smaller2.ensures in
     let l₀ = l.0 in
     let l₁ = l.1 in
     let p = c.before.before.before.before.before.before.before.before.pre in
     let fit : n ≤ length text = omega arith in (
       λ printed lent s.
-          as-shown (ap (λ (x : ℕ). printed ++ take x text) c.before.before.before.before.before.before.smaller.ensures ∙ ap (λ (t : List ℕ). printed ++ t) (whole-text text a.size outputRoom room))
-          (put-shows printed lent out text _ most a.at _ s (omega arith) c.before.before.before.before.before.smaller2.ensures c.before.before.copy.ensures),
-      put-within out text _ a.at _ fit p c.before.before.copy.ensures,
+          as_shown (ap (λ (x : ℕ). printed ++ take x text) c.before.before.before.before.before.before.smaller.ensures ∙ ap (λ (t : List ℕ). printed ++ t) (whole_text text a.size output_room room))
+          (put_shows printed lent out text _ most a.at _ s (omega arith) c.before.before.before.before.before.smaller2.ensures c.before.before.copy.ensures),
+      put_within out text _ a.at _ fit p c.before.before.copy.ensures,
     )
 
 pub put_spec : {M : Type 1} → statement M

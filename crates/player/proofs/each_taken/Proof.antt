@@ -5,19 +5,19 @@ use Prim.Native.Nat.{◌-◌, ◌≤◌}
 use native.Mathlib.Omega.{arith}
 use lib.ListN.{length, take, length-set}
 use lib.Seq.{take_all}
-use Rattle.group.specs.Limits.{membersMost}
+use Rattle.group.specs.Limits.{members_most}
 use Rattle.simulator.specs.Whole.{list_of}
-use Rattle.player.specs.Player.{takenAt}
-use Rattle.player.proofs.Telling.{taken-on}
+use Rattle.player.specs.Player.{taken_at}
+use Rattle.player.proofs.Telling.{taken_on}
 use borrow.Author.Rules.{rules}
 use Rattle.player.proofs.each_taken.Statement.{statement}
 use Rattle.player.proofs.each_taken.Tie as tie
 
 abbrev invariant-loop : tie.invariant-loop
-invariant-loop numbers taken₀ i₀ taken i = (i ≤ membersMost) × (length taken ≡ membersMost) × (take i taken ≡ list_of (takenAt numbers) 0 i)
+invariant-loop numbers taken₀ i₀ taken i = (i ≤ members_most) × (length taken ≡ members_most) × (take i taken ≡ list_of (taken_at numbers) 0 i)
 
 abbrev decreases-loop : tie.decreases-loop
-decreases-loop numbers taken₀ i₀ taken i = membersMost - i
+decreases-loop numbers taken₀ i₀ taken i = members_most - i
 
 loop-holds : tie.Need-loop-init invariant-loop decreases-loop
 unfolding list_of
@@ -45,15 +45,15 @@ loop-less : tie.Need-loop-smaller invariant-loop decreases-loop
 loop-less c = search rules
 
 loop-again : tie.Need-loop-preserved invariant-loop decreases-loop
-loop-again c = let l = c.before.before.loop in (search rules, simp length-set l.invariant.1, taken-on (takenAt c.before.before.before.args.numbers.now) l.taken l.i (search rules) l.invariant.2)
+loop-again c = let l = c.before.before.loop in (search rules, simp length-set l.invariant.1, taken_on (taken_at c.before.before.before.args.numbers.now) l.taken l.i (search rules) l.invariant.2)
 
 returns : tie.Need-returns invariant-loop decreases-loop
 returns c =
     let l = c.before.loop in
     let t = c.loop-test.false in
     let b = l.invariant.0 in
-    let e : l.i ≡ membersMost = omega arith in
-    sym (take_all l.i l.taken (search rules)) ∙ l.invariant.2 ∙ ap (list_of (takenAt c.before.before.args.numbers.now) 0) e
+    let e : l.i ≡ members_most = omega arith in
+    sym (take_all l.i l.taken (search rules)) ∙ l.invariant.2 ∙ ap (list_of (taken_at c.before.before.args.numbers.now) 0) e
 
 pub each-taken-spec : {M : Type 1} → statement M
 each-taken-spec =

@@ -6,8 +6,8 @@ use Prim.Native.Nat.{ℕ, ◌+◌, ◌-◌, ◌≤◌, ◌<◌}
 use native.Mathlib.Omega.{arith}
 use lib.ListN.{length, take, drop, length-drop}
 use lib.Seq.{length-take-le}
-use Rattle.player.specs.Feed.{keptMost, keptOf}
-use Rattle.player.proofs.Keeping.{smaller-fits, kept-with, whole-text}
+use Rattle.player.specs.Feed.{kept_most, kept_of}
+use Rattle.player.proofs.Keeping.{smaller_fits, kept_with, whole_text}
 use borrow.Author.Rules.{rules}
 use Rattle.player.proofs.keep.Statement.{statement}
 use Rattle.player.proofs.keep.Tie as tie
@@ -21,8 +21,8 @@ sub-smaller c =
     let line = a.line.now in
     let part = a.part.now in
     let f = c.smaller.result in
-    let n : length line ≡ keptMost = c.before.before.before.pre in
-    let k = (smaller-fits a.kept keptMost f c.smaller.ensures).1 in
+    let n : length line ≡ kept_most = c.before.before.before.pre in
+    let k = (smaller_fits a.kept kept_most f c.smaller.ensures).1 in
     search rules
 
 smaller-requires-2 : tie.Need-smaller-requires-2
@@ -34,10 +34,10 @@ slice-aggregate-copy c =
     let line = a.line.now in
     let part = a.part.now in
     let f = c.before.before.smaller.result in
-    let n : length line ≡ keptMost = c.before.before.before.before.before.pre in
-    let k = (smaller-fits a.kept keptMost f c.before.before.smaller.ensures).1 in
+    let n : length line ≡ kept_most = c.before.before.before.before.before.pre in
+    let k = (smaller_fits a.kept kept_most f c.before.before.smaller.ensures).1 in
     let size = c.before.smaller2.result in
-    let h = smaller-fits (length part) (keptMost - f) size c.before.smaller2.ensures in
+    let h = smaller_fits (length part) (kept_most - f) size c.before.smaller2.ensures in
     let h₀ = h.0 in
     let h₁ = h.1 in
     sym (length-take-le size part h₀)
@@ -48,10 +48,10 @@ sub-copy c =
     let line = a.line.now in
     let part = a.part.now in
     let f = c.before.before.smaller.result in
-    let n : length line ≡ keptMost = c.before.before.before.before.before.pre in
-    let k = (smaller-fits a.kept keptMost f c.before.before.smaller.ensures).1 in
+    let n : length line ≡ kept_most = c.before.before.before.before.before.pre in
+    let k = (smaller_fits a.kept kept_most f c.before.before.smaller.ensures).1 in
     let size = c.before.smaller2.result in
-    let h = smaller-fits (length part) (keptMost - f) size c.before.smaller2.ensures in
+    let h = smaller_fits (length part) (kept_most - f) size c.before.smaller2.ensures in
     let h₀ = h.0 in
     let h₁ = h.1 in
     let b : f ≤ length line = omega arith in
@@ -63,10 +63,10 @@ part-copy-start c =
     let line = a.line.now in
     let part = a.part.now in
     let f = c.before.before.smaller.result in
-    let n : length line ≡ keptMost = c.before.before.before.before.before.pre in
-    let k = (smaller-fits a.kept keptMost f c.before.before.smaller.ensures).1 in
+    let n : length line ≡ kept_most = c.before.before.before.before.before.pre in
+    let k = (smaller_fits a.kept kept_most f c.before.before.smaller.ensures).1 in
     let size = c.before.smaller2.result in
-    let h = smaller-fits (length part) (keptMost - f) size c.before.smaller2.ensures in
+    let h = smaller_fits (length part) (kept_most - f) size c.before.smaller2.ensures in
     let h₀ = h.0 in
     let h₁ = h.1 in
     let b : f ≤ length line = omega arith in
@@ -78,10 +78,10 @@ part-copy-end c =
     let line = a.line.now in
     let part = a.part.now in
     let f = c.before.before.smaller.result in
-    let n : length line ≡ keptMost = c.before.before.before.before.before.pre in
-    let k = (smaller-fits a.kept keptMost f c.before.before.smaller.ensures).1 in
+    let n : length line ≡ kept_most = c.before.before.before.before.before.pre in
+    let k = (smaller_fits a.kept kept_most f c.before.before.smaller.ensures).1 in
     let size = c.before.smaller2.result in
-    let h = smaller-fits (length part) (keptMost - f) size c.before.smaller2.ensures in
+    let h = smaller_fits (length part) (kept_most - f) size c.before.smaller2.ensures in
     let h₀ = h.0 in
     let h₁ = h.1 in
     let b : f ≤ length line = omega arith in
@@ -93,10 +93,10 @@ copy-requires c κs =
     let line = a.line.now in
     let part = a.part.now in
     let f = c.before.before.before.smaller.result in
-    let n : length line ≡ keptMost = c.before.before.before.before.before.before.pre in
-    let k = (smaller-fits a.kept keptMost f c.before.before.before.smaller.ensures).1 in
+    let n : length line ≡ kept_most = c.before.before.before.before.before.before.pre in
+    let k = (smaller_fits a.kept kept_most f c.before.before.before.smaller.ensures).1 in
     let size = c.before.before.smaller2.result in
-    let h = smaller-fits (length part) (keptMost - f) size c.before.before.smaller2.ensures in
+    let h = smaller_fits (length part) (kept_most - f) size c.before.before.smaller2.ensures in
     let h₀ = h.0 in
     let h₁ = h.1 in
     let l = length-take-le size part h₀ in
@@ -110,10 +110,10 @@ add-result c =
     let line = a.line.now in
     let part = a.part.now in
     let f = c.before.before.before.before.before.before.smaller.result in
-    let n : length line ≡ keptMost = c.before.before.before.before.before.before.before.before.before.pre in
-    let k = (smaller-fits a.kept keptMost f c.before.before.before.before.before.before.smaller.ensures).1 in
+    let n : length line ≡ kept_most = c.before.before.before.before.before.before.before.before.before.pre in
+    let k = (smaller_fits a.kept kept_most f c.before.before.before.before.before.before.smaller.ensures).1 in
     let size = c.before.before.before.before.before.smaller2.result in
-    let h = smaller-fits (length part) (keptMost - f) size c.before.before.before.before.before.smaller2.ensures in
+    let h = smaller_fits (length part) (kept_most - f) size c.before.before.before.before.before.smaller2.ensures in
     let h₀ = h.0 in
     let h₁ = h.1 in
     let z : f + size < 18446744073709551616 = omega arith in
@@ -128,15 +128,15 @@ returns c =
     let line = a.line.now in
     let part = a.part.now in
     let f = c.before.before.before.before.before.before.smaller.result in
-    let n : length line ≡ keptMost = c.before.before.before.before.before.before.before.before.before.pre in
-    let k = (smaller-fits a.kept keptMost f c.before.before.before.before.before.before.smaller.ensures).1 in
+    let n : length line ≡ kept_most = c.before.before.before.before.before.before.before.before.before.pre in
+    let k = (smaller_fits a.kept kept_most f c.before.before.before.before.before.before.smaller.ensures).1 in
     let size = c.before.before.before.before.before.smaller2.result in
-    let h = smaller-fits (length part) (keptMost - f) size c.before.before.before.before.before.smaller2.ensures in
+    let h = smaller_fits (length part) (kept_most - f) size c.before.before.before.before.before.smaller2.ensures in
     let h₀ = h.0 in
     let h₁ = h.1 in
-    let z : f + size ≤ keptMost = omega arith in (
-      rw c.before.before.copy.ensures (rw append_assoc (kept-with line part _ f size (omega arith) k c.before.before.before.before.before.smaller2.ensures))
-          ∙ ap (λ (x : List ℕ). keptOf (x ++ part)) (ap (λ (x : ℕ). take x line) c.before.before.before.before.before.before.smaller.ensures ∙ whole-text line a.kept keptMost n),
+    let z : f + size ≤ kept_most = omega arith in (
+      rw c.before.before.copy.ensures (rw append_assoc (kept_with line part _ f size (omega arith) k c.before.before.before.before.before.smaller2.ensures))
+          ∙ ap (λ (x : List ℕ). kept_of (x ++ part)) (ap (λ (x : ℕ). take x line) c.before.before.before.before.before.before.smaller.ensures ∙ whole_text line a.kept kept_most n),
       z,
     )
 

@@ -6,12 +6,12 @@ use Prim.Native.Nat.{ℕ}
 use native.Mathlib.Omega.{arith}
 use lib.ListN.{length}
 use Rattle.group.specs.Lent.{front}
-use Rattle.report.specs.Print.{badOpening, lineRoom}
+use Rattle.report.specs.Print.{bad_opening, line_room}
 use Rattle.player.specs.Play.{last_of}
-use Rattle.player.specs.Player.{outputRoom, stageIn, phaseOf}
+use Rattle.player.specs.Player.{output_room, stage_in, phase_of}
 use Rattle.player.specs.declared.Phase.{Phase}
 use Rattle.player.specs.declared.Phase.TheVariants.{Running, Ended}
-use Rattle.player.proofs.Telling.{phase-was, running≢, ended≢, fits_in}
+use Rattle.player.proofs.Telling.{phase_was, running≢, ended≢, fits_in}
 use borrow.Author.Rules.{rules}
 use Rattle.player.proofs.last.Statement.{statement}
 use Rattle.player.proofs.last.Tie as tie
@@ -29,60 +29,60 @@ enum-told-2 : tie.Need-enum-told-2
 enum-told-2 c = search rules
 
 write-taken-requires : tie.Need-write-taken-requires
-unfolding phaseOf
-write-taken-requires c κs = (phase-was c.before.before.before.before.before.args.player.head c.before.before.before.before.before.args.player.phase Running (sym c.before.before.before.phase-of.ensures ∙ c.before.enum-told2.given.1) running≢).0
+unfolding phase_of
+write-taken-requires c κs = (phase_was c.before.before.before.before.before.args.player.head c.before.before.before.before.before.args.player.phase Running (sym c.before.before.before.phase-of.ensures ∙ c.before.enum-told2.given.1) running≢).0
 
 enum-told-3 : tie.Need-enum-told-3
 enum-told-3 c = search rules
 
 write-taken-requires-2 : tie.Need-write-taken-requires-2
-unfolding phaseOf
-write-taken-requires-2 c κs = (phase-was c.before.before.before.before.before.args.player.head c.before.before.before.before.before.args.player.phase Ended (sym c.before.before.before.phase-of.ensures ∙ c.before.enum-told3.given.1) ended≢).0
+unfolding phase_of
+write-taken-requires-2 c κs = (phase_was c.before.before.before.before.before.args.player.head c.before.before.before.before.before.args.player.phase Ended (sym c.before.before.before.phase-of.ensures ∙ c.before.enum-told3.given.1) ended≢).0
 
 enum-told-4 : tie.Need-enum-told-4
 enum-told-4 c = search rules
 
 returns : tie.Need-returns
-unfolding last_of stageIn phaseOf
+unfolding last_of stage_in phase_of
 returns c =
     let p = c.before.before.before.before.before.before.args.player in
     let lent = c.before.before.before.before.before.before.args.out.now in
-    let room : length lent ≡ outputRoom = search rules in
-    let fit = fits_in lineRoom (length lent) badOpening (omega arith) in
+    let room : length lent ≡ output_room = search rules in
+    let fit = fits_in line_room (length lent) bad_opening (omega arith) in
     λ g s.
-    let text : Phase → List ℕ = λ x. last_of (stageIn x g p.number) in
+    let text : Phase → List ℕ = λ x. last_of (stage_in x g p.number) in
     let f = fit ∙ ap text (sym c.before.before.enum_told.given.1 ∙ c.before.before.before.before.phase-of.ensures) in
     record { size = c.write-bad-opening.ensures.0 ∙ ap length f; lent = c.write-bad-opening.ensures.1 ∙ ap (λ (bytes : List ℕ). front bytes lent) f }
 
 returns-2 : tie.Need-returns-2
-unfolding last_of stageIn phaseOf
+unfolding last_of stage_in phase_of
 returns-2 c =
     let p = c.before.before.before.before.before.before.args.player in
     let lent = c.before.before.before.before.before.before.args.out.now in
     λ g s.
-    let text : Phase → List ℕ = λ x. last_of (stageIn x g p.number) in
+    let text : Phase → List ℕ = λ x. last_of (stage_in x g p.number) in
     let e = sym c.before.before.enum-told2.given.1 ∙ c.before.before.before.before.phase-of.ensures in
     let l = c.write-taken.ensures g s in
     record { size = l.size ∙ ap (λ (x : Phase). length (text x)) e; lent = l.lent ∙ ap (λ (x : Phase). front (text x) lent) e }
 
 returns-3 : tie.Need-returns-3
-unfolding last_of stageIn phaseOf
+unfolding last_of stage_in phase_of
 returns-3 c =
     let p = c.before.before.before.before.before.before.args.player in
     let lent = c.before.before.before.before.before.before.args.out.now in
     λ g s.
-    let text : Phase → List ℕ = λ x. last_of (stageIn x g p.number) in
+    let text : Phase → List ℕ = λ x. last_of (stage_in x g p.number) in
     let e = sym c.before.before.enum-told3.given.1 ∙ c.before.before.before.before.phase-of.ensures in
     let l = c.write-taken2.ensures g s in
     record { size = l.size ∙ ap (λ (x : Phase). length (text x)) e; lent = l.lent ∙ ap (λ (x : Phase). front (text x) lent) e }
 
 returns-4 : tie.Need-returns-4
-unfolding last_of stageIn phaseOf
+unfolding last_of stage_in phase_of
 returns-4 c =
     let p = c.before.before.before.before.args.player in
     let lent = c.before.before.before.before.args.out.now in
     λ g s.
-    let text : Phase → List ℕ = λ x. last_of (stageIn x g p.number) in
+    let text : Phase → List ℕ = λ x. last_of (stage_in x g p.number) in
     let e = sym c.enum-told4.given.1 ∙ c.before.before.phase-of.ensures in
     record { size = ap (λ (x : Phase). length (text x)) e; lent = ap (λ (x : Phase). front (text x) lent) e }
 

@@ -1,10 +1,10 @@
 -- The first line is of another form, or a group, which may be refused.
 -- Assumes nothing.
 use mathlib.Core.Path.{refl, sym, ap, ◌∙◌}
-use Rattle.report.specs.Print.{badOpening, lineRoom}
-use Rattle.player.specs.Play.{openTold}
-use Rattle.player.proofs.Telling.{as-told, tells-closed}
-use Rattle.player.proofs.Opening.{told-many, told-degree, opened-refused, opened-group}
+use Rattle.report.specs.Print.{bad_opening, line_room}
+use Rattle.player.specs.Play.{open_told}
+use Rattle.player.proofs.Telling.{as_told, tells_closed}
+use Rattle.player.proofs.Opening.{told_many, told_degree, opened_refused, opened_group_lem}
 use borrow.Author.Rules.{rules}
 use Rattle.player.proofs.open.Statement.{statement}
 use Rattle.player.proofs.open.Tie as tie
@@ -30,7 +30,7 @@ refuse-requires c κs = search rules
 returns : tie.Need-returns
 returns c =
     let o = sym c.before.before.before.before.opening.given.1 ∙ c.before.before.before.before.before.before.read-opening.ensures in
-    as-told (ap openTold o) (as-told (told-many _ _ _ c.before.before.if1.true) (c.refuse.ensures _))
+    as_told (ap open_told o) (as_told (told_many _ _ _ c.before.before.if1.true) (c.refuse.ensures _))
 
 degree-requires : tie.Need-degree-requires
 degree-requires c κs = search rules
@@ -51,24 +51,24 @@ refuse-requires-2 : tie.Need-refuse-requires-2
 refuse-requires-2 c κs = search rules
 
 returns-2 : tie.Need-returns-2
-unfolding openTold
+unfolding open_told
 returns-2 c =
     let o = sym c.before.before.enum_told.given.1 ∙ c.before.before.before.before.read-opening.ensures in
-    as-told (ap openTold o) (tells-closed badOpening c.before.before.before.before.before.before.args.out.now _ _ _ lineRoom (search rules) c.write-bad-opening.ensures.0 c.write-bad-opening.ensures.1 refl)
+    as_told (ap open_told o) (tells_closed bad_opening c.before.before.before.before.before.before.args.out.now _ _ _ line_room (search rules) c.write-bad-opening.ensures.0 c.write-bad-opening.ensures.1 refl)
 
 returns-3 : tie.Need-returns-3
 returns-3 c =
     let o = sym c.before.before.before.before.before.before.before.before.before.before.before.before.before.before.before.before.before.before.before.before.before.before.before.before.before.before.opening.given.1 ∙ c.before.before.before.before.before.before.before.before.before.before.before.before.before.before.before.before.before.before.before.before.before.before.before.before.before.before.before.before.read-opening.ensures in
     let g = c.before.before.before.before.before.before.before.before.before.before.before.before.before.before.before.before.before.before.before.before.before.before.before.before.before.before.opening.given.0 in
-    let d = told-degree g.0 g.1.0 g.1.1.0 c.before.before.before.before.before.before.before.before.before.before.before.before.before.before.before.before.before.before.before.before.before.before.before.degree.result (let l = c.before.before.before.before.before.before.before.before.before.before.before.before.before.before.before.before.before.before.before.before.before.before.before.before.if1.false in search rules) c.before.before.before.before.before.before.before.before.before.before.before.before.before.before.before.before.before.before.before.before.before.before.before.degree.ensures in
-    as-told (d ∙ ap openTold o) (opened-group _ _ _ _ _ _ _ _ c.before.before.before.«open».ensures c.enum-told2.given.1 refl refl refl refl)
+    let d = told_degree g.0 g.1.0 g.1.1.0 c.before.before.before.before.before.before.before.before.before.before.before.before.before.before.before.before.before.before.before.before.before.before.before.degree.result (let l = c.before.before.before.before.before.before.before.before.before.before.before.before.before.before.before.before.before.before.before.before.before.before.before.before.if1.false in search rules) c.before.before.before.before.before.before.before.before.before.before.before.before.before.before.before.before.before.before.before.before.before.before.before.degree.ensures in
+    as_told (d ∙ ap open_told o) (opened_group_lem _ _ _ _ _ _ _ _ c.before.before.before.«open».ensures c.enum-told2.given.1 refl refl refl refl)
 
 returns-4 : tie.Need-returns-4
 returns-4 c =
     let o = sym c.before.before.before.before.before.before.before.before.before.before.before.before.before.before.before.before.before.before.before.before.before.before.before.before.before.before.before.before.before.opening.given.1 ∙ c.before.before.before.before.before.before.before.before.before.before.before.before.before.before.before.before.before.before.before.before.before.before.before.before.before.before.before.before.before.before.before.read-opening.ensures in
     let g = c.before.before.before.before.before.before.before.before.before.before.before.before.before.before.before.before.before.before.before.before.before.before.before.before.before.before.before.before.before.opening.given.0 in
-    let d = told-degree g.0 g.1.0 g.1.1.0 c.before.before.before.before.before.before.before.before.before.before.before.before.before.before.before.before.before.before.before.before.before.before.before.before.before.before.degree.result (let l = c.before.before.before.before.before.before.before.before.before.before.before.before.before.before.before.before.before.before.before.before.before.before.before.before.before.before.before.if1.false in search rules) c.before.before.before.before.before.before.before.before.before.before.before.before.before.before.before.before.before.before.before.before.before.before.before.before.before.before.degree.ensures in
-    as-told (d ∙ ap openTold o) (as-told (opened-refused _ _ _ _ _ _ _ c.before.before.before.before.before.before.«open».ensures c.before.before.before.verdict.given.1) (c.refuse2.ensures _))
+    let d = told_degree g.0 g.1.0 g.1.1.0 c.before.before.before.before.before.before.before.before.before.before.before.before.before.before.before.before.before.before.before.before.before.before.before.before.before.before.degree.result (let l = c.before.before.before.before.before.before.before.before.before.before.before.before.before.before.before.before.before.before.before.before.before.before.before.before.before.before.before.if1.false in search rules) c.before.before.before.before.before.before.before.before.before.before.before.before.before.before.before.before.before.before.before.before.before.before.before.before.before.before.degree.ensures in
+    as_told (d ∙ ap open_told o) (as_told (opened_refused _ _ _ _ _ _ _ c.before.before.before.before.before.before.«open».ensures c.before.before.before.verdict.given.1) (c.refuse2.ensures _))
 
 pub open_spec : {M : Type 1} → statement M
 open_spec =

@@ -8,12 +8,12 @@ use native.Mathlib.Omega.{arith}
 use lib.ListN.{length, take}
 use lib.Seq.{length-take-le}
 use Rattle.group.specs.Lent.{front}
-use Rattle.group.specs.Limits.{membersMost}
+use Rattle.group.specs.Limits.{members_most}
 use Rattle.member.specs.State.{Member}
-use Rattle.report.specs.Print.{lastRoom, lastLine}
-use Rattle.simulator.proofs.Lists.{lists-take}
-use Rattle.player.specs.Play.{lastTold}
-use Rattle.player.specs.Player.{outputRoom, takenAt}
+use Rattle.report.specs.Print.{last_room, last_line}
+use Rattle.simulator.proofs.Lists.{lists_take}
+use Rattle.player.specs.Play.{last_told}
+use Rattle.player.specs.Player.{output_room, taken_at}
 use Rattle.player.proofs.Telling.{fits_in}
 use borrow.Author.Rules.{rules}
 use Rattle.player.proofs.write_taken.Statement.{statement}
@@ -39,15 +39,15 @@ returns c =
     let a = c.before.before.before.before.before.before.before.args in
     let lent = a.out.now in
     let n = a.head.sequencer.group.n in
-    let room : length lent ≡ outputRoom = search rules in
+    let room : length lent ≡ output_room = search rules in
     let taken = c.before.before.before.before.before.before.each-taken.result in
     let f = c.before.before.before.before.before.before.before.requires.members in
     let h : n ≤ length taken = search rules in
     let k = length-take-le n taken h in
     λ g s.
-    let t : take n taken ≡ map (λ (m : Member). m.taken.0) g.members = ap (take n) c.before.before.before.before.before.before.each-taken.ensures ∙ lists-take (takenAt a.numbers.now) n membersMost f ∙ sym s.members in
-    let line : lastLine a.head.sequencer.top.0 a.head.sequencer.floor.0 (take n taken) ≡ lastTold g = λ i. lastLine (sym s.top i).0 (sym s.floor i).0 (t i) in
-    let e = fits_in (lastRoom (take n taken)) (length lent) (lastLine a.head.sequencer.top.0 a.head.sequencer.floor.0 (take n taken)) (omega arith) ∙ line in
+    let t : take n taken ≡ map (λ (m : Member). m.taken.0) g.members = ap (take n) c.before.before.before.before.before.before.each-taken.ensures ∙ lists_take (taken_at a.numbers.now) n members_most f ∙ sym s.members in
+    let line : last_line a.head.sequencer.top.0 a.head.sequencer.floor.0 (take n taken) ≡ last_told g = λ i. last_line (sym s.top i).0 (sym s.floor i).0 (t i) in
+    let e = fits_in (last_room (take n taken)) (length lent) (last_line a.head.sequencer.top.0 a.head.sequencer.floor.0 (take n taken)) (omega arith) ∙ line in
     record { size = c.write-last.ensures.0 ∙ ap length e; lent = c.write-last.ensures.1 ∙ ap (λ (bytes : List ℕ). front bytes lent) e }
 
 pub write-taken-spec : {M : Type 1} → statement M

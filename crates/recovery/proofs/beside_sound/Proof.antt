@@ -1,7 +1,7 @@
 -- Each part is one of the definition's.
 -- Assumes nothing.
 use Rattle.group.proofs.Choice.{choices}
-use Rattle.recovery.specs.Steps.{besideSound}
+use Rattle.recovery.specs.Steps.{beside_sound}
 use native.Mathlib.Omega.{arith}
 use borrow.Author.Rules.{rules}
 use Rattle.recovery.proofs.beside_sound.Statement.{statement}
@@ -14,7 +14,7 @@ cast-if2 : tie.Need-overflow-cast-if2
 cast-if2 c = search rules
 
 returns : tie.Need-returns
-unfolding besideSound
+unfolding beside_sound
 returns c = search (choices, rules) depth 9
 
 kept-sound-requires : tie.Need-kept-sound-requires
@@ -24,15 +24,15 @@ reset-sound-requires : tie.Need-reset-sound-requires
 reset-sound-requires c κs = (search rules, c.before.before.before.before.before.before.before.before.before.before.before.before.requires.2)
 
 returns-2 : tie.Need-returns-2
-unfolding besideSound
+unfolding beside_sound
 returns-2 c = search (choices, rules) depth 9
 
 returns-3 : tie.Need-returns-3
-unfolding besideSound
+unfolding beside_sound
 returns-3 c = search (choices, rules) depth 9
 
 returns-4 : tie.Need-returns-4
-unfolding besideSound
+unfolding beside_sound
 returns-4 c = search (choices, rules) depth 9
 
 pub beside-sound-spec : {M : Type 1} → statement M

@@ -1,8 +1,8 @@
 -- Three numbers and all bytes of the payload are laid into a place.
 -- Assumes nothing.
 use native.Mathlib.Omega.{arith}
-use Rattle.store.proofs.Places.{part-size}
-use Rattle.recovery.proofs.Turning.{copied-place, part-short}
+use Rattle.store.proofs.Places.{part_size}
+use Rattle.recovery.proofs.Turning.{copied_place, part_short}
 use borrow.Author.Rules.{rules}
 use Rattle.recovery.proofs.copy_place.Statement.{statement}
 use Rattle.recovery.proofs.copy_place.Tie as tie
@@ -35,7 +35,7 @@ part-keep-end : tie.Need-slice-bounds-keep-end
 part-keep-end c = search rules
 
 keep-requires : tie.Need-keep-requires
-keep-requires c κs = let p = c.before.before.before.before.before.before.before.requires in let d = p.1.payloads-size in (omega arith, part-short c.before.before.before.before.before.before.before.args.source.now c.before.before.before.before.before.before.before.args.from p.2)
+keep-requires c κs = let p = c.before.before.before.before.before.before.before.requires in let d = p.1.payloads_size in (omega arith, part_short c.before.before.before.before.before.before.before.args.source.now c.before.before.before.before.before.before.before.args.from p.2)
 
 same_length : tie.Need-same-length
 same_length c = search rules
@@ -50,7 +50,7 @@ same-length-4 : tie.Need-same-length-4
 same-length-4 c = search rules
 
 returns : tie.Need-returns
-returns c = let a = c.before.before.before.before.before.before.before.before.before.before.args in let p = c.before.before.before.before.before.before.before.before.before.before.requires in copied-place _ _ _ _ a.source.now a.at a.from _ _ _ _ p.0 p.1 p.2 c.before.before.keep.ensures
+returns c = let a = c.before.before.before.before.before.before.before.before.before.before.args in let p = c.before.before.before.before.before.before.before.before.before.before.requires in copied_place _ _ _ _ a.source.now a.at a.from _ _ _ _ p.0 p.1 p.2 c.before.before.keep.ensures
 
 pub copy-place-spec : {M : Type 1} → statement M
 copy-place-spec = tie.close (tie.spec mul-kept slice-write-kept slice-write-originators slice-write-lengths mul-base add-end sub-keep part-keep-start part-keep-end keep-requires same_length same-length-2 same-length-3 same-length-4 returns)

@@ -5,7 +5,7 @@ use Prim.Native.Nat.{ℕ}
 use native.Mathlib.Omega.{arith}
 use lib.ListN.{length, set}
 use lib.Seq.{set_out}
-use Rattle.recovery.proofs.Turning.{larger-same}
+use Rattle.recovery.proofs.Turning.{larger_same}
 use borrow.Author.Rules.{rules}
 use Rattle.recovery.proofs.count_one.Statement.{statement}
 use Rattle.recovery.proofs.count_one.Tie as tie
@@ -29,7 +29,7 @@ same_length : tie.Need-same-length
 same_length c = search rules
 
 returns : tie.Need-returns
-returns c = ap (λ (x : ℕ). set c.before.before.before.before.args.counts.now c.before.before.before.before.args.originator x) (c.larger.ensures ∙ larger-same _ _)
+returns c = ap (λ (x : ℕ). set c.before.before.before.before.args.counts.now c.before.before.before.before.args.originator x) (c.larger.ensures ∙ larger_same _ _)
 
 returns-2 : tie.Need-returns-2
 returns-2 c = let p = c.before.before.requires in sym (set_out c.before.before.args.counts.now c.before.before.args.originator _ (omega arith))

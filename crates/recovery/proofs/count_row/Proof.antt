@@ -4,22 +4,22 @@ use mathlib.Core.Path.{◌≡◌, sym, ◌∙◌}
 use Prim.Native.Nat.{◌-◌, ◌≤◌}
 use lib.ListN.{length}
 use native.Mathlib.Omega.{arith}
-use Rattle.group.specs.Limits.{membersMost, placesMost, heldMost, payloadMost}
+use Rattle.group.specs.Limits.{members_most, places_most, held_most, payload_most}
 use Rattle.history.specs.View.{listed}
-use Rattle.recovery.specs.State.{countedRow}
-use Rattle.recovery.proofs.Turning.{count-on, counts-begun}
+use Rattle.recovery.specs.State.{counted_row}
+use Rattle.recovery.proofs.Turning.{count_on, counts_begun}
 use borrow.Author.Rules.{rules}
 use Rattle.recovery.proofs.count_row.Statement.{statement}
 use Rattle.recovery.proofs.count_row.Tie as tie
 
 abbrev invariant-loop : tie.invariant-loop
-invariant-loop counts₀ held originators last number₀ counts number = (length counts₀ ≡ membersMost) × (length counts ≡ membersMost) × (length held ≡ heldMost) × (length originators ≡ heldMost) × (number₀ ≤ number) × (number - number₀ ≤ last.0 - number₀) × (counts ≡ countedRow counts₀ (listed held originators) number₀ (number - number₀))
+invariant-loop counts₀ held originators last number₀ counts number = (length counts₀ ≡ members_most) × (length counts ≡ members_most) × (length held ≡ held_most) × (length originators ≡ held_most) × (number₀ ≤ number) × (number - number₀ ≤ last.0 - number₀) × (counts ≡ counted_row counts₀ (listed held originators) number₀ (number - number₀))
 
 abbrev decreases-loop : tie.decreases-loop
 decreases-loop counts₀ held originators last number₀ counts number = last.0 - number
 
 loop-holds : tie.Need-loop-init invariant-loop decreases-loop
-loop-holds c = let p = c.before.before.before.requires in (p.0, p.0, p.1, p.2, search rules, search rules, counts-begun _ _ _)
+loop-holds c = let p = c.before.before.before.requires in (p.0, p.0, p.1, p.2, search rules, search rules, counts_begun _ _ _)
 
 add-number : tie.Need-overflow-add-number invariant-loop decreases-loop
 add-number c = search rules
@@ -43,7 +43,7 @@ loop-less : tie.Need-loop-smaller invariant-loop decreases-loop
 loop-less c = search rules
 
 loop-again : tie.Need-loop-preserved invariant-loop decreases-loop
-loop-again c = let l = c.before.before.before.before.before.before.before.before.before.loop in (l.invariant.0, c.before.counts.given ∙ l.invariant.1, l.invariant.2, l.invariant.3, search rules, omega arith, count-on _ _ l.invariant.2 _ _ l.number _ _ _ l.invariant.4 c.before.before.before.before.before.before.place.ensures c.before.before.count-one.ensures l.invariant.6)
+loop-again c = let l = c.before.before.before.before.before.before.before.before.before.loop in (l.invariant.0, c.before.counts.given ∙ l.invariant.1, l.invariant.2, l.invariant.3, search rules, omega arith, count_on _ _ l.invariant.2 _ _ l.number _ _ _ l.invariant.4 c.before.before.before.before.before.before.place.ensures c.before.before.count-one.ensures l.invariant.6)
 
 same_length : tie.Need-same-length invariant-loop decreases-loop
 same_length c = let l = c.before.before.loop in l.invariant.1 ∙ sym l.invariant.0

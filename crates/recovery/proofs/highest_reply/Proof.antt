@@ -4,21 +4,21 @@ use mathlib.Core.Path.{◌≡◌, ◌∙◌}
 use Prim.Native.Nat.{◌≤◌}
 use lib.ListN.{length, drop}
 use native.Mathlib.Omega.{arith}
-use Rattle.group.specs.Limits.{membersMost, placesMost, heldMost, payloadMost}
-use Rattle.recovery.specs.Begin.{highestOf, holdersOf}
-use Rattle.recovery.proofs.Turning.{highest-turn, highest-end, larger-same}
+use Rattle.group.specs.Limits.{members_most, places_most, held_most, payload_most}
+use Rattle.recovery.specs.Begin.{highest_of, holders_of}
+use Rattle.recovery.proofs.Turning.{highest_turn, highest_end, larger_same}
 use borrow.Author.Rules.{rules}
 use Rattle.recovery.proofs.highest_reply.Statement.{statement}
 use Rattle.recovery.proofs.highest_reply.Tie as tie
 
 abbrev invariant-loop : tie.invariant-loop
-invariant-loop repliers replies most₀ i₀ most i = (length replies ≡ membersMost) × (i ≤ membersMost) × (most ≡ highestOf repliers i (drop i replies))
+invariant-loop repliers replies most₀ i₀ most i = (length replies ≡ members_most) × (i ≤ members_most) × (most ≡ highest_of repliers i (drop i replies))
 
 abbrev decreases-loop : tie.decreases-loop
 decreases-loop repliers replies most₀ i₀ most i = i
 
 loop-holds : tie.Need-loop-init invariant-loop decreases-loop
-loop-holds c = let p = c.before.requires in (p, search rules, highest-end c.before.args.repliers c.before.args.replies.now membersMost (omega arith))
+loop-holds c = let p = c.before.requires in (p, search rules, highest_end c.before.args.repliers c.before.args.replies.now members_most (omega arith))
 
 sub-i : tie.Need-overflow-sub-i invariant-loop decreases-loop
 sub-i c = search rules
@@ -39,7 +39,7 @@ loop-less : tie.Need-loop-smaller invariant-loop decreases-loop
 loop-less c = search rules
 
 loop-again : tie.Need-loop-preserved invariant-loop decreases-loop
-loop-again c = let l = c.before.before.before.before.loop in let t = c.before.before.before.loop-test in (l.invariant.0, omega arith, highest-turn _ _ l.i (search rules) (omega arith) l.invariant.2 c.before.reply-counted.ensures (c.larger.ensures ∙ larger-same _ _))
+loop-again c = let l = c.before.before.before.before.loop in let t = c.before.before.before.loop-test in (l.invariant.0, omega arith, highest_turn _ _ l.i (search rules) (omega arith) l.invariant.2 c.before.reply-counted.ensures (c.larger.ensures ∙ larger_same _ _))
 
 returns : tie.Need-returns invariant-loop decreases-loop
 returns c = let l = c.before.loop in let z : l.i ≡ 0 = omega arith in rw z at l.invariant.2

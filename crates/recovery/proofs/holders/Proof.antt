@@ -4,21 +4,21 @@ use mathlib.Core.Path.{◌≡◌, ◌∙◌}
 use Prim.Native.Nat.{◌≤◌}
 use lib.ListN.{length, drop}
 use native.Mathlib.Omega.{arith}
-use Rattle.group.specs.Limits.{membersMost, placesMost, heldMost, payloadMost}
-use Rattle.recovery.specs.Begin.{highestOf, holdersOf}
-use Rattle.recovery.proofs.Turning.{holders-turn, holders-end, larger-same}
+use Rattle.group.specs.Limits.{members_most, places_most, held_most, payload_most}
+use Rattle.recovery.specs.Begin.{highest_of, holders_of}
+use Rattle.recovery.proofs.Turning.{holders_turn, holders_end, larger_same}
 use borrow.Author.Rules.{rules}
 use Rattle.recovery.proofs.holders.Statement.{statement}
 use Rattle.recovery.proofs.holders.Tie as tie
 
 abbrev invariant-loop : tie.invariant-loop
-invariant-loop repliers highest replies found₀ i₀ found i = (length replies ≡ membersMost) × (i ≤ membersMost) × (found ≡ holdersOf repliers highest.0 i (drop i replies))
+invariant-loop repliers highest replies found₀ i₀ found i = (length replies ≡ members_most) × (i ≤ members_most) × (found ≡ holders_of repliers highest.0 i (drop i replies))
 
 abbrev decreases-loop : tie.decreases-loop
 decreases-loop repliers highest replies found₀ i₀ found i = i
 
 loop-holds : tie.Need-loop-init invariant-loop decreases-loop
-loop-holds c = let p = c.before.requires in (p, search rules, holders-end c.before.args.repliers c.before.args.highest.0 c.before.args.replies.now membersMost (omega arith))
+loop-holds c = let p = c.before.requires in (p, search rules, holders_end c.before.args.repliers c.before.args.highest.0 c.before.args.replies.now members_most (omega arith))
 
 sub-i : tie.Need-overflow-sub-i invariant-loop decreases-loop
 sub-i c = search rules
@@ -36,7 +36,7 @@ loop-less : tie.Need-loop-smaller invariant-loop decreases-loop
 loop-less c = search rules
 
 loop-again : tie.Need-loop-preserved invariant-loop decreases-loop
-loop-again c = let l = c.before.before.before.loop in let t = c.before.before.loop-test in (l.invariant.0, omega arith, holders-turn _ _ _ l.i (search rules) (omega arith) l.invariant.2 c.holder.ensures)
+loop-again c = let l = c.before.before.before.loop in let t = c.before.before.loop-test in (l.invariant.0, omega arith, holders_turn _ _ _ l.i (search rules) (omega arith) l.invariant.2 c.holder.ensures)
 
 returns : tie.Need-returns invariant-loop decreases-loop
 returns c = let l = c.before.loop in let z : l.i ≡ 0 = omega arith in rw z at l.invariant.2

@@ -6,19 +6,19 @@ use lib.ListN.{length, drop}
 use native.Mathlib.Omega.{arith}
 use Rattle.group.specs.Choice.{if◌then◌else◌, ◌<?◌, ◌=?◌}
 use Rattle.group.specs.Fold.{all}
-use Rattle.group.specs.Limits.{membersMost}
-use Rattle.group.proofs.Fold.{all-on, all-off, all_done}
+use Rattle.group.specs.Limits.{members_most}
+use Rattle.group.proofs.Fold.{all_on, all_off, all_done}
 use mathlib.Core.Bool.{true}
-use Rattle.group.specs.Members.{isIn}
+use Rattle.group.specs.Members.{is_in}
 use borrow.Author.Rules.{rules}
 use Rattle.recovery.proofs.replies_sound.Statement.{statement}
 use Rattle.recovery.proofs.replies_sound.Tie as tie
 
 abbrev invariant-loop : tie.invariant-loop
-invariant-loop repliers replies i₀ i = (length replies ≡ membersMost) × (all (λ k number. if isIn repliers k then true else number =? 0) 0 replies ≡ all (λ k number. if isIn repliers k then true else number =? 0) i (drop i replies))
+invariant-loop repliers replies i₀ i = (length replies ≡ members_most) × (all (λ k number. if is_in repliers k then true else number =? 0) 0 replies ≡ all (λ k number. if is_in repliers k then true else number =? 0) i (drop i replies))
 
 abbrev decreases-loop : tie.decreases-loop
-decreases-loop repliers replies i₀ i = membersMost - i
+decreases-loop repliers replies i₀ i = members_most - i
 
 loop-holds : tie.Need-loop-init invariant-loop decreases-loop
 loop-holds c = (c.before.requires, refl)
@@ -39,10 +39,10 @@ loop-less : tie.Need-loop-smaller invariant-loop decreases-loop
 loop-less c = search rules
 
 loop-again : tie.Need-loop-preserved invariant-loop decreases-loop
-loop-again c = let l = c.before.before.before.before.loop in (l.invariant.0, all-on _ _ l.i l.invariant.1 0 c.before.reply-silent.result (omega arith) c.before.reply-silent.ensures c.if1.true)
+loop-again c = let l = c.before.before.before.before.loop in (l.invariant.0, all_on _ _ l.i l.invariant.1 0 c.before.reply-silent.result (omega arith) c.before.reply-silent.ensures c.if1.true)
 
 returns : tie.Need-returns invariant-loop decreases-loop
-returns c = let l = c.before.before.before.before.loop in all-off _ _ l.i l.invariant.1 0 c.before.reply-silent.result (omega arith) c.before.reply-silent.ensures c.if1.false
+returns c = let l = c.before.before.before.before.loop in all_off _ _ l.i l.invariant.1 0 c.before.reply-silent.result (omega arith) c.before.reply-silent.ensures c.if1.false
 
 returns-2 : tie.Need-returns-2 invariant-loop decreases-loop
 returns-2 c = let l = c.before.loop in all_done _ _ l.i l.invariant.1 (omega arith)

@@ -1,7 +1,7 @@
 -- The test is the definition's.
 -- Assumes nothing.
 use Rattle.group.proofs.Choice.{choices}
-use Rattle.recovery.specs.Steps.{replyIn}
+use Rattle.recovery.specs.Steps.{reply_in}
 use borrow.Author.Rules.{rules}
 use Rattle.recovery.proofs.reply_number.Statement.{statement}
 use Rattle.recovery.proofs.reply_number.Tie as tie
@@ -13,11 +13,11 @@ serves-requires : tie.Need-serves-requires
 serves-requires c κs = search rules
 
 returns : tie.Need-returns
-unfolding replyIn
+unfolding reply_in
 returns c = search (choices, rules) depth 9
 
 returns-2 : tie.Need-returns-2
-unfolding replyIn
+unfolding reply_in
 returns-2 c = search (choices, rules) depth 9
 
 pub reply-number-spec : {M : Type 1} → statement M

@@ -3,8 +3,8 @@
 use mathlib.Core.Path.{sym}
 use Prim.Native.Nat.{◌+◌, ◌*◌, ◌-◌, ◌/◌}
 use native.Mathlib.Omega.{arith}
-use Rattle.text.specs.Written.{numberDigits}
-use Rattle.report.specs.Print.{lineRoom}
+use Rattle.text.specs.Written.{number_digits}
+use Rattle.report.specs.Print.{line_room}
 use Rattle.report.proofs.Pieces.{same_test}
 use borrow.Author.Tests.{lt-leb}
 use borrow.Author.Rules.{rules}
@@ -12,7 +12,7 @@ use Rattle.report.proofs.last_fits.Statement.{statement}
 use Rattle.report.proofs.last_fits.Tie as tie
 
 returns : tie.Need-returns
-returns c = let a = c.before.args in sym (lt-leb (lineRoom + (1 + numberDigits) * a.count) a.room (omega arith))
+returns c = let a = c.before.args in sym (lt-leb (line_room + (1 + number_digits) * a.count) a.room (omega arith))
 
 add-result : tie.Need-overflow-add-result
 add-result c = search rules
@@ -21,7 +21,7 @@ div-result : tie.Need-nonzero-div-result
 div-result c = search rules
 
 returns-2 : tie.Need-returns-2
-returns-2 c = let a = c.before.args in same_test a.count ((a.room - lineRoom) / (1 + numberDigits)) (lineRoom + (1 + numberDigits) * a.count) a.room (λ h. omega arith) (λ h. omega arith)
+returns-2 c = let a = c.before.args in same_test a.count ((a.room - line_room) / (1 + number_digits)) (line_room + (1 + number_digits) * a.count) a.room (λ h. omega arith) (λ h. omega arith)
 
 pub last-fits-spec : {M : Type 1} → statement M
 last-fits-spec = tie.close (tie.spec returns add-result div-result returns-2)

@@ -2,9 +2,9 @@
 -- Assumes nothing.
 use mathlib.Core.Path.{◌≡◌, sym, refl}
 use mathlib.Core.List.{[], ◌∷◌}
-use Rattle.group.proofs.Choice.{if-eq, if-ne}
-use Rattle.text.specs.Written.{decimalOf}
-use Rattle.report.specs.Print.{indexText}
+use Rattle.group.proofs.Choice.{if_eq, if_ne}
+use Rattle.text.specs.Written.{decimal_of}
+use Rattle.report.specs.Print.{index_text}
 use borrow.Author.Rules.{rules}
 use Rattle.report.proofs.put_any.Statement.{statement}
 use Rattle.report.proofs.put_any.Tie as tie
@@ -19,20 +19,20 @@ same_length : tie.Need-same-length
 same_length c = search rules
 
 returns : tie.Need-returns
-unfolding indexText
+unfolding index_text
 returns c =
     let a = c.before.before.before.before.before.before.before.args in
-    let e : indexText a.size a.index [] ≡ [] = sym (if-eq a.size 0 [] [] (decimalOf a.index ∷ []) c.before.before.before.before.if1.true refl) in
+    let e : index_text a.size a.index [] ≡ [] = sym (if_eq a.size 0 [] [] (decimal_of a.index ∷ []) c.before.before.before.before.if1.true refl) in
     (rw e c.before.before.put_word.ensures.0, search rules)
 
 same-length-2 : tie.Need-same-length-2
 same-length-2 c = search rules
 
 returns-2 : tie.Need-returns-2
-unfolding indexText
+unfolding index_text
 returns-2 c =
     let a = c.before.before.before.before.before.before.before.args in
-    let e : indexText a.size a.index [] ≡ decimalOf a.index ∷ [] = sym (if-ne a.size 0 (decimalOf a.index ∷ []) [] (decimalOf a.index ∷ []) c.before.before.before.before.if1.false refl) in
+    let e : index_text a.size a.index [] ≡ decimal_of a.index ∷ [] = sym (if_ne a.size 0 (decimal_of a.index ∷ []) [] (decimal_of a.index ∷ []) c.before.before.before.before.if1.false refl) in
     (rw e c.before.before.put-indexed.ensures.0, search rules)
 
 pub put-any-spec : {M : Type 1} → statement M

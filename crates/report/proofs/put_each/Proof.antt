@@ -4,9 +4,9 @@ use mathlib.Core.Path.{◌≡◌}
 use mathlib.Core.List.{[], ◌∷◌, map}
 use Prim.Native.Nat.{◌+◌, ◌*◌, ◌-◌, ◌≤◌}
 use lib.ListN.{length, take, get_or}
-use Rattle.text.proofs.Pieces.{laid-fields, laid_none}
+use Rattle.text.proofs.Pieces.{laid_fields, laid_none}
 use Rattle.report.proofs.Pieces.{each_on}
-use Rattle.text.specs.Written.{decimalOf, spaced}
+use Rattle.text.specs.Written.{decimal_of, spaced}
 use Rattle.text.specs.LaidAt.{LaidAt}
 use lib.Seq.{take_all}
 use borrow.Author.Rules.{rules}
@@ -14,7 +14,7 @@ use Rattle.report.proofs.put_each.Statement.{statement}
 use Rattle.report.proofs.put_each.Tie as tie
 
 abbrev invariant-loop : tie.invariant-loop
-invariant-loop numbers out₀ at next₀ i₀ out next i = (i ≤ length numbers) × (next ≤ at + 11 * i) × (length out ≡ length out₀) × LaidAt at (spaced (map decimalOf (take i numbers))) out₀ out next
+invariant-loop numbers out₀ at next₀ i₀ out next i = (i ≤ length numbers) × (next ≤ at + 11 * i) × (length out ≡ length out₀) × LaidAt at (spaced (map decimal_of (take i numbers))) out₀ out next
 
 abbrev decreases-loop : tie.decreases-loop
 decreases-loop numbers out₀ at next₀ i₀ out next i = length numbers - i
@@ -45,7 +45,7 @@ loop-again c =
       search rules,
       search rules,
       search rules,
-      rw (each_on n l.i (search rules)) (laid-fields (map decimalOf (take l.i n)) (decimalOf (get_or n l.i 0) ∷ []) l.invariant.3 c.before.before.put-number.ensures.0),
+      rw (each_on n l.i (search rules)) (laid_fields (map decimal_of (take l.i n)) (decimal_of (get_or n l.i 0) ∷ []) l.invariant.3 c.before.before.put-number.ensures.0),
     )
 
 same_length : tie.Need-same-length invariant-loop decreases-loop

@@ -1,8 +1,8 @@
 -- The three numbers, one behind the other.
 -- Assumes nothing.
 use mathlib.Core.List.{[], ◌∷◌}
-use Rattle.text.proofs.Pieces.{laid-fields}
-use Rattle.text.specs.Written.{decimalOf}
+use Rattle.text.proofs.Pieces.{laid_fields}
+use Rattle.text.specs.Written.{decimal_of}
 use borrow.Author.Rules.{rules}
 use Rattle.report.proofs.put_message.Statement.{statement}
 use Rattle.report.proofs.put_message.Tie as tie
@@ -22,7 +22,7 @@ same_length c = search rules
 returns : tie.Need-returns
 returns c =
     let a = c.before.before.before.before.before.before.before.before.before.before.before.before.before.args in (
-      laid-fields (decimalOf a.number ∷ decimalOf a.originator ∷ []) (decimalOf a.count ∷ []) (laid-fields (decimalOf a.number ∷ []) (decimalOf a.originator ∷ []) c.before.before.before.before.before.before.before.before.before.before.put-number.ensures.0 c.before.before.before.before.before.before.put-number2.ensures.0) c.before.before.put-number3.ensures.0,
+      laid_fields (decimal_of a.number ∷ decimal_of a.originator ∷ []) (decimal_of a.count ∷ []) (laid_fields (decimal_of a.number ∷ []) (decimal_of a.originator ∷ []) c.before.before.before.before.before.before.before.before.before.before.put-number.ensures.0 c.before.before.before.before.before.before.put-number2.ensures.0) c.before.before.put-number3.ensures.0,
       search rules,
     )
 

@@ -1,7 +1,7 @@
 -- The test is the definition's.
 -- Assumes nothing.
 use Rattle.group.specs.Choice.{if◌then◌else◌}
-use Rattle.report.specs.Print.{moreText}
+use Rattle.report.specs.Print.{more_text}
 use borrow.Author.Rules.{rules}
 use Rattle.report.proofs.put_more.Statement.{statement}
 use Rattle.report.proofs.put_more.Tie as tie
@@ -22,14 +22,14 @@ same_length : tie.Need-same-length
 same_length c = search rules
 
 returns : tie.Need-returns
-unfolding moreText if◌then◌else◌
+unfolding more_text if◌then◌else◌
 returns c = (rw c.before.before.before.before.before.if1.true c.before.before.put_word.ensures.0, search rules)
 
 same-length-2 : tie.Need-same-length-2
 same-length-2 c = search rules
 
 returns-2 : tie.Need-returns-2
-unfolding moreText if◌then◌else◌
+unfolding more_text if◌then◌else◌
 returns-2 c = (rw c.before.before.before.before.before.if1.false c.before.before.put-word2.ensures.0, search rules)
 
 pub put-more-spec : {M : Type 1} → statement M

@@ -1,8 +1,8 @@
 -- The word, the number and the index, one behind the other.
 -- Assumes nothing.
 use mathlib.Core.List.{[], ◌∷◌}
-use Rattle.text.proofs.Pieces.{laid-fields}
-use Rattle.text.specs.Written.{decimalOf}
+use Rattle.text.proofs.Pieces.{laid_fields}
+use Rattle.text.specs.Written.{decimal_of}
 use borrow.Author.Rules.{rules}
 use Rattle.report.proofs.put_numbered.Statement.{statement}
 use Rattle.report.proofs.put_numbered.Tie as tie
@@ -22,7 +22,7 @@ same_length c = search rules
 returns : tie.Need-returns
 returns c =
     let a = c.before.before.before.before.before.before.before.before.before.before.before.before.before.before.args in (
-      laid-fields (a.word.now ∷ decimalOf a.number ∷ []) (decimalOf a.index ∷ []) (laid-fields (a.word.now ∷ []) (decimalOf a.number ∷ []) c.before.before.before.before.before.before.before.before.before.before.put_word.ensures.0 c.before.before.before.before.before.before.put-number.ensures.0) c.before.before.put-index.ensures.0,
+      laid_fields (a.word.now ∷ decimal_of a.number ∷ []) (decimal_of a.index ∷ []) (laid_fields (a.word.now ∷ []) (decimal_of a.number ∷ []) c.before.before.before.before.before.before.before.before.before.before.put_word.ensures.0 c.before.before.before.before.before.before.put-number.ensures.0) c.before.before.put-index.ensures.0,
       search rules,
     )
 

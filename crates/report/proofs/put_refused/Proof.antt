@@ -1,10 +1,10 @@
 -- The word, and the number of the refusal behind it.
 -- Assumes nothing.
 use mathlib.Core.List.{[], ◌∷◌}
-use Rattle.text.proofs.Pieces.{laid-fields}
-use Rattle.text.specs.Written.{decimalOf}
+use Rattle.text.proofs.Pieces.{laid_fields}
+use Rattle.text.specs.Written.{decimal_of}
 use Rattle.text.specs.Text.{text_of}
-use Rattle.report.specs.Print.{wordingFields}
+use Rattle.report.specs.Print.{wording_fields}
 use borrow.Author.Rules.{rules}
 use Rattle.report.proofs.put_refused.Statement.{statement}
 use Rattle.report.proofs.put_refused.Tie as tie
@@ -28,10 +28,10 @@ same_length : tie.Need-same-length
 same_length c = search rules
 
 returns : tie.Need-returns
-unfolding wordingFields
+unfolding wording_fields
 returns c =
     let a = c.before.before.before.before.before.before.before.before.before.before.before.args in
-    (rw (← c.before.before.before.before.number.ensures) (laid-fields (text_of "refused" ∷ []) (decimalOf c.before.before.before.before.number.result ∷ []) c.before.before.before.before.before.before.before.put_word.ensures.0 c.before.before.put-number.ensures.0), search rules)
+    (rw (← c.before.before.before.before.number.ensures) (laid_fields (text_of "refused" ∷ []) (decimal_of c.before.before.before.before.number.result ∷ []) c.before.before.before.before.before.before.before.put_word.ensures.0 c.before.before.put-number.ensures.0), search rules)
 
 pub put-refused-spec : {M : Type 1} → statement M
 put-refused-spec =

@@ -2,8 +2,8 @@
 -- Assumes nothing.
 use mathlib.Core.List.{[]}
 use Rattle.model.specs.World.{answer_of}
-use Rattle.report.specs.Print.{answerFields}
-use Rattle.report.proofs.Wordings.{same-wording}
+use Rattle.report.specs.Print.{answer_fields}
+use Rattle.report.proofs.Wordings.{same_wording}
 use borrow.Author.Rules.{rules}
 use Rattle.report.proofs.put_reply.Statement.{statement}
 use Rattle.report.proofs.put_reply.Tie as tie
@@ -33,23 +33,23 @@ same_length : tie.Need-same-length
 same_length c = search rules
 
 returns : tie.Need-returns
-unfolding answer_of answerFields
+unfolding answer_of answer_fields
 returns c = (rw c.before.before.before.before.before.enum_told.given.1 c.before.before.put_word.ensures.0, search rules)
 
 same-length-2 : tie.Need-same-length-2
 same-length-2 c = search rules
 
 returns-2 : tie.Need-returns-2
-unfolding answer_of answerFields
+unfolding answer_of answer_fields
 returns-2 c =
     let a = c.before.before.before.before.before.before.before.before.before.args in
-    (rw (c.before.before.before.before.before.reply.given.1, same-wording _ a.payload.now [] a.index) c.before.before.put-sequencer.ensures.0, search rules)
+    (rw (c.before.before.before.before.before.reply.given.1, same_wording _ a.payload.now [] a.index) c.before.before.put-sequencer.ensures.0, search rules)
 
 same-length-3 : tie.Need-same-length-3
 same-length-3 c = search rules
 
 returns-3 : tie.Need-returns-3
-unfolding answer_of answerFields
+unfolding answer_of answer_fields
 returns-3 c = (rw c.before.before.before.before.before.reply2.given.1 c.before.before.put-member.ensures.0, search rules)
 
 pub put-reply-spec : {M : Type 1} → statement M

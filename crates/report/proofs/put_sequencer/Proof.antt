@@ -1,7 +1,7 @@
 -- Each answer has its own writer.
 -- Assumes nothing.
-use Rattle.sequencer.specs.Wording.{wordingOf}
-use Rattle.report.specs.Print.{valuesText, wordingFields}
+use Rattle.sequencer.specs.Wording.{wording_of}
+use Rattle.report.specs.Print.{values_text, wording_fields}
 use borrow.Author.Rules.{rules}
 use Rattle.report.proofs.put_sequencer.Statement.{statement}
 use Rattle.report.proofs.put_sequencer.Tie as tie
@@ -94,70 +94,70 @@ same_length : tie.Need-same-length
 same_length c = search rules
 
 returns : tie.Need-returns
-unfolding wordingOf wordingFields valuesText
+unfolding wording_of wording_fields values_text
 returns c = (rw c.before.before.before.before.before.answer.given.1 c.before.before.Put-refused.ensures.0, search rules)
 
 same-length-2 : tie.Need-same-length-2
 same-length-2 c = search rules
 
 returns-2 : tie.Need-returns-2
-unfolding wordingOf wordingFields valuesText
+unfolding wording_of wording_fields values_text
 returns-2 c = (rw c.before.before.before.before.before.enum_told.given.1 c.before.before.put_word.ensures.0, search rules)
 
 same-length-3 : tie.Need-same-length-3
 same-length-3 c = search rules
 
 returns-3 : tie.Need-returns-3
-unfolding wordingOf wordingFields valuesText
+unfolding wording_of wording_fields values_text
 returns-3 c = (rw c.before.before.before.before.before.before.answer2.given.1 c.before.before.put-numbered.ensures.0, search rules)
 
 same-length-4 : tie.Need-same-length-4
 same-length-4 c = search rules
 
 returns-4 : tie.Need-returns-4
-unfolding wordingOf wordingFields valuesText
+unfolding wording_of wording_fields values_text
 returns-4 c = (rw c.before.before.before.before.before.enum-told2.given.1 c.before.before.put-indexed.ensures.0, search rules)
 
 same-length-5 : tie.Need-same-length-5
 same-length-5 c = search rules
 
 returns-5 : tie.Need-returns-5
-unfolding wordingOf wordingFields valuesText
+unfolding wording_of wording_fields values_text
 returns-5 c = (rw c.before.before.before.before.before.before.answer3.given.1 c.before.before.put-numbered2.ensures.0, search rules)
 
 same-length-6 : tie.Need-same-length-6
 same-length-6 c = search rules
 
 returns-6 : tie.Need-returns-6
-unfolding wordingOf wordingFields valuesText
+unfolding wording_of wording_fields values_text
 returns-6 c = (rw c.before.before.before.before.before.enum-told3.given.1 c.before.before.put-word2.ensures.0, search rules)
 
 same-length-7 : tie.Need-same-length-7
 same-length-7 c = search rules
 
 returns-7 : tie.Need-returns-7
-unfolding wordingOf wordingFields valuesText
+unfolding wording_of wording_fields values_text
 returns-7 c = (rw c.before.before.before.before.before.answer4.given.1 c.before.before.put_wanted.ensures.0, search rules)
 
 same-length-8 : tie.Need-same-length-8
 same-length-8 c = search rules
 
 returns-8 : tie.Need-returns-8
-unfolding wordingOf wordingFields valuesText
+unfolding wording_of wording_fields values_text
 returns-8 c = (rw c.before.before.before.before.before.enum-told4.given.1 c.before.before.put-indexed2.ensures.0, search rules)
 
 same-length-9 : tie.Need-same-length-9
 same-length-9 c = search rules
 
 returns-9 : tie.Need-returns-9
-unfolding wordingOf wordingFields valuesText
+unfolding wording_of wording_fields values_text
 returns-9 c = (rw c.before.before.before.before.before.enum-told5.given.1 c.before.before.put-word3.ensures.0, search rules)
 
 same-length-10 : tie.Need-same-length-10
 same-length-10 c = search rules
 
 returns-10 : tie.Need-returns-10
-unfolding wordingOf wordingFields valuesText
+unfolding wording_of wording_fields values_text
 returns-10 c = (rw c.before.before.before.before.before.enum-told6.given.1 c.before.before.put-indexed3.ensures.0, search rules)
 
 pub put-sequencer-spec : {M : Type 1} → statement M

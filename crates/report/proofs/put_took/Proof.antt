@@ -1,9 +1,9 @@
 -- The word, the message's numbers, its payload, and whether more is held, one behind the other.
 -- Assumes nothing.
 use mathlib.Core.List.{[], ◌∷◌, ◌++◌}
-use Rattle.text.proofs.Pieces.{laid-fields}
-use Rattle.text.specs.Written.{decimalOf, payloadText}
-use Rattle.report.specs.Print.{moreText}
+use Rattle.text.proofs.Pieces.{laid_fields}
+use Rattle.text.specs.Written.{decimal_of, payload_text}
+use Rattle.report.specs.Print.{more_text}
 use Rattle.text.specs.Text.{text_of}
 use borrow.Author.Rules.{rules}
 use Rattle.report.proofs.put_took.Statement.{statement}
@@ -33,11 +33,11 @@ same_length c = search rules
 returns : tie.Need-returns
 returns c =
     let a = c.before.before.before.before.before.before.before.before.before.before.before.before.before.before.before.before.before.before.before.before.args in
-    let m = decimalOf a.number.0 ∷ decimalOf a.originator.0 ∷ decimalOf a.count ∷ [] in
-    let p = payloadText a.payload.now ∷ [] in
-    let f = laid-fields (text_of "took" ∷ []) m c.before.before.before.before.before.before.before.before.before.before.before.before.before.before.before.put_word.ensures.0 c.before.before.before.before.before.before.before.before.before.before.put-message.ensures.0 in
-    let g = laid-fields (text_of "took" ∷ m) p f c.before.before.before.before.before.before.put_payload.ensures.0 in
-    (laid-fields (text_of "took" ∷ (m ++ p)) (moreText a.more ∷ []) g c.before.before.put-more.ensures.0, search rules)
+    let m = decimal_of a.number.0 ∷ decimal_of a.originator.0 ∷ decimal_of a.count ∷ [] in
+    let p = payload_text a.payload.now ∷ [] in
+    let f = laid_fields (text_of "took" ∷ []) m c.before.before.before.before.before.before.before.before.before.before.before.before.before.before.before.put_word.ensures.0 c.before.before.before.before.before.before.before.before.before.before.put-message.ensures.0 in
+    let g = laid_fields (text_of "took" ∷ m) p f c.before.before.before.before.before.before.put_payload.ensures.0 in
+    (laid_fields (text_of "took" ∷ (m ++ p)) (more_text a.more ∷ []) g c.before.before.put-more.ensures.0, search rules)
 
 pub put-took-spec : {M : Type 1} → statement M
 put-took-spec =

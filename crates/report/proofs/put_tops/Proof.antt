@@ -1,8 +1,8 @@
 -- The first field, and the others one behind the other.
 -- Assumes nothing.
 use mathlib.Core.List.{[], ◌∷◌}
-use Rattle.text.proofs.Pieces.{laid-fields, laid_then}
-use Rattle.text.specs.Written.{decimalOf, spaced}
+use Rattle.text.proofs.Pieces.{laid_fields, laid_then}
+use Rattle.text.specs.Written.{decimal_of, spaced}
 use Rattle.text.specs.Text.{text_of}
 use borrow.Author.Rules.{rules}
 use Rattle.report.proofs.put_tops.Statement.{statement}
@@ -38,11 +38,11 @@ same_length c = search rules
 returns : tie.Need-returns
 returns c =
     let a = c.before.before.before.before.before.before.before.before.before.before.before.before.before.before.before.before.before.before.before.before.before.before.before.before.args in
-    let t = decimalOf a.top in
-    let f = decimalOf a.floor in
-    let p = laid-fields (t ∷ []) (text_of "floor" ∷ []) c.before.before.before.before.before.before.before.before.before.before.before.before.before.before.before.before.put-number.ensures.0 c.before.before.before.before.before.before.before.before.before.before.before.put_word.ensures.0 in
-    let q = laid-fields (t ∷ text_of "floor" ∷ []) (f ∷ []) p c.before.before.before.before.before.before.before.put-number2.ensures.0 in
-    let r = laid-fields (t ∷ text_of "floor" ∷ f ∷ []) (text_of "taken" ∷ []) q c.before.before.put-word2.ensures.0 in
+    let t = decimal_of a.top in
+    let f = decimal_of a.floor in
+    let p = laid_fields (t ∷ []) (text_of "floor" ∷ []) c.before.before.before.before.before.before.before.before.before.before.before.before.before.before.before.before.put-number.ensures.0 c.before.before.before.before.before.before.before.before.before.before.before.put_word.ensures.0 in
+    let q = laid_fields (t ∷ text_of "floor" ∷ []) (f ∷ []) p c.before.before.before.before.before.before.before.put-number2.ensures.0 in
+    let r = laid_fields (t ∷ text_of "floor" ∷ f ∷ []) (text_of "taken" ∷ []) q c.before.before.put-word2.ensures.0 in
     (laid_then (text_of "top") (spaced (t ∷ text_of "floor" ∷ f ∷ text_of "taken" ∷ [])) c.before.before.before.before.before.before.before.before.before.before.before.before.before.before.before.before.before.before.before.before.put-text.ensures r, search rules)
 
 pub put-tops-spec : {M : Type 1} → statement M

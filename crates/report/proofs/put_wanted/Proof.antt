@@ -1,8 +1,8 @@
 -- The word and the two numbers, one behind the other.
 -- Assumes nothing.
 use mathlib.Core.List.{[], ◌∷◌}
-use Rattle.text.proofs.Pieces.{laid-fields}
-use Rattle.text.specs.Written.{decimalOf}
+use Rattle.text.proofs.Pieces.{laid_fields}
+use Rattle.text.specs.Written.{decimal_of}
 use Rattle.text.specs.Text.{text_of}
 use borrow.Author.Rules.{rules}
 use Rattle.report.proofs.put_wanted.Statement.{statement}
@@ -26,7 +26,7 @@ same_length c = search rules
 returns : tie.Need-returns
 returns c =
     let a = c.before.before.before.before.before.before.before.before.before.before.before.before.before.before.args in (
-      laid-fields (text_of "wanted" ∷ decimalOf a.first ∷ []) (decimalOf a.last ∷ []) (laid-fields (text_of "wanted" ∷ []) (decimalOf a.first ∷ []) c.before.before.before.before.before.before.before.before.before.before.put_word.ensures.0 c.before.before.before.before.before.before.put-number.ensures.0) c.before.before.put-number2.ensures.0,
+      laid_fields (text_of "wanted" ∷ decimal_of a.first ∷ []) (decimal_of a.last ∷ []) (laid_fields (text_of "wanted" ∷ []) (decimal_of a.first ∷ []) c.before.before.before.before.before.before.before.before.before.before.put_word.ensures.0 c.before.before.before.before.before.before.put-number.ensures.0) c.before.before.put-number2.ensures.0,
       search rules,
     )
 

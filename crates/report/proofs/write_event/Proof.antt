@@ -3,11 +3,11 @@
 use mathlib.Core.Path.{sym, ◌∙◌}
 use native.Mathlib.Omega.{arith}
 use lib.ListN.{length}
-use Rattle.text.proofs.Decimal.{decimal-most}
-use Rattle.text.specs.Written.{decimalOf, countDigits}
+use Rattle.text.proofs.Decimal.{decimal_most}
+use Rattle.text.specs.Written.{decimal_of, count_digits}
 use Rattle.model.specs.World.{answer_of}
-use Rattle.report.specs.Print.{eventRoom, answerFields, line_of}
-use Rattle.text.proofs.Pieces.{laid-line}
+use Rattle.report.specs.Print.{event_room, answer_fields, line_of}
+use Rattle.text.proofs.Pieces.{laid_line}
 use Rattle.report.proofs.Pieces.{written, unwritten}
 use borrow.Author.Tests.{leb-true, leb-false}
 use borrow.Author.Rules.{rules}
@@ -19,20 +19,20 @@ event-fits-requires c κs = search rules
 
 put-decimal-requires : tie.Need-put-decimal-requires
 put-decimal-requires c κs =
-    let m = decimal-most countDigits c.before.before.before.before.before.args.number (omega arith) (omega arith) in
-    let h = leb-true (eventRoom c.before.before.before.before.before.args.payload.now) (length c.before.before.before.before.before.args.out.now) (sym c.before.before.event-fits.ensures ∙ c.before.if1.true) in
+    let m = decimal_most count_digits c.before.before.before.before.before.args.number (omega arith) (omega arith) in
+    let h = leb-true (event_room c.before.before.before.before.before.args.payload.now) (length c.before.before.before.before.before.args.out.now) (sym c.before.before.event-fits.ensures ∙ c.before.if1.true) in
     omega arith
 
 put-reply-requires : tie.Need-put-reply-requires
 put-reply-requires c κs =
-    let m = decimal-most countDigits c.before.before.before.before.before.before.before.before.before.args.number (omega arith) (omega arith) in
-    let h = leb-true (eventRoom c.before.before.before.before.before.before.before.before.before.args.payload.now) (length c.before.before.before.before.before.before.before.before.before.args.out.now) (sym c.before.before.before.before.before.before.event-fits.ensures ∙ c.before.before.before.before.before.if1.true) in
+    let m = decimal_most count_digits c.before.before.before.before.before.before.before.before.before.args.number (omega arith) (omega arith) in
+    let h = leb-true (event_room c.before.before.before.before.before.before.before.before.before.args.payload.now) (length c.before.before.before.before.before.before.before.before.before.args.out.now) (sym c.before.before.before.before.before.before.event-fits.ensures ∙ c.before.before.before.before.before.if1.true) in
     omega arith
 
 put-requires : tie.Need-put-requires
 put-requires c κs =
-    let m = decimal-most countDigits c.before.before.before.before.before.before.before.before.before.before.before.before.before.args.number (omega arith) (omega arith) in
-    let h = leb-true (eventRoom c.before.before.before.before.before.before.before.before.before.before.before.before.before.args.payload.now) (length c.before.before.before.before.before.before.before.before.before.before.before.before.before.args.out.now) (sym c.before.before.before.before.before.before.before.before.before.before.event-fits.ensures ∙ c.before.before.before.before.before.before.before.before.before.if1.true) in
+    let m = decimal_most count_digits c.before.before.before.before.before.before.before.before.before.before.before.before.before.args.number (omega arith) (omega arith) in
+    let h = leb-true (event_room c.before.before.before.before.before.before.before.before.before.before.before.before.before.args.payload.now) (length c.before.before.before.before.before.before.before.before.before.before.before.before.before.args.out.now) (sym c.before.before.before.before.before.before.before.before.before.before.event-fits.ensures ∙ c.before.before.before.before.before.before.before.before.before.if1.true) in
     omega arith
 
 same_length : tie.Need-same-length
@@ -42,14 +42,14 @@ returns : tie.Need-returns
 returns c =
     let a = c.before.before.before.before.before.before.before.before.before.before.before.before.before.before.before.before.args in
     let w = answer_of a.reply a.payload.now in
-    let h = leb-true (eventRoom c.before.before.before.before.before.before.before.before.before.before.before.before.before.before.before.before.args.payload.now) (length c.before.before.before.before.before.before.before.before.before.before.before.before.before.before.before.before.args.out.now) (sym c.before.before.before.before.before.before.before.before.before.before.before.before.before.event-fits.ensures ∙ c.before.before.before.before.before.before.before.before.before.before.before.before.if1.true) in
-    written (eventRoom a.payload.now) (line_of a.number w a.index) a.out.now c.before.before.put.result _ h
-    (laid-line (decimalOf a.number) (answerFields w a.index) c.before.before.before.before.before.before.before.before.before.before.put-decimal.ensures c.before.before.before.before.before.before.put-reply.ensures.0 c.before.before.put.ensures)
+    let h = leb-true (event_room c.before.before.before.before.before.before.before.before.before.before.before.before.before.before.before.before.args.payload.now) (length c.before.before.before.before.before.before.before.before.before.before.before.before.before.before.before.before.args.out.now) (sym c.before.before.before.before.before.before.before.before.before.before.before.before.before.event-fits.ensures ∙ c.before.before.before.before.before.before.before.before.before.before.before.before.if1.true) in
+    written (event_room a.payload.now) (line_of a.number w a.index) a.out.now c.before.before.put.result _ h
+    (laid_line (decimal_of a.number) (answer_fields w a.index) c.before.before.before.before.before.before.before.before.before.before.put-decimal.ensures c.before.before.before.before.before.before.put-reply.ensures.0 c.before.before.put.ensures)
 
 returns-2 : tie.Need-returns-2
 returns-2 c =
     let a = c.before.before.before.before.args in
-    unwritten (eventRoom a.payload.now) (line_of a.number (answer_of a.reply a.payload.now) a.index) a.out.now (leb-false _ _ (sym c.before.event-fits.ensures ∙ c.if1.false))
+    unwritten (event_room a.payload.now) (line_of a.number (answer_of a.reply a.payload.now) a.index) a.out.now (leb-false _ _ (sym c.before.event-fits.ensures ∙ c.if1.false))
 
 pub write-event-spec : {M : Type 1} → statement M
 write-event-spec =

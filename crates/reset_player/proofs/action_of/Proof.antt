@@ -1,7 +1,7 @@
 -- Each command asks what the definition says.
 -- Assumes nothing.
 use mathlib.Core.Path.{refl}
-use Rattle.reset_player.specs.Steps.{actionOf}
+use Rattle.reset_player.specs.Steps.{action_of}
 use borrow.Author.Rules.{rules}
 use Rattle.reset_player.proofs.action_of.Statement.{statement}
 use Rattle.reset_player.proofs.action_of.Tie as tie
@@ -76,47 +76,47 @@ cast-t41 : tie.Need-overflow-cast-t41
 cast-t41 c = search rules
 
 returns : tie.Need-returns
-unfolding actionOf
+unfolding action_of
 returns c = rw c.enum_told.given.1 refl
 
 returns-2 : tie.Need-returns-2
-unfolding actionOf
+unfolding action_of
 returns-2 c = rw c.before.command.given.1 refl
 
 returns-3 : tie.Need-returns-3
-unfolding actionOf
+unfolding action_of
 returns-3 c = rw c.before.command2.given.1 refl
 
 returns-4 : tie.Need-returns-4
-unfolding actionOf
+unfolding action_of
 returns-4 c = rw c.before.command3.given.1 refl
 
 returns-5 : tie.Need-returns-5
-unfolding actionOf
+unfolding action_of
 returns-5 c = rw c.before.command4.given.1 refl
 
 returns-6 : tie.Need-returns-6
-unfolding actionOf
+unfolding action_of
 returns-6 c = rw c.before.command5.given.1 refl
 
 returns-7 : tie.Need-returns-7
-unfolding actionOf
+unfolding action_of
 returns-7 c = rw c.before.command6.given.1 refl
 
 returns-8 : tie.Need-returns-8
-unfolding actionOf
+unfolding action_of
 returns-8 c = rw c.before.command7.given.1 refl
 
 returns-9 : tie.Need-returns-9
-unfolding actionOf
+unfolding action_of
 returns-9 c = rw c.before.command8.given.1 refl
 
 returns-10 : tie.Need-returns-10
-unfolding actionOf
+unfolding action_of
 returns-10 c = rw c.before.command9.given.1 refl
 
 returns-11 : tie.Need-returns-11
-unfolding actionOf
+unfolding action_of
 returns-11 c = rw c.before.command10.given.1 refl
 
 pub action-of-spec : {M : Type 1} → statement M

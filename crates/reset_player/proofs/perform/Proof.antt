@@ -3,7 +3,7 @@
 use mathlib.Core.Path.{◌≡◌, refl, sym, ap, ◌∙◌}
 use lib.Seq.{length-take-le}
 use Rattle.reset_player.specs.Steps.{Performed}
-use Rattle.reset_player.proofs.Asking.{Meant, asked_is, as-performed, performed-by}
+use Rattle.reset_player.proofs.Asking.{Meant, asked_is, as_performed, performed_by}
 use borrow.Author.Rules.{rules}
 use Rattle.reset_player.proofs.perform.Statement.{statement}
 use Rattle.reset_player.proofs.perform.Tie as tie
@@ -35,21 +35,21 @@ hand-requires c κs = search rules
 
 returns : tie.Need-returns
 unfolding Meant Performed
-returns c = let a = c.before.before.before.before.args in as-performed a.world _ _ _ _ _ (sym (asked_is _ a.command a.payload.now c.before.before.before.before.requires.0 (sym c.enum_told.given.1 ∙ c.before.before.action-of.ensures))) refl
+returns c = let a = c.before.before.before.before.args in as_performed a.world _ _ _ _ _ (sym (asked_is _ a.command a.payload.now c.before.before.before.before.requires.0 (sym c.enum_told.given.1 ∙ c.before.before.action-of.ensures))) refl
 
 returns-2 : tie.Need-returns-2
 unfolding Meant
 returns-2 c =
     let a = c.before.before.before.before.before.before.before.before.before.before.before.before.before.before.before.before.before.before.before.before.before.before.before.before.before.before.before.before.before.before.before.before.before.before.before.args in
     let m = asked_is _ a.command a.payload.now c.before.before.before.before.before.before.before.before.before.before.before.before.before.before.before.before.before.before.before.before.before.before.before.before.before.before.before.before.before.before.before.before.before.before.before.requires.0 (sym c.before.before.before.before.before.before.before.before.before.before.before.before.before.before.before.before.before.before.before.before.before.before.before.before.before.before.before.before.before.before.before.asked.given.1 ∙ c.before.before.before.before.before.before.before.before.before.before.before.before.before.before.before.before.before.before.before.before.before.before.before.before.before.before.before.before.before.before.before.before.before.action-of.ensures) in
-    performed-by _ _ m.1 c.act.ensures
+    performed_by _ _ m.1 c.act.ensures
 
 returns-3 : tie.Need-returns-3
 unfolding Meant
 returns-3 c =
     let a = c.before.before.before.before.before.before.before.before.before.before.before.before.before.before.before.before.before.before.before.before.before.before.before.before.before.before.before.before.before.before.before.before.before.before.args in
     let m = asked_is _ a.command a.payload.now c.before.before.before.before.before.before.before.before.before.before.before.before.before.before.before.before.before.before.before.before.before.before.before.before.before.before.before.before.before.before.before.before.before.before.requires.0 (sym c.before.before.before.before.before.before.before.before.before.before.before.before.before.before.before.before.before.before.before.before.before.before.before.before.before.before.before.before.before.before.asked2.given.1 ∙ c.before.before.before.before.before.before.before.before.before.before.before.before.before.before.before.before.before.before.before.before.before.before.before.before.before.before.before.before.before.before.before.before.action-of.ensures) in
-    performed-by _ _ m c.hand.ensures
+    performed_by _ _ m c.hand.ensures
 
 pub perform-spec : {M : Type 1} → statement M
 perform-spec =

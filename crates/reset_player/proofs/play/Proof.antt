@@ -5,10 +5,10 @@ use Rattle.player.proofs.Telling.{running≢, ended≢}
 use Rattle.player.specs.declared.Phase.{Phase}
 use Rattle.player.specs.declared.Phase.TheVariants.{Running, Ended}
 use Rattle.reset_simulator.specs.Whole.{group_of, whole_of}
-use Rattle.reset_player.specs.Player.{stageIn, phaseOf}
+use Rattle.reset_player.specs.Player.{stage_in, phase_of}
 use Rattle.reset_output.specs.Recover as recover
-use Rattle.reset_output.specs.Recover.{lineTold}
-use Rattle.reset_player.proofs.Telling.{as-told, phase-is, phase-was, phase-closed, tells-nothing}
+use Rattle.reset_output.specs.Recover.{line_told}
+use Rattle.reset_player.proofs.Telling.{as_told, phase_is, phase_was, phase_closed, tells_nothing}
 use borrow.Author.Rules.{rules}
 use Rattle.reset_player.proofs.play.Statement.{statement}
 use Rattle.reset_player.proofs.play.Tie as tie
@@ -26,8 +26,8 @@ enum-told-2 : tie.Need-enum-told-2
 enum-told-2 c = search rules
 
 tell-requires : tie.Need-tell-requires
-unfolding phaseOf
-tell-requires c κs = (phase-was c.before.before.before.before.before.before.before.before.before.before.before.before.before.before.before.before.before.before.before.before.before.before.before.before.before.before.before.before.before.before.before.before.args.world c.before.before.before.before.before.before.before.before.before.before.before.before.before.before.before.before.before.before.before.before.before.before.before.before.before.before.before.before.before.before.before.before.args.phase Running (sym c.before.before.before.before.before.before.before.before.before.before.before.before.before.before.before.before.before.before.before.before.before.before.before.before.before.before.before.before.before.before.phase-of.ensures ∙ c.before.before.before.before.before.before.before.before.before.before.before.before.before.before.before.before.before.before.before.before.before.before.before.before.before.before.before.before.enum-told2.given.1) running≢).0
+unfolding phase_of
+tell-requires c κs = (phase_was c.before.before.before.before.before.before.before.before.before.before.before.before.before.before.before.before.before.before.before.before.before.before.before.before.before.before.before.before.before.before.before.before.args.world c.before.before.before.before.before.before.before.before.before.before.before.before.before.before.before.before.before.before.before.before.before.before.before.before.before.before.before.before.before.before.before.before.args.phase Running (sym c.before.before.before.before.before.before.before.before.before.before.before.before.before.before.before.before.before.before.before.before.before.before.before.before.before.before.before.before.before.before.phase-of.ensures ∙ c.before.before.before.before.before.before.before.before.before.before.before.before.before.before.before.before.before.before.before.before.before.before.before.before.before.before.before.before.enum-told2.given.1) running≢).0
 
 enum-told-3 : tie.Need-enum-told-3
 enum-told-3 c = search rules
@@ -36,41 +36,41 @@ enum-told-4 : tie.Need-enum-told-4
 enum-told-4 c = search rules
 
 returns : tie.Need-returns
-unfolding lineTold stageIn phaseOf
+unfolding line_told stage_in phase_of
 returns c =
     let a = c.before.before.before.before.before.before.before.before.before.before.before.before.before.before.before.before.before.before.before.before.before.before.before.before.before.before.before.before.before.before.before.before.before.args in
-    let w = (whole_of a.world a.small.now a.masks.now a.numbers.now a.queued.now a.held.now a.queued-originators.now a.queued-lengths.now a.held-originators.now a.held-lengths.now a.queued-payloads.now a.held-payloads.now a.past.now a.past-originators.now a.past-lengths.now a.past-payloads.now a.highest.now a.replies.now a.taken.now a.counts.now a.repeats.now a.kept.now a.marks.now a.originators.now a.lengths.now a.payloads.now a.sizes.now a.packets.now) in
-    let text : Phase → recover.Told = λ x. lineTold (stageIn x (group_of w) a.number) a.line.now in
-    as-told (ap text (sym c.before.before.before.before.before.before.before.before.before.before.before.before.before.before.before.before.before.before.before.before.before.before.before.before.before.before.before.before.before.enum_told.given.1 ∙ c.before.before.before.before.before.before.before.before.before.before.before.before.before.before.before.before.before.before.before.before.before.before.before.before.before.before.before.before.before.before.before.phase-of.ensures)) c.«open».ensures
+    let w = (whole_of a.world a.small.now a.masks.now a.numbers.now a.queued.now a.held.now a.queued_originators.now a.queued_lengths.now a.held_originators.now a.held_lengths.now a.queued_payloads.now a.held_payloads.now a.past.now a.past_originators.now a.past_lengths.now a.past_payloads.now a.highest.now a.replies.now a.taken.now a.counts.now a.repeats.now a.kept.now a.marks.now a.originators.now a.lengths.now a.payloads.now a.sizes.now a.packets.now) in
+    let text : Phase → recover.Told = λ x. line_told (stage_in x (group_of w) a.number) a.line.now in
+    as_told (ap text (sym c.before.before.before.before.before.before.before.before.before.before.before.before.before.before.before.before.before.before.before.before.before.before.before.before.before.before.before.before.before.enum_told.given.1 ∙ c.before.before.before.before.before.before.before.before.before.before.before.before.before.before.before.before.before.before.before.before.before.before.before.before.before.before.before.before.before.before.before.phase-of.ensures)) c.«open».ensures
 
 returns-2 : tie.Need-returns-2
-unfolding lineTold stageIn phaseOf
+unfolding line_told stage_in phase_of
 returns-2 c =
     let a = c.before.before.before.before.before.before.before.before.before.before.before.before.before.before.before.before.before.before.before.before.before.before.before.before.before.before.before.before.before.before.before.before.before.args in
-    let w = (whole_of a.world a.small.now a.masks.now a.numbers.now a.queued.now a.held.now a.queued-originators.now a.queued-lengths.now a.held-originators.now a.held-lengths.now a.queued-payloads.now a.held-payloads.now a.past.now a.past-originators.now a.past-lengths.now a.past-payloads.now a.highest.now a.replies.now a.taken.now a.counts.now a.repeats.now a.kept.now a.marks.now a.originators.now a.lengths.now a.payloads.now a.sizes.now a.packets.now) in
-    let text : Phase → recover.Told = λ x. lineTold (stageIn x (group_of w) a.number) a.line.now in
-    as-told (ap text (sym c.before.before.before.before.before.before.before.before.before.before.before.before.before.before.before.before.before.before.before.before.before.before.before.before.before.before.before.before.before.enum-told2.given.1 ∙ c.before.before.before.before.before.before.before.before.before.before.before.before.before.before.before.before.before.before.before.before.before.before.before.before.before.before.before.before.before.before.before.phase-of.ensures)) c.tell.ensures
+    let w = (whole_of a.world a.small.now a.masks.now a.numbers.now a.queued.now a.held.now a.queued_originators.now a.queued_lengths.now a.held_originators.now a.held_lengths.now a.queued_payloads.now a.held_payloads.now a.past.now a.past_originators.now a.past_lengths.now a.past_payloads.now a.highest.now a.replies.now a.taken.now a.counts.now a.repeats.now a.kept.now a.marks.now a.originators.now a.lengths.now a.payloads.now a.sizes.now a.packets.now) in
+    let text : Phase → recover.Told = λ x. line_told (stage_in x (group_of w) a.number) a.line.now in
+    as_told (ap text (sym c.before.before.before.before.before.before.before.before.before.before.before.before.before.before.before.before.before.before.before.before.before.before.before.before.before.before.before.before.before.enum-told2.given.1 ∙ c.before.before.before.before.before.before.before.before.before.before.before.before.before.before.before.before.before.before.before.before.before.before.before.before.before.before.before.before.before.before.before.phase-of.ensures)) c.tell.ensures
 
 returns-3 : tie.Need-returns-3
-unfolding lineTold stageIn phaseOf
+unfolding line_told stage_in phase_of
 returns-3 c =
     let a = c.before.before.before.before.args in
-    let w = (whole_of a.world a.small.now a.masks.now a.numbers.now a.queued.now a.held.now a.queued-originators.now a.queued-lengths.now a.held-originators.now a.held-lengths.now a.queued-payloads.now a.held-payloads.now a.past.now a.past-originators.now a.past-lengths.now a.past-payloads.now a.highest.now a.replies.now a.taken.now a.counts.now a.repeats.now a.kept.now a.marks.now a.originators.now a.lengths.now a.payloads.now a.sizes.now a.packets.now) in
-    let text : Phase → recover.Told = λ x. lineTold (stageIn x (group_of w) a.number) a.line.now in
+    let w = (whole_of a.world a.small.now a.masks.now a.numbers.now a.queued.now a.held.now a.queued_originators.now a.queued_lengths.now a.held_originators.now a.held_lengths.now a.queued_payloads.now a.held_payloads.now a.past.now a.past_originators.now a.past_lengths.now a.past_payloads.now a.highest.now a.replies.now a.taken.now a.counts.now a.repeats.now a.kept.now a.marks.now a.originators.now a.lengths.now a.payloads.now a.sizes.now a.packets.now) in
+    let text : Phase → recover.Told = λ x. line_told (stage_in x (group_of w) a.number) a.line.now in
     let g = c.enum-told3.given.1 in
     let e = sym g ∙ c.before.before.phase-of.ensures in
-    let f = (phase-was a.world a.phase Ended (sym e) ended≢).0 in
-    as-told (ap text e) (tells-nothing _ w _ _ (ap (λ (x : Phase). stageIn x (group_of w) a.number) (phase-is a.world _ f ∙ g)) refl)
+    let f = (phase_was a.world a.phase Ended (sym e) ended≢).0 in
+    as_told (ap text e) (tells_nothing _ w _ _ (ap (λ (x : Phase). stage_in x (group_of w) a.number) (phase_is a.world _ f ∙ g)) refl)
 
 returns-4 : tie.Need-returns-4
-unfolding lineTold stageIn phaseOf
+unfolding line_told stage_in phase_of
 returns-4 c =
     let a = c.before.before.before.before.args in
-    let w = (whole_of a.world a.small.now a.masks.now a.numbers.now a.queued.now a.held.now a.queued-originators.now a.queued-lengths.now a.held-originators.now a.held-lengths.now a.queued-payloads.now a.held-payloads.now a.past.now a.past-originators.now a.past-lengths.now a.past-payloads.now a.highest.now a.replies.now a.taken.now a.counts.now a.repeats.now a.kept.now a.marks.now a.originators.now a.lengths.now a.payloads.now a.sizes.now a.packets.now) in
-    let text : Phase → recover.Told = λ x. lineTold (stageIn x (group_of w) a.number) a.line.now in
+    let w = (whole_of a.world a.small.now a.masks.now a.numbers.now a.queued.now a.held.now a.queued_originators.now a.queued_lengths.now a.held_originators.now a.held_lengths.now a.queued_payloads.now a.held_payloads.now a.past.now a.past_originators.now a.past_lengths.now a.past_payloads.now a.highest.now a.replies.now a.taken.now a.counts.now a.repeats.now a.kept.now a.marks.now a.originators.now a.lengths.now a.payloads.now a.sizes.now a.packets.now) in
+    let text : Phase → recover.Told = λ x. line_told (stage_in x (group_of w) a.number) a.line.now in
     let g = c.enum-told4.given.1 in
     let e = sym g ∙ c.before.before.phase-of.ensures in
-    as-told (ap text e) (tells-nothing _ w _ _ (ap (λ (x : Phase). stageIn (phaseOf a.world x) (group_of w) a.number) g ∙ phase-closed a.world _ _) refl)
+    as_told (ap text e) (tells_nothing _ w _ _ (ap (λ (x : Phase). stage_in (phase_of a.world x) (group_of w) a.number) g ∙ phase_closed a.world _ _) refl)
 
 pub play-spec : {M : Type 1} → statement M
 play-spec =

@@ -1,7 +1,7 @@
 -- The line fits the output.
 -- Assumes nothing.
 use mathlib.Core.Path.{refl}
-use Rattle.reset_player.proofs.Telling.{tells-closed}
+use Rattle.reset_player.proofs.Telling.{tells_closed}
 use borrow.Author.Rules.{rules}
 use Rattle.reset_player.proofs.refuse.Statement.{statement}
 use Rattle.reset_player.proofs.refuse.Tie as tie
@@ -10,7 +10,7 @@ write-refused-opening-requires : tie.Need-write-refused-opening-requires
 write-refused-opening-requires c κs = search rules
 
 returns : tie.Need-returns
-returns c = λ w. tells-closed _ _ _ _ w _ (search rules) c.write-refused-opening.ensures.0 c.write-refused-opening.ensures.1 refl
+returns c = λ w. tells_closed _ _ _ _ w _ (search rules) c.write-refused-opening.ensures.0 c.write-refused-opening.ensures.1 refl
 
 pub refuse-spec : {M : Type 1} → statement M
 refuse-spec =

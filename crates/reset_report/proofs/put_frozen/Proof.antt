@@ -3,7 +3,7 @@
 use Rattle.group.specs.Choice.{if◌then◌else◌}
 use Rattle.text.proofs.Pieces.{laid_none}
 use Rattle.text.specs.Written.{spaced}
-use Rattle.reset_report.specs.Print.{frozenText}
+use Rattle.reset_report.specs.Print.{frozen_text}
 use borrow.Author.Rules.{rules}
 use Rattle.reset_report.proofs.put_frozen.Statement.{statement}
 use Rattle.reset_report.proofs.put_frozen.Tie as tie
@@ -18,11 +18,11 @@ same_length : tie.Need-same-length
 same_length c = search rules
 
 returns : tie.Need-returns
-unfolding frozenText if◌then◌else◌
+unfolding frozen_text if◌then◌else◌
 returns c = (rw c.before.before.before.before.before.if1.true c.before.before.put_word.ensures.0, search rules)
 
 returns-2 : tie.Need-returns-2
-unfolding frozenText if◌then◌else◌ spaced
+unfolding frozen_text if◌then◌else◌ spaced
 returns-2 c =
     let a = c.before.before.args in
     (rw c.if1.false (laid_none a.at a.out.now (search rules)), search rules)

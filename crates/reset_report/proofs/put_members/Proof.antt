@@ -4,24 +4,24 @@ use mathlib.Core.Path.{◌≡◌}
 use mathlib.Core.List.{map}
 use Prim.Native.Nat.{ℕ, ◌+◌, ◌*◌, ◌-◌, ◌≤◌}
 use lib.ListN.{length}
-use Rattle.group.specs.Limits.{membersMost}
-use Rattle.text.proofs.Pieces.{laid-fields, laid_none}
+use Rattle.group.specs.Limits.{members_most}
+use Rattle.text.proofs.Pieces.{laid_fields, laid_none}
 use Rattle.text.specs.LaidAt.{LaidAt}
-use Rattle.text.specs.Written.{decimalOf, spaced}
-use Rattle.reset_report.specs.Print.{listed_at, membersBelow}
-use Rattle.reset_report.proofs.Pieces.{members-on}
+use Rattle.text.specs.Written.{decimal_of, spaced}
+use Rattle.reset_report.specs.Print.{listed_at, members_below}
+use Rattle.reset_report.proofs.Pieces.{members_on}
 use borrow.Author.Rules.{rules}
 use Rattle.reset_report.proofs.put_members.Statement.{statement}
 use Rattle.reset_report.proofs.put_members.Tie as tie
 
 abbrev invariant-loop : tie.invariant-loop
-invariant-loop mask out₀ at next₀ i₀ out next i = (i ≤ membersMost) × (next ≤ at + 11 * i) × (length out ≡ length out₀) × LaidAt at (spaced (map decimalOf (membersBelow mask i))) out₀ out next
+invariant-loop mask out₀ at next₀ i₀ out next i = (i ≤ members_most) × (next ≤ at + 11 * i) × (length out ≡ length out₀) × LaidAt at (spaced (map decimal_of (members_below mask i))) out₀ out next
 
 abbrev decreases-loop : tie.decreases-loop
-decreases-loop mask out₀ at next₀ i₀ out next i = membersMost - i
+decreases-loop mask out₀ at next₀ i₀ out next i = members_most - i
 
 loop-holds : tie.Need-loop-init invariant-loop decreases-loop
-unfolding spaced membersBelow
+unfolding spaced members_below
 loop-holds c = (search rules, search rules, search rules, laid_none c.before.args.at c.before.args.out.now (search rules))
 
 cast-put-listed : tie.Need-overflow-cast-put-listed invariant-loop decreases-loop
@@ -43,7 +43,7 @@ loop-again c =
       search rules,
       search rules,
       search rules,
-      rw (members-on m l.i) (laid-fields (map decimalOf (membersBelow m l.i)) (map decimalOf (listed_at m l.i)) l.invariant.3 c.before.before.put-listed.ensures.0),
+      rw (members_on m l.i) (laid_fields (map decimal_of (members_below m l.i)) (map decimal_of (listed_at m l.i)) l.invariant.3 c.before.before.put-listed.ensures.0),
     )
 
 same_length : tie.Need-same-length invariant-loop decreases-loop
@@ -52,7 +52,7 @@ same_length c = search rules
 returns : tie.Need-returns invariant-loop decreases-loop
 returns c =
     let l = c.before.loop in
-    let e : l.i ≡ membersMost = search rules in
+    let e : l.i ≡ members_most = search rules in
     (rw e at l.invariant.3, search rules)
 
 pub put-members-spec : {M : Type 1} → statement M

@@ -1,8 +1,8 @@
 -- The word, and the number behind it.
 -- Assumes nothing.
 use mathlib.Core.List.{[], ◌∷◌}
-use Rattle.text.proofs.Pieces.{laid-fields}
-use Rattle.text.specs.Written.{decimalOf}
+use Rattle.text.proofs.Pieces.{laid_fields}
+use Rattle.text.specs.Written.{decimal_of}
 use borrow.Author.Rules.{rules}
 use Rattle.reset_report.proofs.put_named.Statement.{statement}
 use Rattle.reset_report.proofs.put_named.Tie as tie
@@ -19,7 +19,7 @@ same_length c = search rules
 returns : tie.Need-returns
 returns c =
     let a = c.before.before.before.before.before.before.before.before.before.before.args in
-    (laid-fields (a.word.now ∷ []) (decimalOf a.number ∷ []) c.before.before.before.before.before.before.put_word.ensures.0 c.before.before.put-number.ensures.0, search rules)
+    (laid_fields (a.word.now ∷ []) (decimal_of a.number ∷ []) c.before.before.before.before.before.before.put_word.ensures.0 c.before.before.put-number.ensures.0, search rules)
 
 pub put-named-spec : {M : Type 1} → statement M
 put-named-spec =

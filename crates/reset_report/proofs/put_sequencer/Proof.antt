@@ -2,7 +2,7 @@
 -- Assumes nothing.
 use mathlib.Core.List.{[], ◌∷◌}
 use Rattle.text.specs.Text.{text_of}
-use Rattle.text.specs.Written.{decimalOf}
+use Rattle.text.specs.Written.{decimal_of}
 use Rattle.reset_report.proofs.Pieces.{laid_more}
 use borrow.Author.Rules.{rules}
 use Rattle.reset_report.proofs.put_sequencer.Statement.{statement}
@@ -32,10 +32,10 @@ same_length c = search rules
 returns : tie.Need-returns
 returns c =
     let a = c.before.before.before.before.before.before.before.before.before.before.before.before.before.before.before.before.args in
-    let i = decimalOf a.terminal in
-    let g = decimalOf a.group in
-    let t = decimalOf a.top in
-    let f = decimalOf a.floor in
+    let i = decimal_of a.terminal in
+    let g = decimal_of a.group in
+    let t = decimal_of a.top in
+    let f = decimal_of a.floor in
     let p = laid_more (text_of "sequencer") (i ∷ text_of "group" ∷ g ∷ []) (text_of "top" ∷ t ∷ []) c.before.before.before.before.before.before.before.before.before.before.before.before.put-whose.ensures.0 c.before.before.before.before.before.before.before.put-named.ensures.0 in
     (laid_more (text_of "sequencer") (i ∷ text_of "group" ∷ g ∷ text_of "top" ∷ t ∷ []) (text_of "floor" ∷ f ∷ []) p c.before.before.put-named2.ensures.0, search rules)
 

@@ -1,9 +1,9 @@
 -- The name, and the others one behind the other.
 -- Assumes nothing.
 use mathlib.Core.List.{[], ◌∷◌}
-use Rattle.text.proofs.Pieces.{laid-fields, laid_then}
+use Rattle.text.proofs.Pieces.{laid_fields, laid_then}
 use Rattle.text.specs.Text.{text_of}
-use Rattle.text.specs.Written.{decimalOf, spaced}
+use Rattle.text.specs.Written.{decimal_of, spaced}
 use borrow.Author.Rules.{rules}
 use Rattle.reset_report.proofs.put_whose.Statement.{statement}
 use Rattle.reset_report.proofs.put_whose.Tie as tie
@@ -26,9 +26,9 @@ same_length c = search rules
 returns : tie.Need-returns
 returns c =
     let a = c.before.before.before.before.before.before.before.before.before.before.before.before.before.before.before.args in
-    let t = decimalOf a.terminal in
-    let g = decimalOf a.group in
-    let p = laid-fields (t ∷ []) (text_of "group" ∷ g ∷ []) c.before.before.before.before.before.before.before.put-number.ensures.0 c.before.before.put-named.ensures.0 in
+    let t = decimal_of a.terminal in
+    let g = decimal_of a.group in
+    let p = laid_fields (t ∷ []) (text_of "group" ∷ g ∷ []) c.before.before.before.before.before.before.before.put-number.ensures.0 c.before.before.put-named.ensures.0 in
     (laid_then a.name.now (spaced (t ∷ text_of "group" ∷ g ∷ [])) c.before.before.before.before.before.before.before.before.before.before.before.put-text.ensures p, search rules)
 
 pub put-whose-spec : {M : Type 1} → statement M

@@ -1,35 +1,35 @@
 -- Each test is one of the definition's.
 -- Assumes nothing.
 use Rattle.group.proofs.Choice.{choices}
-use Rattle.reset_schedule.proofs.Commands.{command-if}
-use Rattle.reset_schedule.specs.Line.{withNumbers, commandOf}
+use Rattle.reset_schedule.proofs.Commands.{command_if}
+use Rattle.reset_schedule.specs.Line.{with_numbers, command_of}
 use borrow.Author.Rules.{rules}
 use Rattle.reset_schedule.proofs.paired.Statement.{statement}
 use Rattle.reset_schedule.proofs.paired.Tie as tie
 
 returns : tie.Need-returns
-unfolding withNumbers commandOf
-returns c = simp command-if (search (choices, rules) depth 9)
+unfolding with_numbers command_of
+returns c = simp command_if (search (choices, rules) depth 9)
 
 returns-2 : tie.Need-returns-2
-unfolding withNumbers commandOf
-returns-2 c = simp command-if (search (choices, rules) depth 9)
+unfolding with_numbers command_of
+returns-2 c = simp command_if (search (choices, rules) depth 9)
 
 returns-3 : tie.Need-returns-3
-unfolding withNumbers commandOf
-returns-3 c = simp command-if (search (choices, rules) depth 9)
+unfolding with_numbers command_of
+returns-3 c = simp command_if (search (choices, rules) depth 9)
 
 returns-4 : tie.Need-returns-4
-unfolding withNumbers commandOf
-returns-4 c = simp command-if (search (choices, rules) depth 9)
+unfolding with_numbers command_of
+returns-4 c = simp command_if (search (choices, rules) depth 9)
 
 returns-5 : tie.Need-returns-5
-unfolding withNumbers commandOf
-returns-5 c = simp command-if (search (choices, rules) depth 9)
+unfolding with_numbers command_of
+returns-5 c = simp command_if (search (choices, rules) depth 9)
 
 returns-6 : tie.Need-returns-6
-unfolding withNumbers commandOf
-returns-6 c = simp command-if (search (choices, rules) depth 9)
+unfolding with_numbers command_of
+returns-6 c = simp command_if (search (choices, rules) depth 9)
 
 pub paired-spec : {M : Type 1} → statement M
 paired-spec = tie.close (tie.spec returns returns-2 returns-3 returns-4 returns-5 returns-6)

@@ -1,8 +1,8 @@
 -- The number decides; its letter is told apart by `numbered`.
 -- Assumes nothing.
 use Rattle.text.specs.Field.{number_in}
-use Rattle.text.proofs.Split.{number-was, number-none}
-use Rattle.reset_schedule.specs.Line.{with_number, commandOf}
+use Rattle.text.proofs.Split.{number_was, number_none}
+use Rattle.reset_schedule.specs.Line.{with_number, command_of}
 use borrow.Author.Rules.{rules}
 use Rattle.reset_schedule.proofs.read_number.Statement.{statement}
 use Rattle.reset_schedule.proofs.read_number.Tie as tie
@@ -23,11 +23,11 @@ enum_told : tie.Need-enum-told
 enum_told c = search rules
 
 returns : tie.Need-returns
-returns c = rw (number-was c.before.before.before.before.number.result (number_in c.before.before.before.before.before.before.before.before.args.a.now) _ c.before.before.before.before.number.ensures c.before.before.n.given.1, ← c.before.before.before.before.before.letter.ensures) c.numbered.ensures
+returns c = rw (number_was c.before.before.before.before.number.result (number_in c.before.before.before.before.before.before.before.before.args.a.now) _ c.before.before.before.before.number.ensures c.before.before.n.given.1, ← c.before.before.before.before.before.letter.ensures) c.numbered.ensures
 
 returns-2 : tie.Need-returns-2
-unfolding with_number commandOf
-returns-2 c = rw (number-none c.before.before.number.result (number_in c.before.before.before.before.before.before.args.a.now) c.before.before.number.ensures c.enum_told.given.1)
+unfolding with_number command_of
+returns-2 c = rw (number_none c.before.before.number.result (number_in c.before.before.before.before.before.before.args.a.now) c.before.before.number.ensures c.enum_told.given.1)
 
 pub read-number-spec : {M : Type 1} → statement M
 read-number-spec =

@@ -1,8 +1,8 @@
 -- Both numbers are there, and their letter is told apart by `paired`, or the line is of another form.
 -- Assumes nothing.
 use Rattle.text.specs.Field.{number_in}
-use Rattle.text.proofs.Split.{number-was, number-none}
-use Rattle.reset_schedule.specs.Line.{withNumbers, commandOf}
+use Rattle.text.proofs.Split.{number_was, number_none}
+use Rattle.reset_schedule.specs.Line.{with_numbers, command_of}
 use borrow.Author.Rules.{rules}
 use Rattle.reset_schedule.proofs.read_numbers.Statement.{statement}
 use Rattle.reset_schedule.proofs.read_numbers.Tie as tie
@@ -29,15 +29,15 @@ enum-told-2 : tie.Need-enum-told-2
 enum-told-2 c = search rules
 
 returns : tie.Need-returns
-returns c = rw (number-was c.before.before.before.before.before.before.before.before.number.result (number_in c.before.before.before.before.before.before.before.before.before.before.before.args.a.now) _ c.before.before.before.before.before.before.before.before.number.ensures c.before.before.before.before.before.n.given.1, number-was c.before.before.before.before.before.before.before.number2.result (number_in c.before.before.before.before.before.before.before.before.before.before.before.args.b.now) _ c.before.before.before.before.before.before.before.number2.ensures c.before.before.m.given.1) c.paired.ensures
+returns c = rw (number_was c.before.before.before.before.before.before.before.before.number.result (number_in c.before.before.before.before.before.before.before.before.before.before.before.args.a.now) _ c.before.before.before.before.before.before.before.before.number.ensures c.before.before.before.before.before.n.given.1, number_was c.before.before.before.before.before.before.before.number2.result (number_in c.before.before.before.before.before.before.before.before.before.before.before.args.b.now) _ c.before.before.before.before.before.before.before.number2.ensures c.before.before.m.given.1) c.paired.ensures
 
 returns-2 : tie.Need-returns-2
-unfolding withNumbers commandOf
-returns-2 c = rw (number-was c.before.before.before.before.before.before.number.result (number_in c.before.before.before.before.before.before.before.before.before.args.a.now) _ c.before.before.before.before.before.before.number.ensures c.before.before.before.n.given.1, number-none c.before.before.before.before.before.number2.result (number_in c.before.before.before.before.before.before.before.before.before.args.b.now) c.before.before.before.before.before.number2.ensures c.enum_told.given.1)
+unfolding with_numbers command_of
+returns-2 c = rw (number_was c.before.before.before.before.before.before.number.result (number_in c.before.before.before.before.before.before.before.before.before.args.a.now) _ c.before.before.before.before.before.before.number.ensures c.before.before.before.n.given.1, number_none c.before.before.before.before.before.number2.result (number_in c.before.before.before.before.before.before.before.before.before.args.b.now) c.before.before.before.before.before.number2.ensures c.enum_told.given.1)
 
 returns-3 : tie.Need-returns-3
-unfolding withNumbers commandOf
-returns-3 c = rw (number-none c.before.before.before.number.result (number_in c.before.before.before.before.before.before.args.a.now) c.before.before.before.number.ensures c.enum-told2.given.1)
+unfolding with_numbers command_of
+returns-3 c = rw (number_none c.before.before.before.number.result (number_in c.before.before.before.before.before.before.args.a.now) c.before.before.before.number.ensures c.enum-told2.given.1)
 
 pub read-numbers-spec : {M : Type 1} → statement M
 read-numbers-spec =

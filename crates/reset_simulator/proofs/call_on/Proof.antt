@@ -1,8 +1,8 @@
 -- Each call is that of its part.
 -- Assumes nothing.
 use mathlib.Core.Path.{◌≡◌, refl, sym, ap, ◌∙◌}
-use Rattle.terminal_rows.specs.Steps.{ofPart}
-use Rattle.reset_simulator.proofs.Calling.{call-as}
+use Rattle.terminal_rows.specs.Steps.{of_part}
+use Rattle.reset_simulator.proofs.Calling.{call_as}
 use borrow.Author.Rules.{rules}
 use Rattle.reset_simulator.proofs.call_on.Statement.{statement}
 use Rattle.reset_simulator.proofs.call_on.Tie as tie
@@ -32,28 +32,28 @@ same_length : tie.Need-same-length
 same_length c = c.before.out.given
 
 returns : tie.Need-returns
-unfolding ofPart
+unfolding of_part
 returns c =
     let a = c.before.before.before.before.before.before.before.before.before.before.before.before.before.before.before.before.before.before.before.before.before.before.before.before.args in
-    call-as _ a.call _ _ _ _ _ _ _ (sym (ap ofPart c.before.before.before.before.before.before.before.before.before.before.before.before.before.before.before.before.before.before.before.part.given.1) ∙ c.before.before.before.before.before.before.before.before.before.before.before.before.before.before.before.before.before.before.before.before.before.part_of.ensures) (c.before.before.member-on.ensures a.taken.now a.counts.now a.repeats.now a.kept.now a.marks.now a.originators.now a.lengths.now a.payloads.now)
+    call_as _ a.call _ _ _ _ _ _ _ (sym (ap of_part c.before.before.before.before.before.before.before.before.before.before.before.before.before.before.before.before.before.before.before.part.given.1) ∙ c.before.before.before.before.before.before.before.before.before.before.before.before.before.before.before.before.before.before.before.before.before.part_of.ensures) (c.before.before.member-on.ensures a.taken.now a.counts.now a.repeats.now a.kept.now a.marks.now a.originators.now a.lengths.now a.payloads.now)
 
 same-length-2 : tie.Need-same-length-2
 same-length-2 c = c.before.out2.given
 
 returns-2 : tie.Need-returns-2
-unfolding ofPart
+unfolding of_part
 returns-2 c =
     let a = c.before.before.before.before.before.before.before.before.before.before.before.before.before.before.before.before.before.before.before.before.before.before.before.before.before.before.before.before.before.before.before.before.args in
-    call-as _ a.call _ _ _ _ _ _ _ (sym (ap ofPart c.before.before.before.before.before.before.before.before.before.before.before.before.before.before.before.before.before.before.before.before.before.before.before.before.before.before.before.part2.given.1) ∙ c.before.before.before.before.before.before.before.before.before.before.before.before.before.before.before.before.before.before.before.before.before.before.before.before.before.before.before.before.before.part_of.ensures) c.before.before.whole-on.ensures
+    call_as _ a.call _ _ _ _ _ _ _ (sym (ap of_part c.before.before.before.before.before.before.before.before.before.before.before.before.before.before.before.before.before.before.before.before.before.before.before.before.before.before.before.part2.given.1) ∙ c.before.before.before.before.before.before.before.before.before.before.before.before.before.before.before.before.before.before.before.before.before.before.before.before.before.before.before.before.before.part_of.ensures) c.before.before.whole-on.ensures
 
 same-length-3 : tie.Need-same-length-3
 same-length-3 c = c.before.out3.given
 
 returns-3 : tie.Need-returns-3
-unfolding ofPart
+unfolding of_part
 returns-3 c =
     let a = c.before.before.before.before.before.before.before.before.before.before.before.before.before.before.before.before.before.before.args in
-    call-as _ a.call _ _ _ _ _ _ _ (sym (ap ofPart c.before.before.before.before.before.before.before.before.before.before.before.before.before.part3.given.1) ∙ c.before.before.before.before.before.before.before.before.before.before.before.before.before.before.before.part_of.ensures) (c.before.before.sequencer-on.ensures a.queued.now a.held.now a.queued-originators.now a.queued-lengths.now a.held-originators.now a.held-lengths.now a.queued-payloads.now a.held-payloads.now a.past.now a.past-originators.now a.past-lengths.now a.past-payloads.now a.highest.now a.replies.now)
+    call_as _ a.call _ _ _ _ _ _ _ (sym (ap of_part c.before.before.before.before.before.before.before.before.before.before.before.before.before.part3.given.1) ∙ c.before.before.before.before.before.before.before.before.before.before.before.before.before.before.before.part_of.ensures) (c.before.before.sequencer-on.ensures a.queued.now a.held.now a.queued_originators.now a.queued_lengths.now a.held_originators.now a.held_lengths.now a.queued_payloads.now a.held_payloads.now a.past.now a.past_originators.now a.past_lengths.now a.past_payloads.now a.highest.now a.replies.now)
 
 pub call-on-spec : {M : Type 1} → statement M
 call-on-spec =

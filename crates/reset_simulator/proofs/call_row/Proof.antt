@@ -2,7 +2,7 @@
 -- Assumes nothing.
 use mathlib.Core.Path.{◌≡◌, refl, sym, ap, ◌∙◌}
 use Rattle.reset_simulator.specs.Whole.{rows_of}
-use Rattle.reset_simulator.proofs.Rows.{calls-row}
+use Rattle.reset_simulator.proofs.Rows.{calls_row}
 use borrow.Author.Rules.{rules}
 use Rattle.reset_simulator.proofs.call_row.Statement.{statement}
 use Rattle.reset_simulator.proofs.call_row.Tie as tie
@@ -23,37 +23,37 @@ mul-call-on-3 : tie.Need-overflow-mul-call-on-3
 mul-call-on-3 c = let l = c.before.before.before.before.requires.0 in search rules
 
 index-1-call-on-3 : tie.Need-bounds-1-call-on-3
-index-1-call-on-3 c = let l = c.before.before.before.before.requires.0 in let n = c.before.before.before.before.requires.2.queued-originators in search rules
+index-1-call-on-3 c = let l = c.before.before.before.before.requires.0 in let n = c.before.before.before.before.requires.2.queued_originators in search rules
 
 mul-call-on-4 : tie.Need-overflow-mul-call-on-4
 mul-call-on-4 c = let l = c.before.before.before.before.before.requires.0 in search rules
 
 index-1-call-on-4 : tie.Need-bounds-1-call-on-4
-index-1-call-on-4 c = let l = c.before.before.before.before.before.requires.0 in let n = c.before.before.before.before.before.requires.2.queued-lengths in search rules
+index-1-call-on-4 c = let l = c.before.before.before.before.before.requires.0 in let n = c.before.before.before.before.before.requires.2.queued_lengths in search rules
 
 mul-call-on-5 : tie.Need-overflow-mul-call-on-5
 mul-call-on-5 c = let l = c.before.before.before.before.before.before.requires.0 in search rules
 
 index-1-call-on-5 : tie.Need-bounds-1-call-on-5
-index-1-call-on-5 c = let l = c.before.before.before.before.before.before.requires.0 in let n = c.before.before.before.before.before.before.requires.2.held-originators in search rules
+index-1-call-on-5 c = let l = c.before.before.before.before.before.before.requires.0 in let n = c.before.before.before.before.before.before.requires.2.held_originators in search rules
 
 mul-call-on-6 : tie.Need-overflow-mul-call-on-6
 mul-call-on-6 c = let l = c.before.before.before.before.before.before.before.requires.0 in search rules
 
 index-1-call-on-6 : tie.Need-bounds-1-call-on-6
-index-1-call-on-6 c = let l = c.before.before.before.before.before.before.before.requires.0 in let n = c.before.before.before.before.before.before.before.requires.2.held-lengths in search rules
+index-1-call-on-6 c = let l = c.before.before.before.before.before.before.before.requires.0 in let n = c.before.before.before.before.before.before.before.requires.2.held_lengths in search rules
 
 mul-call-on-7 : tie.Need-overflow-mul-call-on-7
 mul-call-on-7 c = let l = c.before.before.before.before.before.before.before.before.requires.0 in search rules
 
 index-1-call-on-7 : tie.Need-bounds-1-call-on-7
-index-1-call-on-7 c = let l = c.before.before.before.before.before.before.before.before.requires.0 in let n = c.before.before.before.before.before.before.before.before.requires.2.queued-payloads in search rules
+index-1-call-on-7 c = let l = c.before.before.before.before.before.before.before.before.requires.0 in let n = c.before.before.before.before.before.before.before.before.requires.2.queued_payloads in search rules
 
 mul-call-on-8 : tie.Need-overflow-mul-call-on-8
 mul-call-on-8 c = let l = c.before.before.before.before.before.before.before.before.before.requires.0 in search rules
 
 index-1-call-on-8 : tie.Need-bounds-1-call-on-8
-index-1-call-on-8 c = let l = c.before.before.before.before.before.before.before.before.before.requires.0 in let n = c.before.before.before.before.before.before.before.before.before.requires.2.held-payloads in search rules
+index-1-call-on-8 c = let l = c.before.before.before.before.before.before.before.before.before.requires.0 in let n = c.before.before.before.before.before.before.before.before.before.requires.2.held_payloads in search rules
 
 mul-call-on-9 : tie.Need-overflow-mul-call-on-9
 mul-call-on-9 c = let l = c.before.before.before.before.before.before.before.before.before.before.requires.0 in search rules
@@ -65,19 +65,19 @@ mul-call-on-10 : tie.Need-overflow-mul-call-on-10
 mul-call-on-10 c = let l = c.before.before.before.before.before.before.before.before.before.before.before.requires.0 in search rules
 
 index-1-call-on-10 : tie.Need-bounds-1-call-on-10
-index-1-call-on-10 c = let l = c.before.before.before.before.before.before.before.before.before.before.before.requires.0 in let n = c.before.before.before.before.before.before.before.before.before.before.before.requires.2.past-originators in search rules
+index-1-call-on-10 c = let l = c.before.before.before.before.before.before.before.before.before.before.before.requires.0 in let n = c.before.before.before.before.before.before.before.before.before.before.before.requires.2.past_originators in search rules
 
 mul-call-on-11 : tie.Need-overflow-mul-call-on-11
 mul-call-on-11 c = let l = c.before.before.before.before.before.before.before.before.before.before.before.before.requires.0 in search rules
 
 index-1-call-on-11 : tie.Need-bounds-1-call-on-11
-index-1-call-on-11 c = let l = c.before.before.before.before.before.before.before.before.before.before.before.before.requires.0 in let n = c.before.before.before.before.before.before.before.before.before.before.before.before.requires.2.past-lengths in search rules
+index-1-call-on-11 c = let l = c.before.before.before.before.before.before.before.before.before.before.before.before.requires.0 in let n = c.before.before.before.before.before.before.before.before.before.before.before.before.requires.2.past_lengths in search rules
 
 mul-call-on-12 : tie.Need-overflow-mul-call-on-12
 mul-call-on-12 c = let l = c.before.before.before.before.before.before.before.before.before.before.before.before.before.requires.0 in search rules
 
 index-1-call-on-12 : tie.Need-bounds-1-call-on-12
-index-1-call-on-12 c = let l = c.before.before.before.before.before.before.before.before.before.before.before.before.before.requires.0 in let n = c.before.before.before.before.before.before.before.before.before.before.before.before.before.requires.2.past-payloads in search rules
+index-1-call-on-12 c = let l = c.before.before.before.before.before.before.before.before.before.before.before.before.before.requires.0 in let n = c.before.before.before.before.before.before.before.before.before.before.before.before.before.requires.2.past_payloads in search rules
 
 mul-call-on-13 : tie.Need-overflow-mul-call-on-13
 mul-call-on-13 c = let l = c.before.before.before.before.before.before.before.before.before.before.before.before.before.before.requires.0 in search rules
@@ -214,8 +214,8 @@ same-length-23 c = search rules
 returns : tie.Need-returns
 returns c =
     let a = c.before.before.before.before.before.before.before.before.before.before.before.before.before.before.before.before.before.before.before.before.before.before.before.before.before.before.before.before.args in
-    let rows = rows_of a.queued.now a.held.now a.queued-originators.now a.queued-lengths.now a.held-originators.now a.held-lengths.now a.queued-payloads.now a.held-payloads.now a.past.now a.past-originators.now a.past-lengths.now a.past-payloads.now a.highest.now a.replies.now a.taken.now a.counts.now a.repeats.now a.kept.now a.marks.now a.originators.now a.lengths.now a.payloads.now in
-    calls-row a.i rows _ _ _ _ _ _ _ _ _ _ _ _ _ _ _ _ _ _ _ _ _ _ a.call a.bytes.now a.head c.before.before.call-on.result a.out.now _ c.before.before.before.before.before.before.before.before.before.before.before.before.before.before.before.before.before.before.before.before.before.before.before.before.before.before.before.before.requires.0 c.before.before.before.before.before.before.before.before.before.before.before.before.before.before.before.before.before.before.before.before.before.before.before.before.before.before.before.before.requires.2 c.before.before.call-on.ensures
+    let rows = rows_of a.queued.now a.held.now a.queued_originators.now a.queued_lengths.now a.held_originators.now a.held_lengths.now a.queued_payloads.now a.held_payloads.now a.past.now a.past_originators.now a.past_lengths.now a.past_payloads.now a.highest.now a.replies.now a.taken.now a.counts.now a.repeats.now a.kept.now a.marks.now a.originators.now a.lengths.now a.payloads.now in
+    calls_row a.i rows _ _ _ _ _ _ _ _ _ _ _ _ _ _ _ _ _ _ _ _ _ _ a.call a.bytes.now a.head c.before.before.call-on.result a.out.now _ c.before.before.before.before.before.before.before.before.before.before.before.before.before.before.before.before.before.before.before.before.before.before.before.before.before.before.before.before.requires.0 c.before.before.before.before.before.before.before.before.before.before.before.before.before.before.before.before.before.before.before.before.before.before.before.before.before.before.before.before.requires.2 c.before.before.call-on.ensures
 
 pub call-row-spec : {M : Type 1} → statement M
 call-row-spec =

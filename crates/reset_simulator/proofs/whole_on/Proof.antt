@@ -2,12 +2,12 @@
 -- Assumes nothing.
 use mathlib.Core.Path.{◌≡◌, refl, sym, ap, ◌∙◌}
 use lib.ListN.{length}
-use Rattle.recovery.specs.Calls.{submitOf, repeatOf, take_of, statusOf, receiveOf, inviteOf, makeOf, order_of, pollOf, copy_of}
+use Rattle.recovery.specs.Calls.{submit_of, repeat_of, take_of, status_of, receive_of, invite_of, make_of, order_of, poll_of, copy_of}
 use Rattle.recovery.specs.State.{Terminal}
 use Rattle.recovery.specs.View.{whole}
-use Rattle.terminal_rows.specs.Steps.{ofWhole}
-use Rattle.reset_simulator.specs.Steps.{cameOf}
-use Rattle.reset_simulator.proofs.Calling.{changed-on, opened-call}
+use Rattle.terminal_rows.specs.Steps.{of_whole}
+use Rattle.reset_simulator.specs.Steps.{came_of}
+use Rattle.reset_simulator.proofs.Calling.{changed_on, opened_call}
 use borrow.Author.Rules.{rules}
 use Rattle.reset_simulator.proofs.whole_on.Statement.{statement}
 use Rattle.reset_simulator.proofs.whole_on.Tie as tie
@@ -40,34 +40,34 @@ same_length : tie.Need-same-length
 same_length c = c.before.before.before.out.given
 
 returns : tie.Need-returns
-unfolding ofWhole cameOf
+unfolding of_whole came_of
 returns c =
     let a = c.before.before.before.before.before.before.before.before.before.before.before.before.before.before.before.before.before.before.before.before.before.before.before.before.before.before.before.before.before.before.before.before.args in
-    rw c.before.before.before.before.before.before.before.before.before.before.before.before.before.before.before.before.before.before.before.before.before.before.before.before.before.before.before.before.enum_told.given.1 (changed-on (whole a.head a.queued.now a.held.now a.queued-originators.now a.queued-lengths.now a.held-originators.now a.held-lengths.now a.queued-payloads.now a.held-payloads.now a.past.now a.past-originators.now a.past-lengths.now a.past-payloads.now a.highest.now a.replies.now a.taken.now a.counts.now a.repeats.now a.kept.now a.marks.now a.originators.now a.lengths.now a.payloads.now) c.before.before.before.before.before.before.before.before.before.before.before.before.before.before.before.before.before.before.before.before.before.before.before.before.before.before.before.before.before.before.before.before.requires (λ (t : Terminal). receiveOf t a.bytes.now (length a.out.now)) c.before.before.before.before.receive-on.result.head c.before.before.before.before.receive-on.result.reply _ a.out.now _ c.before.before.before.before.receive-on.ensures)
+    rw c.before.before.before.before.before.before.before.before.before.before.before.before.before.before.before.before.before.before.before.before.before.before.before.before.before.before.before.before.enum_told.given.1 (changed_on (whole a.head a.queued.now a.held.now a.queued_originators.now a.queued_lengths.now a.held_originators.now a.held_lengths.now a.queued_payloads.now a.held_payloads.now a.past.now a.past_originators.now a.past_lengths.now a.past_payloads.now a.highest.now a.replies.now a.taken.now a.counts.now a.repeats.now a.kept.now a.marks.now a.originators.now a.lengths.now a.payloads.now) c.before.before.before.before.before.before.before.before.before.before.before.before.before.before.before.before.before.before.before.before.before.before.before.before.before.before.before.before.before.before.before.before.requires (λ (t : Terminal). receive_of t a.bytes.now (length a.out.now)) c.before.before.before.before.receive-on.result.head c.before.before.before.before.receive-on.result.reply _ a.out.now _ c.before.before.before.before.receive-on.ensures)
 
 same-length-2 : tie.Need-same-length-2
 same-length-2 c = c.before.before.before.out2.given
 
 returns-2 : tie.Need-returns-2
-unfolding ofWhole cameOf
+unfolding of_whole came_of
 returns-2 c =
     let a = c.before.before.before.before.before.before.before.before.before.before.before.before.before.before.before.before.before.before.before.before.before.before.before.before.before.before.before.before.before.before.before.before.before.args in
-    rw c.before.before.before.before.before.before.before.before.before.before.before.before.before.before.before.before.before.before.before.before.before.before.before.before.before.before.before.before.before.call.given.1 (changed-on (whole a.head a.queued.now a.held.now a.queued-originators.now a.queued-lengths.now a.held-originators.now a.held-lengths.now a.queued-payloads.now a.held-payloads.now a.past.now a.past-originators.now a.past-lengths.now a.past-payloads.now a.highest.now a.replies.now a.taken.now a.counts.now a.repeats.now a.kept.now a.marks.now a.originators.now a.lengths.now a.payloads.now) c.before.before.before.before.before.before.before.before.before.before.before.before.before.before.before.before.before.before.before.before.before.before.before.before.before.before.before.before.before.before.before.before.before.requires (λ (t : Terminal). inviteOf t _ (length a.out.now)) c.before.before.before.before.invite-on.result.head c.before.before.before.before.invite-on.result.reply _ a.out.now _ c.before.before.before.before.invite-on.ensures)
+    rw c.before.before.before.before.before.before.before.before.before.before.before.before.before.before.before.before.before.before.before.before.before.before.before.before.before.before.before.before.before.call.given.1 (changed_on (whole a.head a.queued.now a.held.now a.queued_originators.now a.queued_lengths.now a.held_originators.now a.held_lengths.now a.queued_payloads.now a.held_payloads.now a.past.now a.past_originators.now a.past_lengths.now a.past_payloads.now a.highest.now a.replies.now a.taken.now a.counts.now a.repeats.now a.kept.now a.marks.now a.originators.now a.lengths.now a.payloads.now) c.before.before.before.before.before.before.before.before.before.before.before.before.before.before.before.before.before.before.before.before.before.before.before.before.before.before.before.before.before.before.before.before.before.requires (λ (t : Terminal). invite_of t _ (length a.out.now)) c.before.before.before.before.invite-on.result.head c.before.before.before.before.invite-on.result.reply _ a.out.now _ c.before.before.before.before.invite-on.ensures)
 
 same-length-3 : tie.Need-same-length-3
 same-length-3 c = c.before.before.before.out3.given
 
 returns-3 : tie.Need-returns-3
-unfolding ofWhole cameOf
+unfolding of_whole came_of
 returns-3 c =
     let a = c.before.before.before.before.before.before.before.before.before.before.before.before.before.before.before.before.before.before.before.before.before.before.before.before.before.before.before.before.before.before.before.before.before.args in
-    rw c.before.before.before.before.before.before.before.before.before.before.before.before.before.before.before.before.before.before.before.before.before.before.before.before.before.before.before.before.before.call2.given.1 (changed-on (whole a.head a.queued.now a.held.now a.queued-originators.now a.queued-lengths.now a.held-originators.now a.held-lengths.now a.queued-payloads.now a.held-payloads.now a.past.now a.past-originators.now a.past-lengths.now a.past-payloads.now a.highest.now a.replies.now a.taken.now a.counts.now a.repeats.now a.kept.now a.marks.now a.originators.now a.lengths.now a.payloads.now) c.before.before.before.before.before.before.before.before.before.before.before.before.before.before.before.before.before.before.before.before.before.before.before.before.before.before.before.before.before.before.before.before.before.requires (λ (t : Terminal). makeOf t _ (length a.out.now)) c.before.before.before.before.make-on.result.head c.before.before.before.before.make-on.result.reply _ a.out.now _ c.before.before.before.before.make-on.ensures)
+    rw c.before.before.before.before.before.before.before.before.before.before.before.before.before.before.before.before.before.before.before.before.before.before.before.before.before.before.before.before.before.call2.given.1 (changed_on (whole a.head a.queued.now a.held.now a.queued_originators.now a.queued_lengths.now a.held_originators.now a.held_lengths.now a.queued_payloads.now a.held_payloads.now a.past.now a.past_originators.now a.past_lengths.now a.past_payloads.now a.highest.now a.replies.now a.taken.now a.counts.now a.repeats.now a.kept.now a.marks.now a.originators.now a.lengths.now a.payloads.now) c.before.before.before.before.before.before.before.before.before.before.before.before.before.before.before.before.before.before.before.before.before.before.before.before.before.before.before.before.before.before.before.before.before.requires (λ (t : Terminal). make_of t _ (length a.out.now)) c.before.before.before.before.make-on.result.head c.before.before.before.before.make-on.result.reply _ a.out.now _ c.before.before.before.before.make-on.ensures)
 
 returns-4 : tie.Need-returns-4
-unfolding ofWhole
+unfolding of_whole
 returns-4 c =
     let a = c.before.before.before.before.before.before.before.before.before.before.before.before.before.before.before.before.before.before.before.before.before.before.before.before.before.before.before.before.args in
-    rw c.before.before.before.before.before.before.before.before.before.before.before.before.before.before.before.before.before.before.before.before.before.before.before.before.call3.given.1 (opened-call _ _ _ _ _ _ _ _ _ a.out.now c.open-on.ensures)
+    rw c.before.before.before.before.before.before.before.before.before.before.before.before.before.before.before.before.before.before.before.before.before.before.before.before.call3.given.1 (opened_call _ _ _ _ _ _ _ _ _ a.out.now c.open-on.ensures)
 
 pub whole-on-spec : {M : Type 1} → statement M
 whole-on-spec =

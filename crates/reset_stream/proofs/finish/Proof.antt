@@ -1,7 +1,7 @@
 -- The line that is left, and then what is printed at the end.
 -- Assumes nothing.
-use Rattle.descriptor.proofs.Laws.{takes-both, takes-as}
-use Rattle.reset_stream.proofs.Laws.{text-told, hands-told}
+use Rattle.descriptor.proofs.Laws.{takes_both, takes_as}
+use Rattle.reset_stream.proofs.Laws.{text_told, hands_told}
 use borrow.Author.Rules.{rules}
 use Rattle.reset_stream.proofs.finish.Statement.{statement}
 use Rattle.reset_stream.proofs.finish.Tie as tie
@@ -18,7 +18,7 @@ put-last-requires c κs = search rules
 returns : tie.Need-returns
 returns c =
     let d = c.before.before.before.before.before.before.end.ensures in
-    takes-both (takes-as (text-told d) c.before.before.before.before.put-text.ensures) (hands-told d c.put_last.ensures)
+    takes_both (takes_as (text_told d) c.before.before.before.before.put-text.ensures) (hands_told d c.put_last.ensures)
 
 pub finish_spec : {M : Type 1} → statement M
 finish_spec =

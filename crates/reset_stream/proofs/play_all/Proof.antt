@@ -2,7 +2,7 @@
 -- Assumes nothing.
 use Rattle.reset_player.specs.Player.{state_of}
 use Rattle.reset_simulator.specs.Whole.{whole_of}
-use Rattle.stream.proofs.Turning.{turns-none, turns-both}
+use Rattle.stream.proofs.Turning.{turns_none, turns_both}
 use Rattle.reset_stream.specs.Steps.{Turns}
 use borrow.Author.Rules.{rules}
 use Rattle.reset_stream.proofs.play_all.Statement.{statement}
@@ -19,7 +19,7 @@ play-some-requires : tie.Need-play-some-requires invariant-loop decreases-loop
 play-some-requires c κs = search rules
 
 loop-holds : tie.Need-loop-init invariant-loop decreases-loop
-loop-holds c = turns-none _ _ _
+loop-holds c = turns_none _ _ _
 
 play-some-requires-2 : tie.Need-play-some-requires-2 invariant-loop decreases-loop
 play-some-requires-2 c κs = search rules
@@ -31,13 +31,13 @@ loop-less : tie.Need-loop-smaller invariant-loop decreases-loop
 loop-less c = let t = c.before.before.before.before.before.before.before.before.before.before.before.before.before.before.before.before.before.before.before.before.before.before.before.before.before.before.before.before.before.before.before.before.before.loop-test.true in search rules
 
 loop-again : tie.Need-loop-preserved invariant-loop decreases-loop
-loop-again c = turns-both c.before.before.before.before.before.before.before.before.before.before.before.before.before.before.before.before.before.before.before.before.before.before.before.before.before.before.before.before.before.before.before.before.before.before.loop.invariant c.play-some2.ensures
+loop-again c = turns_both c.before.before.before.before.before.before.before.before.before.before.before.before.before.before.before.before.before.before.before.before.before.before.before.before.before.before.before.before.before.before.before.before.before.before.loop.invariant c.play-some2.ensures
 
 returns : tie.Need-returns invariant-loop decreases-loop
-returns c = turns-both c.before.before.before.play-some.ensures c.before.before.loop.invariant
+returns c = turns_both c.before.before.before.play-some.ensures c.before.before.loop.invariant
 
 returns-2 : tie.Need-returns-2 invariant-loop decreases-loop
-returns-2 c = turns-both c.before.before.play-some.ensures c.before.loop.invariant
+returns-2 c = turns_both c.before.before.play-some.ensures c.before.loop.invariant
 
 pub play-all-spec : {M : Type 1} → statement M
 play-all-spec =

@@ -4,15 +4,15 @@ use mathlib.Core.Path.{◌≡◌, refl, sym, ap, ◌∙◌}
 use Prim.Native.Nat.{◌+◌, ◌-◌, ◌≤◌, ◌<◌}
 use native.Mathlib.Omega.{arith}
 use lib.ListN.{length, take, drop, drop_of_length-le}
-use Rattle.descriptor.proofs.Laws.{takes-both, takes-as}
-use Rattle.player.proofs.Parts.{continues-fed}
-use Rattle.reset_player.proofs.Laws.{reads-within}
+use Rattle.descriptor.proofs.Laws.{takes_both, takes_as}
+use Rattle.player.proofs.Parts.{continues_fed}
+use Rattle.reset_player.proofs.Laws.{reads_within}
 use Rattle.reset_player.specs.Player.{state_of}
-use Rattle.reset_output.specs.Recover.{recoverProgram}
+use Rattle.reset_output.specs.Recover.{recover_program}
 use Rattle.reset_simulator.specs.Whole.{whole_of}
 use Rattle.stream.proofs.Turning.{puts_none}
 use Rattle.reset_stream.specs.Steps.{Puts}
-use Rattle.reset_stream.proofs.Laws.{text-told}
+use Rattle.reset_stream.proofs.Laws.{text_told}
 use borrow.Author.Rules.{rules}
 use Rattle.reset_stream.proofs.play_part.Statement.{statement}
 use Rattle.reset_stream.proofs.play_part.Tie as tie
@@ -25,7 +25,7 @@ abbrev decreases-loop : tie.decreases-loop
 decreases-loop player₀ small₀ masks₀ numbers₀ queued₀ held₀ qo₀ ql₀ ho₀ hl₀ qp₀ hp₀ past₀ po₀ pl₀ pp₀ highest₀ replies₀ taken₀ counts₀ repeats₀ kept₀ marks₀ originators₀ lengths₀ payloads₀ sizes₀ packets₀ line₀ part sink₀ from₀ player small masks numbers queued held qo ql ho hl qp hp past po pl pp highest replies taken counts repeats kept marks originators lengths payloads sizes packets line sink from = length part - from
 
 loop-holds : tie.Need-loop-init invariant-loop decreases-loop
-loop-holds c = let a = c.before.args in (search rules, puts_none (state_of a.player (whole_of a.player.world a.small.now a.masks.now a.numbers.now a.queued.now a.held.now a.queued-originators.now a.queued-lengths.now a.held-originators.now a.held-lengths.now a.queued-payloads.now a.held-payloads.now a.past.now a.past-originators.now a.past-lengths.now a.past-payloads.now a.highest.now a.replies.now a.taken.now a.counts.now a.repeats.now a.kept.now a.marks.now a.originators.now a.lengths.now a.payloads.now a.sizes.now a.packets.now) a.line.now) a.part.now a.sink)
+loop-holds c = let a = c.before.args in (search rules, puts_none (state_of a.player (whole_of a.player.world a.small.now a.masks.now a.numbers.now a.queued.now a.held.now a.queued_originators.now a.queued_lengths.now a.held_originators.now a.held_lengths.now a.queued_payloads.now a.held_payloads.now a.past.now a.past_originators.now a.past_lengths.now a.past_payloads.now a.highest.now a.replies.now a.taken.now a.counts.now a.repeats.now a.kept.now a.marks.now a.originators.now a.lengths.now a.payloads.now a.sizes.now a.packets.now) a.line.now) a.part.now a.sink)
 
 sub-feed : tie.Need-overflow-sub-feed invariant-loop decreases-loop
 sub-feed c = search rules
@@ -49,7 +49,7 @@ add-from c =
     let l = c.before.before.before.before.before.before.before.before.before.before.before.before.before.before.before.before.before.before.before.before.before.before.before.before.before.before.before.before.before.before.before.before.before.before.before.loop in
     let r = c.before.before.before.feed.result in
     let d = c.before.before.before.feed.ensures in
-    let w = reads-within _ part _ l.from _ refl c.before.before.before.before.before.before.before.before.before.before.before.before.before.before.before.before.before.before.before.before.before.before.before.before.before.before.before.before.before.before.before.before.before.before.loop-test.true d.used in
+    let w = reads_within _ part _ l.from _ refl c.before.before.before.before.before.before.before.before.before.before.before.before.before.before.before.before.before.before.before.before.before.before.before.before.before.before.before.before.before.before.before.before.before.before.loop-test.true d.used in
     let y : l.from + r.used ≤ length part = w.1 in
     let g = c.before.before.before.before.before.before.before.before.before.before.before.before.before.before.before.before.before.before.before.before.before.before.before.before.before.before.before.before.before.before.before.before.before.before.before.before.before.well-formed.1.1.1.1.1.1.1.1.1.1.1.1.1.1.1.1.1.1.1.1.1.1.1.1.1.1.1.1.1.0 in
     let z : l.from + r.used < 18446744073709551616 = omega arith in
@@ -62,7 +62,7 @@ loop-less c =
     let l = c.before.before.before.before.before.before.before.before.before.before.before.before.before.before.before.before.before.before.before.before.before.before.before.before.before.before.before.before.before.before.before.before.before.before.before.loop in
     let r = c.before.before.before.feed.result in
     let d = c.before.before.before.feed.ensures in
-    let w = reads-within _ part _ l.from _ refl c.before.before.before.before.before.before.before.before.before.before.before.before.before.before.before.before.before.before.before.before.before.before.before.before.before.before.before.before.before.before.before.before.before.before.loop-test.true d.used in
+    let w = reads_within _ part _ l.from _ refl c.before.before.before.before.before.before.before.before.before.before.before.before.before.before.before.before.before.before.before.before.before.before.before.before.before.before.before.before.before.before.before.before.before.before.loop-test.true d.used in
     let y : l.from + r.used ≤ length part = w.1 in
     let z : 1 ≤ r.used = w.0 in
     search rules
@@ -74,14 +74,14 @@ loop-again c =
     let l = c.before.before.before.before.before.before.before.before.before.before.before.before.before.before.before.before.before.before.before.before.before.before.before.before.before.before.before.before.before.before.before.before.before.before.before.loop in
     let r = c.before.before.before.feed.result in
     let d = c.before.before.before.feed.ensures in
-    let w = reads-within _ part _ l.from _ refl c.before.before.before.before.before.before.before.before.before.before.before.before.before.before.before.before.before.before.before.before.before.before.before.before.before.before.before.before.before.before.before.before.before.before.loop-test.true d.used in
+    let w = reads_within _ part _ l.from _ refl c.before.before.before.before.before.before.before.before.before.before.before.before.before.before.before.before.before.before.before.before.before.before.before.before.before.before.before.before.before.before.before.before.before.before.loop-test.true d.used in
     let y : l.from + r.used ≤ length part = w.1 in
     let k = l.invariant.1 in (
       y,
       record {
         printed = _;
-        takes = takes-both k.takes (takes-as (text-told d) c.before.put-text.ensures);
-        continues = continues-fed recoverProgram _ _ _ part k.printed _ l.from _ refl d.used d.state k.continues;
+        takes = takes_both k.takes (takes_as (text_told d) c.before.put-text.ensures);
+        continues = continues_fed recover_program _ _ _ part k.printed _ l.from _ refl d.used d.state k.continues;
       },
     )
 

@@ -1,15 +1,15 @@
 -- The loop's invariant: the list keeps its length, and the indices stay in the list and in the bytes.
 -- Assumes nothing.
 use Rattle.std.proofs.Common.{◌≡◌, ◌-◌, ◌≤◌, length, length-set, rules}
-use Rattle.group.specs.Limits.{jobsMost}
+use Rattle.group.specs.Limits.{jobs_most}
 use Rattle.rounds.proofs.list_of.Statement.{statement}
 use Rattle.rounds.proofs.list_of.Tie as tie
 
 abbrev invariant-loop : tie.invariant-loop
-invariant-loop records jobs₀ at₀ i₀ jobs at i = (length jobs ≡ jobsMost) × (at ≤ length records) × (i ≤ jobsMost)
+invariant-loop records jobs₀ at₀ i₀ jobs at i = (length jobs ≡ jobs_most) × (at ≤ length records) × (i ≤ jobs_most)
 
 abbrev decreases-loop : tie.decreases-loop
-decreases-loop records jobs₀ at₀ i₀ jobs at i = jobsMost - i
+decreases-loop records jobs₀ at₀ i₀ jobs at i = jobs_most - i
 
 no-jobs-requires : tie.Need-no-jobs-requires invariant-loop decreases-loop
 no-jobs-requires c κs = search rules

@@ -1,15 +1,15 @@
 -- The loop's invariant: the index stays in the list.
 -- Assumes nothing.
 use Rattle.std.proofs.Common.{◌-◌, ◌≤◌, rules}
-use Rattle.group.specs.Limits.{jobsMost}
+use Rattle.group.specs.Limits.{jobs_most}
 use Rattle.rounds.proofs.list_sum.Statement.{statement}
 use Rattle.rounds.proofs.list_sum.Tie as tie
 
 abbrev invariant-loop : tie.invariant-loop
-invariant-loop sum jobs next₀ i₀ next i = i ≤ jobsMost
+invariant-loop sum jobs next₀ i₀ next i = i ≤ jobs_most
 
 abbrev decreases-loop : tie.decreases-loop
-decreases-loop sum jobs next₀ i₀ next i = jobsMost - i
+decreases-loop sum jobs next₀ i₀ next i = jobs_most - i
 
 loop-holds : tie.Need-loop-init invariant-loop decreases-loop
 loop-holds c = search rules

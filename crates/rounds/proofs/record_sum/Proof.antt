@@ -1,15 +1,15 @@
 -- The loop's invariant: the index stays in the job.
 -- Assumes nothing.
 use Rattle.std.proofs.Common.{◌-◌, ◌≤◌, rules}
-use Rattle.group.specs.Limits.{jobMost}
+use Rattle.group.specs.Limits.{job_most}
 use Rattle.rounds.proofs.record_sum.Statement.{statement}
 use Rattle.rounds.proofs.record_sum.Tie as tie
 
 abbrev invariant-loop : tie.invariant-loop
-invariant-loop sum bytes next₀ i₀ next i = i ≤ jobMost
+invariant-loop sum bytes next₀ i₀ next i = i ≤ job_most
 
 abbrev decreases-loop : tie.decreases-loop
-decreases-loop sum bytes next₀ i₀ next i = jobMost - i
+decreases-loop sum bytes next₀ i₀ next i = job_most - i
 
 cast-mix : tie.Need-overflow-cast-mix invariant-loop decreases-loop
 cast-mix c = search rules

@@ -4,7 +4,7 @@ use mathlib.Core.Path.{sym, ◌∙◌}
 use native.Mathlib.Nat.{sub-zero}
 use Rattle.text.specs.Text.{space}
 use Rattle.schedule.specs.Parts.{parts_at}
-use Rattle.text.proofs.Split.{fields-one, fields-more, found_from}
+use Rattle.text.proofs.Split.{fields_one, fields_more, found_from}
 use borrow.Author.Rules.{rules}
 use Rattle.schedule.proofs.fields.Statement.{statement}
 use Rattle.schedule.proofs.fields.Tie as tie
@@ -26,12 +26,12 @@ fields-behind-requires c κs =
 returns : tie.Need-returns
 unfolding parts_at
 returns c =
-    (fields-one c.before.before.before.before.args.line.now 0 (sym c.before.before.first.ensures ∙ c.enum_told.given.1), tt)
+    (fields_one c.before.before.before.before.args.line.now 0 (sym c.before.before.first.ensures ∙ c.enum_told.given.1), tt)
 
 returns-2 : tie.Need-returns-2
 returns-2 c =
     let a = c.before.before.before.before.before.before.args in
-    let e = fields-more a.line.now 0 c.before.before.found.given.0.0 (search rules) (sym c.before.before.before.before.first.ensures ∙ c.before.before.found.given.1) in
+    let e = fields_more a.line.now 0 c.before.before.found.given.0.0 (search rules) (sym c.before.before.before.before.first.ensures ∙ c.before.before.found.given.1) in
     (rw sub-zero at e ∙ c.fields-behind.ensures.0, c.fields-behind.ensures.1)
 
 pub fields-spec : {M : Type 1} → statement M

@@ -6,7 +6,7 @@ use Prim.Native.Nat.{ℕ, ◌+◌}
 use native.Mathlib.Omega.{arith}
 use Rattle.text.specs.Text.{space}
 use Rattle.schedule.specs.Parts.{parts_at}
-use Rattle.text.proofs.Split.{fields-one, fields-more, found_from}
+use Rattle.text.proofs.Split.{fields_one, fields_more, found_from}
 use lib.ListN.{take}
 use borrow.Author.Rules.{rules}
 use Rattle.schedule.proofs.fields_behind.Statement.{statement}
@@ -34,13 +34,13 @@ returns : tie.Need-returns
 unfolding parts_at
 returns c =
     let a = c.before.before.before.before.args in
-    let e = fields-one a.line.now (a.a + 1) (sym c.before.before.first.ensures ∙ c.enum_told.given.1) in
+    let e = fields_one a.line.now (a.a + 1) (sym c.before.before.first.ensures ∙ c.enum_told.given.1) in
     (rw e, c.before.before.before.before.requires)
 
 returns-2 : tie.Need-returns-2
 returns-2 c =
     let a = c.before.before.before.before.before.before.args in
-    let e = fields-more a.line.now (a.a + 1) c.before.before.found.given.0.0 (search rules) (sym c.before.before.before.before.first.ensures ∙ c.before.before.found.given.1) in
+    let e = fields_more a.line.now (a.a + 1) c.before.before.found.given.0.0 (search rules) (sym c.before.before.before.before.first.ensures ∙ c.before.before.found.given.1) in
     (ap (λ (l : List (List ℕ)). take a.a a.line.now ∷ l) e ∙ c.fields-last.ensures.0, c.fields-last.ensures.1)
 
 pub fields-behind-spec : {M : Type 1} → statement M

@@ -4,7 +4,7 @@ use mathlib.Core.Path.{sym, ◌∙◌}
 use Prim.Native.Nat.{◌+◌}
 use Rattle.text.specs.Text.{space}
 use Rattle.schedule.specs.Parts.{parts_at}
-use Rattle.text.proofs.Split.{fields-one, fields-more, found_from}
+use Rattle.text.proofs.Split.{fields_one, fields_more, found_from}
 use borrow.Author.Rules.{rules}
 use Rattle.schedule.proofs.fields_last.Statement.{statement}
 use Rattle.schedule.proofs.fields_last.Tie as tie
@@ -25,7 +25,7 @@ returns : tie.Need-returns
 unfolding parts_at
 returns c =
     let a = c.before.before.before.before.args in
-    let e = fields-one a.line.now (a.b + 1) (sym c.before.before.first.ensures ∙ c.enum_told.given.1) in
+    let e = fields_one a.line.now (a.b + 1) (sym c.before.before.first.ensures ∙ c.enum_told.given.1) in
     (rw e, c.before.before.before.before.requires)
 
 returns-2 : tie.Need-returns-2
@@ -33,7 +33,7 @@ unfolding parts_at
 returns-2 c =
     let a = c.before.before.before.before.before.args in
     let f = sym c.before.before.before.first.ensures ∙ c.before.found.given.1 in
-    let e = fields-more a.line.now (a.b + 1) c.before.found.given.0.0 (search rules) f in
+    let e = fields_more a.line.now (a.b + 1) c.before.found.given.0.0 (search rules) f in
     let k = found_from space a.line.now (a.b + 1) c.before.found.given.0.0 (search rules) f in
     (rw e, (search rules, search rules, search rules))
 

@@ -1,7 +1,7 @@
 -- The letter is `N`, and the numbers are there.
 -- Assumes nothing.
 use Rattle.group.proofs.Choice.{choices}
-use Rattle.schedule.specs.Line.{openingWith}
+use Rattle.schedule.specs.Line.{opening_with}
 use borrow.Author.Rules.{rules}
 use Rattle.schedule.proofs.read_group.Statement.{statement}
 use Rattle.schedule.proofs.read_group.Tie as tie
@@ -19,11 +19,11 @@ all-numbers-requires : tie.Need-all-numbers-requires
 all-numbers-requires c κs = search rules
 
 returns : tie.Need-returns
-unfolding openingWith
+unfolding opening_with
 returns c = rw (← c.before.before.number.ensures, ← c.before.number2.ensures) (search (choices, rules) depth 9)
 
 returns-2 : tie.Need-returns-2
-unfolding openingWith
+unfolding opening_with
 returns-2 c = search (choices, rules) depth 9
 
 pub read-group-spec : {M : Type 1} → statement M

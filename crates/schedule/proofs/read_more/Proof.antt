@@ -2,8 +2,8 @@
 -- Assumes nothing.
 use mathlib.Core.Path.{sym, ◌∙◌}
 use Prim.Native.Nat.{◌+◌}
-use Rattle.text.proofs.Split.{fields-one, fields-more}
-use Rattle.schedule.proofs.Forms.{four-opening, more-opening}
+use Rattle.text.proofs.Split.{fields_one, fields_more}
+use Rattle.schedule.proofs.Forms.{four_opening, more_opening}
 use borrow.Author.Rules.{rules}
 use Rattle.schedule.proofs.read_more.Statement.{statement}
 use Rattle.schedule.proofs.read_more.Tie as tie
@@ -26,15 +26,15 @@ enum-told-2 c = search rules
 returns : tie.Need-returns
 returns c =
     let a = c.before.before.before.before.before.args in
-    let e = fields-one a.line.now (a.c + 1) (sym c.before.before.before.first.ensures ∙ c.before.enum_told.given.1) in
-    c.read-resilient.ensures ∙ sym (four-opening a.line.now a.a a.b a.c e)
+    let e = fields_one a.line.now (a.c + 1) (sym c.before.before.before.first.ensures ∙ c.before.enum_told.given.1) in
+    c.read-resilient.ensures ∙ sym (four_opening a.line.now a.a a.b a.c e)
 
 returns-2 : tie.Need-returns-2
 returns-2 c =
     let a = c.before.before.before.before.args in
     let d = c.enum-told2.given.0.0 in
-    let e = fields-more a.line.now (a.c + 1) d (search rules) (sym c.before.before.first.ensures ∙ c.enum-told2.given.1) in
-    sym (more-opening a.line.now a.a a.b a.c d e)
+    let e = fields_more a.line.now (a.c + 1) d (search rules) (sym c.before.before.first.ensures ∙ c.enum-told2.given.1) in
+    sym (more_opening a.line.now a.a a.b a.c d e)
 
 pub read-more-spec : {M : Type 1} → statement M
 read-more-spec =

@@ -3,8 +3,8 @@
 use mathlib.Core.Path.{sym}
 use Prim.Native.Nat.{◌+◌}
 use lib.Seq.{length-take-le}
-use Rattle.schedule.specs.Line.{openingForm}
-use Rattle.schedule.specs.Steps.{fourAt}
+use Rattle.schedule.specs.Line.{opening_form}
+use Rattle.schedule.specs.Steps.{four_at}
 use Rattle.schedule.proofs.Forms.{to_end}
 use borrow.Author.Rules.{rules}
 use Rattle.schedule.proofs.read_resilient.Statement.{statement}
@@ -56,7 +56,7 @@ read-group-requires : tie.Need-read-group-requires
 read-group-requires c κs = search rules
 
 returns : tie.Need-returns
-unfolding fourAt openingForm
+unfolding four_at opening_form
 returns c =
     let a = c.before.before.before.before.before.before.before.args in
     let e = rw (to_end a.line.now (a.c + 1)) at c.before.before.before.before.number.ensures in

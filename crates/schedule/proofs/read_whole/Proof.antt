@@ -3,7 +3,7 @@
 use mathlib.Core.Path.{sym}
 use Prim.Native.Nat.{◌+◌}
 use lib.Seq.{length-take-le}
-use Rattle.schedule.specs.Line.{openingForm}
+use Rattle.schedule.specs.Line.{opening_form}
 use Rattle.schedule.specs.Parts.{parts_at}
 use Rattle.schedule.proofs.Forms.{to_end}
 use borrow.Author.Rules.{rules}
@@ -41,7 +41,7 @@ read-group-requires : tie.Need-read-group-requires
 read-group-requires c κs = search rules
 
 returns : tie.Need-returns
-unfolding parts_at openingForm
+unfolding parts_at opening_form
 returns c = let a = c.before.before.before.before.before.args in rw (to_end a.line.now (a.b + 1)) at c.read-group.ensures
 
 pub read-whole-spec : {M : Type 1} → statement M

@@ -1,7 +1,7 @@
 -- Each question is one of the definition's, and what they say is what it says.
 -- Assumes nothing.
-use Rattle.sequencer.specs.Steps.{sortedBy}
-use Rattle.sequencer.proofs.Deciding.{unread, not-asked, sorted}
+use Rattle.sequencer.specs.Steps.{sorted_by}
+use Rattle.sequencer.proofs.Deciding.{unread, not_asked, sorted}
 use mathlib.Core.Path.{sym, ◌∙◌}
 use native.Mathlib.Omega.{arith}
 use Rattle.big_endian.specs.Laws.{Bytes}
@@ -42,15 +42,15 @@ enum-known-reading-2 : tie.Need-enum-known-reading-2
 enum-known-reading-2 c = search rules
 
 returns : tie.Need-returns
-unfolding sortedBy
+unfolding sorted_by
 returns c = sorted _ _ _ _ _ _ c.before.before.before.before.before.before.before.before.before.before.before.before.before.read.ensures.0 _ c.before.before.before.before.before.before.before.before.before.before.before.reading.given.1 _ c.before.before.before.before.before.before.before.before.before.of.ensures _ c.before.before.before.before.before.before.ask-packet.ensures c.before.before.before.before.enum_told.given.1 _ c.before.before.before.confirmed-by.ensures _ c.before.who.given.1
 
 returns-2 : tie.Need-returns-2
-unfolding sortedBy
+unfolding sorted_by
 returns-2 c = sorted _ _ _ _ _ _ c.before.before.before.before.before.before.before.before.before.before.before.before.read.ensures.0 _ c.before.before.before.before.before.before.before.before.before.before.reading.given.1 _ c.before.before.before.before.before.before.before.before.of.ensures _ c.before.before.before.before.before.ask-packet.ensures c.before.before.before.enum_told.given.1 _ c.before.before.confirmed-by.ensures _ c.enum-told2.given.1
 
 returns-3 : tie.Need-returns-3
-returns-3 c = not-asked _ _ _ _ _ _ c.before.before.before.before.before.before.before.before.before.before.read.ensures.0 _ c.before.before.before.before.before.before.before.before.reading.given.1 _ c.before.before.before.before.before.before.of.ensures _ c.before.before.before.ask-packet.ensures _ c.before.v.given.1
+returns-3 c = not_asked _ _ _ _ _ _ c.before.before.before.before.before.before.before.before.before.before.read.ensures.0 _ c.before.before.before.before.before.before.before.before.reading.given.1 _ c.before.before.before.before.before.before.of.ensures _ c.before.before.before.ask-packet.ensures _ c.before.v.given.1
 
 returns-4 : tie.Need-returns-4
 returns-4 c = unread _ _ _ _ _ _ c.before.before.before.read.ensures.0 _ c.before.reading2.given.1

@@ -1,13 +1,13 @@
 -- The test is the definition's.
 -- Assumes nothing.
 use Rattle.group.proofs.Choice.{choices}
-use Rattle.sequencer.specs.Steps.{gapAnswer}
+use Rattle.sequencer.specs.Steps.{gap_answer}
 use borrow.Author.Rules.{rules}
 use Rattle.sequencer.proofs.gap_answer.Statement.{statement}
 use Rattle.sequencer.proofs.gap_answer.Tie as tie
 
 returns : tie.Need-returns
-unfolding gapAnswer
+unfolding gap_answer
 returns c = search (choices, rules) depth 9
 
 add-larger : tie.Need-overflow-add-larger
@@ -17,7 +17,7 @@ larger-requires : tie.Need-larger-requires
 larger-requires c κs = search rules
 
 returns-2 : tie.Need-returns-2
-unfolding gapAnswer
+unfolding gap_answer
 returns-2 c = rw c.larger.ensures (search (choices, rules) depth 9)
 
 pub gap-answer-spec : {M : Type 1} → statement M

@@ -1,6 +1,6 @@
 -- Each kind of packet as the definition has it.
 -- Assumes nothing.
-use Rattle.sequencer.specs.Steps.{changeOf}
+use Rattle.sequencer.specs.Steps.{change_of}
 use borrow.Author.Rules.{rules}
 use Rattle.sequencer.proofs.packet_change.Statement.{statement}
 use Rattle.sequencer.proofs.packet_change.Tie as tie
@@ -75,47 +75,47 @@ quiet-requires-10 : tie.Need-quiet-requires-10
 quiet-requires-10 c κs = search rules
 
 returns : tie.Need-returns
-unfolding changeOf
+unfolding change_of
 returns c = rw c.before.before.packet.given.1 c.request-change.ensures
 
 returns-2 : tie.Need-returns-2
-unfolding changeOf
+unfolding change_of
 returns-2 c = rw c.before.enum_told.given.1 c.quiet.ensures
 
 returns-3 : tie.Need-returns-3
-unfolding changeOf
+unfolding change_of
 returns-3 c = rw (c.before.before.before.packet2.given.1, ← c.before.gap-answer.ensures) c.quiet2.ensures
 
 returns-4 : tie.Need-returns-4
-unfolding changeOf
+unfolding change_of
 returns-4 c = rw c.before.enum-told2.given.1 c.quiet3.ensures
 
 returns-5 : tie.Need-returns-5
-unfolding changeOf
+unfolding change_of
 returns-5 c = rw c.before.enum-told3.given.1 c.quiet4.ensures
 
 returns-6 : tie.Need-returns-6
-unfolding changeOf
+unfolding change_of
 returns-6 c = rw c.before.enum-told4.given.1 c.quiet5.ensures
 
 returns-7 : tie.Need-returns-7
-unfolding changeOf
+unfolding change_of
 returns-7 c = rw c.before.enum-told5.given.1 c.quiet6.ensures
 
 returns-8 : tie.Need-returns-8
-unfolding changeOf
+unfolding change_of
 returns-8 c = rw c.before.enum-told6.given.1 c.quiet7.ensures
 
 returns-9 : tie.Need-returns-9
-unfolding changeOf
+unfolding change_of
 returns-9 c = rw c.before.enum-told7.given.1 c.quiet8.ensures
 
 returns-10 : tie.Need-returns-10
-unfolding changeOf
+unfolding change_of
 returns-10 c = rw c.before.enum-told8.given.1 c.quiet9.ensures
 
 returns-11 : tie.Need-returns-11
-unfolding changeOf
+unfolding change_of
 returns-11 c = rw c.before.enum-told9.given.1 c.quiet10.ensures
 
 pub packet-change-spec : {M : Type 1} → statement M

@@ -1,6 +1,6 @@
 -- The first bytes of the place are what is lent.
 -- Assumes nothing.
-use Rattle.sequencer.proofs.View.{place-laid}
+use Rattle.sequencer.proofs.View.{place_laid}
 use borrow.Author.Rules.{rules}
 use Rattle.sequencer.proofs.put_place.Statement.{statement}
 use Rattle.sequencer.proofs.put_place.Tie as tie
@@ -27,7 +27,7 @@ same_length : tie.Need-same-length
 same_length c = search rules
 
 returns : tie.Need-returns
-returns c = let a = c.before.before.before.before.before.before.before.args in place-laid _ a.payloads.now a.at a.size _ c.before.before.before.before.before.before.before.requires.1 c.before.before.put.ensures
+returns c = let a = c.before.before.before.before.before.before.before.args in place_laid _ a.payloads.now a.at a.size _ c.before.before.before.before.before.before.before.requires.1 c.before.before.put.ensures
 
 pub put-place-spec : {M : Type 1} → statement M
 put-place-spec = tie.close (tie.spec mul-base add-end sub-put part-put-start part-put-end put-requires same_length returns)

@@ -1,7 +1,7 @@
 -- Each answer as the definition has it.
 -- Assumes nothing.
 use mathlib.Core.Path.{refl}
-use Rattle.sequencer.specs.Steps.{sentOf}
+use Rattle.sequencer.specs.Steps.{sent_of}
 use borrow.Author.Rules.{rules}
 use Rattle.sequencer.proofs.send_answer.Statement.{statement}
 use Rattle.sequencer.proofs.send_answer.Tie as tie
@@ -46,52 +46,52 @@ enum-told-8 : tie.Need-enum-told-8
 enum-told-8 c = search rules
 
 returns : tie.Need-returns
-unfolding sentOf
+unfolding sent_of
 returns c = rw c.enum_told.given.1 (record { size = refl; lent = refl })
 
 returns-2 : tie.Need-returns-2
-unfolding sentOf
+unfolding sent_of
 returns-2 c = rw c.enum-told2.given.1 (record { size = refl; lent = refl })
 
 same_length : tie.Need-same-length
 same_length c = search rules
 
 returns-3 : tie.Need-returns-3
-unfolding sentOf
+unfolding sent_of
 returns-3 c = rw c.before.before.before.before.before.answer.given.1 c.before.before.send.ensures
 
 same-length-2 : tie.Need-same-length-2
 same-length-2 c = search rules
 
 returns-4 : tie.Need-returns-4
-unfolding sentOf
+unfolding sent_of
 returns-4 c = rw c.before.before.before.before.enum-told3.given.1 c.before.before.send-poll.ensures
 
 same-length-3 : tie.Need-same-length-3
 same-length-3 c = search rules
 
 returns-5 : tie.Need-returns-5
-unfolding sentOf
+unfolding sent_of
 returns-5 c = rw c.before.before.before.before.before.answer2.given.1 c.before.before.send2.ensures
 
 returns-6 : tie.Need-returns-6
-unfolding sentOf
+unfolding sent_of
 returns-6 c = rw c.enum-told4.given.1 (record { size = refl; lent = refl })
 
 returns-7 : tie.Need-returns-7
-unfolding sentOf
+unfolding sent_of
 returns-7 c = rw c.enum-told5.given.1 (record { size = refl; lent = refl })
 
 returns-8 : tie.Need-returns-8
-unfolding sentOf
+unfolding sent_of
 returns-8 c = rw c.enum-told6.given.1 (record { size = refl; lent = refl })
 
 returns-9 : tie.Need-returns-9
-unfolding sentOf
+unfolding sent_of
 returns-9 c = rw c.enum-told7.given.1 (record { size = refl; lent = refl })
 
 returns-10 : tie.Need-returns-10
-unfolding sentOf
+unfolding sent_of
 returns-10 c = rw c.enum-told8.given.1 (record { size = refl; lent = refl })
 
 pub send-answer-spec : {M : Type 1} → statement M

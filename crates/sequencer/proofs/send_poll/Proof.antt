@@ -2,7 +2,7 @@
 -- Assumes nothing.
 use mathlib.Core.List.{[]}
 use native.Mathlib.Omega.{arith}
-use Rattle.packet.proofs.Permitted.{poll-fields, laid-whole}
+use Rattle.packet.proofs.Permitted.{poll_fields, laid_whole}
 use borrow.Author.Rules.{rules}
 use Rattle.sequencer.proofs.send_poll.Statement.{statement}
 use Rattle.sequencer.proofs.send_poll.Tie as tie
@@ -20,7 +20,7 @@ returns : tie.Need-returns
 returns c =
     let a = c.before.before.before.before.before.before.before.args in
     let p = c.before.before.before.before.before.before.before.requires in
-    laid-whole _ [] _ (poll-fields a.group.number a.group.elected a.top a.floor p.0) (omega arith) p.1 c.before.before.put.ensures
+    laid_whole _ [] _ (poll_fields a.group.number a.group.elected a.top a.floor p.0) (omega arith) p.1 c.before.before.put.ensures
 
 pub send-poll-spec : {M : Type 1} → statement M
 send-poll-spec = tie.close (tie.spec slice-aggregate-put put-requires same_length returns)

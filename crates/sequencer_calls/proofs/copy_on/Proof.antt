@@ -1,16 +1,16 @@
 -- The verdict on state and output; then question 17 and the packet.
 -- Assumes nothing.
 use mathlib.Core.Path.{sym, ◌∙◌}
-use Rattle.history.proofs.Asking.{judged-no}
+use Rattle.history.proofs.Asking.{judged_no}
 use Rattle.sequencer.specs.Calls.{copy_of}
 use Rattle.sequencer.specs.View.{whole, view_of}
-use Rattle.sequencer.proofs.Outcomes.{told-as, refusal-told}
+use Rattle.sequencer.proofs.Outcomes.{told_as_lem, refusal_told}
 use borrow.Author.Rules.{rules}
 use Rattle.sequencer_calls.proofs.copy_on.Statement.{statement}
 use Rattle.sequencer_calls.proofs.copy_on.Tie as tie
 
 ask-requires : tie.Need-ask-requires
-ask-requires c κs = record { counts-long = search rules; repeats-long = search rules; places = record { kept-size = search rules; originators-size = search rules; lengths-size = search rules; payloads-size = search rules }; marks-size = search rules }
+ask-requires c κs = record { counts_long = search rules; repeats_long = search rules; places = record { kept_size_lem = search rules; originators_size = search rules; lengths_size = search rules; payloads_size = search rules }; marks_size = search rules }
 
 enum_told : tie.Need-enum-told
 enum_told c = search rules
@@ -34,7 +34,7 @@ returns-2 : tie.Need-returns-2
 unfolding copy_of
 returns-2 c =
     let a = c.before.before.before.before.before.before.before.before.before.before.before.before.before.args in
-    told-as (judged-no _ _ _ _ (sym c.before.before.before.before.ask.ensures.0 ∙ c.before.before.v.given.1)) (refusal-told _ _ a.out.now c.refused.ensures (view_of (whole a.head a.taken.now a.counts.now a.repeats.now a.kept.now a.marks.now a.originators.now a.lengths.now a.payloads.now)))
+    told_as_lem (judged_no _ _ _ _ (sym c.before.before.before.before.ask.ensures.0 ∙ c.before.before.v.given.1)) (refusal_told _ _ a.out.now c.refused.ensures (view_of (whole a.head a.taken.now a.counts.now a.repeats.now a.kept.now a.marks.now a.originators.now a.lengths.now a.payloads.now)))
 
 pub copy-on-spec : {M : Type 1} → statement M
 copy-on-spec = tie.close (tie.spec ask-requires enum_told copied-requires enum-known-v refused-requires same_length returns returns-2)

@@ -3,8 +3,8 @@
 use mathlib.Core.Path.{◌∙◌}
 use native.Mathlib.Omega.{arith}
 use Rattle.sequencer.specs.View.{view_of}
-use Rattle.sequencer.proofs.Soundness.{sound-of}
-use Rattle.sequencer.proofs.View.{sender-inside, found_left, found-sends, found-changed}
+use Rattle.sequencer.proofs.Soundness.{sound_of_lem}
+use Rattle.sequencer.proofs.View.{sender_inside, found_left, found_sends, found_changed}
 use borrow.Author.Rules.{rules}
 use Rattle.sequencer_calls.proofs.noted.Statement.{statement}
 use Rattle.sequencer_calls.proofs.noted.Tie as tie
@@ -16,7 +16,7 @@ note-requires : tie.Need-note-requires
 note-requires c κs =
     let a = c.before.before.before.before.before.before.before.before.before.before.before.before.before.before.before.before.args in
     let p = c.before.before.before.before.before.before.before.before.before.before.before.before.before.before.before.before.requires in
-    sender-inside a.head a.taken.now a.counts.now a.repeats.now a.kept.now a.marks.now a.originators.now a.lengths.now a.payloads.now p.2 a.packet a.payload.now _ p.1 _ c.before.before.before.before.before.before.sender-of.ensures
+    sender_inside a.head a.taken.now a.counts.now a.repeats.now a.kept.now a.marks.now a.originators.now a.lengths.now a.payloads.now p.2 a.packet a.payload.now _ p.1 _ c.before.before.before.before.before.before.sender-of.ensures
 
 clear-requires : tie.Need-clear-requires
 clear-requires c κs = c.before.before.before.before.before.before.before.before.before.before.before.before.before.before.before.before.before.before.before.before.before.requires.2.places
@@ -31,8 +31,8 @@ slice-read-count : tie.Need-slice-read-count
 slice-read-count c =
     let a = c.before.before.before.before.before.before.before.before.before.before.before.before.before.before.before.before.before.before.before.before.before.before.before.before.before.before.before.before.before.before.before.before.args in
     let p = c.before.before.before.before.before.before.before.before.before.before.before.before.before.before.before.before.before.before.before.before.before.before.before.before.before.before.before.before.before.before.before.before.requires in
-    let i = sender-inside a.head a.taken.now a.counts.now a.repeats.now a.kept.now a.marks.now a.originators.now a.lengths.now a.payloads.now p.2 a.packet a.payload.now _ p.1 _ c.before.before.before.before.before.before.before.before.before.before.before.before.before.before.before.before.before.before.before.before.before.before.sender-of.ensures in
-    omega (arith, i, p.2.entries.counts-size)
+    let i = sender_inside a.head a.taken.now a.counts.now a.repeats.now a.kept.now a.marks.now a.originators.now a.lengths.now a.payloads.now p.2 a.packet a.payload.now _ p.1 _ c.before.before.before.before.before.before.before.before.before.before.before.before.before.before.before.before.before.before.before.before.before.before.sender-of.ensures in
+    omega (arith, i, p.2.entries.counts_size)
 
 mul-again : tie.Need-overflow-mul-again
 mul-again c = search rules
@@ -41,14 +41,14 @@ slice-read-again : tie.Need-slice-read-preserved
 slice-read-again c =
     let a = c.before.before.before.before.before.before.before.before.before.before.before.before.before.before.before.before.before.before.before.before.before.before.before.before.before.before.before.before.before.before.before.before.before.args in
     let p = c.before.before.before.before.before.before.before.before.before.before.before.before.before.before.before.before.before.before.before.before.before.before.before.before.before.before.before.before.before.before.before.before.before.requires in
-    let i = sender-inside a.head a.taken.now a.counts.now a.repeats.now a.kept.now a.marks.now a.originators.now a.lengths.now a.payloads.now p.2 a.packet a.payload.now _ p.1 _ c.before.before.before.before.before.before.before.before.before.before.before.before.before.before.before.before.before.before.before.before.before.before.before.sender-of.ensures in
-    omega (arith, i, p.2.entries.repeats-size)
+    let i = sender_inside a.head a.taken.now a.counts.now a.repeats.now a.kept.now a.marks.now a.originators.now a.lengths.now a.payloads.now p.2 a.packet a.payload.now _ p.1 _ c.before.before.before.before.before.before.before.before.before.before.before.before.before.before.before.before.before.before.before.before.before.before.before.sender-of.ensures in
+    omega (arith, i, p.2.entries.repeats_size)
 
 packet-change-requires : tie.Need-packet-change-requires
 packet-change-requires c κs =
     let a = c.before.before.before.before.before.before.before.before.before.before.before.before.before.before.before.before.before.before.before.before.before.before.before.before.before.before.before.before.before.before.before.before.before.before.before.args in
     let p = c.before.before.before.before.before.before.before.before.before.before.before.before.before.before.before.before.before.before.before.before.before.before.before.before.before.before.before.before.before.before.before.before.before.before.before.requires in
-    (found_left a.head a.taken.now a.counts.now a.repeats.now a.kept.now a.marks.now a.originators.now a.lengths.now a.payloads.now p.2 a.packet a.payload.now _ p.1 _ c.before.before.before.before.before.before.before.before.before.before.before.before.before.before.before.before.before.before.before.before.before.before.before.before.before.sender-of.ensures _ _ _ _ _ _ c.before.before.before.before.before.before.before.before.before.before.before.before.before.before.before.before.before.before.note.ensures.0 c.before.before.before.before.before.before.before.before.before.before.before.before.before.before.before.before.before.before.note.ensures.1 c.before.before.before.before.before.before.before.before.before.before.before.before.before.clear.ensures, c.before.before.before.before.before.before.before.before.before.before.before.before.kept.given ∙ p.2.places.kept-size, c.before.before.before.before.before.before.before.before.before.before.originators.given ∙ p.2.places.originators-size)
+    (found_left a.head a.taken.now a.counts.now a.repeats.now a.kept.now a.marks.now a.originators.now a.lengths.now a.payloads.now p.2 a.packet a.payload.now _ p.1 _ c.before.before.before.before.before.before.before.before.before.before.before.before.before.before.before.before.before.before.before.before.before.before.before.before.before.sender-of.ensures _ _ _ _ _ _ c.before.before.before.before.before.before.before.before.before.before.before.before.before.before.before.before.before.before.note.ensures.0 c.before.before.before.before.before.before.before.before.before.before.before.before.before.before.before.before.before.before.note.ensures.1 c.before.before.before.before.before.before.before.before.before.before.before.before.before.clear.ensures, c.before.before.before.before.before.before.before.before.before.before.before.before.kept.given ∙ p.2.places.kept_size_lem, c.before.before.before.before.before.before.before.before.before.before.originators.given ∙ p.2.places.originators_size)
 
 mul-counts : tie.Need-overflow-mul-counts
 mul-counts c = search rules
@@ -57,8 +57,8 @@ slice-write-counts : tie.Need-slice-write-counts
 slice-write-counts c =
     let a = c.before.before.before.before.before.before.before.before.before.before.before.before.before.before.before.before.before.before.before.before.before.before.before.before.before.before.before.before.before.before.before.before.before.before.before.before.args in
     let p = c.before.before.before.before.before.before.before.before.before.before.before.before.before.before.before.before.before.before.before.before.before.before.before.before.before.before.before.before.before.before.before.before.before.before.before.before.requires in
-    let i = sender-inside a.head a.taken.now a.counts.now a.repeats.now a.kept.now a.marks.now a.originators.now a.lengths.now a.payloads.now p.2 a.packet a.payload.now _ p.1 _ c.before.before.before.before.before.before.before.before.before.before.before.before.before.before.before.before.before.before.before.before.before.before.before.before.before.before.sender-of.ensures in
-    omega (arith, i, p.2.entries.counts-size)
+    let i = sender_inside a.head a.taken.now a.counts.now a.repeats.now a.kept.now a.marks.now a.originators.now a.lengths.now a.payloads.now p.2 a.packet a.payload.now _ p.1 _ c.before.before.before.before.before.before.before.before.before.before.before.before.before.before.before.before.before.before.before.before.before.before.before.before.before.before.sender-of.ensures in
+    omega (arith, i, p.2.entries.counts_size)
 
 mul-repeats : tie.Need-overflow-mul-repeats
 mul-repeats c = search rules
@@ -67,13 +67,13 @@ slice-write-repeats : tie.Need-slice-write-repeats
 slice-write-repeats c =
     let a = c.before.before.before.before.before.before.before.before.before.before.before.before.before.before.before.before.before.before.before.before.before.before.before.before.before.before.before.before.before.before.before.before.before.before.before.before.args in
     let p = c.before.before.before.before.before.before.before.before.before.before.before.before.before.before.before.before.before.before.before.before.before.before.before.before.before.before.before.before.before.before.before.before.before.before.before.before.requires in
-    let i = sender-inside a.head a.taken.now a.counts.now a.repeats.now a.kept.now a.marks.now a.originators.now a.lengths.now a.payloads.now p.2 a.packet a.payload.now _ p.1 _ c.before.before.before.before.before.before.before.before.before.before.before.before.before.before.before.before.before.before.before.before.before.before.before.before.before.before.sender-of.ensures in
-    omega (arith, i, p.2.entries.repeats-size)
+    let i = sender_inside a.head a.taken.now a.counts.now a.repeats.now a.kept.now a.marks.now a.originators.now a.lengths.now a.payloads.now p.2 a.packet a.payload.now _ p.1 _ c.before.before.before.before.before.before.before.before.before.before.before.before.before.before.before.before.before.before.before.before.before.before.before.before.before.before.sender-of.ensures in
+    omega (arith, i, p.2.entries.repeats_size)
 
 lay-requires : tie.Need-lay-requires
 lay-requires c κs =
     let p = c.before.before.before.before.before.before.before.before.before.before.before.before.before.before.before.before.before.before.before.before.before.before.before.before.before.before.before.before.before.before.before.before.before.before.before.before.before.before.before.before.before.requires in
-    (p.1.sizes.payload, record { kept-size = c.before.before.before.before.before.before.before.before.before.before.before.before.before.before.before.before.before.before.kept.given ∙ p.2.places.kept-size; originators-size = c.before.before.before.before.before.before.before.before.before.before.before.before.before.before.before.before.originators.given ∙ p.2.places.originators-size; lengths-size = c.before.before.before.before.before.before.before.before.before.before.before.before.before.before.lengths.given ∙ p.2.places.lengths-size; payloads-size = c.before.before.before.before.before.before.before.before.before.before.before.before.payloads.given ∙ p.2.places.payloads-size })
+    (p.1.sizes.payload, record { kept_size_lem = c.before.before.before.before.before.before.before.before.before.before.before.before.before.before.before.before.before.before.kept.given ∙ p.2.places.kept_size_lem; originators_size = c.before.before.before.before.before.before.before.before.before.before.before.before.before.before.before.before.originators.given ∙ p.2.places.originators_size; lengths_size = c.before.before.before.before.before.before.before.before.before.before.before.before.before.before.lengths.given ∙ p.2.places.lengths_size; payloads_size = c.before.before.before.before.before.before.before.before.before.before.before.before.payloads.given ∙ p.2.places.payloads_size })
 
 cast-place : tie.Need-overflow-cast-place
 cast-place c = search rules
@@ -86,7 +86,7 @@ send-answer-requires c κs =
     let a = c.before.before.before.before.before.before.before.before.before.before.before.before.before.before.before.before.before.before.before.before.before.before.before.before.before.before.before.before.before.before.before.before.before.before.before.before.before.before.before.before.before.before.before.before.before.before.before.before.before.before.before.before.before.before.before.before.before.before.before.args in
     let p = c.before.before.before.before.before.before.before.before.before.before.before.before.before.before.before.before.before.before.before.before.before.before.before.before.before.before.before.before.before.before.before.before.before.before.before.before.before.before.before.before.before.before.before.before.before.before.before.before.before.before.before.before.before.before.before.before.before.before.before.requires in
     let at = c.before.before.before.before.before.before.before.place.ensures in
-    (omega (arith, at), found-sends a.head a.taken.now a.counts.now a.repeats.now a.kept.now a.marks.now a.originators.now a.lengths.now a.payloads.now p.2 a.packet a.payload.now _ p.1 _ c.before.before.before.before.before.before.before.before.before.before.before.before.before.before.before.before.before.before.before.before.before.before.before.before.before.before.before.before.before.before.before.before.before.before.before.before.before.before.before.before.before.before.before.before.before.before.before.before.before.sender-of.ensures _ _ _ _ _ _ c.before.before.before.before.before.before.before.before.before.before.before.before.before.before.before.before.before.before.before.before.before.before.before.before.before.before.before.before.before.before.before.before.before.before.before.before.before.before.before.before.before.before.note.ensures.0 c.before.before.before.before.before.before.before.before.before.before.before.before.before.before.before.before.before.before.before.before.before.before.before.before.before.before.before.before.before.before.before.before.before.before.before.before.before.before.before.before.before.before.note.ensures.1 c.before.before.before.before.before.before.before.before.before.before.before.before.before.before.before.before.before.before.before.before.before.before.before.before.before.before.before.before.before.before.before.before.before.before.before.before.before.clear.ensures _ c.before.before.before.before.before.before.before.before.before.before.before.before.before.before.before.before.before.before.before.before.before.before.before.packet-change.ensures _ _ _ _ c.before.before.before.before.before.before.before.before.before.before.before.before.before.before.before.before.before.lay.ensures _ c.before.before.before.before.before.before.before.place.ensures, p.1.sizes.output, record { kept-size = c.before.before.before.before.before.before.before.before.before.before.before.before.before.before.before.before.kept2.given ∙ c.before.before.before.before.before.before.before.before.before.before.before.before.before.before.before.before.before.before.before.before.before.before.before.before.before.before.before.before.before.before.before.before.before.before.before.before.kept.given ∙ p.2.places.kept-size; originators-size = c.before.before.before.before.before.before.before.before.before.before.before.before.before.before.originators2.given ∙ c.before.before.before.before.before.before.before.before.before.before.before.before.before.before.before.before.before.before.before.before.before.before.before.before.before.before.before.before.before.before.before.before.before.before.originators.given ∙ p.2.places.originators-size; lengths-size = c.before.before.before.before.before.before.before.before.before.before.before.before.lengths2.given ∙ c.before.before.before.before.before.before.before.before.before.before.before.before.before.before.before.before.before.before.before.before.before.before.before.before.before.before.before.before.before.before.before.before.lengths.given ∙ p.2.places.lengths-size; payloads-size = c.before.before.before.before.before.before.before.before.before.before.payloads2.given ∙ c.before.before.before.before.before.before.before.before.before.before.before.before.before.before.before.before.before.before.before.before.before.before.before.before.before.before.before.before.before.before.payloads.given ∙ p.2.places.payloads-size })
+    (omega (arith, at), found_sends a.head a.taken.now a.counts.now a.repeats.now a.kept.now a.marks.now a.originators.now a.lengths.now a.payloads.now p.2 a.packet a.payload.now _ p.1 _ c.before.before.before.before.before.before.before.before.before.before.before.before.before.before.before.before.before.before.before.before.before.before.before.before.before.before.before.before.before.before.before.before.before.before.before.before.before.before.before.before.before.before.before.before.before.before.before.before.before.sender-of.ensures _ _ _ _ _ _ c.before.before.before.before.before.before.before.before.before.before.before.before.before.before.before.before.before.before.before.before.before.before.before.before.before.before.before.before.before.before.before.before.before.before.before.before.before.before.before.before.before.before.note.ensures.0 c.before.before.before.before.before.before.before.before.before.before.before.before.before.before.before.before.before.before.before.before.before.before.before.before.before.before.before.before.before.before.before.before.before.before.before.before.before.before.before.before.before.before.note.ensures.1 c.before.before.before.before.before.before.before.before.before.before.before.before.before.before.before.before.before.before.before.before.before.before.before.before.before.before.before.before.before.before.before.before.before.before.before.before.before.clear.ensures _ c.before.before.before.before.before.before.before.before.before.before.before.before.before.before.before.before.before.before.before.before.before.before.before.packet-change.ensures _ _ _ _ c.before.before.before.before.before.before.before.before.before.before.before.before.before.before.before.before.before.lay.ensures _ c.before.before.before.before.before.before.before.place.ensures, p.1.sizes.output, record { kept_size_lem = c.before.before.before.before.before.before.before.before.before.before.before.before.before.before.before.before.kept2.given ∙ c.before.before.before.before.before.before.before.before.before.before.before.before.before.before.before.before.before.before.before.before.before.before.before.before.before.before.before.before.before.before.before.before.before.before.before.before.kept.given ∙ p.2.places.kept_size_lem; originators_size = c.before.before.before.before.before.before.before.before.before.before.before.before.before.before.originators2.given ∙ c.before.before.before.before.before.before.before.before.before.before.before.before.before.before.before.before.before.before.before.before.before.before.before.before.before.before.before.before.before.before.before.before.before.before.originators.given ∙ p.2.places.originators_size; lengths_size = c.before.before.before.before.before.before.before.before.before.before.before.before.lengths2.given ∙ c.before.before.before.before.before.before.before.before.before.before.before.before.before.before.before.before.before.before.before.before.before.before.before.before.before.before.before.before.before.before.before.before.lengths.given ∙ p.2.places.lengths_size; payloads_size = c.before.before.before.before.before.before.before.before.before.before.payloads2.given ∙ c.before.before.before.before.before.before.before.before.before.before.before.before.before.before.before.before.before.before.before.before.before.before.before.before.before.before.before.before.before.before.payloads.given ∙ p.2.places.payloads_size })
 
 same_length : tie.Need-same-length
 same_length c = search rules
@@ -113,7 +113,7 @@ returns : tie.Need-returns
 returns c =
     let a = c.before.before.before.before.before.before.before.before.before.before.before.before.before.before.before.before.before.before.before.before.before.before.before.before.before.before.before.before.before.before.before.before.before.before.before.before.before.before.before.before.before.before.before.before.before.before.before.before.before.before.before.before.before.before.before.before.before.before.before.before.before.before.args in
     let p = c.before.before.before.before.before.before.before.before.before.before.before.before.before.before.before.before.before.before.before.before.before.before.before.before.before.before.before.before.before.before.before.before.before.before.before.before.before.before.before.before.before.before.before.before.before.before.before.before.before.before.before.before.before.before.before.before.before.before.before.before.before.before.requires in
-    found-changed a.head a.taken.now a.counts.now a.repeats.now a.kept.now a.marks.now a.originators.now a.lengths.now a.payloads.now p.2 a.packet a.payload.now _ p.1 _ c.before.before.before.before.before.before.before.before.before.before.before.before.before.before.before.before.before.before.before.before.before.before.before.before.before.before.before.before.before.before.before.before.before.before.before.before.before.before.before.before.before.before.before.before.before.before.before.before.before.before.before.before.sender-of.ensures _ _ _ _ _ _ c.before.before.before.before.before.before.before.before.before.before.before.before.before.before.before.before.before.before.before.before.before.before.before.before.before.before.before.before.before.before.before.before.before.before.before.before.before.before.before.before.before.before.before.before.before.note.ensures.0 c.before.before.before.before.before.before.before.before.before.before.before.before.before.before.before.before.before.before.before.before.before.before.before.before.before.before.before.before.before.before.before.before.before.before.before.before.before.before.before.before.before.before.before.before.before.note.ensures.1 c.before.before.before.before.before.before.before.before.before.before.before.before.before.before.before.before.before.before.before.before.before.before.before.before.before.before.before.before.before.before.before.before.before.before.before.before.before.before.before.before.clear.ensures _ c.before.before.before.before.before.before.before.before.before.before.before.before.before.before.before.before.before.before.before.before.before.before.before.before.before.before.packet-change.ensures _ _ _ _ c.before.before.before.before.before.before.before.before.before.before.before.before.before.before.before.before.before.before.before.before.lay.ensures _ c.before.before.before.before.before.before.before.before.before.before.place.ensures p.0 _ _ _ c.before.before.send-answer.ensures
+    found_changed a.head a.taken.now a.counts.now a.repeats.now a.kept.now a.marks.now a.originators.now a.lengths.now a.payloads.now p.2 a.packet a.payload.now _ p.1 _ c.before.before.before.before.before.before.before.before.before.before.before.before.before.before.before.before.before.before.before.before.before.before.before.before.before.before.before.before.before.before.before.before.before.before.before.before.before.before.before.before.before.before.before.before.before.before.before.before.before.before.before.before.sender-of.ensures _ _ _ _ _ _ c.before.before.before.before.before.before.before.before.before.before.before.before.before.before.before.before.before.before.before.before.before.before.before.before.before.before.before.before.before.before.before.before.before.before.before.before.before.before.before.before.before.before.before.before.before.note.ensures.0 c.before.before.before.before.before.before.before.before.before.before.before.before.before.before.before.before.before.before.before.before.before.before.before.before.before.before.before.before.before.before.before.before.before.before.before.before.before.before.before.before.before.before.before.before.before.note.ensures.1 c.before.before.before.before.before.before.before.before.before.before.before.before.before.before.before.before.before.before.before.before.before.before.before.before.before.before.before.before.before.before.before.before.before.before.before.before.before.before.before.before.clear.ensures _ c.before.before.before.before.before.before.before.before.before.before.before.before.before.before.before.before.before.before.before.before.before.before.before.before.before.before.packet-change.ensures _ _ _ _ c.before.before.before.before.before.before.before.before.before.before.before.before.before.before.before.before.before.before.before.before.lay.ensures _ c.before.before.before.before.before.before.before.before.before.before.place.ensures p.0 _ _ _ c.before.before.send-answer.ensures
 
 pub noted-spec : {M : Type 1} → statement M
 noted-spec = tie.close (tie.spec sender-of-requires note-requires clear-requires cast-member mul-count slice-read-count mul-again slice-read-again packet-change-requires mul-counts slice-write-counts mul-repeats slice-write-repeats lay-requires cast-place place-requires send-answer-requires same_length same-length-2 same-length-3 same-length-4 same-length-5 same-length-6 same-length-7 returns)

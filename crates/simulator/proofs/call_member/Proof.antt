@@ -2,11 +2,11 @@
 -- Assumes nothing.
 use mathlib.Core.Path.{◌≡◌, refl, sym, ap, ◌∙◌}
 use lib.ListN.{length}
-use Rattle.simulator.specs.Steps.{outcomeOf}
+use Rattle.simulator.specs.Steps.{outcome_of}
 use Rattle.simulator.specs.Whole.{rows_of}
 use Rattle.simulator.specs.declared.MemberCall.TheVariants as call
-use Rattle.simulator.proofs.Acting.{calls-member, calls-told}
-use Rattle.member.proofs.Leaving.{repeat-leaves, status-leaves}
+use Rattle.simulator.proofs.Acting.{calls_member, calls_told}
+use Rattle.member.proofs.Leaving.{repeat_leaves, status_leaves}
 use borrow.Author.Rules.{rules}
 use Rattle.simulator.proofs.call_member.Statement.{statement}
 use Rattle.simulator.proofs.call_member.Tie as tie
@@ -309,11 +309,11 @@ same-length-9 : tie.Need-same-length-9
 same-length-9 c = search rules
 
 returns : tie.Need-returns
-unfolding outcomeOf
+unfolding outcome_of
 returns c =
     let a = c.before.before.before.before.before.before.before.before.before.before.before.before.before.before.before.before.args in
-    let rows = rows_of a.queued.now a.held.now a.queued-originators.now a.queued-lengths.now a.held-originators.now a.held-lengths.now a.queued-payloads.now a.held-payloads.now in
-    rw c.before.before.before.before.before.before.before.before.before.before.before.before.enum_told.given.1 (calls-member a.i rows _ _ _ _ _ _ _ _ call.Submit a.bytes.now a.head c.before.before.submit-on.result a.out.now _ c.before.before.before.before.before.before.before.before.before.before.before.before.before.before.before.before.requires.0 c.before.before.before.before.before.before.before.before.before.before.before.before.before.before.before.before.requires.1 c.before.before.submit-on.ensures)
+    let rows = rows_of a.queued.now a.held.now a.queued_originators.now a.queued_lengths.now a.held_originators.now a.held_lengths.now a.queued_payloads.now a.held_payloads.now in
+    rw c.before.before.before.before.before.before.before.before.before.before.before.before.enum_told.given.1 (calls_member a.i rows _ _ _ _ _ _ _ _ call.Submit a.bytes.now a.head c.before.before.submit-on.result a.out.now _ c.before.before.before.before.before.before.before.before.before.before.before.before.before.before.before.before.requires.0 c.before.before.before.before.before.before.before.before.before.before.before.before.before.before.before.before.requires.1 c.before.before.submit-on.ensures)
 
 same-length-10 : tie.Need-same-length-10
 same-length-10 c = search rules
@@ -343,11 +343,11 @@ same-length-18 : tie.Need-same-length-18
 same-length-18 c = search rules
 
 returns-2 : tie.Need-returns-2
-unfolding outcomeOf
+unfolding outcome_of
 returns-2 c =
     let a = c.before.before.before.before.before.before.before.before.before.before.before.before.before.before.before.before.args in
-    let rows = rows_of a.queued.now a.held.now a.queued-originators.now a.queued-lengths.now a.held-originators.now a.held-lengths.now a.queued-payloads.now a.held-payloads.now in
-    rw c.before.before.before.before.before.before.before.before.before.before.before.before.enum-told2.given.1 (calls-told call.Repeat a.i a.bytes.now a.head rows c.before.before.repeat-on.result a.out.now _ (repeat-leaves _ a.out.now a.out.now c.before.before.repeat-on.result).0 c.before.before.repeat-on.ensures)
+    let rows = rows_of a.queued.now a.held.now a.queued_originators.now a.queued_lengths.now a.held_originators.now a.held_lengths.now a.queued_payloads.now a.held_payloads.now in
+    rw c.before.before.before.before.before.before.before.before.before.before.before.before.enum-told2.given.1 (calls_told call.Repeat a.i a.bytes.now a.head rows c.before.before.repeat-on.result a.out.now _ (repeat_leaves _ a.out.now a.out.now c.before.before.repeat-on.result).0 c.before.before.repeat-on.ensures)
 
 same-length-19 : tie.Need-same-length-19
 same-length-19 c = search rules
@@ -377,11 +377,11 @@ same-length-27 : tie.Need-same-length-27
 same-length-27 c = search rules
 
 returns-3 : tie.Need-returns-3
-unfolding outcomeOf
+unfolding outcome_of
 returns-3 c =
     let a = c.before.before.before.before.before.before.before.before.before.before.before.before.before.before.before.before.args in
-    let rows = rows_of a.queued.now a.held.now a.queued-originators.now a.queued-lengths.now a.held-originators.now a.held-lengths.now a.queued-payloads.now a.held-payloads.now in
-    rw c.before.before.before.before.before.before.before.before.before.before.before.before.enum-told3.given.1 (calls-member a.i rows _ _ _ _ _ _ _ _ call.Take a.bytes.now a.head c.before.before.take_on.result a.out.now _ c.before.before.before.before.before.before.before.before.before.before.before.before.before.before.before.before.requires.0 c.before.before.before.before.before.before.before.before.before.before.before.before.before.before.before.before.requires.1 c.before.before.take_on.ensures)
+    let rows = rows_of a.queued.now a.held.now a.queued_originators.now a.queued_lengths.now a.held_originators.now a.held_lengths.now a.queued_payloads.now a.held_payloads.now in
+    rw c.before.before.before.before.before.before.before.before.before.before.before.before.enum-told3.given.1 (calls_member a.i rows _ _ _ _ _ _ _ _ call.Take a.bytes.now a.head c.before.before.take_on.result a.out.now _ c.before.before.before.before.before.before.before.before.before.before.before.before.before.before.before.before.requires.0 c.before.before.before.before.before.before.before.before.before.before.before.before.before.before.before.before.requires.1 c.before.before.take_on.ensures)
 
 same-length-28 : tie.Need-same-length-28
 same-length-28 c = search rules
@@ -411,11 +411,11 @@ same-length-36 : tie.Need-same-length-36
 same-length-36 c = search rules
 
 returns-4 : tie.Need-returns-4
-unfolding outcomeOf
+unfolding outcome_of
 returns-4 c =
     let a = c.before.before.before.before.before.before.before.before.before.before.before.before.before.before.before.before.args in
-    let rows = rows_of a.queued.now a.held.now a.queued-originators.now a.queued-lengths.now a.held-originators.now a.held-lengths.now a.queued-payloads.now a.held-payloads.now in
-    rw c.before.before.before.before.before.before.before.before.before.before.before.before.enum-told4.given.1 (calls-told call.Status a.i a.bytes.now a.head rows c.before.before.status-on.result a.out.now _ (status-leaves _ a.out.now a.out.now c.before.before.status-on.result).0 c.before.before.status-on.ensures)
+    let rows = rows_of a.queued.now a.held.now a.queued_originators.now a.queued_lengths.now a.held_originators.now a.held_lengths.now a.queued_payloads.now a.held_payloads.now in
+    rw c.before.before.before.before.before.before.before.before.before.before.before.before.enum-told4.given.1 (calls_told call.Status a.i a.bytes.now a.head rows c.before.before.status-on.result a.out.now _ (status_leaves _ a.out.now a.out.now c.before.before.status-on.result).0 c.before.before.status-on.ensures)
 
 same-length-37 : tie.Need-same-length-37
 same-length-37 c = search rules
@@ -445,11 +445,11 @@ same-length-45 : tie.Need-same-length-45
 same-length-45 c = search rules
 
 returns-5 : tie.Need-returns-5
-unfolding outcomeOf
+unfolding outcome_of
 returns-5 c =
     let a = c.before.before.before.before.before.before.before.before.before.before.before.before.before.before.before.before.args in
-    let rows = rows_of a.queued.now a.held.now a.queued-originators.now a.queued-lengths.now a.held-originators.now a.held-lengths.now a.queued-payloads.now a.held-payloads.now in
-    rw c.before.before.before.before.before.before.before.before.before.before.before.before.enum-told5.given.1 (calls-member a.i rows _ _ _ _ _ _ _ _ call.Receive a.bytes.now a.head c.before.before.receive-on.result a.out.now _ c.before.before.before.before.before.before.before.before.before.before.before.before.before.before.before.before.requires.0 c.before.before.before.before.before.before.before.before.before.before.before.before.before.before.before.before.requires.1 c.before.before.receive-on.ensures)
+    let rows = rows_of a.queued.now a.held.now a.queued_originators.now a.queued_lengths.now a.held_originators.now a.held_lengths.now a.queued_payloads.now a.held_payloads.now in
+    rw c.before.before.before.before.before.before.before.before.before.before.before.before.enum-told5.given.1 (calls_member a.i rows _ _ _ _ _ _ _ _ call.Receive a.bytes.now a.head c.before.before.receive-on.result a.out.now _ c.before.before.before.before.before.before.before.before.before.before.before.before.before.before.before.before.requires.0 c.before.before.before.before.before.before.before.before.before.before.before.before.before.before.before.before.requires.1 c.before.before.receive-on.ensures)
 
 pub call-member-spec : {M : Type 1} → statement M
 call-member-spec =

@@ -1,7 +1,7 @@
 -- A take writes no packet.
 -- Assumes nothing.
 use mathlib.Core.Path.{◌≡◌, refl, sym, ap, ◌∙◌}
-use Rattle.simulator.specs.Steps.{keptSize}
+use Rattle.simulator.specs.Steps.{kept_size}
 use borrow.Author.Rules.{rules}
 use Rattle.simulator.proofs.kept_size.Statement.{statement}
 use Rattle.simulator.proofs.kept_size.Tie as tie
@@ -22,23 +22,23 @@ enum-told-5 : tie.Need-enum-told-5
 enum-told-5 c = search rules
 
 returns : tie.Need-returns
-unfolding keptSize
+unfolding kept_size
 returns c = rw c.enum_told.given.1 refl
 
 returns-2 : tie.Need-returns-2
-unfolding keptSize
+unfolding kept_size
 returns-2 c = rw c.enum-told2.given.1 refl
 
 returns-3 : tie.Need-returns-3
-unfolding keptSize
+unfolding kept_size
 returns-3 c = rw c.enum-told3.given.1 refl
 
 returns-4 : tie.Need-returns-4
-unfolding keptSize
+unfolding kept_size
 returns-4 c = rw c.enum-told4.given.1 refl
 
 returns-5 : tie.Need-returns-5
-unfolding keptSize
+unfolding kept_size
 returns-5 c = rw c.enum-told5.given.1 refl
 
 pub kept-size-spec : {M : Type 1} → statement M

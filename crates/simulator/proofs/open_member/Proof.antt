@@ -3,7 +3,7 @@
 use mathlib.Core.Path.{◌≡◌, refl, sym, ap, ◌∙◌}
 use native.Mathlib.Omega.{arith}
 use Rattle.simulator.specs.Whole.{rows_of}
-use Rattle.simulator.proofs.Opening.{begun-set}
+use Rattle.simulator.proofs.Opening.{begun_set}
 use borrow.Author.Rules.{rules}
 use Rattle.simulator.proofs.open_member.Statement.{statement}
 use Rattle.simulator.proofs.open_member.Tie as tie
@@ -101,10 +101,10 @@ same-length-9 c = search rules
 returns : tie.Need-returns
 returns c =
     let a = c.before.before.before.before.before.before.before.before.before.before.before.args in
-    let rows = rows_of a.queued.now a.held.now a.queued-originators.now a.queued-lengths.now a.held-originators.now a.held-lengths.now a.queued-payloads.now a.held-payloads.now in
+    let rows = rows_of a.queued.now a.held.now a.queued_originators.now a.queued_lengths.now a.held_originators.now a.held_lengths.now a.queued_payloads.now a.held_payloads.now in
     let l = c.before.before.before.before.before.before.before.before.before.before.before.requires.0 in
     let n = c.before.before.before.before.before.before.before.before.before.before.before.requires.1 in
-    begun-set a.n a.number a.resilience a.i a.group a.numbers.now rows _ _ _ _ _ _ _ _ c.before.open-on.result.head (omega arith) l c.before.before.before.before.before.before.before.before.before.before.before.requires.2 c.before.open-on.ensures.state
+    begun_set a.n a.number a.resilience a.i a.group a.numbers.now rows _ _ _ _ _ _ _ _ c.before.open-on.result.head (omega arith) l c.before.before.before.before.before.before.before.before.before.before.before.requires.2 c.before.open-on.ensures.state
 
 pub open-member-spec : {M : Type 1} → statement M
 open-member-spec =

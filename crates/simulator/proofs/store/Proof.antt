@@ -2,7 +2,7 @@
 -- Assumes nothing.
 use mathlib.Core.Path.{◌≡◌, refl, sym, ap, ◌∙◌}
 use native.Mathlib.Omega.{arith}
-use Rattle.simulator.proofs.Acting.{stores-none, stores_one}
+use Rattle.simulator.proofs.Acting.{stores_none, stores_one}
 use borrow.Author.Rules.{rules}
 use Rattle.simulator.proofs.store.Statement.{statement}
 use Rattle.simulator.proofs.store.Tie as tie
@@ -26,7 +26,7 @@ same-length-2 : tie.Need-same-length-2
 same-length-2 c = search rules
 
 returns : tie.Need-returns
-returns c = let a = c.before.args in stores-none a.sizes.now a.packets.now a.count a.size a.bytes c.if1.true (search rules)
+returns c = let a = c.before.args in stores_none a.sizes.now a.packets.now a.count a.size a.bytes c.if1.true (search rules)
 
 add-result : tie.Need-overflow-add-result
 add-result c = search rules

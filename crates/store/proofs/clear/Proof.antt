@@ -5,10 +5,10 @@ use mathlib.Core.List.{List}
 use Prim.Native.Nat.{ℕ, ◌-◌}
 use native.Mathlib.Omega.{arith}
 use lib.ListN.{length, replicate}
-use Rattle.group.specs.Limits.{payloadMost}
-use Rattle.message.specs.Message.{zeroedFrom}
-use Rattle.store.specs.Places.{part_of, laidAt}
-use Rattle.store.proofs.Places.{part-size, part_length}
+use Rattle.group.specs.Limits.{payload_most}
+use Rattle.message.specs.Message.{zeroed_from}
+use Rattle.store.specs.Places.{part_of, laid_at}
+use Rattle.store.proofs.Places.{part_size, part_length}
 use borrow.Author.Rules.{rules}
 use Rattle.store.proofs.clear.Statement.{statement}
 use Rattle.store.proofs.clear.Tie as tie
@@ -42,15 +42,15 @@ same_length : tie.Need-same-length
 same_length c = search rules
 
 -- src/lib.rt:50:1
-cleared : (part : List ℕ) → length part ≡ payloadMost → zeroedFrom 0 part ≡ replicate payloadMost 0
-cleared part e = let z : length part - 0 ≡ payloadMost = omega arith in ap {B = List ℕ} (λ (k : ℕ). replicate k 0) z
+cleared : (part : List ℕ) → length part ≡ payload_most → zeroed_from 0 part ≡ replicate payload_most 0
+cleared part e = let z : length part - 0 ≡ payload_most = omega arith in ap {B = List ℕ} (λ (k : ℕ). replicate k 0) z
 
 returns : tie.Need-returns
 returns c =
     let s = c.before.before.before.before.before in
     let b = s.args.bytes.now in
-    let f = rw part-size at c.before.before.fill.ensures in
-    rw (part-size s.args.at) (ap (laidAt b s.args.at) (f ∙ cleared (part_of b s.args.at) (part_length b s.args.at s.requires)))
+    let f = rw part_size at c.before.before.fill.ensures in
+    rw (part_size s.args.at) (ap (laid_at b s.args.at) (f ∙ cleared (part_of b s.args.at) (part_length b s.args.at s.requires)))
 
 pub clear_spec : {M : Type 1} → statement M
 clear_spec =

@@ -1,7 +1,7 @@
 -- What is lent is the place's part, and the rest of the bytes is left as it is.
 -- Assumes nothing.
 use mathlib.Core.Path.{◌≡◌}
-use Rattle.store.proofs.Places.{part-size}
+use Rattle.store.proofs.Places.{part_size}
 use borrow.Author.Rules.{rules}
 use Rattle.store.proofs.keep.Statement.{statement}
 use Rattle.store.proofs.keep.Tie as tie
@@ -38,7 +38,7 @@ same_length c = search rules
 returns : tie.Need-returns
 returns c =
     let s = c.before.before.before.before.before.before in
-    rw (part-size s.args.at, c.before.before.lay.ensures)
+    rw (part_size s.args.at, c.before.before.lay.ensures)
 
 pub keep_spec : {M : Type 1} → statement M
 keep_spec =

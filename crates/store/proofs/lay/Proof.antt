@@ -4,8 +4,8 @@ use mathlib.Core.Path.{◌≡◌, ap, ◌∙◌}
 use mathlib.Core.List.{List}
 use Prim.Native.Nat.{ℕ}
 use lib.ListN.{length}
-use Rattle.message.specs.Message.{zeroedFrom}
-use Rattle.message.proofs.Laying.{laid-padded}
+use Rattle.message.specs.Message.{zeroed_from}
+use Rattle.message.proofs.Laying.{laid_padded}
 use borrow.Author.Rules.{rules}
 use Rattle.store.proofs.lay.Statement.{statement}
 use Rattle.store.proofs.lay.Tie as tie
@@ -27,8 +27,8 @@ returns : tie.Need-returns
 returns c =
     let s = c.before.before.before.before.before.before.before.before.before.before in
     c.before.before.fill.ensures
-    ∙ ap (λ (l : List ℕ). zeroedFrom (length s.args.payload.now) l) c.before.before.before.before.before.before.copy.ensures
-    ∙ laid-padded s.args.payload.now s.args.part.now s.requires.1 s.requires.0
+    ∙ ap (λ (l : List ℕ). zeroed_from (length s.args.payload.now) l) c.before.before.before.before.before.before.copy.ensures
+    ∙ laid_padded s.args.payload.now s.args.part.now s.requires.1 s.requires.0
 
 pub lay-spec : {M : Type 1} → statement M
 lay-spec = tie.close (tie.spec copy-requires fill-requires same_length returns)

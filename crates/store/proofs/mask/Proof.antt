@@ -5,23 +5,23 @@ use mathlib.Core.List.{List}
 use Prim.Native.Nat.{ℕ, ◌+◌, ◌-◌, ◌≤◌}
 use native.Mathlib.Omega.{arith}
 use lib.ListN.{length, set, replicate, length-set, length-replicate, get_or-replicate}
-use Rattle.message.proofs.Laying.{over, over-next, over-all}
-use Rattle.store.specs.Places.{blockSize, mask_of}
+use Rattle.message.proofs.Laying.{over, over_next, over_all}
+use Rattle.store.specs.Places.{block_size, mask_of}
 use borrow.Author.Rules.{rules}
 use Rattle.store.proofs.mask.Statement.{statement}
 use Rattle.store.proofs.mask.Tie as tie
 
 abbrev zeros : List ℕ
-zeros = replicate blockSize 0
+zeros = replicate block_size 0
 
 abbrev ones : List ℕ
-ones = replicate (blockSize + blockSize) 255
+ones = replicate (block_size + block_size) 255
 
 abbrev invariant-loop : tie.invariant-loop
-invariant-loop bytes₀ i₀ bytes i = (i ≤ blockSize) × (length bytes ≡ blockSize + blockSize) × (bytes ≡ over i zeros ones)
+invariant-loop bytes₀ i₀ bytes i = (i ≤ block_size) × (length bytes ≡ block_size + block_size) × (bytes ≡ over i zeros ones)
 
 abbrev decreases-loop : tie.decreases-loop
-decreases-loop bytes₀ i₀ bytes i = blockSize - i
+decreases-loop bytes₀ i₀ bytes i = block_size - i
 
 loop-holds : tie.Need-loop-init invariant-loop decreases-loop
 loop-holds c = (omega arith, refl, refl)
@@ -40,12 +40,12 @@ loop-again c =
     let l = c.before.loop in (
       omega arith,
       length-set l.bytes l.i 0 ∙ l.invariant.1,
-      ap (λ (b : List ℕ). set b l.i 0) l.invariant.2 ∙ over-next zeros ones l.i 0 0 (get_or-replicate blockSize l.i 0 0 (omega arith)) (omega arith) (omega arith),
+      ap (λ (b : List ℕ). set b l.i 0) l.invariant.2 ∙ over_next zeros ones l.i 0 0 (get_or-replicate block_size l.i 0 0 (omega arith)) (omega arith) (omega arith),
     )
 
 returns : tie.Need-returns invariant-loop decreases-loop
 unfolding mask_of
-returns c = let l = c.before.loop in l.invariant.2 ∙ over-all zeros ones l.i (omega arith)
+returns c = let l = c.before.loop in l.invariant.2 ∙ over_all zeros ones l.i (omega arith)
 
 pub mask-spec : {M : Type 1} → statement M
 mask-spec =

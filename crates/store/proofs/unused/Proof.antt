@@ -3,8 +3,8 @@
 use mathlib.Core.Path.{◌∙◌}
 use Prim.Native.Nat.{◌-◌}
 use native.Mathlib.Omega.{arith}
-use Rattle.message.specs.Message.{allZero}
-use Rattle.store.proofs.Scanning.{block-fails, block-passes, last_block}
+use Rattle.message.specs.Message.{all_zero}
+use Rattle.store.proofs.Scanning.{block_fails, block_passes, last_block}
 use borrow.Author.Rules.{rules}
 use Rattle.store.proofs.unused.Statement.{statement}
 use Rattle.store.proofs.unused.Tie as tie
@@ -40,10 +40,10 @@ zeros-requires-2 : tie.Need-zeros-requires-2
 zeros-requires-2 c κs = search rules
 
 returns-2 : tie.Need-returns-2
-returns-2 c = c.zeros2.ensures ∙ block-passes c.before.before.before.before.before.before.before.before.before.args.part.now 0 c.before.before.before.before.before.before.before.before.before.args.from c.before.before.before.before.before.before.before.before.before.args.from (omega arith) (omega arith) (omega arith) _ c.before.before.before.scan.ensures c.before.before.if3.true
+returns-2 c = c.zeros2.ensures ∙ block_passes c.before.before.before.before.before.before.before.before.before.args.part.now 0 c.before.before.before.before.before.before.before.before.before.args.from c.before.before.before.before.before.before.before.before.before.args.from (omega arith) (omega arith) (omega arith) _ c.before.before.before.scan.ensures c.before.before.if3.true
 
 returns-3 : tie.Need-returns-3
-returns-3 c = block-fails c.before.before.before.before.before.before.before.args.part.now 0 c.before.before.before.before.before.before.before.args.from c.before.before.before.before.before.before.before.args.from (omega arith) (omega arith) (omega arith) _ c.before.scan.ensures c.if3.false
+returns-3 c = block_fails c.before.before.before.before.before.before.before.args.part.now 0 c.before.before.before.before.before.before.before.args.from c.before.before.before.before.before.before.before.args.from (omega arith) (omega arith) (omega arith) _ c.before.scan.ensures c.if3.false
 
 sub-scan-2 : tie.Need-overflow-sub-scan-2
 sub-scan-2 c = search rules
@@ -70,10 +70,10 @@ zeros-requires-3 : tie.Need-zeros-requires-3
 zeros-requires-3 c κs = search rules
 
 returns-4 : tie.Need-returns-4
-returns-4 c = c.zeros3.ensures ∙ block-passes c.before.before.before.before.before.before.before.before.before.before.args.part.now 48 (c.before.before.before.before.before.before.before.before.before.before.args.from - 48) c.before.before.before.before.before.before.before.before.before.before.args.from (omega arith) (omega arith) (omega arith) _ c.before.before.before.scan2.ensures c.before.before.if5.true
+returns-4 c = c.zeros3.ensures ∙ block_passes c.before.before.before.before.before.before.before.before.before.before.args.part.now 48 (c.before.before.before.before.before.before.before.before.before.before.args.from - 48) c.before.before.before.before.before.before.before.before.before.before.args.from (omega arith) (omega arith) (omega arith) _ c.before.before.before.scan2.ensures c.before.before.if5.true
 
 returns-5 : tie.Need-returns-5
-returns-5 c = block-fails c.before.before.before.before.before.before.before.before.args.part.now 48 (c.before.before.before.before.before.before.before.before.args.from - 48) c.before.before.before.before.before.before.before.before.args.from (omega arith) (omega arith) (omega arith) _ c.before.scan2.ensures c.if5.false
+returns-5 c = block_fails c.before.before.before.before.before.before.before.before.args.part.now 48 (c.before.before.before.before.before.before.before.before.args.from - 48) c.before.before.before.before.before.before.before.before.args.from (omega arith) (omega arith) (omega arith) _ c.before.scan2.ensures c.if5.false
 
 sub-scan-3 : tie.Need-overflow-sub-scan-3
 sub-scan-3 c = search rules
@@ -100,10 +100,10 @@ zeros-requires-4 : tie.Need-zeros-requires-4
 zeros-requires-4 c κs = search rules
 
 returns-6 : tie.Need-returns-6
-returns-6 c = c.zeros4.ensures ∙ block-passes c.before.before.before.before.before.before.before.before.before.before.before.args.part.now 96 (c.before.before.before.before.before.before.before.before.before.before.before.args.from - 96) c.before.before.before.before.before.before.before.before.before.before.before.args.from (omega arith) (omega arith) (omega arith) _ c.before.before.before.scan3.ensures c.before.before.if7.true
+returns-6 c = c.zeros4.ensures ∙ block_passes c.before.before.before.before.before.before.before.before.before.before.before.args.part.now 96 (c.before.before.before.before.before.before.before.before.before.before.before.args.from - 96) c.before.before.before.before.before.before.before.before.before.before.before.args.from (omega arith) (omega arith) (omega arith) _ c.before.before.before.scan3.ensures c.before.before.if7.true
 
 returns-7 : tie.Need-returns-7
-returns-7 c = block-fails c.before.before.before.before.before.before.before.before.before.args.part.now 96 (c.before.before.before.before.before.before.before.before.before.args.from - 96) c.before.before.before.before.before.before.before.before.before.args.from (omega arith) (omega arith) (omega arith) _ c.before.scan3.ensures c.if7.false
+returns-7 c = block_fails c.before.before.before.before.before.before.before.before.before.args.part.now 96 (c.before.before.before.before.before.before.before.before.before.args.from - 96) c.before.before.before.before.before.before.before.before.before.args.from (omega arith) (omega arith) (omega arith) _ c.before.scan3.ensures c.if7.false
 
 sub-scan-4 : tie.Need-overflow-sub-scan-4
 sub-scan-4 c = search rules
@@ -130,10 +130,10 @@ zeros-requires-5 : tie.Need-zeros-requires-5
 zeros-requires-5 c κs = search rules
 
 returns-8 : tie.Need-returns-8
-returns-8 c = c.zeros5.ensures ∙ block-passes c.before.before.before.before.before.before.before.before.before.before.before.before.args.part.now 144 (c.before.before.before.before.before.before.before.before.before.before.before.before.args.from - 144) c.before.before.before.before.before.before.before.before.before.before.before.before.args.from (omega arith) (omega arith) (omega arith) _ c.before.before.before.scan4.ensures c.before.before.if9.true
+returns-8 c = c.zeros5.ensures ∙ block_passes c.before.before.before.before.before.before.before.before.before.before.before.before.args.part.now 144 (c.before.before.before.before.before.before.before.before.before.before.before.before.args.from - 144) c.before.before.before.before.before.before.before.before.before.before.before.before.args.from (omega arith) (omega arith) (omega arith) _ c.before.before.before.scan4.ensures c.before.before.if9.true
 
 returns-9 : tie.Need-returns-9
-returns-9 c = block-fails c.before.before.before.before.before.before.before.before.before.before.args.part.now 144 (c.before.before.before.before.before.before.before.before.before.before.args.from - 144) c.before.before.before.before.before.before.before.before.before.before.args.from (omega arith) (omega arith) (omega arith) _ c.before.scan4.ensures c.if9.false
+returns-9 c = block_fails c.before.before.before.before.before.before.before.before.before.before.args.part.now 144 (c.before.before.before.before.before.before.before.before.before.before.args.from - 144) c.before.before.before.before.before.before.before.before.before.before.args.from (omega arith) (omega arith) (omega arith) _ c.before.scan4.ensures c.if9.false
 
 sub-scan-5 : tie.Need-overflow-sub-scan-5
 sub-scan-5 c = search rules

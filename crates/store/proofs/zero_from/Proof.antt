@@ -1,6 +1,6 @@
 -- What is unusedned is the place's part.
 -- Assumes nothing.
-use Rattle.store.proofs.Places.{part-size}
+use Rattle.store.proofs.Places.{part_size}
 use borrow.Author.Rules.{rules}
 use Rattle.store.proofs.zero_from.Statement.{statement}
 use Rattle.store.proofs.zero_from.Tie as tie
@@ -24,7 +24,7 @@ unused-requires : tie.Need-unused-requires
 unused-requires c κs = search rules
 
 returns : tie.Need-returns
-returns c = rw part-size at c.unused.ensures
+returns c = rw part_size at c.unused.ensures
 
 pub zero-from-spec : {M : Type 1} → statement M
 zero-from-spec =

@@ -5,15 +5,15 @@ use Prim.Native.Nat.{◌+◌, ◌-◌}
 use native.Mathlib.Omega.{arith}
 use lib.ListN.{length, drop, get_or}
 use Rattle.group.specs.Choice.{if◌then◌else◌, ◌and◌, ◌=?◌}
-use Rattle.message.specs.Message.{allZero}
-use Rattle.message.proofs.Zero.{zero-on, zero-done}
-use Rattle.store.proofs.Scanning.{byte-zero}
+use Rattle.message.specs.Message.{all_zero}
+use Rattle.message.proofs.Zero.{zero_on, zero_done}
+use Rattle.store.proofs.Scanning.{byte_zero}
 use borrow.Author.Rules.{rules}
 use Rattle.store.proofs.zeros.Statement.{statement}
 use Rattle.store.proofs.zeros.Tie as tie
 
 abbrev invariant-loop : tie.invariant-loop
-invariant-loop bytes seen₀ i₀ seen i = seen =? 0 and allZero (drop (i + (0 - i)) bytes) ≡ allZero (drop 0 bytes)
+invariant-loop bytes seen₀ i₀ seen i = seen =? 0 and all_zero (drop (i + (0 - i)) bytes) ≡ all_zero (drop 0 bytes)
 
 abbrev decreases-loop : tie.decreases-loop
 decreases-loop bytes seen₀ i₀ seen i = length bytes - i
@@ -35,12 +35,12 @@ loop-again : tie.Need-loop-preserved invariant-loop decreases-loop
 loop-again c =
     let l = c.before.before.loop in
     let bytes = c.before.before.before.args.bytes.now in
-    zero-on bytes 0 l.seen l.i l.invariant (get_or bytes l.i 0) (search rules) (byte-zero (get_or bytes l.i 0) l.i)
+    zero_on bytes 0 l.seen l.i l.invariant (get_or bytes l.i 0) (search rules) (byte_zero (get_or bytes l.i 0) l.i)
 
 returns : tie.Need-returns invariant-loop decreases-loop
 returns c =
     let l = c.before.loop in
-    zero-done c.before.before.args.bytes.now 0 l.seen l.i l.invariant (search rules)
+    zero_done c.before.before.args.bytes.now 0 l.seen l.i l.invariant (search rules)
 
 pub zeros-spec : {M : Type 1} → statement M
 zeros-spec =

@@ -1,9 +1,9 @@
 -- The line that is left, and then what is printed at the end.
 -- Assumes nothing.
 use mathlib.Core.Path.{◌≡◌, refl, sym, ap, ◌∙◌}
-use Rattle.descriptor.proofs.Laws.{takes-both, takes-as}
-use Rattle.player.specs.Player.{phaseOf}
-use Rattle.stream.proofs.Laws.{said-told, hands-told}
+use Rattle.descriptor.proofs.Laws.{takes_both, takes_as}
+use Rattle.player.specs.Player.{phase_of}
+use Rattle.stream.proofs.Laws.{said_told, hands_told}
 use borrow.Author.Rules.{rules}
 use Rattle.stream.proofs.finish.Statement.{statement}
 use Rattle.stream.proofs.finish.Tie as tie
@@ -21,12 +21,12 @@ put-last-requires : tie.Need-put-last-requires
 put-last-requires c κs = search rules
 
 returns : tie.Need-returns
-unfolding phaseOf
+unfolding phase_of
 returns c =
     let a = c.before.before.before.before.before.before.before.before.before.before.before.before.before.before.before.before.before.before.before.before.before.before.before.before.before.before.before.before.before.before.before.before.before.before.before.before.before.before.args in
     let d = c.before.before.before.before.before.before.before.before.before.before.before.before.before.before.before.before.before.end.ensures in
-    let t = said-told a.quiet d c.before.before.before.before.before.before.before.before.before.before.before.before.before.before.before.said.ensures in
-    takes-both (takes-as t c.before.before.before.before.before.before.before.before.before.before.before.before.before.before.put-text.ensures) (hands-told a.quiet d c.put_last.ensures refl)
+    let t = said_told a.quiet d c.before.before.before.before.before.before.before.before.before.before.before.before.before.before.before.said.ensures in
+    takes_both (takes_as t c.before.before.before.before.before.before.before.before.before.before.before.before.before.before.put-text.ensures) (hands_told a.quiet d c.put_last.ensures refl)
 
 pub finish_spec : {M : Type 1} → statement M
 finish_spec =

@@ -4,12 +4,12 @@ use mathlib.Core.Path.{◌≡◌, refl, sym, ap, ◌∙◌}
 use Prim.Native.Nat.{◌+◌, ◌-◌, ◌≤◌, ◌<◌}
 use native.Mathlib.Omega.{arith}
 use lib.ListN.{length, take, drop, drop_of_length-le}
-use Rattle.descriptor.proofs.Laws.{takes-both, takes-as}
-use Rattle.player.proofs.Laws.{reads-within, continues-fed}
-use Rattle.player.specs.Player.{phaseOf, state_of}
+use Rattle.descriptor.proofs.Laws.{takes_both, takes_as}
+use Rattle.player.proofs.Laws.{reads_within, continues_fed}
+use Rattle.player.specs.Player.{phase_of, state_of}
 use Rattle.simulator.specs.Whole.{whole_of}
 use Rattle.stream.specs.Steps.{program_of, Puts}
-use Rattle.stream.proofs.Laws.{said-told}
+use Rattle.stream.proofs.Laws.{said_told}
 use Rattle.stream.proofs.Turning.{puts_none}
 use borrow.Author.Rules.{rules}
 use Rattle.stream.proofs.play_part.Statement.{statement}
@@ -23,7 +23,7 @@ abbrev decreases-loop : tie.decreases-loop
 decreases-loop quiet player₀ taken₀ counts₀ repeats₀ kept₀ marks₀ originators₀ lengths₀ payloads₀ numbers₀ queued₀ held₀ qo₀ ql₀ ho₀ hl₀ qp₀ hp₀ sizes₀ packets₀ line₀ part sink₀ from₀ player taken counts repeats kept marks originators lengths payloads numbers queued held qo ql ho hl qp hp sizes packets line sink from = length part - from
 
 loop-holds : tie.Need-loop-init invariant-loop decreases-loop
-loop-holds c = let a = c.before.args in (search rules, puts_none (state_of a.player (whole_of a.player.head a.taken.now a.counts.now a.repeats.now a.kept.now a.marks.now a.originators.now a.lengths.now a.payloads.now a.numbers.now a.queued.now a.held.now a.queued-originators.now a.queued-lengths.now a.held-originators.now a.held-lengths.now a.queued-payloads.now a.held-payloads.now a.sizes.now a.packets.now) a.line.now) a.part.now a.sink)
+loop-holds c = let a = c.before.args in (search rules, puts_none (state_of a.player (whole_of a.player.head a.taken.now a.counts.now a.repeats.now a.kept.now a.marks.now a.originators.now a.lengths.now a.payloads.now a.numbers.now a.queued.now a.held.now a.queued_originators.now a.queued_lengths.now a.held_originators.now a.held_lengths.now a.queued_payloads.now a.held_payloads.now a.sizes.now a.packets.now) a.line.now) a.part.now a.sink)
 
 sub-feed : tie.Need-overflow-sub-feed invariant-loop decreases-loop
 sub-feed c = search rules
@@ -50,7 +50,7 @@ add-from c =
     let l = c.before.before.before.before.before.before.before.before.before.before.before.before.before.before.before.before.before.before.before.before.before.before.before.before.before.before.before.before.loop in
     let r = c.before.before.before.before.feed.result in
     let d = c.before.before.before.before.feed.ensures in
-    let w = reads-within _ part _ l.from _ refl c.before.before.before.before.before.before.before.before.before.before.before.before.before.before.before.before.before.before.before.before.before.before.before.before.before.before.before.loop-test.true d.used in
+    let w = reads_within _ part _ l.from _ refl c.before.before.before.before.before.before.before.before.before.before.before.before.before.before.before.before.before.before.before.before.before.before.before.before.before.before.before.loop-test.true d.used in
     let y : l.from + r.used ≤ length part = w.1 in
     let g = c.before.before.before.before.before.before.before.before.before.before.before.before.before.before.before.before.before.before.before.before.before.before.before.before.before.before.before.before.before.before.well-formed.1.1.1.1.1.1.1.1.1.1.1.1.1.1.1.1.1.1.1.1.1.1.0 in
     let z : l.from + r.used < 18446744073709551616 = omega arith in
@@ -63,29 +63,29 @@ loop-less c =
     let l = c.before.before.before.before.before.before.before.before.before.before.before.before.before.before.before.before.before.before.before.before.before.before.before.before.before.before.before.before.loop in
     let r = c.before.before.before.before.feed.result in
     let d = c.before.before.before.before.feed.ensures in
-    let w = reads-within _ part _ l.from _ refl c.before.before.before.before.before.before.before.before.before.before.before.before.before.before.before.before.before.before.before.before.before.before.before.before.before.before.before.loop-test.true d.used in
+    let w = reads_within _ part _ l.from _ refl c.before.before.before.before.before.before.before.before.before.before.before.before.before.before.before.before.before.before.before.before.before.before.before.before.before.before.before.loop-test.true d.used in
     let y : l.from + r.used ≤ length part = w.1 in
     let z : 1 ≤ r.used = w.0 in
     search rules
 
 loop-again : tie.Need-loop-preserved invariant-loop decreases-loop
-unfolding phaseOf
+unfolding phase_of
 loop-again c =
     let a = c.before.before.before.before.before.before.before.before.before.before.before.before.before.before.before.before.before.before.before.before.before.before.before.before.before.before.before.before.before.before.args in
     let part = a.part.now in
     let l = c.before.before.before.before.before.before.before.before.before.before.before.before.before.before.before.before.before.before.before.before.before.before.before.before.before.before.before.before.loop in
     let r = c.before.before.before.before.feed.result in
     let d = c.before.before.before.before.feed.ensures in
-    let w = reads-within _ part _ l.from _ refl c.before.before.before.before.before.before.before.before.before.before.before.before.before.before.before.before.before.before.before.before.before.before.before.before.before.before.before.loop-test.true d.used in
+    let w = reads_within _ part _ l.from _ refl c.before.before.before.before.before.before.before.before.before.before.before.before.before.before.before.before.before.before.before.before.before.before.before.before.before.before.before.loop-test.true d.used in
     let y : l.from + r.used ≤ length part = w.1 in
     let program = program_of a.quiet in
-    let t = said-told a.quiet d c.before.before.said.ensures in
+    let t = said_told a.quiet d c.before.before.said.ensures in
     let k = l.invariant.1 in (
       y,
       record {
         printed = _;
-        takes = takes-both k.takes (takes-as t c.before.put-text.ensures);
-        continues = continues-fed program _ _ _ part k.printed _ l.from _ refl d.used d.state k.continues;
+        takes = takes_both k.takes (takes_as t c.before.put-text.ensures);
+        continues = continues_fed program _ _ _ part k.printed _ l.from _ refl d.used d.state k.continues;
       },
     )
 

@@ -1,10 +1,10 @@
 -- The heading, and the lists, which are those of every such group.
 -- Assumes nothing.
 use mathlib.Core.Path.{◌≡◌, refl, sym, ap, ◌∙◌}
-use Rattle.descriptor.proofs.Laws.{takes-both, takes-as}
+use Rattle.descriptor.proofs.Laws.{takes_both, takes_as}
 use Rattle.inspection.proofs.Lists.{lists_of}
-use Rattle.inspection.specs.Lists.{jobColumns}
-use Rattle.simulator.specs.Whole.{packetsOf, packetsIn}
+use Rattle.inspection.specs.Lists.{job_columns}
+use Rattle.simulator.specs.Whole.{packets_of, packets_in}
 use Rattle.text.specs.Written.{spaced, line}
 use borrow.Author.Rules.{rules}
 use Rattle.stream.proofs.put_group.Statement.{statement}
@@ -26,7 +26,7 @@ returns : tie.Need-returns
 unfolding spaced
 returns c =
     let a = c.before.before.before.before.before.args in
-    λ g s. takes-both {a = line jobColumns} c.before.before.write.ensures (takes-as (lists_of a.head a.numbers.now (packetsIn (packetsOf a.sizes.now a.packets.now a.head.count)) g s) c.put-lists.ensures)
+    λ g s. takes_both {a = line job_columns} c.before.before.write.ensures (takes_as (lists_of a.head a.numbers.now (packets_in (packets_of a.sizes.now a.packets.now a.head.count)) g s) c.put-lists.ensures)
 
 pub put-group-spec : {M : Type 1} → statement M
 put-group-spec =

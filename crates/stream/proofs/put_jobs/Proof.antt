@@ -4,26 +4,26 @@ use mathlib.Core.Path.{◌≡◌, refl, sym, ap, ◌∙◌}
 use Prim.Native.Nat.{◌+◌, ◌-◌, ◌≤◌, ◌<◌}
 use native.Mathlib.Omega.{arith}
 use lib.ListN.{length}
-use Rattle.descriptor.proofs.Laws.{takes_none, takes-both, takes-as}
+use Rattle.descriptor.proofs.Laws.{takes_none, takes_both, takes_as}
 use Rattle.descriptor.specs.Descriptor.{Takes}
-use Rattle.group.specs.Limits.{jobsMost}
-use Rattle.inspection.proofs.Lists.{jobs-on, no-jobs-yet}
-use Rattle.inspection.specs.Lists.{jobLine, jobLines}
-use Rattle.jobs.specs.Job.{noJob}
-use Rattle.player.proofs.Laws.{laid-front}
-use Rattle.simulator.proofs.Lists.{getD-inside}
+use Rattle.group.specs.Limits.{jobs_most}
+use Rattle.inspection.proofs.Lists.{jobs_on, no_jobs_yet}
+use Rattle.inspection.specs.Lists.{job_line, job_lines}
+use Rattle.jobs.specs.Job.{no_job}
+use Rattle.player.proofs.Laws.{laid_front}
+use Rattle.simulator.proofs.Lists.{get_d-inside}
 use borrow.Author.Rules.{rules}
 use Rattle.stream.proofs.put_jobs.Statement.{statement}
 use Rattle.stream.proofs.put_jobs.Tie as tie
 
 abbrev invariant-loop : tie.invariant-loop
-invariant-loop i sink₀ jobs place₀ sink place = (place ≤ jobsMost) × Takes sink₀ (jobLines i jobs place) sink
+invariant-loop i sink₀ jobs place₀ sink place = (place ≤ jobs_most) × Takes sink₀ (job_lines i jobs place) sink
 
 abbrev decreases-loop : tie.decreases-loop
-decreases-loop i sink₀ jobs place₀ sink place = jobsMost - place
+decreases-loop i sink₀ jobs place₀ sink place = jobs_most - place
 
 loop-holds : tie.Need-loop-init invariant-loop decreases-loop
-loop-holds c = let a = c.args in (search rules, takes-as (sym (no-jobs-yet a.i a.t2)) (takes_none a.sink))
+loop-holds c = let a = c.args in (search rules, takes_as (sym (no_jobs_yet a.i a.t2)) (takes_none a.sink))
 
 mul-job : tie.Need-overflow-mul-job invariant-loop decreases-loop
 mul-job c = search rules
@@ -50,21 +50,21 @@ loop-again : tie.Need-loop-preserved invariant-loop decreases-loop
 loop-again c =
     let l = c.before.before.before.before.before.loop in
     let a = c.before.before.before.before.before.before.args in
-    let n : length a.t2 ≡ jobsMost = search rules in
+    let n : length a.t2 ≡ jobs_most = search rules in
     let t = c.before.before.before.before.loop-test.true in
     let b : l.place < length a.t2 = omega arith in
     let f = c.before.write-job.ensures in
-    let e = laid-front (jobLine a.i l.place _) _ _ _ f.1 f.0 ∙ ap (jobLine a.i l.place) (getD-inside a.t2 l.place _ noJob b) in
-    (search rules, takes-as (sym (jobs-on a.i a.t2 l.place)) (takes-both l.invariant.1 (takes-as e c.put-job.ensures)))
+    let e = laid_front (job_line a.i l.place _) _ _ _ f.1 f.0 ∙ ap (job_line a.i l.place) (get_d-inside a.t2 l.place _ no_job b) in
+    (search rules, takes_as (sym (jobs_on a.i a.t2 l.place)) (takes_both l.invariant.1 (takes_as e c.put-job.ensures)))
 
 returns : tie.Need-returns invariant-loop decreases-loop
 returns c =
     let l = c.before.loop in
     let a = c.before.before.args in
-    let n : length a.t2 ≡ jobsMost = search rules in
+    let n : length a.t2 ≡ jobs_most = search rules in
     let t = c.loop-test.false in
     let e : l.place ≡ length a.t2 = omega arith in
-    takes-as (ap (jobLines a.i a.t2) e) l.invariant.1
+    takes_as (ap (job_lines a.i a.t2) e) l.invariant.1
 
 pub put-jobs-spec : {M : Type 1} → statement M
 put-jobs-spec =

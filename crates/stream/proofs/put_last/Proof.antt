@@ -2,11 +2,11 @@
 -- Assumes nothing.
 use mathlib.Core.Path.{◌≡◌, refl, sym, ap, ◌∙◌}
 use mathlib.Core.Bool.{Bool}
-use Rattle.descriptor.proofs.Laws.{takes-both, takes-as}
-use Rattle.inspection.specs.Table.{tableLeft}
-use Rattle.player.proofs.Laws.{laid-front}
+use Rattle.descriptor.proofs.Laws.{takes_both, takes_as}
+use Rattle.inspection.specs.Table.{table_left}
+use Rattle.player.proofs.Laws.{laid_front}
 use Rattle.player.specs.Play.{Stage, last_of}
-use Rattle.player.specs.Player.{stageIn, phaseOf}
+use Rattle.player.specs.Player.{stage_in, phase_of}
 use Rattle.stream.specs.Steps.{program_of}
 use borrow.Author.Rules.{rules}
 use Rattle.stream.proofs.put_last.Statement.{statement}
@@ -26,10 +26,10 @@ unfolding program_of
 returns c =
     let p = c.before.before.before.before.before.args.player in
     λ g u v.
-    let stage = stageIn (phaseOf p.head p.phase) g p.number in
+    let stage = stage_in (phase_of p.head p.phase) g p.number in
     let f = c.before.before.write-left.ensures g u in
-    let t = takes-as (laid-front (tableLeft stage) _ _ _ f.lent f.size) c.before.put-table.ensures in
-    takes-as (ap (λ (b : Bool). (program_of b).last stage) (sym c.before.before.before.before.if1.true)) (takes-both t (c.put-left.ensures g v))
+    let t = takes_as (laid_front (table_left stage) _ _ _ f.lent f.size) c.before.put-table.ensures in
+    takes_as (ap (λ (b : Bool). (program_of b).last stage) (sym c.before.before.before.before.if1.true)) (takes_both t (c.put-left.ensures g v))
 
 last-requires : tie.Need-last-requires
 last-requires c κs = search rules
@@ -42,9 +42,9 @@ unfolding program_of
 returns-2 c =
     let p = c.before.before.before.before.args.player in
     λ g u v.
-    let stage = stageIn (phaseOf p.head p.phase) g p.number in
+    let stage = stage_in (phase_of p.head p.phase) g p.number in
     let f = c.before.last.ensures g v.shown in
-    takes-as (laid-front (last_of stage) _ _ _ f.lent f.size ∙ ap (λ (b : Bool). (program_of b).last stage) (sym c.before.before.before.if1.false)) c.put-text.ensures
+    takes_as (laid_front (last_of stage) _ _ _ f.lent f.size ∙ ap (λ (b : Bool). (program_of b).last stage) (sym c.before.before.before.if1.false)) c.put-text.ensures
 
 pub put-last-spec : {M : Type 1} → statement M
 put-last-spec =

@@ -5,24 +5,24 @@ use mathlib.Core.List.{List}
 use Prim.Native.Nat.{◌+◌, ◌-◌, ◌≤◌, ◌<◌}
 use lib.ListN.{length}
 use native.Mathlib.Omega.{arith}
-use Rattle.descriptor.proofs.Laws.{takes_none, takes-both, takes-as}
+use Rattle.descriptor.proofs.Laws.{takes_none, takes_both, takes_as}
 use Rattle.descriptor.specs.Descriptor.{Takes}
-use Rattle.inspection.proofs.Lists.{lists-on, no-lists-yet}
-use Rattle.inspection.specs.Lists.{jobLines, listLines, listOn}
+use Rattle.inspection.proofs.Lists.{lists_on, no_lists_yet}
+use Rattle.inspection.specs.Lists.{job_lines, list_lines, list_on}
 use Rattle.jobs.specs.declared.Job.{Job}
-use Rattle.simulator.specs.Whole.{packetsOf, packetsIn}
+use Rattle.simulator.specs.Whole.{packets_of, packets_in}
 use borrow.Author.Rules.{rules}
 use Rattle.stream.proofs.put_lists.Statement.{statement}
 use Rattle.stream.proofs.put_lists.Tie as tie
 
 abbrev invariant-loop : tie.invariant-loop
-invariant-loop numbers sizes packets count n sink₀ i₀ sink i = (i ≤ n) × Takes sink₀ (listLines (listOn numbers (packetsIn (packetsOf sizes packets count))) i) sink
+invariant-loop numbers sizes packets count n sink₀ i₀ sink i = (i ≤ n) × Takes sink₀ (list_lines (list_on numbers (packets_in (packets_of sizes packets count))) i) sink
 
 abbrev decreases-loop : tie.decreases-loop
 decreases-loop numbers sizes packets count n sink₀ i₀ sink i = n - i
 
 loop-holds : tie.Need-loop-init invariant-loop decreases-loop
-loop-holds c = let a = c.args in (search rules, takes-as (sym (no-lists-yet (listOn a.numbers.now (packetsIn (packetsOf a.sizes.now a.packets.now a.count))))) (takes_none a.sink))
+loop-holds c = let a = c.args in (search rules, takes_as (sym (no_lists_yet (list_on a.numbers.now (packets_in (packets_of a.sizes.now a.packets.now a.count))))) (takes_none a.sink))
 
 mul-put-jobs : tie.Need-overflow-mul-put-jobs invariant-loop decreases-loop
 mul-put-jobs c = search rules
@@ -52,8 +52,8 @@ loop-again : tie.Need-loop-preserved invariant-loop decreases-loop
 loop-again c =
     let l = c.before.before.before.before.loop in
     let a = c.before.before.before.before.before.args in
-    let f = takes-as (ap (λ (jobs : List Job). jobLines l.i jobs (length jobs)) c.before.list_left.ensures) c.put-jobs.ensures in
-    (search rules, takes-as (sym (lists-on (listOn a.numbers.now (packetsIn (packetsOf a.sizes.now a.packets.now a.count))) l.i)) (takes-both l.invariant.1 f))
+    let f = takes_as (ap (λ (jobs : List Job). job_lines l.i jobs (length jobs)) c.before.list_left.ensures) c.put-jobs.ensures in
+    (search rules, takes_as (sym (lists_on (list_on a.numbers.now (packets_in (packets_of a.sizes.now a.packets.now a.count))) l.i)) (takes_both l.invariant.1 f))
 
 returns : tie.Need-returns invariant-loop decreases-loop
 returns c =
@@ -61,7 +61,7 @@ returns c =
     let a = c.before.before.args in
     let t = c.loop-test.false in
     let e : l.i ≡ a.n = omega arith in
-    takes-as (ap (listLines (listOn a.numbers.now (packetsIn (packetsOf a.sizes.now a.packets.now a.count)))) e) l.invariant.1
+    takes_as (ap (list_lines (list_on a.numbers.now (packets_in (packets_of a.sizes.now a.packets.now a.count)))) e) l.invariant.1
 
 pub put-lists-spec : {M : Type 1} → statement M
 put-lists-spec =

@@ -2,11 +2,11 @@
 -- Assumes nothing.
 use mathlib.Core.Path.{refl}
 use mathlib.Core.List.{[]}
-use Rattle.descriptor.proofs.Laws.{takes-both, takes-as}
-use Rattle.player.proofs.Laws.{continues-end}
+use Rattle.descriptor.proofs.Laws.{takes_both, takes_as}
+use Rattle.player.proofs.Laws.{continues_end}
 use Rattle.stream.specs.Steps.{program_of}
 use Rattle.stream.proofs.Laws.{quiet_of}
-use Rattle.stream.proofs.Turning.{puts-from}
+use Rattle.stream.proofs.Turning.{puts_from}
 use borrow.Author.Rules.{rules}
 use Rattle.stream.proofs.run.Statement.{statement}
 use Rattle.stream.proofs.run.Tie as tie
@@ -24,9 +24,9 @@ returns : tie.Need-returns
 returns c =
     let quiet = c.before.before.before.before.before.before.before.before.before.before.before.before.before.before.before.before.before.before.before.before.before.before.before.before.before.before.before.before.before.before.before.before.before.before.before.before.before.before.before.before.before.before.before.before.before.before.args.quiet in
     let t = c.before.before.before.before.before.before.before.before.before.before.before.before.before.before.before.before.before.before.before.before.before.before.before.before.play-all.ensures in
-    let p = puts-from (c.before.before.before.before.before.before.before.before.before.before.before.before.before.before.before.before.before.before.before.before.before.before.before.before.before.before.before.before.before.before.before.before.before.before.before.before.before.before.before.before.before.before.before.before.before.fresh.ensures _ _) t.puts in
-    let e = continues-end (program_of quiet) (quiet_of quiet) _ t.input p.printed [] refl p.continues in
-    record { input = t.input; gives = t.gives; takes = takes-as e (takes-both p.takes c.finish.ensures) }
+    let p = puts_from (c.before.before.before.before.before.before.before.before.before.before.before.before.before.before.before.before.before.before.before.before.before.before.before.before.before.before.before.before.before.before.before.before.before.before.before.before.before.before.before.before.before.before.before.before.before.fresh.ensures _ _) t.puts in
+    let e = continues_end (program_of quiet) (quiet_of quiet) _ t.input p.printed [] refl p.continues in
+    record { input = t.input; gives = t.gives; takes = takes_as e (takes_both p.takes c.finish.ensures) }
 
 pub run_spec : {M : Type 1} → statement M
 run_spec =

@@ -1,7 +1,7 @@
 -- Each test is one of the definition's.
 -- Assumes nothing.
 use Rattle.group.proofs.Choice.{choices}
-use Rattle.terminal.specs.Left.{isNext}
+use Rattle.terminal.specs.Left.{is_next}
 use borrow.Author.Rules.{rules}
 use Rattle.terminal.proofs.is_next.Statement.{statement}
 use Rattle.terminal.proofs.is_next.Tie as tie
@@ -16,15 +16,15 @@ cast-result : tie.Need-overflow-cast-result
 cast-result c = search rules
 
 returns : tie.Need-returns
-unfolding isNext
+unfolding is_next
 returns c = search (choices, rules) depth 9
 
 returns-2 : tie.Need-returns-2
-unfolding isNext
+unfolding is_next
 returns-2 c = search (choices, rules) depth 9
 
 returns-3 : tie.Need-returns-3
-unfolding isNext
+unfolding is_next
 returns-3 c = search (choices, rules) depth 9
 
 pub is-next-spec : {M : Type 1} → statement M

@@ -1,7 +1,7 @@
 -- The sequencer's calls need one.
 -- Assumes nothing.
 use mathlib.Core.Path.{◌≡◌, refl, sym, ap, ◌∙◌}
-use Rattle.terminal_rows.specs.Steps.{admitsOf}
+use Rattle.terminal_rows.specs.Steps.{admits_of}
 use borrow.Author.Rules.{rules}
 use Rattle.terminal_rows.proofs.admits.Statement.{statement}
 use Rattle.terminal_rows.proofs.admits.Tie as tie
@@ -40,47 +40,47 @@ enum-known-call-4 : tie.Need-enum-known-call-4
 enum-known-call-4 c = search rules
 
 returns : tie.Need-returns
-unfolding admitsOf
+unfolding admits_of
 returns c = rw c.enum_told.given.1 refl
 
 returns-2 : tie.Need-returns-2
-unfolding admitsOf
+unfolding admits_of
 returns-2 c = rw c.enum-told2.given.1 refl
 
 returns-3 : tie.Need-returns-3
-unfolding admitsOf
+unfolding admits_of
 returns-3 c = rw c.enum-told3.given.1 refl
 
 returns-4 : tie.Need-returns-4
-unfolding admitsOf
+unfolding admits_of
 returns-4 c = rw c.enum-told4.given.1 refl
 
 returns-5 : tie.Need-returns-5
-unfolding admitsOf
+unfolding admits_of
 returns-5 c = rw c.enum-told5.given.1 refl
 
 returns-6 : tie.Need-returns-6
-unfolding admitsOf
+unfolding admits_of
 returns-6 c = rw c.before.call.given.1 refl
 
 returns-7 : tie.Need-returns-7
-unfolding admitsOf
+unfolding admits_of
 returns-7 c = rw c.before.call2.given.1 refl
 
 returns-8 : tie.Need-returns-8
-unfolding admitsOf
+unfolding admits_of
 returns-8 c = rw c.enum-told6.given.1 refl
 
 returns-9 : tie.Need-returns-9
-unfolding admitsOf
+unfolding admits_of
 returns-9 c = rw c.enum-told7.given.1 refl
 
 returns-10 : tie.Need-returns-10
-unfolding admitsOf
+unfolding admits_of
 returns-10 c = rw c.before.call3.given.1 refl
 
 returns-11 : tie.Need-returns-11
-unfolding admitsOf
+unfolding admits_of
 returns-11 c = rw c.before.call4.given.1 refl
 
 pub admits-spec : {M : Type 1} → statement M

@@ -1,7 +1,7 @@
 -- Where it is refused, there is none.
 -- Assumes nothing.
 use mathlib.Core.Path.{◌≡◌, refl, sym, ap, ◌∙◌}
-use Rattle.terminal_rows.specs.Steps.{openedWith}
+use Rattle.terminal_rows.specs.Steps.{opened_with}
 use borrow.Author.Rules.{rules}
 use Rattle.terminal_rows.proofs.opened_with.Statement.{statement}
 use Rattle.terminal_rows.proofs.opened_with.Tie as tie
@@ -13,11 +13,11 @@ enum-known-verdict : tie.Need-enum-known-verdict
 enum-known-verdict c = search rules
 
 returns : tie.Need-returns
-unfolding openedWith
+unfolding opened_with
 returns c = rw c.enum_told.given.1 refl
 
 returns-2 : tie.Need-returns-2
-unfolding openedWith
+unfolding opened_with
 returns-2 c = rw c.before.verdict.given.1 refl
 
 pub opened-with-spec : {M : Type 1} → statement M

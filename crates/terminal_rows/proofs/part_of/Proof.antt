@@ -1,7 +1,7 @@
 -- Each call is its own.
 -- Assumes nothing.
 use mathlib.Core.Path.{◌≡◌, refl, sym, ap, ◌∙◌}
-use Rattle.terminal_rows.specs.Steps.{ofMember, ofWhole, ofSequencer, ofPart}
+use Rattle.terminal_rows.specs.Steps.{of_member, of_whole, of_sequencer, of_part}
 use borrow.Author.Rules.{rules}
 use Rattle.terminal_rows.proofs.part_of.Statement.{statement}
 use Rattle.terminal_rows.proofs.part_of.Tie as tie
@@ -40,47 +40,47 @@ enum-known-call-4 : tie.Need-enum-known-call-4
 enum-known-call-4 c = search rules
 
 returns : tie.Need-returns
-unfolding ofPart ofMember ofWhole ofSequencer
+unfolding of_part of_member of_whole of_sequencer
 returns c = sym c.enum_told.given.1
 
 returns-2 : tie.Need-returns-2
-unfolding ofPart ofMember ofWhole ofSequencer
+unfolding of_part of_member of_whole of_sequencer
 returns-2 c = sym c.enum-told2.given.1
 
 returns-3 : tie.Need-returns-3
-unfolding ofPart ofMember ofWhole ofSequencer
+unfolding of_part of_member of_whole of_sequencer
 returns-3 c = sym c.enum-told3.given.1
 
 returns-4 : tie.Need-returns-4
-unfolding ofPart ofMember ofWhole ofSequencer
+unfolding of_part of_member of_whole of_sequencer
 returns-4 c = sym c.enum-told4.given.1
 
 returns-5 : tie.Need-returns-5
-unfolding ofPart ofMember ofWhole ofSequencer
+unfolding of_part of_member of_whole of_sequencer
 returns-5 c = sym c.enum-told5.given.1
 
 returns-6 : tie.Need-returns-6
-unfolding ofPart ofMember ofWhole ofSequencer
+unfolding of_part of_member of_whole of_sequencer
 returns-6 c = sym c.before.call.given.1
 
 returns-7 : tie.Need-returns-7
-unfolding ofPart ofMember ofWhole ofSequencer
+unfolding of_part of_member of_whole of_sequencer
 returns-7 c = sym c.before.call2.given.1
 
 returns-8 : tie.Need-returns-8
-unfolding ofPart ofMember ofWhole ofSequencer
+unfolding of_part of_member of_whole of_sequencer
 returns-8 c = sym c.enum-told6.given.1
 
 returns-9 : tie.Need-returns-9
-unfolding ofPart ofMember ofWhole ofSequencer
+unfolding of_part of_member of_whole of_sequencer
 returns-9 c = sym c.enum-told7.given.1
 
 returns-10 : tie.Need-returns-10
-unfolding ofPart ofMember ofWhole ofSequencer
+unfolding of_part of_member of_whole of_sequencer
 returns-10 c = sym c.before.call3.given.1
 
 returns-11 : tie.Need-returns-11
-unfolding ofPart ofMember ofWhole ofSequencer
+unfolding of_part of_member of_whole of_sequencer
 returns-11 c = sym c.before.call4.given.1
 
 pub part-of-spec : {M : Type 1} → statement M

@@ -11,7 +11,7 @@ same_length : tie.Need-same-length
 same_length c = search rules
 
 returns : tie.Need-returns
-returns c = let a = c.before.before.before.before.before.before.before.before.before.before.before.before.before.before.args in c.before.before.order-on.ensures a.queued.now a.held.now a.queued-originators.now a.queued-lengths.now a.held-originators.now a.held-lengths.now a.queued-payloads.now a.held-payloads.now a.past.now a.past-originators.now a.past-lengths.now a.past-payloads.now a.highest.now a.replies.now
+returns c = let a = c.before.before.before.before.before.before.before.before.before.before.before.before.before.before.args in c.before.before.order_on_lem.ensures a.queued.now a.held.now a.queued_originators.now a.queued_lengths.now a.held_originators.now a.held_lengths.now a.queued_payloads.now a.held_payloads.now a.past.now a.past_originators.now a.past_lengths.now a.past_payloads.now a.highest.now a.replies.now
 
 pub order-on-spec : {M : Type 1} → statement M
 order-on-spec = tie.close (tie.spec order-on-requires same_length returns)

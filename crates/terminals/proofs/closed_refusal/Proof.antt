@@ -5,7 +5,7 @@ use native.Mathlib.Omega.{arith}
 use Rattle.big_endian.specs.Laws.{Bytes}
 use Rattle.packet.proofs.Verdicts.{read_named}
 use Rattle.group.proofs.Choice.{choices}
-use Rattle.terminals.specs.Steps.{closedRefusal}
+use Rattle.terminals.specs.Steps.{closed_refusal}
 use borrow.Author.Rules.{rules}
 use Rattle.terminals.proofs.closed_refusal.Statement.{statement}
 use Rattle.terminals.proofs.closed_refusal.Tie as tie
@@ -24,18 +24,18 @@ from-elected-requires : tie.Need-from-elected-requires
 from-elected-requires c κs = search rules
 
 returns : tie.Need-returns
-unfolding closedRefusal
+unfolding closed_refusal
 returns c = rw (← c.before.before.before.before.before.before.read.ensures.0, c.before.before.before.before.r.given.1, ← c.before.before.of.ensures) (search (choices, rules) depth 9)
 
 enum-known-r-2 : tie.Need-enum-known-r-2
 enum-known-r-2 c = search rules
 
 returns-2 : tie.Need-returns-2
-unfolding closedRefusal
+unfolding closed_refusal
 returns-2 c = rw (← c.before.before.before.before.before.before.read.ensures.0, c.before.before.before.before.r.given.1, ← c.before.before.of.ensures) (search (choices, rules) depth 9)
 
 returns-3 : tie.Need-returns-3
-unfolding closedRefusal
+unfolding closed_refusal
 returns-3 c = rw (← c.before.before.before.read.ensures.0, c.before.r2.given.1)
 
 pub closed-refusal-spec : {M : Type 1} → statement M

@@ -1,6 +1,6 @@
 -- Each kind by computation.
 -- Assumes nothing.
-use Rattle.recovery.specs.Calls.{floorIn}
+use Rattle.recovery.specs.Calls.{floor_in}
 use borrow.Author.Rules.{rules}
 use Rattle.terminals.proofs.floor_in.Statement.{statement}
 use Rattle.terminals.proofs.floor_in.Tie as tie
@@ -39,47 +39,47 @@ enum-told-8 : tie.Need-enum-told-8
 enum-told-8 c = search rules
 
 returns : tie.Need-returns
-unfolding floorIn
+unfolding floor_in
 returns c = rw c.enum_told.given.1
 
 returns-2 : tie.Need-returns-2
-unfolding floorIn
+unfolding floor_in
 returns-2 c = rw c.before.content.given.1
 
 returns-3 : tie.Need-returns-3
-unfolding floorIn
+unfolding floor_in
 returns-3 c = rw c.enum-told2.given.1
 
 returns-4 : tie.Need-returns-4
-unfolding floorIn
+unfolding floor_in
 returns-4 c = rw c.enum-told3.given.1
 
 returns-5 : tie.Need-returns-5
-unfolding floorIn
+unfolding floor_in
 returns-5 c = rw c.before.content2.given.1
 
 returns-6 : tie.Need-returns-6
-unfolding floorIn
+unfolding floor_in
 returns-6 c = rw c.before.content3.given.1
 
 returns-7 : tie.Need-returns-7
-unfolding floorIn
+unfolding floor_in
 returns-7 c = rw c.enum-told4.given.1
 
 returns-8 : tie.Need-returns-8
-unfolding floorIn
+unfolding floor_in
 returns-8 c = rw c.enum-told5.given.1
 
 returns-9 : tie.Need-returns-9
-unfolding floorIn
+unfolding floor_in
 returns-9 c = rw c.enum-told6.given.1
 
 returns-10 : tie.Need-returns-10
-unfolding floorIn
+unfolding floor_in
 returns-10 c = rw c.enum-told7.given.1
 
 returns-11 : tie.Need-returns-11
-unfolding floorIn
+unfolding floor_in
 returns-11 c = rw c.enum-told8.given.1
 
 pub floor-in-spec : {M : Type 1} → statement M

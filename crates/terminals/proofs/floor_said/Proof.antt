@@ -4,7 +4,7 @@ use mathlib.Core.Path.{sym, ◌∙◌}
 use native.Mathlib.Omega.{arith}
 use Rattle.big_endian.specs.Laws.{Bytes}
 use Rattle.packet.proofs.Verdicts.{read_named}
-use Rattle.terminals.specs.Steps.{floorSaid}
+use Rattle.terminals.specs.Steps.{floor_said}
 use borrow.Author.Rules.{rules}
 use Rattle.terminals.proofs.floor_said.Statement.{statement}
 use Rattle.terminals.proofs.floor_said.Tie as tie
@@ -26,11 +26,11 @@ enum_told : tie.Need-enum-told
 enum_told c = search rules
 
 returns : tie.Need-returns
-unfolding floorSaid
+unfolding floor_said
 returns c = rw (← c.before.before.before.before.before.read.ensures.0, c.before.before.before.r.given.1, ← c.before.of.ensures) c.floor-in.ensures
 
 returns-2 : tie.Need-returns-2
-unfolding floorSaid
+unfolding floor_said
 returns-2 c = rw (← c.before.before.read.ensures.0, c.enum_told.given.1)
 
 pub floor-said-spec : {M : Type 1} → statement M

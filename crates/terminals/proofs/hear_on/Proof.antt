@@ -1,21 +1,21 @@
 -- The rest of the member's end is asked; with a reply open the packet is refused, else it is the member's and its floor is read.
 -- Assumes nothing.
-use Rattle.terminals.proofs.Whole.{heard-whole, heard-closed, heard-no}
+use Rattle.terminals.proofs.Whole.{heard_whole, heard_closed, heard_no}
 use borrow.Author.Rules.{rules}
 use Rattle.terminals.proofs.hear_on.Statement.{statement}
 use Rattle.terminals.proofs.hear_on.Tie as tie
 
 beside-sound-requires : tie.Need-beside-sound-requires
-beside-sound-requires c κs = (record { kept-size = search rules; originators-size = search rules; lengths-size = search rules; payloads-size = search rules }, search rules, search rules)
+beside-sound-requires c κs = (record { kept_size_lem = search rules; originators_size = search rules; lengths_size = search rules; payloads_size = search rules }, search rules, search rules)
 
 ask-requires : tie.Need-ask-requires
-ask-requires c κs = record { queued-size = search rules; held-size = search rules; queued-originators-size = search rules; queued-lengths-size = search rules; held-originators-size = search rules; held-lengths-size = search rules; queued-payloads-size = search rules; held-payloads-size = search rules }
+ask-requires c κs = record { queued_size = search rules; held_size = search rules; queued_originators_size = search rules; queued_lengths_size = search rules; held_originators_size = search rules; held_lengths_size = search rules; queued_payloads_size = search rules; held_payloads_size = search rules }
 
 closed-reply-requires : tie.Need-closed-reply-requires
 closed-reply-requires c κs = search rules
 
 returns : tie.Need-returns
-returns c = let a = c.before.before.before.before.before.before.before.before.before.before.before.before.before.before.before.before.before.before.before.before.before.before.before.before.before.before.before.before.before.before.args in λ taken counts repeats kept marks originators lengths payloads. heard-closed a.head a.queued.now a.held.now a.queued-originators.now a.queued-lengths.now a.held-originators.now a.held-lengths.now a.queued-payloads.now a.held-payloads.now a.past.now a.past-originators.now a.past-lengths.now a.past-payloads.now a.highest.now a.replies.now c.before.before.before.before.before.before.before.before.before.before.before.before.before.before.before.before.before.before.before.before.before.beside-sound.ensures taken counts repeats kept marks originators lengths payloads a.packet.now c.before.before.before.before.before.before.before.before.before.before.before.before.before.before.before.before.before.before.before.before.before.before.before.before.before.before.before.before.before.before.requires c.before.before.before.before.before.before.before.before.before.before.before.before.before.before.before.before.before.before.before.before.if1.true c.before.before.before.before.before.before.before.before.before.before.before.before.before.before.before.before.before.before.if2.true c.before.ask.ensures c.closed-reply.ensures
+returns c = let a = c.before.before.before.before.before.before.before.before.before.before.before.before.before.before.before.before.before.before.before.before.before.before.before.before.before.before.before.before.before.before.args in λ taken counts repeats kept marks originators lengths payloads. heard_closed a.head a.queued.now a.held.now a.queued_originators.now a.queued_lengths.now a.held_originators.now a.held_lengths.now a.queued_payloads.now a.held_payloads.now a.past.now a.past_originators.now a.past_lengths.now a.past_payloads.now a.highest.now a.replies.now c.before.before.before.before.before.before.before.before.before.before.before.before.before.before.before.before.before.before.before.before.before.beside-sound.ensures taken counts repeats kept marks originators lengths payloads a.packet.now c.before.before.before.before.before.before.before.before.before.before.before.before.before.before.before.before.before.before.before.before.before.before.before.before.before.before.before.before.before.before.requires c.before.before.before.before.before.before.before.before.before.before.before.before.before.before.before.before.before.before.before.before.if1.true c.before.before.before.before.before.before.before.before.before.before.before.before.before.before.before.before.before.before.if2.true c.before.ask.ensures c.closed-reply.ensures
 
 receive-on-requires : tie.Need-receive-on-requires
 receive-on-requires c κs = search rules
@@ -30,13 +30,13 @@ same_length : tie.Need-same-length
 same_length c = search rules
 
 returns-2 : tie.Need-returns-2
-returns-2 c = let a = c.before.before.before.before.before.before.before.before.before.before.before.before.before.before.before.before.before.before.before.before.before.before.before.before.before.before.before.args in λ taken counts repeats kept marks originators lengths payloads. heard-whole a.head a.queued.now a.held.now a.queued-originators.now a.queued-lengths.now a.held-originators.now a.held-lengths.now a.queued-payloads.now a.held-payloads.now a.past.now a.past-originators.now a.past-lengths.now a.past-payloads.now a.highest.now a.replies.now c.before.before.before.before.before.before.before.before.before.before.before.before.before.before.before.before.before.before.beside-sound.ensures taken counts repeats kept marks originators lengths payloads a.packet.now c.before.before.before.before.before.before.before.before.before.before.before.before.before.before.before.before.before.before.before.before.before.before.before.before.before.before.before.requires c.before.before.before.before.before.before.before.before.before.before.before.before.before.before.before.before.before.if1.true c.before.before.before.before.before.before.before.before.before.before.before.before.before.before.before.if2.false c.with-heard.ensures c.before.read-after.ensures c.before.before.before.before.before.receive-on.ensures
+returns-2 c = let a = c.before.before.before.before.before.before.before.before.before.before.before.before.before.before.before.before.before.before.before.before.before.before.before.before.before.before.before.args in λ taken counts repeats kept marks originators lengths payloads. heard_whole a.head a.queued.now a.held.now a.queued_originators.now a.queued_lengths.now a.held_originators.now a.held_lengths.now a.queued_payloads.now a.held_payloads.now a.past.now a.past_originators.now a.past_lengths.now a.past_payloads.now a.highest.now a.replies.now c.before.before.before.before.before.before.before.before.before.before.before.before.before.before.before.before.before.before.beside-sound.ensures taken counts repeats kept marks originators lengths payloads a.packet.now c.before.before.before.before.before.before.before.before.before.before.before.before.before.before.before.before.before.before.before.before.before.before.before.before.before.before.before.requires c.before.before.before.before.before.before.before.before.before.before.before.before.before.before.before.before.before.if1.true c.before.before.before.before.before.before.before.before.before.before.before.before.before.before.before.if2.false c.with-heard.ensures c.before.read_after_lem.ensures c.before.before.before.before.before.receive-on.ensures
 
 unsound-requires : tie.Need-unsound-requires
 unsound-requires c κs = search rules
 
 returns-3 : tie.Need-returns-3
-returns-3 c = let a = c.before.before.before.before.before.before.before.before.before.before.before.args in λ taken counts repeats kept marks originators lengths payloads. heard-no a.head a.queued.now a.held.now a.queued-originators.now a.queued-lengths.now a.held-originators.now a.held-lengths.now a.queued-payloads.now a.held-payloads.now a.past.now a.past-originators.now a.past-lengths.now a.past-payloads.now a.highest.now a.replies.now c.before.before.beside-sound.ensures taken counts repeats kept marks originators lengths payloads a.packet.now c.before.if1.false c.unsound.ensures
+returns-3 c = let a = c.before.before.before.before.before.before.before.before.before.before.before.args in λ taken counts repeats kept marks originators lengths payloads. heard_no a.head a.queued.now a.held.now a.queued_originators.now a.queued_lengths.now a.held_originators.now a.held_lengths.now a.queued_payloads.now a.held_payloads.now a.past.now a.past_originators.now a.past_lengths.now a.past_payloads.now a.highest.now a.replies.now c.before.before.beside-sound.ensures taken counts repeats kept marks originators lengths payloads a.packet.now c.before.if1.false c.unsound.ensures
 
 pub hear-on-spec : {M : Type 1} → statement M
 hear-on-spec = tie.close (tie.spec beside-sound-requires ask-requires closed-reply-requires returns receive-on-requires read-after-requires with-heard-requires same_length returns-2 unsound-requires returns-3)

@@ -24,7 +24,7 @@ enum_told c = search rules
 
 returns : tie.Need-returns
 unfolding resets
-returns c = rw (← c.before.before.before.before.read.ensures.0, c.before.before.r.given.1) c.of-reset.ensures
+returns c = rw (← c.before.before.before.before.read.ensures.0, c.before.before.r.given.1) c.of_reset_lem.ensures
 
 returns-2 : tie.Need-returns-2
 unfolding resets

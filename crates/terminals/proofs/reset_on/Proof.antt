@@ -5,10 +5,10 @@ use native.Mathlib.Omega.{arith}
 use lib.ListN.{length}
 use Rattle.big_endian.specs.Laws.{Bytes}
 use Rattle.packet.proofs.Verdicts.{readable}
-use Rattle.sequencer.proofs.Deciding.{payload-lent}
+use Rattle.sequencer.proofs.Deciding.{payload_lent}
 use Rattle.recovery.specs.View.{whole}
-use Rattle.attempt.proofs.Resetting.{reset-fits}
-use Rattle.terminals.proofs.Receiving.{reset-high, reset-room, received-reset, received-no, not-reset}
+use Rattle.attempt.proofs.Resetting.{reset_fits}
+use Rattle.terminals.proofs.Receiving.{reset_high, reset_room, received_reset, received_no, not_reset}
 use borrow.Author.Rules.{rules}
 use Rattle.terminals.proofs.reset_on.Statement.{statement}
 use Rattle.terminals.proofs.reset_on.Tie as tie
@@ -36,7 +36,7 @@ part-reset-on-end c = let h = (readable _ _ (sym c.before.before.before.before.b
 
 reset-on-requires : tie.Need-reset-on-requires
 unfolding Bytes
-reset-on-requires c κs = let a = c.before.before.before.before.before.before.before.before.before.before.before.before.before.before.before.before.before.before.before.before.before.before.before.before.before.before.before.before.before.args in let s = whole a.head a.queued.now a.held.now a.queued-originators.now a.queued-lengths.now a.held-originators.now a.held-lengths.now a.queued-payloads.now a.held-payloads.now a.past.now a.past-originators.now a.past-lengths.now a.past-payloads.now a.highest.now a.replies.now a.taken.now a.counts.now a.repeats.now a.kept.now a.marks.now a.originators.now a.lengths.now a.payloads.now in let e = (sym c.before.before.before.before.before.before.before.before.before.before.before.before.before.before.before.before.before.before.read.ensures.0 ∙ c.before.before.before.before.before.before.before.before.before.before.before.before.before.before.before.before.r.given.1) in let f = reset-fits a.packet.now (λ i _. let z = c.before.before.before.before.before.before.before.before.before.before.before.before.before.before.before.before.before.before.before.before.before.before.before.before.before.before.before.before.shared-slice-known.given i in omega (arith, z)) _ e in (reset-high _ _ e c.before.before.before.before.before.before.before.before.before.before.before.before.before.before.before.before.before.before.before.before.before.before.before.before.before.before.before.before.before.requires, f.0, rw (payload-lent a.packet.now) f.1, reset-room s (length a.out.now) (c.before.before.before.before.before.before.before.before.before.before.before.before.before.before.before.before.before.before.before.before.before.ask.ensures a.taken.now a.counts.now a.repeats.now a.kept.now a.marks.now a.originators.now a.lengths.now a.payloads.now) c.before.before.before.before.before.before.before.before.before.before.before.before.before.before.before.before.before.before.before.enum_told.given.1)
+reset-on-requires c κs = let a = c.before.before.before.before.before.before.before.before.before.before.before.before.before.before.before.before.before.before.before.before.before.before.before.before.before.before.before.before.before.args in let s = whole a.head a.queued.now a.held.now a.queued_originators.now a.queued_lengths.now a.held_originators.now a.held_lengths.now a.queued_payloads.now a.held_payloads.now a.past.now a.past_originators.now a.past_lengths.now a.past_payloads.now a.highest.now a.replies.now a.taken.now a.counts.now a.repeats.now a.kept.now a.marks.now a.originators.now a.lengths.now a.payloads.now in let e = (sym c.before.before.before.before.before.before.before.before.before.before.before.before.before.before.before.before.before.before.read.ensures.0 ∙ c.before.before.before.before.before.before.before.before.before.before.before.before.before.before.before.before.r.given.1) in let f = reset_fits a.packet.now (λ i _. let z = c.before.before.before.before.before.before.before.before.before.before.before.before.before.before.before.before.before.before.before.before.before.before.before.before.before.before.before.before.shared-slice-known.given i in omega (arith, z)) _ e in (reset_high _ _ e c.before.before.before.before.before.before.before.before.before.before.before.before.before.before.before.before.before.before.before.before.before.before.before.before.before.before.before.before.before.requires, f.0, rw (payload_lent a.packet.now) f.1, reset_room s (length a.out.now) (c.before.before.before.before.before.before.before.before.before.before.before.before.before.before.before.before.before.before.before.before.before.ask.ensures a.taken.now a.counts.now a.repeats.now a.kept.now a.marks.now a.originators.now a.lengths.now a.payloads.now) c.before.before.before.before.before.before.before.before.before.before.before.before.before.before.before.before.before.before.before.enum_told.given.1)
 
 enum-known-r-2 : tie.Need-enum-known-r-2
 enum-known-r-2 c = search rules
@@ -54,13 +54,13 @@ same_length : tie.Need-same-length
 same_length c = search rules
 
 returns : tie.Need-returns
-returns c = let a = c.before.before.before.before.before.before.before.before.before.before.before.before.before.before.before.before.before.before.before.before.before.before.before.before.before.before.before.before.before.before.before.before.args in let s = whole a.head a.queued.now a.held.now a.queued-originators.now a.queued-lengths.now a.held-originators.now a.held-lengths.now a.queued-payloads.now a.held-payloads.now a.past.now a.past-originators.now a.past-lengths.now a.past-payloads.now a.highest.now a.replies.now a.taken.now a.counts.now a.repeats.now a.kept.now a.marks.now a.originators.now a.lengths.now a.payloads.now in let e = (sym c.before.before.before.before.before.before.before.before.before.before.before.before.before.before.before.before.before.before.before.before.before.read.ensures.0 ∙ c.before.before.before.before.before.before.before.before.before.before.before.before.before.before.before.before.before.before.before.r.given.1) in received-reset s a.packet.now (c.before.before.before.before.before.before.before.before.before.before.before.before.before.before.before.before.before.before.before.before.before.before.before.before.ask.ensures a.taken.now a.counts.now a.repeats.now a.kept.now a.marks.now a.originators.now a.lengths.now a.payloads.now) _ c.before.before.before.before.before.before.before.before.before.before.before.before.before.before.before.before.before.before.before.before.before.before.enum_told.given.1 e c.before.before.before.before.before.before.before.before.before.before.before.before.before.before.before.before.before.before.before.before.before.before.before.before.before.before.before.before.before.before.before.before.requires (payload-lent a.packet.now) c.before.before.reset-on.ensures
+returns c = let a = c.before.before.before.before.before.before.before.before.before.before.before.before.before.before.before.before.before.before.before.before.before.before.before.before.before.before.before.before.before.before.before.before.args in let s = whole a.head a.queued.now a.held.now a.queued_originators.now a.queued_lengths.now a.held_originators.now a.held_lengths.now a.queued_payloads.now a.held_payloads.now a.past.now a.past_originators.now a.past_lengths.now a.past_payloads.now a.highest.now a.replies.now a.taken.now a.counts.now a.repeats.now a.kept.now a.marks.now a.originators.now a.lengths.now a.payloads.now in let e = (sym c.before.before.before.before.before.before.before.before.before.before.before.before.before.before.before.before.before.before.before.before.before.read.ensures.0 ∙ c.before.before.before.before.before.before.before.before.before.before.before.before.before.before.before.before.before.before.before.r.given.1) in received_reset s a.packet.now (c.before.before.before.before.before.before.before.before.before.before.before.before.before.before.before.before.before.before.before.before.before.before.before.before.ask.ensures a.taken.now a.counts.now a.repeats.now a.kept.now a.marks.now a.originators.now a.lengths.now a.payloads.now) _ c.before.before.before.before.before.before.before.before.before.before.before.before.before.before.before.before.before.before.before.before.before.before.enum_told.given.1 e c.before.before.before.before.before.before.before.before.before.before.before.before.before.before.before.before.before.before.before.before.before.before.before.before.before.before.before.before.before.before.before.before.requires (payload_lent a.packet.now) c.before.before.reset-on.ensures
 
 returns-2 : tie.Need-returns-2
-returns-2 c = absurd (not-reset _ _ (sym c.before.before.before.before.read.ensures.0 ∙ c.before.before.r2.given.1) c.before.before.before.before.before.before.before.before.before.before.before.before.before.before.before.requires)
+returns-2 c = absurd (not_reset _ _ (sym c.before.before.before.before.read.ensures.0 ∙ c.before.before.r2.given.1) c.before.before.before.before.before.before.before.before.before.before.before.before.before.before.before.requires)
 
 returns-3 : tie.Need-returns-3
-returns-3 c = let a = c.before.before.before.before.before.before.before.before.before.before.before.before.args in let s = whole a.head a.queued.now a.held.now a.queued-originators.now a.queued-lengths.now a.held-originators.now a.held-lengths.now a.queued-payloads.now a.held-payloads.now a.past.now a.past-originators.now a.past-lengths.now a.past-payloads.now a.highest.now a.replies.now a.taken.now a.counts.now a.repeats.now a.kept.now a.marks.now a.originators.now a.lengths.now a.payloads.now in rw c.declined2.ensures (received-no s a.packet.now (c.before.before.before.before.ask.ensures a.taken.now a.counts.now a.repeats.now a.kept.now a.marks.now a.originators.now a.lengths.now a.payloads.now) c.before.before.v.given.1 refl)
+returns-3 c = let a = c.before.before.before.before.before.before.before.before.before.before.before.before.args in let s = whole a.head a.queued.now a.held.now a.queued_originators.now a.queued_lengths.now a.held_originators.now a.held_lengths.now a.queued_payloads.now a.held_payloads.now a.past.now a.past_originators.now a.past_lengths.now a.past_payloads.now a.highest.now a.replies.now a.taken.now a.counts.now a.repeats.now a.kept.now a.marks.now a.originators.now a.lengths.now a.payloads.now in rw c.declined2.ensures (received_no s a.packet.now (c.before.before.before.before.ask.ensures a.taken.now a.counts.now a.repeats.now a.kept.now a.marks.now a.originators.now a.lengths.now a.payloads.now) c.before.before.v.given.1 refl)
 
 pub reset-on-spec : {M : Type 1} → statement M
 reset-on-spec = tie.close (tie.spec ask-requires enum_told read-requires enum-known-r sub-reset-on part-reset-on-start part-reset-on-end reset-on-requires enum-known-r-2 declined-requires enum-known-v declined-requires-2 same_length returns returns-2 returns-3)

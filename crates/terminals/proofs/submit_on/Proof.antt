@@ -1,12 +1,12 @@
 -- The rest of the member's end is asked, then the member.
 -- Assumes nothing.
-use Rattle.terminals.proofs.Whole.{submitted-whole, submitted-no}
+use Rattle.terminals.proofs.Whole.{submitted_whole, submitted_no}
 use borrow.Author.Rules.{rules}
 use Rattle.terminals.proofs.submit_on.Statement.{statement}
 use Rattle.terminals.proofs.submit_on.Tie as tie
 
 beside-sound-requires : tie.Need-beside-sound-requires
-beside-sound-requires c κs = (record { kept-size = search rules; originators-size = search rules; lengths-size = search rules; payloads-size = search rules }, search rules, search rules)
+beside-sound-requires c κs = (record { kept_size_lem = search rules; originators_size = search rules; lengths_size = search rules; payloads_size = search rules }, search rules, search rules)
 
 submit-on-requires : tie.Need-submit-on-requires
 submit-on-requires c κs = search rules
@@ -18,13 +18,13 @@ same_length : tie.Need-same-length
 same_length c = search rules
 
 returns : tie.Need-returns
-returns c = let a = c.before.before.before.before.before.before.before.before.before.before.before.before.before.before.before.before.before.before.before.before.before.before.before.before.args in λ taken counts repeats kept marks originators lengths payloads. submitted-whole a.head a.queued.now a.held.now a.queued-originators.now a.queued-lengths.now a.held-originators.now a.held-lengths.now a.queued-payloads.now a.held-payloads.now a.past.now a.past-originators.now a.past-lengths.now a.past-payloads.now a.highest.now a.replies.now c.before.before.before.before.before.before.before.before.before.before.before.before.before.before.before.beside-sound.ensures taken counts repeats kept marks originators lengths payloads a.payload.now c.before.before.before.before.before.before.before.before.before.before.before.before.before.before.if1.true c.before.with-member.ensures c.before.before.before.before.submit-on.ensures
+returns c = let a = c.before.before.before.before.before.before.before.before.before.before.before.before.before.before.before.before.before.before.before.before.before.before.before.before.args in λ taken counts repeats kept marks originators lengths payloads. submitted_whole a.head a.queued.now a.held.now a.queued_originators.now a.queued_lengths.now a.held_originators.now a.held_lengths.now a.queued_payloads.now a.held_payloads.now a.past.now a.past_originators.now a.past_lengths.now a.past_payloads.now a.highest.now a.replies.now c.before.before.before.before.before.before.before.before.before.before.before.before.before.before.before.beside-sound.ensures taken counts repeats kept marks originators lengths payloads a.payload.now c.before.before.before.before.before.before.before.before.before.before.before.before.before.before.if1.true c.before.with-member.ensures c.before.before.before.before.submit-on.ensures
 
 unsound-requires : tie.Need-unsound-requires
 unsound-requires c κs = search rules
 
 returns-2 : tie.Need-returns-2
-returns-2 c = let a = c.before.before.before.before.before.before.before.before.before.before.before.args in λ taken counts repeats kept marks originators lengths payloads. submitted-no a.head a.queued.now a.held.now a.queued-originators.now a.queued-lengths.now a.held-originators.now a.held-lengths.now a.queued-payloads.now a.held-payloads.now a.past.now a.past-originators.now a.past-lengths.now a.past-payloads.now a.highest.now a.replies.now c.before.before.beside-sound.ensures taken counts repeats kept marks originators lengths payloads a.payload.now c.before.if1.false c.unsound.ensures
+returns-2 c = let a = c.before.before.before.before.before.before.before.before.before.before.before.args in λ taken counts repeats kept marks originators lengths payloads. submitted_no a.head a.queued.now a.held.now a.queued_originators.now a.queued_lengths.now a.held_originators.now a.held_lengths.now a.queued_payloads.now a.held_payloads.now a.past.now a.past_originators.now a.past_lengths.now a.past_payloads.now a.highest.now a.replies.now c.before.before.beside-sound.ensures taken counts repeats kept marks originators lengths payloads a.payload.now c.before.if1.false c.unsound.ensures
 
 pub submit-on-spec : {M : Type 1} → statement M
 submit-on-spec = tie.close (tie.spec beside-sound-requires submit-on-requires with-member-requires same_length returns unsound-requires returns-2)

@@ -3,14 +3,14 @@
 use mathlib.Core.Path.{◌≡◌, refl}
 use Prim.Native.Nat.{◌-◌, ◌≤◌}
 use lib.ListN.{length, drop}
-use Rattle.text.specs.Field.{firstFrom}
-use Rattle.text.proofs.Split.{first-here, first_on, first_done}
+use Rattle.text.specs.Field.{first_from}
+use Rattle.text.proofs.Split.{first_here, first_on, first_done}
 use borrow.Author.Rules.{rules}
 use Rattle.text.proofs.first.Statement.{statement}
 use Rattle.text.proofs.first.Tie as tie
 
 abbrev invariant-loop : tie.invariant-loop
-invariant-loop text from character i₀ i = (i ≤ length text) × (firstFrom character from (drop from text) ≡ firstFrom character i (drop i text))
+invariant-loop text from character i₀ i = (i ≤ length text) × (first_from character from (drop from text) ≡ first_from character i (drop i text))
 
 abbrev decreases-loop : tie.decreases-loop
 decreases-loop text from character i₀ i = length text - i
@@ -22,7 +22,7 @@ shared-slice-read-if1 : tie.Need-shared-slice-read-if1 invariant-loop decreases-
 shared-slice-read-if1 c = search rules
 
 returns : tie.Need-returns invariant-loop decreases-loop
-returns c = let l = c.before.before.before.loop in first-here _ _ l.i _ l.invariant.1 (search rules) c.if1.true
+returns c = let l = c.before.before.before.loop in first_here _ _ l.i _ l.invariant.1 (search rules) c.if1.true
 
 add-i : tie.Need-overflow-add-i invariant-loop decreases-loop
 add-i c = search rules

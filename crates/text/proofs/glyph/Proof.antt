@@ -1,7 +1,7 @@
 -- The test is the definition's.
 -- Assumes nothing.
 use Rattle.group.proofs.Choice.{choices}
-use Rattle.text.specs.Text.{glyphOf}
+use Rattle.text.specs.Text.{glyph_of}
 use borrow.Author.Rules.{rules}
 use Rattle.text.proofs.glyph.Statement.{statement}
 use Rattle.text.proofs.glyph.Tie as tie
@@ -13,11 +13,11 @@ add-result-2 : tie.Need-overflow-add-result-2
 add-result-2 c = search rules
 
 returns : tie.Need-returns
-unfolding glyphOf
+unfolding glyph_of
 returns c = search (choices, rules) depth 9
 
 returns-2 : tie.Need-returns-2
-unfolding glyphOf
+unfolding glyph_of
 returns-2 c = search (choices, rules) depth 9
 
 pub glyph-spec : {M : Type 1} → statement M

@@ -4,14 +4,14 @@ use mathlib.Core.Path.{◌≡◌, refl}
 use mathlib.Core.List.{◌++◌}
 use Prim.Native.Nat.{◌+◌, ◌*◌, ◌-◌, ◌≤◌}
 use lib.ListN.{length, take, drop}
-use Rattle.text.specs.Field.{pairsOf}
-use Rattle.text.proofs.Digits.{digit_at, pairs-laid, pairs-rest, pairs-done}
+use Rattle.text.specs.Field.{pairs_of}
+use Rattle.text.proofs.Digits.{digit_at, pairs_laid, pairs_rest, pairs_done}
 use borrow.Author.Rules.{rules}
 use Rattle.text.proofs.lay_pairs.Statement.{statement}
 use Rattle.text.proofs.lay_pairs.Tie as tie
 
 abbrev invariant-loop : tie.invariant-loop
-invariant-loop field payload₀ count i₀ payload i = (i ≤ count) × (length field ≡ 2 * count) × (length payload ≡ length payload₀) × (take i payload ++ pairsOf (drop (2 * i) field) ≡ pairsOf field) × (drop i payload ≡ drop i payload₀)
+invariant-loop field payload₀ count i₀ payload i = (i ≤ count) × (length field ≡ 2 * count) × (length payload ≡ length payload₀) × (take i payload ++ pairs_of (drop (2 * i) field) ≡ pairs_of field) × (drop i payload ≡ drop i payload₀)
 
 abbrev decreases-loop : tie.decreases-loop
 decreases-loop field payload₀ count i₀ payload i = count - i
@@ -56,8 +56,8 @@ loop-again c =
       search rules,
       search rules,
       search rules,
-      pairs-laid a.field.now a.payload.now l.payload l.i l.invariant.3 l.invariant.4 (search rules) c.pair.result (search rules) c.pair.ensures,
-      pairs-rest a.field.now a.payload.now l.payload l.i l.invariant.3 l.invariant.4 (search rules) c.pair.result,
+      pairs_laid a.field.now a.payload.now l.payload l.i l.invariant.3 l.invariant.4 (search rules) c.pair.result (search rules) c.pair.ensures,
+      pairs_rest a.field.now a.payload.now l.payload l.i l.invariant.3 l.invariant.4 (search rules) c.pair.result,
     )
 
 same_length : tie.Need-same-length invariant-loop decreases-loop
@@ -67,7 +67,7 @@ returns : tie.Need-returns invariant-loop decreases-loop
 returns c =
     let l = c.before.loop in
     let a = c.before.before.before.before.args in
-    pairs-done a.field.now a.payload.now l.payload l.i (search rules) l.invariant.3 l.invariant.4
+    pairs_done a.field.now a.payload.now l.payload l.i (search rules) l.invariant.3 l.invariant.4
 
 pub lay-pairs-spec : {M : Type 1} → statement M
 lay-pairs-spec =

@@ -1,6 +1,6 @@
 -- One byte is stored.
 -- Assumes nothing.
-use Rattle.text.proofs.Pieces.{laid-byte}
+use Rattle.text.proofs.Pieces.{laid_byte}
 use borrow.Author.Rules.{rules}
 use Rattle.text.proofs.put.Statement.{statement}
 use Rattle.text.proofs.put.Tie as tie
@@ -15,7 +15,7 @@ same_length : tie.Need-same-length
 same_length c = search rules
 
 returns : tie.Need-returns
-returns c = let a = c.args in laid-byte a.at a.out.now a.byte (search rules)
+returns c = let a = c.args in laid_byte a.at a.out.now a.byte (search rules)
 
 pub put_spec : {M : Type 1} → statement M
 put_spec = tie.close (tie.spec slice-write-out add-result same_length returns)

@@ -2,7 +2,7 @@
 -- Assumes nothing.
 use mathlib.Core.List.{[], ◌∷◌}
 use Rattle.text.proofs.Pieces.{laid_then}
-use Rattle.text.specs.Written.{hexOf}
+use Rattle.text.specs.Written.{hex_of}
 use borrow.Author.Rules.{rules}
 use Rattle.text.proofs.put_byte.Statement.{statement}
 use Rattle.text.proofs.put_byte.Tie as tie
@@ -23,7 +23,7 @@ same_length : tie.Need-same-length
 same_length c = search rules
 
 returns : tie.Need-returns
-unfolding hexOf
+unfolding hex_of
 returns c =
     let f = laid_then (c.before.before.before.before.before.before.before.before.before.glyph.result ∷ []) (c.before.before.before.before.before.before.before.before.glyph2.result ∷ []) c.before.before.before.before.before.before.put.ensures c.before.before.put2.ensures in
     (rw (← c.before.before.before.before.before.before.before.before.before.glyph.ensures, ← c.before.before.before.before.before.before.before.before.glyph2.ensures) f, search rules)

@@ -4,23 +4,23 @@ use mathlib.Core.Path.{◌≡◌}
 use mathlib.Core.List.{[], ◌∷◌}
 use Prim.Native.Nat.{◌+◌, ◌*◌, ◌-◌, ◌≤◌}
 use lib.ListN.{length, take, get_or}
-use Rattle.text.specs.Written.{hexOf}
+use Rattle.text.specs.Written.{hex_of}
 use Rattle.text.specs.LaidAt.{LaidAt}
 use Rattle.text.proofs.Pieces.{laid_none, laid_then}
 use lib.Seq.{take_all}
-use Rattle.text.proofs.Hex.{hex-on}
+use Rattle.text.proofs.Hex.{hex_on}
 use borrow.Author.Rules.{rules}
 use Rattle.text.proofs.put_hex.Statement.{statement}
 use Rattle.text.proofs.put_hex.Tie as tie
 
 abbrev invariant-loop : tie.invariant-loop
-invariant-loop bytes out₀ at next₀ i₀ out next i = (i ≤ length bytes) × (next ≡ at + 2 * i) × (length out ≡ length out₀) × LaidAt at (hexOf (take i bytes)) out₀ out next
+invariant-loop bytes out₀ at next₀ i₀ out next i = (i ≤ length bytes) × (next ≡ at + 2 * i) × (length out ≡ length out₀) × LaidAt at (hex_of (take i bytes)) out₀ out next
 
 abbrev decreases-loop : tie.decreases-loop
 decreases-loop bytes out₀ at next₀ i₀ out next i = length bytes - i
 
 loop-holds : tie.Need-loop-init invariant-loop decreases-loop
-unfolding hexOf
+unfolding hex_of
 loop-holds c = (search rules, search rules, search rules, laid_none c.before.before.args.at c.before.before.args.out.now (search rules))
 
 shared-slice-read-put-byte : tie.Need-shared-slice-read-put-byte invariant-loop decreases-loop
@@ -42,7 +42,7 @@ loop-again c =
       search rules,
       search rules,
       search rules,
-      rw (hex-on b l.i (search rules)) (laid_then (hexOf (take l.i b)) (hexOf (get_or b l.i 0 ∷ [])) l.invariant.3 c.before.before.put_byte.ensures.0),
+      rw (hex_on b l.i (search rules)) (laid_then (hex_of (take l.i b)) (hex_of (get_or b l.i 0 ∷ [])) l.invariant.3 c.before.before.put_byte.ensures.0),
     )
 
 same_length : tie.Need-same-length invariant-loop decreases-loop

@@ -1,9 +1,9 @@
 -- A space, and `-` or the bytes in hex behind it.
 -- Assumes nothing.
 use mathlib.Core.List.{[], ◌∷◌}
-use Rattle.text.proofs.Pieces.{laid-field}
-use Rattle.text.specs.Written.{hexOf}
-use Rattle.text.proofs.Hex.{payload-empty, payload-hex}
+use Rattle.text.proofs.Pieces.{laid_field}
+use Rattle.text.specs.Written.{hex_of}
+use Rattle.text.proofs.Hex.{payload_empty, payload_hex}
 use Rattle.text.specs.Text.{dash}
 use borrow.Author.Rules.{rules}
 use Rattle.text.proofs.put_payload.Statement.{statement}
@@ -20,8 +20,8 @@ same_length c = search rules
 
 returns : tie.Need-returns
 returns c =
-    let e = payload-empty c.before.before.before.before.before.before.before.before.before.before.before.args.payload.now c.before.before.before.before.if1.true in
-    (rw e (laid-field (dash ∷ []) c.before.before.before.before.before.before.before.put.ensures c.before.before.put2.ensures), search rules)
+    let e = payload_empty c.before.before.before.before.before.before.before.before.before.before.before.args.payload.now c.before.before.before.before.if1.true in
+    (rw e (laid_field (dash ∷ []) c.before.before.before.before.before.before.before.put.ensures c.before.before.put2.ensures), search rules)
 
 put-hex-requires : tie.Need-put-hex-requires
 put-hex-requires c κs = search rules
@@ -31,8 +31,8 @@ same-length-2 c = search rules
 
 returns-2 : tie.Need-returns-2
 returns-2 c =
-    let e = payload-hex c.before.before.before.before.before.before.before.before.before.before.before.args.payload.now c.before.before.before.before.if1.false in
-    (rw e (laid-field (hexOf c.before.before.before.before.before.before.before.before.before.before.before.args.payload.now) c.before.before.before.before.before.before.before.put.ensures c.before.before.put-hex.ensures.0), search rules)
+    let e = payload_hex c.before.before.before.before.before.before.before.before.before.before.before.args.payload.now c.before.before.before.before.if1.false in
+    (rw e (laid_field (hex_of c.before.before.before.before.before.before.before.before.before.before.before.args.payload.now) c.before.before.before.before.before.before.before.put.ensures c.before.before.put-hex.ensures.0), search rules)
 
 pub put-payload-spec : {M : Type 1} → statement M
 put-payload-spec =

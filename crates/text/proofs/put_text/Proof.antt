@@ -1,6 +1,6 @@
 -- The text is copied to the part from the index on.
 -- Assumes nothing.
-use Rattle.text.proofs.Pieces.{laid-text}
+use Rattle.text.proofs.Pieces.{laid_text}
 use borrow.Author.Rules.{rules}
 use Rattle.text.proofs.put_text.Statement.{statement}
 use Rattle.text.proofs.put_text.Tie as tie
@@ -24,7 +24,7 @@ same_length : tie.Need-same-length
 same_length c = search rules
 
 returns : tie.Need-returns
-returns c = let a = c.before.before.before.before.before.before.args in laid-text a.at a.out.now a.text.now c.before.before.copy.new.1.0 (search rules) c.before.before.copy.ensures
+returns c = let a = c.before.before.before.before.before.before.args in laid_text a.at a.out.now a.text.now c.before.before.copy.new.1.0 (search rules) c.before.before.copy.ensures
 
 pub put-text-spec : {M : Type 1} → statement M
 put-text-spec =

@@ -1,6 +1,6 @@
 -- A space, and the text behind it.
 -- Assumes nothing.
-use Rattle.text.proofs.Pieces.{laid-field}
+use Rattle.text.proofs.Pieces.{laid_field}
 use borrow.Author.Rules.{rules}
 use Rattle.text.proofs.put_word.Statement.{statement}
 use Rattle.text.proofs.put_word.Tie as tie
@@ -15,7 +15,7 @@ same_length : tie.Need-same-length
 same_length c = search rules
 
 returns : tie.Need-returns
-returns c = (laid-field c.before.before.before.before.before.before.before.before.before.before.args.text.now c.before.before.before.before.before.before.put.ensures c.before.before.put-text.ensures, search rules)
+returns c = (laid_field c.before.before.before.before.before.before.before.before.before.before.args.text.now c.before.before.before.before.before.before.put.ensures c.before.before.put-text.ensures, search rules)
 
 pub put-word-spec : {M : Type 1} → statement M
 put-word-spec = tie.close (tie.spec put-requires put-text-requires same_length returns)

@@ -5,23 +5,23 @@ use mathlib.Core.List.{◌++◌, append-nil}
 use Prim.Native.Nat.{◌≤◌}
 use native.Mathlib.Omega.{arith}
 use lib.ListN.{length, drop}
-use Rattle.text.specs.Written.{decimalDigits, countDigits}
-use Rattle.text.proofs.Decimal.{digits-most, spell-room, spell-fewer, spell-on, spell-done}
+use Rattle.text.specs.Written.{decimal_digits, count_digits}
+use Rattle.text.proofs.Decimal.{digits_most, spell_room, spell_fewer, spell_on, spell_done}
 use borrow.Author.Rules.{rules}
 use Rattle.text.proofs.spell.Statement.{statement}
 use Rattle.text.proofs.spell.Tie as tie
 
 abbrev invariant-loop : tie.invariant-loop
-invariant-loop n digits₀ start₀ rest₀ digits start rest = (start ≤ countDigits) × (length digits ≡ countDigits) × (length (decimalDigits rest rest) ≤ start) × (decimalDigits rest rest ++ drop start digits ≡ decimalDigits n n)
+invariant-loop n digits₀ start₀ rest₀ digits start rest = (start ≤ count_digits) × (length digits ≡ count_digits) × (length (decimal_digits rest rest) ≤ start) × (decimal_digits rest rest ++ drop start digits ≡ decimal_digits n n)
 
 abbrev decreases-loop : tie.decreases-loop
 decreases-loop n digits₀ start₀ rest₀ digits start rest = rest
 
 loop-holds : tie.Need-loop-init invariant-loop decreases-loop
-loop-holds c = (search rules, search rules, digits-most countDigits c.args.n (omega arith), append-nil _)
+loop-holds c = (search rules, search rules, digits_most count_digits c.args.n (omega arith), append-nil _)
 
 sub-start : tie.Need-overflow-sub-start invariant-loop decreases-loop
-sub-start c = let l = c.before.loop in spell-room c.before.before.args.n l.rest l.start l.digits l.invariant.2 l.invariant.3 c.loop-test.true
+sub-start c = let l = c.before.loop in spell_room c.before.before.args.n l.rest l.start l.digits l.invariant.2 l.invariant.3 c.loop-test.true
 
 cast-glyph : tie.Need-overflow-cast-glyph invariant-loop decreases-loop
 cast-glyph c = search rules
@@ -41,14 +41,14 @@ loop-again c =
     let n = c.before.before.before.args.n in (
       search rules,
       search rules,
-      spell-fewer n l.rest l.start l.digits l.invariant.2 l.invariant.3 c.before.loop-test.true,
-      spell-on n l.rest l.start l.digits l.invariant.2 l.invariant.3 c.glyph.result c.before.loop-test.true (search rules) c.glyph.ensures,
+      spell_fewer n l.rest l.start l.digits l.invariant.2 l.invariant.3 c.before.loop-test.true,
+      spell_on n l.rest l.start l.digits l.invariant.2 l.invariant.3 c.glyph.result c.before.loop-test.true (search rules) c.glyph.ensures,
     )
 
 returns : tie.Need-returns invariant-loop decreases-loop
 returns c =
     let l = c.before.loop in
-    (spell-done c.before.before.args.n l.rest l.start l.digits l.invariant.2 l.invariant.3 (search rules), (search rules, search rules))
+    (spell_done c.before.before.args.n l.rest l.start l.digits l.invariant.2 l.invariant.3 (search rules), (search rules, search rules))
 
 pub spell-spec : {M : Type 1} → statement M
 spell-spec =

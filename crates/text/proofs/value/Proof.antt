@@ -3,15 +3,15 @@
 use mathlib.Core.Path.{◌≡◌, refl}
 use Prim.Native.Nat.{◌-◌, ◌≤◌}
 use lib.ListN.{length, drop}
-use Rattle.group.specs.Limits.{largestNumber}
-use Rattle.text.specs.Field.{valueFrom}
-use Rattle.text.proofs.Digits.{value_on, value-past, value-end}
+use Rattle.group.specs.Limits.{largest_number}
+use Rattle.text.specs.Field.{value_from}
+use Rattle.text.proofs.Digits.{value_on, value_past, value_end}
 use borrow.Author.Rules.{rules}
 use Rattle.text.proofs.value.Statement.{statement}
 use Rattle.text.proofs.value.Tie as tie
 
 abbrev invariant-loop : tie.invariant-loop
-invariant-loop field value₀ i₀ value i = (i ≤ length field) × (value ≤ largestNumber) × (valueFrom 0 field ≡ valueFrom value (drop i field))
+invariant-loop field value₀ i₀ value i = (i ≤ length field) × (value ≤ largest_number) × (value_from 0 field ≡ value_from value (drop i field))
 
 abbrev decreases-loop : tie.decreases-loop
 decreases-loop field value₀ i₀ value i = length field - i
@@ -38,7 +38,7 @@ cast-if1 : tie.Need-overflow-cast-if1 invariant-loop decreases-loop
 cast-if1 c = search rules
 
 returns : tie.Need-returns invariant-loop decreases-loop
-returns c = let l = c.before.before.before.before.loop in value-past _ l.value l.i l.invariant.2 c.before.digit.result (search rules) c.before.digit.ensures c.if1.true
+returns c = let l = c.before.before.before.before.loop in value_past _ l.value l.i l.invariant.2 c.before.digit.result (search rules) c.before.digit.ensures c.if1.true
 
 add-i : tie.Need-overflow-add-i invariant-loop decreases-loop
 add-i c = search rules
@@ -55,7 +55,7 @@ cast-t12 : tie.Need-overflow-cast-t12 invariant-loop decreases-loop
 cast-t12 c = search rules
 
 returns-2 : tie.Need-returns-2 invariant-loop decreases-loop
-returns-2 c = let l = c.before.loop in value-end _ l.value l.i l.invariant.2 (search rules) l.invariant.1
+returns-2 c = let l = c.before.loop in value_end _ l.value l.i l.invariant.2 (search rules) l.invariant.1
 
 pub value_spec : {M : Type 1} → statement M
 value_spec =

@@ -2,9 +2,9 @@
 -- Assumes nothing.
 use Prim.Native.Nat.{ℕ}
 use lib.ListN.{length-replicate}
-use Rattle.group.specs.Limits.{payloadMost}
-use Rattle.message.specs.Message.{emptyMessage}
-use Rattle.store.proofs.Places.{messages-laid}
+use Rattle.group.specs.Limits.{payload_most}
+use Rattle.message.specs.Message.{empty_message}
+use Rattle.store.proofs.Places.{messages_laid}
 use borrow.Author.Rules.{rules}
 use Rattle.window.proofs.clear.Statement.{statement}
 use Rattle.window.proofs.clear.Tie as tie
@@ -37,10 +37,10 @@ same-length-4 : tie.Need-same-length-4
 same-length-4 c = search rules
 
 returns : tie.Need-returns
-unfolding emptyMessage
+unfolding empty_message
 returns c =
     let p = c.before.before.before.before.before.before.before.before.requires in
-    rw c.before.before.clear.ensures (messages-laid _ _ _ _ _ _ _ _ _ p.0 p.1 p.2 p.3 (length-replicate {A = ℕ} payloadMost 0))
+    rw c.before.before.clear.ensures (messages_laid _ _ _ _ _ _ _ _ _ p.0 p.1 p.2 p.3 (length-replicate {A = ℕ} payload_most 0))
 
 pub clear_spec : {M : Type 1} → statement M
 clear_spec =

@@ -2,7 +2,7 @@
 -- Assumes nothing.
 use borrow.Author.Rules.{rules}
 use Rattle.group.proofs.Choice.{choices}
-use Rattle.window.specs.Sound.{frameSound}
+use Rattle.window.specs.Sound.{frame_sound}
 use Rattle.window.proofs.frame_sound.Statement.{statement}
 use Rattle.window.proofs.frame_sound.Tie as tie
 
@@ -13,15 +13,15 @@ is-in-requires : tie.Need-is-in-requires
 is-in-requires c κs = search rules
 
 returns : tie.Need-returns
-unfolding frameSound
+unfolding frame_sound
 returns c = search (choices, rules) depth 9
 
 returns-2 : tie.Need-returns-2
-unfolding frameSound
+unfolding frame_sound
 returns-2 c = search (choices, rules) depth 9
 
 returns-3 : tie.Need-returns-3
-unfolding frameSound
+unfolding frame_sound
 returns-3 c = search (choices, rules) depth 9
 
 pub frame-sound-spec : {M : Type 1} → statement M

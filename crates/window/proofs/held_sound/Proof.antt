@@ -3,12 +3,12 @@
 use mathlib.Core.Path.{◌≡◌}
 use Prim.Native.Nat.{◌+◌, ◌-◌, ◌*◌, ◌≤◌}
 use lib.ListN.{length}
-use Rattle.group.specs.Fold.{allAbove}
-use Rattle.group.specs.Limits.{heldMost, payloadMost}
-use Rattle.group.proofs.Fold.{above_on, above-off, above-done}
-use Rattle.store.specs.Places.{messagesIn, mask_of}
+use Rattle.group.specs.Fold.{all_above}
+use Rattle.group.specs.Limits.{held_most, payload_most}
+use Rattle.group.proofs.Fold.{above_on, above_off, above_done}
+use Rattle.store.specs.Places.{messages_in, mask_of}
 use Rattle.window.specs.Places.{place_of}
-use Rattle.window.specs.Sound.{placeSound}
+use Rattle.window.specs.Sound.{place_sound}
 use Rattle.window.proofs.Places.{place_in}
 use native.Mathlib.Omega.{arith}
 use borrow.Author.Rules.{rules}
@@ -16,10 +16,10 @@ use Rattle.window.proofs.held_sound.Statement.{statement}
 use Rattle.window.proofs.held_sound.Tie as tie
 
 abbrev invariant-loop : tie.invariant-loop
-invariant-loop n taken counts originators lengths payloads mask i₀ i = (length counts ≡ heldMost) × (length originators ≡ heldMost) × (length lengths ≡ heldMost) × (length payloads ≡ heldMost * payloadMost) × (mask ≡ mask_of) × (allAbove (placeSound n (messagesIn counts originators lengths payloads)) taken.0 heldMost ≡ allAbove (placeSound n (messagesIn counts originators lengths payloads)) (taken.0 + i) (heldMost - i))
+invariant-loop n taken counts originators lengths payloads mask i₀ i = (length counts ≡ held_most) × (length originators ≡ held_most) × (length lengths ≡ held_most) × (length payloads ≡ held_most * payload_most) × (mask ≡ mask_of) × (all_above (place_sound n (messages_in counts originators lengths payloads)) taken.0 held_most ≡ all_above (place_sound n (messages_in counts originators lengths payloads)) (taken.0 + i) (held_most - i))
 
 abbrev decreases-loop : tie.decreases-loop
-decreases-loop n taken counts originators lengths payloads mask i₀ i = heldMost - i
+decreases-loop n taken counts originators lengths payloads mask i₀ i = held_most - i
 
 loop-holds : tie.Need-loop-init invariant-loop decreases-loop
 loop-holds c = let e : c.before.before.before.before.before.args.taken.0 + 0 ≡ c.before.before.before.before.before.args.taken.0 = omega arith in let p = c.before.before.before.before.before.requires in (p.0, p.1, p.2, p.3, p.4, rw e)
@@ -72,12 +72,12 @@ returns c =
     let l = c.before.before.before.before.before.before.before.before.loop in
     let p = c.before.before.before.before.before.before.place.ensures in
     let q : c.before.before.before.before.before.before.place.result ≡ place_of (c.before.before.before.before.before.before.before.before.before.before.before.before.before.before.args.taken.0 + l.i + 1) = omega (arith, p) in
-    above-off _ _ _ l.i l.invariant.5 c.before.message-sound.result (omega arith) (place_in _ _ _ _ _ (omega (arith, p, l.invariant.0)) _ _ _ q c.before.message-sound.ensures) c.if1.false
+    above_off _ _ _ l.i l.invariant.5 c.before.message-sound.result (omega arith) (place_in _ _ _ _ _ (omega (arith, p, l.invariant.0)) _ _ _ q c.before.message-sound.ensures) c.if1.false
 
 returns-2 : tie.Need-returns-2 invariant-loop decreases-loop
 returns-2 c =
     let l = c.before.loop in
-    above-done _ _ _ l.i l.invariant.5 (omega arith)
+    above_done _ _ _ l.i l.invariant.5 (omega arith)
 
 pub held-sound-spec : {M : Type 1} → statement M
 held-sound-spec =

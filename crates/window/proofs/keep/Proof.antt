@@ -1,8 +1,8 @@
 -- Three numbers and the payload are laid into a place: the message that it holds.
 -- Assumes nothing.
-use Rattle.message.specs.Message.{messageOf}
-use Rattle.store.proofs.Places.{messages-laid}
-use Rattle.window.proofs.Places.{padded-length}
+use Rattle.message.specs.Message.{message_of}
+use Rattle.store.proofs.Places.{messages_laid}
+use Rattle.window.proofs.Places.{padded_length}
 use native.Mathlib.Omega.{arith}
 use borrow.Author.Rules.{rules}
 use Rattle.window.proofs.keep.Statement.{statement}
@@ -39,10 +39,10 @@ same-length-4 : tie.Need-same-length-4
 same-length-4 c = search rules
 
 returns : tie.Need-returns
-unfolding messageOf
+unfolding message_of
 returns c =
     let p = c.before.before.before.before.before.before.before.before.before.requires in
-    rw c.before.before.keep.ensures (messages-laid _ _ _ _ _ _ _ _ _ p.0 p.1 p.2 p.3 (padded-length c.before.before.before.before.before.before.before.before.before.args.payload.now p.4))
+    rw c.before.before.keep.ensures (messages_laid _ _ _ _ _ _ _ _ _ p.0 p.1 p.2 p.3 (padded_length c.before.before.before.before.before.before.before.before.before.args.payload.now p.4))
 
 pub keep_spec : {M : Type 1} → statement M
 keep_spec =

@@ -4,15 +4,15 @@ use mathlib.Core.Path.{◌≡◌, refl}
 use Prim.Native.Nat.{◌-◌}
 use native.Mathlib.Omega.{arith}
 use lib.ListN.{length}
-use Rattle.group.specs.Limits.{heldMost}
-use Rattle.window.specs.Steps.{lowestUncounted}
-use Rattle.window.proofs.Scan.{missing-on, missing-found, missing-none}
+use Rattle.group.specs.Limits.{held_most}
+use Rattle.window.specs.Steps.{lowest_uncounted}
+use Rattle.window.proofs.Scan.{missing_on, missing_found, missing_none}
 use borrow.Author.Rules.{rules}
 use Rattle.window.proofs.lowest_missing.Statement.{statement}
 use Rattle.window.proofs.lowest_missing.Tie as tie
 
 abbrev invariant-loop : tie.invariant-loop
-invariant-loop counts last number₀ number = (length counts ≡ heldMost) × (lowestUncounted counts number₀.0 (last.0 - number₀.0) ≡ lowestUncounted counts number.0 (last.0 - number.0))
+invariant-loop counts last number₀ number = (length counts ≡ held_most) × (lowest_uncounted counts number₀.0 (last.0 - number₀.0) ≡ lowest_uncounted counts number.0 (last.0 - number.0))
 
 abbrev decreases-loop : tie.decreases-loop
 decreases-loop counts last number₀ number = last.0 - number.0
@@ -35,7 +35,7 @@ shared-slice-read-if2 c = let p = c.before.before.place.ensures in let l = c.bef
 returns : tie.Need-returns invariant-loop decreases-loop
 returns c =
     let l = c.before.before.before.before.before.before.before.loop in
-    missing-found _ _ l.number.0 _ l.invariant.1 (omega arith) (rw c.before.before.before.place.ensures at c.if2.true)
+    missing_found _ _ l.number.0 _ l.invariant.1 (omega arith) (rw c.before.before.before.place.ensures at c.if2.true)
 
 loop-less : tie.Need-loop-smaller invariant-loop decreases-loop
 loop-less c = omega arith
@@ -43,12 +43,12 @@ loop-less c = omega arith
 loop-again : tie.Need-loop-preserved invariant-loop decreases-loop
 loop-again c =
     let l = c.before.before.before.before.before.before.before.loop in
-    (l.invariant.0, missing-on _ _ l.number.0 _ l.invariant.1 (omega arith) (rw c.before.before.before.place.ensures at c.if2.false))
+    (l.invariant.0, missing_on _ _ l.number.0 _ l.invariant.1 (omega arith) (rw c.before.before.before.place.ensures at c.if2.false))
 
 returns-2 : tie.Need-returns-2 invariant-loop decreases-loop
 returns-2 c =
     let l = c.before.before.before.loop in
-    missing-none _ _ l.number.0 _ l.invariant.1 (omega arith)
+    missing_none _ _ l.number.0 _ l.invariant.1 (omega arith)
 
 pub lowest-missing-spec : {M : Type 1} → statement M
 lowest-missing-spec =

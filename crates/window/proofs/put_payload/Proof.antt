@@ -2,7 +2,7 @@
 -- Assumes nothing.
 use mathlib.Core.Path.{◌≡◌}
 use lib.ListN.{length, take, drop, length-take, length-drop}
-use Rattle.window.proofs.Places.{front-part}
+use Rattle.window.proofs.Places.{front_part}
 use native.Mathlib.Omega.{arith}
 use borrow.Author.Rules.{rules}
 use Rattle.window.proofs.put_payload.Statement.{statement}
@@ -32,7 +32,7 @@ same_length c = search rules
 returns : tie.Need-returns
 returns c =
     let a = c.before.before.before.before.before.before.before.args in
-    let e = front-part a.payloads.now a.at a.size c.before.before.before.before.before.before.before.requires.1 in
+    let e = front_part a.payloads.now a.at a.size c.before.before.before.before.before.before.before.requires.1 in
     record { size = rw (← e) (simp (length-take, length-drop) (omega arith)); lent = rw (← e) c.before.before.copy.ensures }
 
 pub put-payload-spec : {M : Type 1} → statement M

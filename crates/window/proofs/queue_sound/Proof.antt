@@ -3,22 +3,22 @@
 use mathlib.Core.Path.{◌≡◌}
 use Prim.Native.Nat.{◌+◌, ◌-◌, ◌*◌, ◌≤◌}
 use lib.ListN.{length}
-use Rattle.group.specs.Fold.{allAbove}
-use Rattle.group.specs.Limits.{waitingMost, payloadMost}
-use Rattle.group.proofs.Fold.{above_on, above-off, above-done}
-use Rattle.store.specs.Places.{messagesIn, mask_of}
-use Rattle.window.specs.Sound.{queueSound}
-use Rattle.window.proofs.Places.{queue-in}
+use Rattle.group.specs.Fold.{all_above}
+use Rattle.group.specs.Limits.{waiting_most, payload_most}
+use Rattle.group.proofs.Fold.{above_on, above_off, above_done}
+use Rattle.store.specs.Places.{messages_in, mask_of}
+use Rattle.window.specs.Sound.{queue_sound}
+use Rattle.window.proofs.Places.{queue_in}
 use native.Mathlib.Omega.{arith}
 use borrow.Author.Rules.{rules}
 use Rattle.window.proofs.queue_sound.Statement.{statement}
 use Rattle.window.proofs.queue_sound.Tie as tie
 
 abbrev invariant-loop : tie.invariant-loop
-invariant-loop number submitted taken counts originators lengths payloads mask i₀ i = (length counts ≡ waitingMost) × (length originators ≡ waitingMost) × (length lengths ≡ waitingMost) × (length payloads ≡ waitingMost * payloadMost) × (mask ≡ mask_of) × (allAbove (queueSound number (messagesIn counts originators lengths payloads) submitted) taken waitingMost ≡ allAbove (queueSound number (messagesIn counts originators lengths payloads) submitted) (taken + i) (waitingMost - i))
+invariant-loop number submitted taken counts originators lengths payloads mask i₀ i = (length counts ≡ waiting_most) × (length originators ≡ waiting_most) × (length lengths ≡ waiting_most) × (length payloads ≡ waiting_most * payload_most) × (mask ≡ mask_of) × (all_above (queue_sound number (messages_in counts originators lengths payloads) submitted) taken waiting_most ≡ all_above (queue_sound number (messages_in counts originators lengths payloads) submitted) (taken + i) (waiting_most - i))
 
 abbrev decreases-loop : tie.decreases-loop
-decreases-loop number submitted taken counts originators lengths payloads mask i₀ i = waitingMost - i
+decreases-loop number submitted taken counts originators lengths payloads mask i₀ i = waiting_most - i
 
 loop-holds : tie.Need-loop-init invariant-loop decreases-loop
 loop-holds c = let e : c.before.before.before.before.before.args.taken + 0 ≡ c.before.before.before.before.before.args.taken = omega arith in let p = c.before.before.before.before.before.requires in (p.1, p.2, p.3, p.4, p.5, rw e)
@@ -57,18 +57,18 @@ loop-again : tie.Need-loop-preserved invariant-loop decreases-loop
 loop-again c =
     let l = c.before.before.before.before.before.before.before.loop in
     let p = c.before.before.before.before.before.queue-place.ensures in
-    (l.invariant.0, l.invariant.1, l.invariant.2, l.invariant.3, l.invariant.4, above_on _ _ _ l.i l.invariant.5 c.before.queued-sound.result (omega arith) (queue-in _ _ _ _ _ (omega (arith, p, l.invariant.0)) _ _ _ _ p c.before.queued-sound.ensures) c.if1.true)
+    (l.invariant.0, l.invariant.1, l.invariant.2, l.invariant.3, l.invariant.4, above_on _ _ _ l.i l.invariant.5 c.before.queued-sound.result (omega arith) (queue_in _ _ _ _ _ (omega (arith, p, l.invariant.0)) _ _ _ _ p c.before.queued-sound.ensures) c.if1.true)
 
 returns : tie.Need-returns invariant-loop decreases-loop
 returns c =
     let l = c.before.before.before.before.before.before.before.loop in
     let p = c.before.before.before.before.before.queue-place.ensures in
-    above-off _ _ _ l.i l.invariant.5 c.before.queued-sound.result (omega arith) (queue-in _ _ _ _ _ (omega (arith, p, l.invariant.0)) _ _ _ _ p c.before.queued-sound.ensures) c.if1.false
+    above_off _ _ _ l.i l.invariant.5 c.before.queued-sound.result (omega arith) (queue_in _ _ _ _ _ (omega (arith, p, l.invariant.0)) _ _ _ _ p c.before.queued-sound.ensures) c.if1.false
 
 returns-2 : tie.Need-returns-2 invariant-loop decreases-loop
 returns-2 c =
     let l = c.before.loop in
-    above-done _ _ _ l.i l.invariant.5 (omega arith)
+    above_done _ _ _ l.i l.invariant.5 (omega arith)
 
 pub queue-sound-spec : {M : Type 1} → statement M
 queue-sound-spec =

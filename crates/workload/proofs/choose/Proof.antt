@@ -2,7 +2,7 @@
 -- Assumes nothing.
 use Rattle.group.specs.Choice.{if◌then◌else◌}
 use Rattle.workload.specs.Choice.{chosen}
-use Rattle.workload.specs.Steps.{eventIn}
+use Rattle.workload.specs.Steps.{event_in}
 use Rattle.workload.proofs.Choosing.{chosen_last}
 use borrow.Author.Rules.{rules}
 use Rattle.workload.proofs.choose.Statement.{statement}
@@ -36,11 +36,11 @@ returns : tie.Need-returns
 returns c = rw c.before.match.keys1 c.choose-submit.ensures
 
 returns-2 : tie.Need-returns-2
-unfolding chosen eventIn if◌then◌else◌
+unfolding chosen event_in if◌then◌else◌
 returns-2 c = rw c.match.keys2
 
 returns-3 : tie.Need-returns-3
-unfolding chosen eventIn if◌then◌else◌
+unfolding chosen event_in if◌then◌else◌
 returns-3 c =
     let d = c.before.before.draw.ensures in
     rw (c.before.before.before.match.keys3, d.0, d.1.0)
@@ -52,7 +52,7 @@ returns-5 : tie.Need-returns-5
 returns-5 c = search rules
 
 returns-6 : tie.Need-returns-6
-unfolding eventIn
+unfolding event_in
 returns-6 c =
     let d = c.before.draw2.ensures in
     let a = c.before.before.before.before.args in

@@ -4,7 +4,7 @@ use mathlib.Core.Path.{◌≡◌}
 use native.Mathlib.Omega.{arith}
 use Rattle.group.specs.Choice.{if◌then◌else◌}
 use Rattle.workload.specs.Choice.{chosen}
-use Rattle.workload.specs.Steps.{eventIn}
+use Rattle.workload.specs.Steps.{event_in}
 use borrow.Author.Rules.{rules}
 use Rattle.workload.proofs.choose_call.Statement.{statement}
 use Rattle.workload.proofs.choose_call.Tie as tie
@@ -13,19 +13,19 @@ draw-requires : tie.Need-draw-requires
 draw-requires c κs = search rules
 
 returns : tie.Need-returns
-unfolding chosen eventIn if◌then◌else◌
+unfolding chosen event_in if◌then◌else◌
 returns c =
     let d = c.before.before.draw.ensures in
     rw (c.match.keys1, d.0, d.1.0)
 
 returns-2 : tie.Need-returns-2
-unfolding chosen eventIn if◌then◌else◌
+unfolding chosen event_in if◌then◌else◌
 returns-2 c =
     let d = c.before.before.draw.ensures in
     rw (c.match.keys2, d.0, d.1.0)
 
 returns-3 : tie.Need-returns-3
-unfolding chosen eventIn if◌then◌else◌
+unfolding chosen event_in if◌then◌else◌
 returns-3 c =
     let d = c.before.before.draw.ensures in
     let p = c.before.before.before.requires in

@@ -2,7 +2,7 @@
 -- Assumes nothing.
 use Rattle.group.specs.Choice.{if◌then◌else◌}
 use Rattle.workload.specs.Choice.{chosen}
-use Rattle.workload.specs.Steps.{eventIn}
+use Rattle.workload.specs.Steps.{event_in}
 use borrow.Author.Rules.{rules}
 use Rattle.workload.proofs.choose_hand.Statement.{statement}
 use Rattle.workload.proofs.choose_hand.Tie as tie
@@ -17,7 +17,7 @@ draw-requires-2 : tie.Need-draw-requires-2
 draw-requires-2 c κs = search rules
 
 returns : tie.Need-returns
-unfolding chosen eventIn if◌then◌else◌
+unfolding chosen event_in if◌then◌else◌
 returns c =
     let d = c.before.before.draw.ensures in
     let e = c.before.draw2.ensures in

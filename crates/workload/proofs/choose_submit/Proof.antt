@@ -2,7 +2,7 @@
 -- Assumes nothing.
 use Rattle.group.specs.Choice.{if◌then◌else◌}
 use Rattle.workload.specs.Choice.{chosen}
-use Rattle.workload.specs.Steps.{eventIn}
+use Rattle.workload.specs.Steps.{event_in}
 use borrow.Author.Rules.{rules}
 use Rattle.workload.proofs.choose_submit.Statement.{statement}
 use Rattle.workload.proofs.choose_submit.Tie as tie
@@ -17,7 +17,7 @@ cast-t6 : tie.Need-overflow-cast-t6
 cast-t6 c = search rules
 
 returns : tie.Need-returns
-unfolding chosen eventIn if◌then◌else◌
+unfolding chosen event_in if◌then◌else◌
 returns c =
     let d = c.before.before.before.draw.ensures in
     let e = c.before.before.draw2.ensures in

@@ -1,7 +1,7 @@
 -- Each event as the definition has it.
 -- Assumes nothing.
-use Rattle.workload.specs.Line.{eventFields}
-use Rattle.workload.specs.Steps.{eventIn}
+use Rattle.workload.specs.Line.{event_fields}
+use Rattle.workload.specs.Steps.{event_in}
 use borrow.Author.Rules.{rules}
 use Rattle.workload.proofs.put_event.Statement.{statement}
 use Rattle.workload.proofs.put_event.Tie as tie
@@ -58,56 +58,56 @@ same_length : tie.Need-same-length
 same_length c = search rules
 
 returns : tie.Need-returns
-unfolding eventIn eventFields
+unfolding event_in event_fields
 returns c = rw c.before.before.before.before.before.event.given.1 c.before.before.put-submit.ensures
 
 same-length-2 : tie.Need-same-length-2
 same-length-2 c = search rules
 
 returns-2 : tie.Need-returns-2
-unfolding eventIn eventFields
+unfolding event_in event_fields
 returns-2 c = rw c.before.before.before.before.before.event2.given.1 c.before.before.put_one.ensures
 
 same-length-3 : tie.Need-same-length-3
 same-length-3 c = search rules
 
 returns-3 : tie.Need-returns-3
-unfolding eventIn eventFields
+unfolding event_in event_fields
 returns-3 c = rw c.before.before.before.before.before.event3.given.1 c.before.before.put-one2.ensures
 
 same-length-4 : tie.Need-same-length-4
 same-length-4 c = search rules
 
 returns-4 : tie.Need-returns-4
-unfolding eventIn eventFields
+unfolding event_in event_fields
 returns-4 c = rw c.before.before.before.before.before.event4.given.1 c.before.before.put-one3.ensures
 
 same-length-5 : tie.Need-same-length-5
 same-length-5 c = search rules
 
 returns-5 : tie.Need-returns-5
-unfolding eventIn eventFields
+unfolding event_in event_fields
 returns-5 c = rw c.before.before.before.before.enum_told.given.1 c.before.before.put-poll.ensures
 
 same-length-6 : tie.Need-same-length-6
 same-length-6 c = search rules
 
 returns-6 : tie.Need-returns-6
-unfolding eventIn eventFields
+unfolding event_in event_fields
 returns-6 c = rw c.before.before.before.before.before.event5.given.1 c.before.before.put-one4.ensures
 
 same-length-7 : tie.Need-same-length-7
 same-length-7 c = search rules
 
 returns-7 : tie.Need-returns-7
-unfolding eventIn eventFields
+unfolding event_in event_fields
 returns-7 c = rw c.before.before.before.before.before.event6.given.1 c.before.before.put_two.ensures
 
 same-length-8 : tie.Need-same-length-8
 same-length-8 c = search rules
 
 returns-8 : tie.Need-returns-8
-unfolding eventIn eventFields
+unfolding event_in event_fields
 returns-8 c = rw c.before.before.before.before.before.event7.given.1 c.before.before.put-one5.ensures
 
 pub put-event-spec : {M : Type 1} → statement M

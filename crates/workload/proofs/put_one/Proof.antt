@@ -1,8 +1,8 @@
 -- A letter, a number and the line feed, one behind the other.
 -- Assumes nothing.
 use mathlib.Core.List.{[], ◌∷◌}
-use Rattle.text.specs.Written.{decimalOf}
-use Rattle.text.proofs.Pieces.{laid-line}
+use Rattle.text.specs.Written.{decimal_of}
+use Rattle.text.proofs.Pieces.{laid_line}
 use borrow.Author.Rules.{rules}
 use Rattle.workload.proofs.put_one.Statement.{statement}
 use Rattle.workload.proofs.put_one.Tie as tie
@@ -22,7 +22,7 @@ same_length c = search rules
 returns : tie.Need-returns
 returns c =
     let a = c.before.before.before.before.before.before.before.before.before.before.before.before.before.args in
-    laid-line (a.letter ∷ []) (decimalOf a.x ∷ []) c.before.before.before.before.before.before.before.before.before.before.put.ensures c.before.before.before.before.before.before.put-number.ensures.0 c.before.before.put2.ensures
+    laid_line (a.letter ∷ []) (decimal_of a.x ∷ []) c.before.before.before.before.before.before.before.before.before.before.put.ensures c.before.before.before.before.before.before.put-number.ensures.0 c.before.before.put2.ensures
 
 pub put-one-spec : {M : Type 1} → statement M
 put-one-spec =

@@ -1,7 +1,7 @@
 -- A letter and the line feed.
 -- Assumes nothing.
 use mathlib.Core.List.{[], ◌∷◌}
-use Rattle.text.specs.Text.{text_of, lineFeed}
+use Rattle.text.specs.Text.{text_of, line_feed}
 use Rattle.text.specs.Written.{spaced}
 use Rattle.text.proofs.Pieces.{laid_then}
 use borrow.Author.Rules.{rules}
@@ -19,7 +19,7 @@ same_length c = search rules
 
 returns : tie.Need-returns
 unfolding spaced
-returns c = laid_then (text_of "P") (lineFeed ∷ []) c.before.before.before.before.before.before.put.ensures c.before.before.put2.ensures
+returns c = laid_then (text_of "P") (line_feed ∷ []) c.before.before.before.before.before.before.put.ensures c.before.before.put2.ensures
 
 pub put-poll-spec : {M : Type 1} → statement M
 put-poll-spec = tie.close (tie.spec put-requires put-requires-2 same_length returns)

@@ -2,8 +2,8 @@
 -- Assumes nothing.
 use mathlib.Core.List.{[], ◌∷◌}
 use Rattle.text.specs.Text.{text_of}
-use Rattle.text.specs.Written.{decimalOf, payloadText}
-use Rattle.text.proofs.Pieces.{laid-fields, laid-line}
+use Rattle.text.specs.Written.{decimal_of, payload_text}
+use Rattle.text.proofs.Pieces.{laid_fields, laid_line}
 use borrow.Author.Rules.{rules}
 use Rattle.workload.proofs.put_submit.Statement.{statement}
 use Rattle.workload.proofs.put_submit.Tie as tie
@@ -29,9 +29,9 @@ same_length c = search rules
 returns : tie.Need-returns
 returns c =
     let a = c.before.before.before.before.before.before.before.before.before.before.before.before.before.before.before.before.before.before.args in
-    let digits = payloadText (a.byte ∷ []) in
-    let fields = laid-fields (decimalOf a.member ∷ []) (digits ∷ []) c.before.before.before.before.before.before.before.before.before.before.before.put-number.ensures.0 c.before.before.before.before.before.before.put_payload.ensures.0 in
-    laid-line (text_of "S") (decimalOf a.member ∷ digits ∷ []) c.before.before.before.before.before.before.before.before.before.before.before.before.before.before.before.put.ensures fields c.before.before.put2.ensures
+    let digits = payload_text (a.byte ∷ []) in
+    let fields = laid_fields (decimal_of a.member ∷ []) (digits ∷ []) c.before.before.before.before.before.before.before.before.before.before.before.put-number.ensures.0 c.before.before.before.before.before.before.put_payload.ensures.0 in
+    laid_line (text_of "S") (decimal_of a.member ∷ digits ∷ []) c.before.before.before.before.before.before.before.before.before.before.before.before.before.before.before.put.ensures fields c.before.before.put2.ensures
 
 pub put-submit-spec : {M : Type 1} → statement M
 put-submit-spec =

@@ -1,8 +1,8 @@
 -- A letter, two numbers and the line feed, one behind the other.
 -- Assumes nothing.
 use mathlib.Core.List.{[], ◌∷◌}
-use Rattle.text.specs.Written.{decimalOf}
-use Rattle.text.proofs.Pieces.{laid-fields, laid-line}
+use Rattle.text.specs.Written.{decimal_of}
+use Rattle.text.proofs.Pieces.{laid_fields, laid_line}
 use borrow.Author.Rules.{rules}
 use Rattle.workload.proofs.put_two.Statement.{statement}
 use Rattle.workload.proofs.put_two.Tie as tie
@@ -25,8 +25,8 @@ same_length c = search rules
 returns : tie.Need-returns
 returns c =
     let a = c.before.before.before.before.before.before.before.before.before.before.before.before.before.before.before.before.before.args in
-    let fields = laid-fields (decimalOf a.x ∷ []) (decimalOf a.y ∷ []) c.before.before.before.before.before.before.before.before.before.before.put-number.ensures.0 c.before.before.before.before.before.before.put-number2.ensures.0 in
-    laid-line (a.letter ∷ []) (decimalOf a.x ∷ decimalOf a.y ∷ []) c.before.before.before.before.before.before.before.before.before.before.before.before.before.before.put.ensures fields c.before.before.put2.ensures
+    let fields = laid_fields (decimal_of a.x ∷ []) (decimal_of a.y ∷ []) c.before.before.before.before.before.before.before.before.before.before.put-number.ensures.0 c.before.before.before.before.before.before.put-number2.ensures.0 in
+    laid_line (a.letter ∷ []) (decimal_of a.x ∷ decimal_of a.y ∷ []) c.before.before.before.before.before.before.before.before.before.before.before.before.before.before.put.ensures fields c.before.before.put2.ensures
 
 pub put-two-spec : {M : Type 1} → statement M
 put-two-spec =

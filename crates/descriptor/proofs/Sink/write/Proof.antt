@@ -1,12 +1,12 @@
 -- A sink that failed was handed nothing; another was handed the whole text, whatever it took of it.
 -- Assumes nothing.
-use Rattle.descriptor.proofs.Laws.{takes-nothing, takes_all}
+use Rattle.descriptor.proofs.Laws.{takes_nothing, takes_all}
 use Rattle.std.proofs.Common.{rules}
 use Rattle.descriptor.proofs.Sink.write.Statement.{statement}
 use Rattle.descriptor.proofs.Sink.write.Tie as tie
 
 returns : tie.Need-returns
-returns c = takes-nothing _ _ (search rules)
+returns c = takes_nothing _ _ (search rules)
 
 over-requires : tie.Need-over-requires
 over-requires c κs = search rules

@@ -2,7 +2,7 @@
 -- Assumes nothing.
 use Rattle.std.proofs.Common.{◌≡◌, ◌-◌, length, drop, sym, refl, ◌∙◌, rules}
 use Rattle.descriptor.specs.Tally.{tallied}
-use Rattle.descriptor.proofs.Laws.{tallied-step, tallied-end}
+use Rattle.descriptor.proofs.Laws.{tallied_step, tallied_end}
 use Rattle.descriptor.proofs.Tally.over.Statement.{statement}
 use Rattle.descriptor.proofs.Tally.over.Tie as tie
 
@@ -31,14 +31,14 @@ loop-again : tie.Need-loop-preserved invariant-loop decreases-loop
 loop-again c =
     let a = c.before.before.before.before.before.args in
     let l = c.before.before.before.loop in
-    let s = tallied-step l.self a.bytes.now l.i c.before.before.loop-test.true in
+    let s = tallied_step l.self a.bytes.now l.i c.before.before.loop-test.true in
     rw c.with.ensures (sym s ∙ l.invariant)
 
 returns : tie.Need-returns invariant-loop decreases-loop
 returns c =
     let a = c.before.before.before.args in
     let l = c.before.loop in
-    sym (tallied-end l.self a.bytes.now l.i c.loop-test.false) ∙ l.invariant
+    sym (tallied_end l.self a.bytes.now l.i c.loop-test.false) ∙ l.invariant
 
 pub over-spec : {M : Type 1} → statement M
 over-spec =

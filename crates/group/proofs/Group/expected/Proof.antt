@@ -3,7 +3,7 @@
 use mathlib.Core.Path.{ap, ◌∙◌}
 use Prim.Native.Nat.{ℕ}
 use borrow.Author.Rules.{rules}
-use Rattle.group.specs.Members.{lowestOf, expectedOf}
+use Rattle.group.specs.Members.{lowest_of, expected_of}
 use Rattle.group.proofs.Group.expected.Statement.{statement}
 use Rattle.group.proofs.Group.expected.Tie as tie
 
@@ -14,8 +14,8 @@ lowest-of-requires : tie.Need-lowest-of-requires
 lowest-of-requires c κs = search rules
 
 returns : tie.Need-returns
-unfolding expectedOf
-returns c = c.lowest-of.ensures ∙ ap (λ (mask : ℕ). lowestOf c.before.before.args.self.resilience mask) c.before.others.ensures
+unfolding expected_of
+returns c = c.lowest-of.ensures ∙ ap (λ (mask : ℕ). lowest_of c.before.before.args.self.resilience mask) c.before.others.ensures
 
 pub expected-spec : {M : Type 1} → statement M
 expected-spec = tie.close (tie.spec others-requires lowest-of-requires returns)

@@ -3,7 +3,7 @@
 use mathlib.Core.Path.{ap}
 use lib.Count.{ones}
 use borrow.Author.Rules.{rules}
-use Rattle.group.specs.Members.{neededOf}
+use Rattle.group.specs.Members.{needed_of}
 use Rattle.group.proofs.Group.needed.Statement.{statement}
 use Rattle.group.proofs.Group.needed.Tie as tie
 
@@ -11,7 +11,7 @@ expected-requires : tie.Need-expected-requires
 expected-requires c κs = search rules
 
 returns : tie.Need-returns
-unfolding neededOf
+unfolding needed_of
 returns c = ap ones c.expected.ensures
 
 pub needed-spec : {M : Type 1} → statement M

@@ -2,19 +2,19 @@
 -- Assumes nothing.
 use borrow.Author.Rules.{rules}
 use Rattle.group.proofs.Choice.{choices}
-use Rattle.group.specs.Members.{groupSound}
+use Rattle.group.specs.Members.{group_sound}
 use Rattle.group.proofs.Group.sound.Statement.{statement}
 use Rattle.group.proofs.Group.sound.Tie as tie
 
 returns : tie.Need-returns
-unfolding groupSound
+unfolding group_sound
 returns c = search (choices, rules) depth 9
 
 cast-if2 : tie.Need-overflow-cast-if2
 cast-if2 c = search rules
 
 returns-2 : tie.Need-returns-2
-unfolding groupSound
+unfolding group_sound
 returns-2 c = search (choices, rules) depth 9
 
 all-of-requires : tie.Need-all-of-requires
@@ -27,15 +27,15 @@ is-in-requires : tie.Need-is-in-requires
 is-in-requires c κs = search rules
 
 returns-3 : tie.Need-returns-3
-unfolding groupSound
+unfolding group_sound
 returns-3 c = rw (← c.before.before.before.all_of.ensures) (search (choices, rules) depth 9)
 
 returns-4 : tie.Need-returns-4
-unfolding groupSound
+unfolding group_sound
 returns-4 c = rw (← c.before.before.all_of.ensures) (search (choices, rules) depth 9)
 
 returns-5 : tie.Need-returns-5
-unfolding groupSound
+unfolding group_sound
 returns-5 c = search (choices, rules) depth 9
 
 pub sound-spec : {M : Type 1} → statement M

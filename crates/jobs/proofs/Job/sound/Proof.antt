@@ -1,7 +1,7 @@
 -- Each test is one of the definition's.
 -- Assumes nothing.
 use Rattle.group.proofs.Choice.{choices}
-use Rattle.jobs.specs.Sound.{jobSound}
+use Rattle.jobs.specs.Sound.{job_sound}
 use borrow.Author.Rules.{rules}
 use Rattle.jobs.proofs.Job.sound.Statement.{statement}
 use Rattle.jobs.proofs.Job.sound.Tie as tie
@@ -13,15 +13,15 @@ zero-from-requires : tie.Need-zero-from-requires
 zero-from-requires c κs = search rules
 
 returns : tie.Need-returns
-unfolding jobSound
+unfolding job_sound
 returns c = search (choices, rules) depth 9
 
 returns-2 : tie.Need-returns-2
-unfolding jobSound
+unfolding job_sound
 returns-2 c = search (choices, rules) depth 9
 
 returns-3 : tie.Need-returns-3
-unfolding jobSound
+unfolding job_sound
 returns-3 c = search (choices, rules) depth 9
 
 pub sound-spec : {M : Type 1} → statement M

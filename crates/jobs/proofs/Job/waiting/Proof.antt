@@ -5,9 +5,9 @@ use mathlib.Core.List.{List}
 use Prim.Native.Nat.{ℕ, ◌-◌}
 use lib.ListN.{length, drop, replicate, length-drop}
 use Rattle.group.specs.Lent.{front}
-use Rattle.group.specs.Limits.{jobMost}
-use Rattle.jobs.specs.Job.{waitingState, waitingJob}
-use Rattle.jobs.proofs.Forms.{whole-tail}
+use Rattle.group.specs.Limits.{job_most}
+use Rattle.jobs.specs.Job.{waiting_state, waiting_job}
+use Rattle.jobs.proofs.Forms.{whole_tail}
 use borrow.Author.Rules.{rules}
 use Rattle.jobs.proofs.Job.waiting.Statement.{statement}
 use Rattle.jobs.proofs.Job.waiting.Tie as tie
@@ -31,12 +31,12 @@ sub-t11 : tie.Need-overflow-sub-t11
 sub-t11 c = search rules
 
 returns : tie.Need-returns
-unfolding waitingJob
+unfolding waiting_job
 returns c =
     let p = c.before.before.before.before.before.args.payload.now in
-    let e = c.before.copy.ensures ∙ ap (λ (part : List ℕ). front part (replicate jobMost 0)) (whole-tail p) in
+    let e = c.before.copy.ensures ∙ ap (λ (part : List ℕ). front part (replicate job_most 0)) (whole_tail p) in
     let n : length p - 1 ≡ length (drop 1 p) = sym (length-drop 1 p) in
-    λ i. record { state = waitingState; member = record { 0 = 0 }; length = n i; bytes = e i }
+    λ i. record { state = waiting_state; member = record { 0 = 0 }; length = n i; bytes = e i }
 
 pub waiting-spec : {M : Type 1} → statement M
 waiting-spec =

@@ -4,8 +4,8 @@ use mathlib.Core.Path.{◌≡◌, ap, ◌∙◌}
 use Prim.Native.Nat.{ℕ, ◌+◌, ◌-◌}
 use native.Mathlib.Omega.{arith}
 use lib.ListN.{take, drop}
-use Rattle.journal.specs.Limits.{blockSize}
-use Rattle.journal.specs.Walk.{aloneIn}
+use Rattle.journal.specs.Limits.{block_size}
+use Rattle.journal.specs.Walk.{alone_in}
 use borrow.Author.Rules.{rules}
 use Rattle.journal.proofs.Cursor.at.Statement.{statement}
 use Rattle.journal.proofs.Cursor.at.Tie as tie
@@ -28,8 +28,8 @@ alone-requires c κs = search rules
 returns : tie.Need-returns
 returns c =
     let a = c.before.before.before.args in
-    let e : a.base + blockSize - a.base ≡ blockSize = omega arith in
-    c.alone.ensures ∙ ap (λ (n : ℕ). aloneIn (take n (drop a.base a.journal.now)) a.base) e
+    let e : a.base + block_size - a.base ≡ block_size = omega arith in
+    c.alone.ensures ∙ ap (λ (n : ℕ). alone_in (take n (drop a.base a.journal.now)) a.base) e
 
 pub at-spec : {M : Type 1} → statement M
 at-spec =

@@ -3,9 +3,9 @@
 use mathlib.Core.Path.{◌≡◌, refl, sym, ap, ◌∙◌}
 use native.Mathlib.Omega.{arith}
 use Prim.Native.Nat.{ℕ, ◌+◌, ◌-◌}
-use Rattle.journal.specs.Limits.{blockSize}
+use Rattle.journal.specs.Limits.{block_size}
 use Rattle.journal.specs.Walk.{entered_in}
-use Rattle.journal.proofs.Cursors.{walk_none, walk_here, walk-last, walk-on}
+use Rattle.journal.proofs.Cursors.{walk_none, walk_here, walk_last, walk_on}
 use borrow.Author.Rules.{rules}
 use Rattle.journal.proofs.Cursor.next.Statement.{statement}
 use Rattle.journal.proofs.Cursor.next.Tie as tie
@@ -31,11 +31,11 @@ given-requires c κs = search rules
 returns-2 : tie.Need-returns-2
 returns-2 c =
     let a = c.before.before.before.before.before.before.before.args in
-    let e : a.self.base + blockSize - a.self.base ≡ blockSize = omega arith in
+    let e : a.self.base + block_size - a.self.base ≡ block_size = omega arith in
     rw e at c.given.ensures ∙ walk_here a.self a.journal.now (search rules) (search rules)
 
 returns-3 : tie.Need-returns-3
-returns-3 c = let a = c.before.before.before.before.before.before.before.args in walk-last a.self a.journal.now (search rules) (search rules) c.if3.true
+returns-3 c = let a = c.before.before.before.before.before.before.before.args in walk_last a.self a.journal.now (search rules) (search rules) c.if3.true
 
 add-end : tie.Need-overflow-add-end
 add-end c = search rules
@@ -68,9 +68,9 @@ given-requires-2 c κs = rw c.before.entered.ensures (search rules)
 returns-4 : tie.Need-returns-4
 returns-4 c =
     let a = c.before.before.before.before.before.before.before.before.before.before.before.before.args in
-    let next = a.self.base + blockSize in
-    let e : next + blockSize - next ≡ blockSize = omega arith in
-    rw (c.before.before.entered.ensures, e) at c.given2.ensures ∙ walk-on a.self a.journal.now (search rules) (search rules)
+    let next = a.self.base + block_size in
+    let e : next + block_size - next ≡ block_size = omega arith in
+    rw (c.before.before.entered.ensures, e) at c.given2.ensures ∙ walk_on a.self a.journal.now (search rules) (search rules)
 
 pub next-spec : {M : Type 1} → statement M
 next-spec =

@@ -1,8 +1,8 @@
 -- The definition's two cases, and the tests of the second.
 -- Assumes nothing.
 use mathlib.Core.Path.{◌≡◌, refl, sym, ap, ◌∙◌}
-use Rattle.group.proofs.Choice.{if-true, if-false}
-use Rattle.journal.specs.Block.{formRight}
+use Rattle.group.proofs.Choice.{if_true, if_false}
+use Rattle.journal.specs.Block.{form_right}
 use borrow.Author.Rules.{rules}
 use Rattle.journal.proofs.Tail.form_right.Statement.{statement}
 use Rattle.journal.proofs.Tail.form_right.Tie as tie
@@ -23,18 +23,18 @@ u32-at-requires-2 : tie.Need-u32-at-requires-2
 u32-at-requires-2 c κs = search rules
 
 returns : tie.Need-returns
-unfolding formRight
+unfolding form_right
 returns c =
     rw c.before.before.before.enum-told2.given.1
-    (if-true c.before.before.before.before.before.before.args.self.free _ _ _ c.before.before.if1.true (rw (c.before.u32-at.ensures, c.u32-at2.ensures)))
+    (if_true c.before.before.before.before.before.before.args.self.free _ _ _ c.before.before.if1.true (rw (c.before.u32-at.ensures, c.u32-at2.ensures)))
 
 returns-2 : tie.Need-returns-2
-unfolding formRight
+unfolding form_right
 returns-2 c = rw c.before.enum_told.given.1 c.begins.ensures
 
 returns-3 : tie.Need-returns-3
-unfolding formRight
-returns-3 c = rw c.before.enum-told2.given.1 (if-false c.before.before.before.before.args.self.free _ _ _ c.if1.false refl)
+unfolding form_right
+returns-3 c = rw c.before.enum-told2.given.1 (if_false c.before.before.before.before.args.self.free _ _ _ c.if1.false refl)
 
 pub form-right-spec : {M : Type 1} → statement M
 form-right-spec =

@@ -1,8 +1,8 @@
--- The tests of the code are those of `contentRight`; a number that may follow is at least 1.
+-- The tests of the code are those of `content_right`; a number that may follow is at least 1.
 -- Assumes nothing.
 use mathlib.Core.Path.{◌≡◌, refl, sym, ap, ◌∙◌}
-use Rattle.journal.proofs.Sound.{follows-positive}
-use Rattle.journal.proofs.Walking.{content-none, content-apart, content-is}
+use Rattle.journal.proofs.Sound.{follows_positive}
+use Rattle.journal.proofs.Walking.{content_none, content_apart, content_is}
 use borrow.Author.Rules.{rules}
 use Rattle.journal.proofs.Tail.last_in.Statement.{statement}
 use Rattle.journal.proofs.Tail.last_in.Tie as tie
@@ -19,7 +19,7 @@ cast-records c = search rules
 returns : tie.Need-returns
 returns c =
     let a = c.before.before.before.before.args in
-    content-none a.self a.block.now (rw c.before.u16-at.ensures at c.if1.true)
+    content_none a.self a.block.now (rw c.before.u16-at.ensures at c.if1.true)
 
 allows-requires : tie.Need-allows-requires
 allows-requires c κs = search rules
@@ -27,7 +27,7 @@ allows-requires c κs = search rules
 sub-last-number : tie.Need-overflow-sub-last-number
 sub-last-number c =
     let a = c.before.before.before.before.before.before.args in
-    let f = follows-positive a.self c.before.before.before.before.u32-at.result (sym c.before.allows.ensures ∙ c.if2.true) in
+    let f = follows_positive a.self c.before.before.before.before.u32-at.result (sym c.before.allows.ensures ∙ c.if2.true) in
     search rules
 
 last-number-requires : tie.Need-last-number-requires
@@ -40,13 +40,13 @@ returns-2 c =
     let records = c.before.before.before.before.u16-at.ensures in
     let f = sym c.before.before.allows.ensures ∙ c.before.if2.true in
     rw (first, records, c.before.before.before.before.before.before.before.requires.1) at c.last-number.ensures
-    ∙ content-is a.self a.block.now (rw records at c.before.before.before.if1.false) (rw first at f)
+    ∙ content_is a.self a.block.now (rw records at c.before.before.before.if1.false) (rw first at f)
 
 returns-3 : tie.Need-returns-3
 returns-3 c =
     let a = c.before.before.before.before.before.before.args in
     let f = sym c.before.allows.ensures ∙ c.if2.false in
-    content-apart a.self a.block.now (rw c.before.before.before.before.u32-at.ensures at f)
+    content_apart a.self a.block.now (rw c.before.before.before.before.u32-at.ensures at f)
 
 pub last-in-spec : {M : Type 1} → statement M
 last-in-spec =

@@ -2,7 +2,7 @@
 -- Assumes nothing.
 use mathlib.Core.Path.{◌≡◌, sym, ◌∙◌}
 use Rattle.group.proofs.Choice.{choices, tests}
-use Rattle.journal.specs.Write.{allowed, writeVerdict}
+use Rattle.journal.specs.Write.{allowed, write_verdict}
 use borrow.Author.Rules.{rules}
 use Rattle.journal.proofs.Writer.ask.Statement.{statement}
 use Rattle.journal.proofs.Writer.ask.Tie as tie
@@ -17,7 +17,7 @@ allows-requires : tie.Need-allows-requires
 allows-requires c κs = search rules
 
 returns : tie.Need-returns
-unfolding allowed writeVerdict
+unfolding allowed write_verdict
 returns c =
     let s = sym c.before.before.before.before.before.before.sound.ensures ∙ c.before.before.before.before.before.if1.true in
     let a = sym c.before.before.before.before.allowed.ensures ∙ c.before.before.before.if2.true in
@@ -25,21 +25,21 @@ returns c =
     search (choices, tests, rules) depth 9
 
 returns-2 : tie.Need-returns-2
-unfolding allowed writeVerdict
+unfolding allowed write_verdict
 returns-2 c =
     let s = sym c.before.before.before.before.before.before.sound.ensures ∙ c.before.before.before.before.before.if1.true in
     let f = sym c.before.allows.ensures ∙ c.if3.false in
     search (choices, tests, rules) depth 9
 
 returns-3 : tie.Need-returns-3
-unfolding allowed writeVerdict
+unfolding allowed write_verdict
 returns-3 c =
     let s = sym c.before.before.before.sound.ensures ∙ c.before.before.if1.true in
     let a = sym c.before.allowed.ensures ∙ c.if2.false in
     search (choices, tests, rules) depth 9
 
 returns-4 : tie.Need-returns-4
-unfolding allowed writeVerdict
+unfolding allowed write_verdict
 returns-4 c =
     let s = sym c.before.sound.ensures ∙ c.if1.false in
     search (choices, tests, rules) depth 9

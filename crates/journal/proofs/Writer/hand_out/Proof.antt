@@ -3,9 +3,9 @@
 use mathlib.Core.Path.{sym, ap, ◌∙◌}
 use mathlib.Core.List.{List}
 use Prim.Native.Nat.{ℕ}
-use Rattle.journal.specs.Limits.{recordsAt}
+use Rattle.journal.specs.Limits.{records_at}
 use Rattle.journal.specs.Block.{framed, block_of}
-use Rattle.journal.proofs.Lists.{drop-take}
+use Rattle.journal.proofs.Lists.{drop_take}
 use borrow.Author.Rules.{rules}
 use Rattle.journal.proofs.Writer.hand_out.Statement.{statement}
 use Rattle.journal.proofs.Writer.hand_out.Tie as tie
@@ -30,7 +30,7 @@ unfolding block_of framed
 returns c =
     let a = c.before.before.before.before.before.before.before.args in
     let w = a.self in
-    c.before.before.put-block.ensures ∙ ap (block_of w.first.0 w.records) (sym (drop-take recordsAt w.used a.hand.now))
+    c.before.before.put-block.ensures ∙ ap (block_of w.first.0 w.records) (sym (drop_take records_at w.used a.hand.now))
 
 pub hand-out-spec : {M : Type 1} → statement M
 hand-out-spec =

@@ -1,9 +1,9 @@
 -- The record is laid in the block in hand (`kept-fits`), or in the next one after that block was handed out (`kept-over`).
 -- Assumes nothing.
 use mathlib.Core.Path.{◌∙◌, ap}
-use Rattle.journal.specs.Write.{messageWith}
-use Rattle.journal.specs.Block.{recordOf}
-use Rattle.journal.proofs.Keeping.{kept-fits, kept-over}
+use Rattle.journal.specs.Write.{message_with}
+use Rattle.journal.specs.Block.{record_of}
+use Rattle.journal.proofs.Keeping.{kept_fits, kept_over}
 use borrow.Author.Rules.{rules}
 use Rattle.journal.proofs.Writer.keep.Statement.{statement}
 use Rattle.journal.proofs.Writer.keep.Tie as tie
@@ -24,10 +24,10 @@ same_length : tie.Need-same-length
 same_length c = search rules
 
 returns : tie.Need-returns
-unfolding recordOf
+unfolding record_of
 returns c =
     let a = c.before.before.before.before.before.before.before.before.before.args in
-    kept-fits a.self (messageWith a.number a.originator a.count a.payload.now) _ c.before.before.before.before.before.if1.true c.before.before.before.put_record.ensures c.grown.ensures
+    kept_fits a.self (message_with a.number a.originator a.count a.payload.now) _ c.before.before.before.before.before.if1.true c.before.before.before.put_record.ensures c.grown.ensures
 
 hand-out-requires : tie.Need-hand-out-requires
 hand-out-requires c κs = search rules
@@ -48,11 +48,11 @@ same-length-3 : tie.Need-same-length-3
 same-length-3 c = search rules
 
 returns-2 : tie.Need-returns-2
-unfolding recordOf
+unfolding record_of
 returns-2 c =
     let a = c.before.before.before.before.before.before.before.before.before.before.before.before.before.before.before.before.args in
     let p = c.before.before.before.before.before.before.before.before.before.before.before.before.before.before.before.before.requires in
-    kept-over a.self (messageWith a.number a.originator a.count a.payload.now) _ c.before.before.before.before.before.before.before.before.before.before.before.before.if1.false p.1.1 p.1.2 p.0.1 p.0.2
+    kept_over a.self (message_with a.number a.originator a.count a.payload.now) _ c.before.before.before.before.before.before.before.before.before.before.before.before.if1.false p.1.1 p.1.2 p.0.1 p.0.2
     c.before.before.before.before.before.before.before.before.before.hand-out.ensures c.before.before.before.before.before.put-record2.ensures (rw c.before.after.ensures at c.grown2.ensures)
 
 pub keep_spec : {M : Type 1} → statement M

@@ -2,10 +2,10 @@
 -- Assumes nothing.
 use mathlib.Core.Path.{sym, ◌∙◌}
 use native.Mathlib.Omega.{arith}
-use Rattle.journal.specs.Write.{messageWith}
-use Rattle.journal.proofs.Keeping.{done-says, write-accepted, write-refused}
+use Rattle.journal.specs.Write.{message_with}
+use Rattle.journal.proofs.Keeping.{done_says, write_accepted, write_refused}
 use Rattle.journal.proofs.Records.{may}
-use Rattle.journal.proofs.Sound.{sound-says, accepted-says}
+use Rattle.journal.proofs.Sound.{sound_says, accepted_says}
 use borrow.Author.Rules.{rules}
 use Rattle.journal.proofs.Writer.write.Statement.{statement}
 use Rattle.journal.proofs.Writer.write.Tie as tie
@@ -19,12 +19,12 @@ enum_told c = search rules
 keep-requires : tie.Need-keep-requires
 keep-requires c κs =
     let a = c.before.before.before.before.before.before.args in
-    let (s, m, _) = accepted-says a.self (messageWith a.number a.originator a.count a.payload.now) (sym c.before.before.before.before.ask.ensures ∙ c.before.before.enum_told.given.1) in
-    let sound = sound-says a.self s in
+    let (s, m, _) = accepted_says a.self (message_with a.number a.originator a.count a.payload.now) (sym c.before.before.before.before.ask.ensures ∙ c.before.before.enum_told.given.1) in
+    let sound = sound_says a.self s in
     let low = sound.begins in
     let high = sound.ends in
     let fits = sound.fits in
-    let size = (may (messageWith a.number a.originator a.count a.payload.now) m).size in
+    let size = (may (message_with a.number a.originator a.count a.payload.now) m).size in
     search rules
 
 enum-known-verdict : tie.Need-enum-known-verdict
@@ -33,14 +33,14 @@ enum-known-verdict c = search rules
 returns : tie.Need-returns
 returns c =
     let a = c.before.before.before.before.before.before.before.args in
-    let m = messageWith a.number a.originator a.count a.payload.now in
-    done-says (write-accepted a.self m a.hand.now (sym c.before.before.before.before.before.ask.ensures ∙ c.before.before.before.enum_told.given.1) c.keep.ensures)
+    let m = message_with a.number a.originator a.count a.payload.now in
+    done_says (write_accepted a.self m a.hand.now (sym c.before.before.before.before.before.ask.ensures ∙ c.before.before.before.enum_told.given.1) c.keep.ensures)
 
 returns-2 : tie.Need-returns-2
 returns-2 c =
     let a = c.before.before.before.before.before.args in
-    let m = messageWith a.number a.originator a.count a.payload.now in
-    done-says (write-refused a.self m a.hand.now a.out.now _ (sym c.before.before.before.ask.ensures ∙ c.before.verdict.given.1))
+    let m = message_with a.number a.originator a.count a.payload.now in
+    done_says (write_refused a.self m a.hand.now a.out.now _ (sym c.before.before.before.ask.ensures ∙ c.before.verdict.given.1))
 
 pub write_spec : {M : Type 1} → statement M
 write_spec =

@@ -3,9 +3,9 @@
 use mathlib.Core.Path.{◌≡◌, sym}
 use mathlib.Core.Bool.{false}
 use borrow.Author.Rules.{rules}
-use Rattle.group.specs.Members.{isIn}
+use Rattle.group.specs.Members.{is_in}
 use Rattle.group.proofs.Choice.{choices}
-use Rattle.group.proofs.Members.{in-beyond}
+use Rattle.group.proofs.Members.{in_beyond}
 use Rattle.packet.proofs.Header.among.Statement.{statement}
 use Rattle.packet.proofs.Header.among.Tie as tie
 
@@ -28,7 +28,7 @@ returns-2 : tie.Need-returns-2
 returns-2 c =
     let mask = c.before.before.before.before.u16-at.result in
     let b = c.before.before.before.before.before.before.args.self.b in
-    let e : false ≡ isIn mask b = sym (in-beyond mask b (search rules) (search rules)) in
+    let e : false ≡ is_in mask b = sym (in_beyond mask b (search rules) (search rules)) in
     rw (← c.before.before.before.before.u16-at.ensures) (search (choices, rules) depth 9)
 
 returns-3 : tie.Need-returns-3

@@ -2,7 +2,7 @@
 -- Assumes nothing.
 use Rattle.group.proofs.Choice.{choices}
 use Rattle.packet.specs.Packet.{obeys}
-use Rattle.packet.proofs.Verdicts.{kind-low, kind-above}
+use Rattle.packet.proofs.Verdicts.{kind_low, kind_above}
 use borrow.Author.Rules.{rules}
 use Rattle.packet.proofs.Header.obeys.Statement.{statement}
 use Rattle.packet.proofs.Header.obeys.Tie as tie
@@ -70,7 +70,7 @@ returns-12 c = search (choices, rules) depth 12
 reset-obeys-requires : tie.Need-reset-obeys-requires
 reset-obeys-requires c κs =
     let s = c.before.before.before.before.before.before.before.before.before.before.before.before.before.before.before.before.before in
-    (kind-above s.args.self.kind (kind-low s.args.self.kind s.requires.0) c.before.before.before.before.before.before.before.before.before.before.before.before.before.before.if1.false c.before.before.before.before.before.before.before.before.before.before.before.before.if3.false c.before.before.before.before.before.before.before.before.before.before.if4.false c.before.before.before.before.before.before.before.before.if6.false c.before.before.before.before.before.before.if8.false c.before.before.before.before.if10.false c.before.before.if11.false c.if12.false, s.requires.0, s.requires.1)
+    (kind_above s.args.self.kind (kind_low s.args.self.kind s.requires.0) c.before.before.before.before.before.before.before.before.before.before.before.before.before.before.if1.false c.before.before.before.before.before.before.before.before.before.before.before.before.if3.false c.before.before.before.before.before.before.before.before.before.before.if4.false c.before.before.before.before.before.before.before.before.if6.false c.before.before.before.before.before.before.if8.false c.before.before.before.before.if10.false c.before.before.if11.false c.if12.false, s.requires.0, s.requires.1)
 
 returns-13 : tie.Need-returns-13
 unfolding obeys

@@ -3,7 +3,7 @@
 use native.Mathlib.Omega.{arith}
 use lib.ListN.{length}
 use Rattle.group.proofs.Choice.{choices}
-use Rattle.packet.proofs.Verdicts.{result-size}
+use Rattle.packet.proofs.Verdicts.{result_size}
 use borrow.Author.Rules.{rules}
 use Rattle.packet.proofs.Header.reset_obeys.Statement.{statement}
 use Rattle.packet.proofs.Header.reset_obeys.Tie as tie
@@ -21,7 +21,7 @@ among-requires : tie.Need-among-requires
 among-requires c κs =
     let s = c.before.before.before.before.before in
     let above = s.requires.0 in
-    result-size s.args.self.kind (length s.args.payload.now) s.requires.1 s.requires.2 (omega arith)
+    result_size s.args.self.kind (length s.args.payload.now) s.requires.1 s.requires.2 (omega arith)
 
 returns-4 : tie.Need-returns-4
 returns-4 c = search (choices, rules) depth 9

@@ -1,6 +1,6 @@
 -- Each kind by computation.
 -- Assumes nothing.
-use Rattle.packet.specs.Packet.{fromElected}
+use Rattle.packet.specs.Packet.{from_elected}
 use borrow.Author.Rules.{rules}
 use Rattle.packet.proofs.Packet.from_elected.Statement.{statement}
 use Rattle.packet.proofs.Packet.from_elected.Tie as tie
@@ -39,47 +39,47 @@ enum-told-9 : tie.Need-enum-told-9
 enum-told-9 c = search rules
 
 returns : tie.Need-returns
-unfolding fromElected
+unfolding from_elected
 returns c = rw c.enum_told.given.1
 
 returns-2 : tie.Need-returns-2
-unfolding fromElected
+unfolding from_elected
 returns-2 c = rw c.enum-told2.given.1
 
 returns-3 : tie.Need-returns-3
-unfolding fromElected
+unfolding from_elected
 returns-3 c = rw c.enum-told3.given.1
 
 returns-4 : tie.Need-returns-4
-unfolding fromElected
+unfolding from_elected
 returns-4 c = rw c.enum-told4.given.1
 
 returns-5 : tie.Need-returns-5
-unfolding fromElected
+unfolding from_elected
 returns-5 c = rw c.before.before.before.self.given.1
 
 returns-6 : tie.Need-returns-6
-unfolding fromElected
+unfolding from_elected
 returns-6 c = rw c.enum-told5.given.1
 
 returns-7 : tie.Need-returns-7
-unfolding fromElected
+unfolding from_elected
 returns-7 c = rw c.enum-told6.given.1
 
 returns-8 : tie.Need-returns-8
-unfolding fromElected
+unfolding from_elected
 returns-8 c = rw c.before.before.before.self2.given.1
 
 returns-9 : tie.Need-returns-9
-unfolding fromElected
+unfolding from_elected
 returns-9 c = rw c.enum-told7.given.1
 
 returns-10 : tie.Need-returns-10
-unfolding fromElected
+unfolding from_elected
 returns-10 c = rw c.enum-told8.given.1
 
 returns-11 : tie.Need-returns-11
-unfolding fromElected
+unfolding from_elected
 returns-11 c = rw c.enum-told9.given.1
 
 pub from-elected-spec : {M : Type 1} → statement M

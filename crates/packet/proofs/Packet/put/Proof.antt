@@ -2,7 +2,7 @@
 -- Assumes nothing.
 use mathlib.Core.Path.{sym, ◌∙◌}
 use lib.ListN.{length}
-use Rattle.packet.proofs.Permitted.{written-size, written_none}
+use Rattle.packet.proofs.Permitted.{written_size, written_none}
 use borrow.Author.Rules.{rules}
 use Rattle.packet.proofs.Packet.put.Statement.{statement}
 use Rattle.packet.proofs.Packet.put.Tie as tie
@@ -27,7 +27,7 @@ returns c =
     let a = c.before.before.before.before.before.before.before.before.before.before.args in
     let w = c.before.before.before.before.before.write.ensures in
     rw (← c.before.before.before.before.before.before.before.fields.ensures)
-    (record { size = written-size c.before.before.before.before.before.before.before.fields.result a.payload.now (length a.out.now) _ (sym w.0 ∙ c.before.w.given.1); lent = w.1.0 })
+    (record { size = written_size c.before.before.before.before.before.before.before.fields.result a.payload.now (length a.out.now) _ (sym w.0 ∙ c.before.w.given.1); lent = w.1.0 })
 
 same-length-2 : tie.Need-same-length-2
 same-length-2 c = search rules

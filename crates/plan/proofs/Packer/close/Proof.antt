@@ -5,8 +5,8 @@ use Prim.Native.Nat.{◌+◌, ◌*◌, ◌-◌, ◌≤◌}
 use native.Mathlib.Omega.{arith}
 use lib.ListN.{length, drop, length-drop}
 use lib.Seq.{length-take-le}
-use Rattle.journal.specs.Limits.{blockSize}
-use Rattle.plan.proofs.Filling.{closed_none, closed-laid}
+use Rattle.journal.specs.Limits.{block_size}
+use Rattle.plan.proofs.Filling.{closed_none, closed_laid}
 use borrow.Author.Rules.{rules}
 use Rattle.plan.proofs.Packer.close.Statement.{statement}
 use Rattle.plan.proofs.Packer.close.Tie as tie
@@ -35,12 +35,12 @@ part-put-block-end c = search rules
 put-block-requires : tie.Need-put-block-requires
 put-block-requires c κs =
     let a = c.before.before.before.before.before.before.before.args in
-    let at = a.self.blocks * blockSize in
+    let at = a.self.blocks * block_size in
     let (few, used, sized) = c.before.before.before.before.before.before.before.requires in
     let room = c.before.before.before.if1.true in
     let t = length-take-le a.self.used a.hand.now (omega arith) in
     let d = length-drop at a.out.now in
-    let m = length-take-le (at + blockSize - at) (drop at a.out.now) (omega arith) in
+    let m = length-take-le (at + block_size - at) (drop at a.out.now) (omega arith) in
     ((omega arith, m ∙ omega arith), omega arith)
 
 same_length : tie.Need-same-length
@@ -50,7 +50,7 @@ returns : tie.Need-returns
 returns c =
     let a = c.before.before.before.before.before.before.before.before.before.before.args in
     let (few, used, sized) = c.before.before.before.before.before.before.before.before.before.before.requires in
-    closed-laid a.self a.hand.now a.out.now used sized _ c.before.before.before.before.before.before.if1.true c.before.before.put-block.ensures
+    closed_laid a.self a.hand.now a.out.now used sized _ c.before.before.before.before.before.before.if1.true c.before.before.put-block.ensures
 
 returns-2 : tie.Need-returns-2
 returns-2 c =

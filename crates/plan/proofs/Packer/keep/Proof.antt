@@ -2,10 +2,10 @@
 -- Assumes nothing.
 use Prim.Native.Nat.{◌+◌, ◌≤◌, ◌<◌}
 use native.Mathlib.Omega.{arith}
-use Rattle.journal.specs.Block.{messageAt}
-use Rattle.journal.specs.Walk.{messageOn}
-use Rattle.plan.specs.Kept.{recordSize, recordsRoom}
-use Rattle.plan.proofs.Filling.{message-size, kept-fits, kept-over}
+use Rattle.journal.specs.Block.{message_at}
+use Rattle.journal.specs.Walk.{message_on}
+use Rattle.plan.specs.Kept.{record_size, records_room}
+use Rattle.plan.proofs.Filling.{message_size, kept_fits, kept_over}
 use borrow.Author.Rules.{rules}
 use Rattle.plan.proofs.Packer.keep.Statement.{statement}
 use Rattle.plan.proofs.Packer.keep.Tie as tie
@@ -32,12 +32,12 @@ same_length : tie.Need-same-length
 same_length c = search rules
 
 returns : tie.Need-returns
-unfolding messageAt
+unfolding message_at
 returns c =
     let a = c.before.before.before.before.before.before.before.before.before.before.before.args in
-    let n = message-size a.journal.now a.spot c.before.before.before.before.before.before.before.before.before.before.before.requires.0.0 in
-    let h : a.self.used + recordSize (messageOn a.journal.now a.spot) ≤ recordsRoom = let t = c.before.before.before.before.before.if1.true in omega arith in
-    kept-fits a.self (messageOn a.journal.now a.spot) a.hand.now a.out.now _ _ _ h c.before.before.before.put-numbered.ensures c.grown.ensures
+    let n = message_size a.journal.now a.spot c.before.before.before.before.before.before.before.before.before.before.before.requires.0.0 in
+    let h : a.self.used + record_size (message_on a.journal.now a.spot) ≤ records_room = let t = c.before.before.before.before.before.if1.true in omega arith in
+    kept_fits a.self (message_on a.journal.now a.spot) a.hand.now a.out.now _ _ _ h c.before.before.before.put-numbered.ensures c.grown.ensures
 
 close-requires : tie.Need-close-requires
 close-requires c κs = search rules
@@ -55,12 +55,12 @@ same-length-3 : tie.Need-same-length-3
 same-length-3 c = search rules
 
 returns-2 : tie.Need-returns-2
-unfolding messageAt
+unfolding message_at
 returns-2 c =
     let a = c.before.before.before.before.before.before.before.before.before.before.before.before.before.before.before.before.args in
-    let n = message-size a.journal.now a.spot c.before.before.before.before.before.before.before.before.before.before.before.before.before.before.before.before.requires.0.0 in
-    let h : recordsRoom < a.self.used + recordSize (messageOn a.journal.now a.spot) = let t = c.before.before.before.before.before.before.before.before.before.before.if1.false in omega arith in
-    kept-over a.self (messageOn a.journal.now a.spot) a.hand.now a.out.now _ _ _ h c.before.before.before.put-numbered2.ensures c.before.before.before.before.before.before.before.close.ensures
+    let n = message_size a.journal.now a.spot c.before.before.before.before.before.before.before.before.before.before.before.before.before.before.before.before.requires.0.0 in
+    let h : records_room < a.self.used + record_size (message_on a.journal.now a.spot) = let t = c.before.before.before.before.before.before.before.before.before.before.if1.false in omega arith in
+    kept_over a.self (message_on a.journal.now a.spot) a.hand.now a.out.now _ _ _ h c.before.before.before.put-numbered2.ensures c.before.before.before.before.before.before.before.close.ensures
 
 pub keep_spec : {M : Type 1} → statement M
 keep_spec =

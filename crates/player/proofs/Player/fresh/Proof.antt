@@ -3,22 +3,22 @@
 use mathlib.Core.Path.{refl, ap}
 use mathlib.Core.List.{[]}
 use native.Mathlib.Omega.{arith}
-use Rattle.player.specs.Player.{stageIn}
+use Rattle.player.specs.Player.{stage_in}
 use Rattle.player.specs.declared.Phase.{Phase}
 use Rattle.player.specs.declared.Phase.TheVariants.{Opening}
 use Rattle.simulator.specs.Whole.{group_of}
 use Rattle.simulator.specs.declared.Head.{Head}
-use Rattle.player.proofs.Telling.{phase-is}
+use Rattle.player.proofs.Telling.{phase_is}
 use borrow.Author.Rules.{rules}
 use Rattle.player.proofs.Player.fresh.Statement.{statement}
 use Rattle.player.proofs.Player.fresh.Tie as tie
 
 returns : tie.Need-returns
-unfolding stageIn
+unfolding stage_in
 returns c =
     let head : Head = record { sequencer = record { group = record { n = 0; resilience = 0; survivors = 0; elected = record { 0 = 0 }; number = 0 }; top = record { 0 = 0 }; accepted = record { 0 = 0 }; floor = record { 0 = 0 } }; count = 0 } in
-    let e = phase-is head Opening (record { members = omega arith; packets = omega arith }) in
-    λ w line i. record { stage = ap (λ (p : Phase). stageIn p (group_of w) 0) e i; line = [] }
+    let e = phase_is head Opening (record { members = omega arith; packets = omega arith }) in
+    λ w line i. record { stage = ap (λ (p : Phase). stage_in p (group_of w) 0) e i; line = [] }
 
 pub fresh-spec : {M : Type 1} → statement M
 fresh-spec =

@@ -7,18 +7,18 @@ use Rattle.player.specs.declared.Phase.{Phase}
 use Rattle.player.specs.declared.Phase.TheVariants.{Opening}
 use Rattle.reset_simulator.specs.Whole.{group_of}
 use Rattle.reset_simulator.specs.declared.World.{World}
-use Rattle.reset_player.specs.Player.{stageIn}
-use Rattle.reset_player.proofs.Telling.{phase-is}
+use Rattle.reset_player.specs.Player.{stage_in}
+use Rattle.reset_player.proofs.Telling.{phase_is}
 use borrow.Author.Rules.{rules}
 use Rattle.reset_player.proofs.Player.fresh.Statement.{statement}
 use Rattle.reset_player.proofs.Player.fresh.Tie as tie
 
 returns : tie.Need-returns
-unfolding stageIn
+unfolding stage_in
 returns c =
     let world : World = record { n = 0; count = 0 } in
-    let e = phase-is world Opening (record { terminals = omega arith; packets = omega arith }) in
-    λ w line i. record { stage = ap (λ (p : Phase). stageIn p (group_of w) 0) e i; line = [] }
+    let e = phase_is world Opening (record { terminals = omega arith; packets = omega arith }) in
+    λ w line i. record { stage = ap (λ (p : Phase). stage_in p (group_of w) 0) e i; line = [] }
 
 pub fresh-spec : {M : Type 1} → statement M
 fresh-spec =

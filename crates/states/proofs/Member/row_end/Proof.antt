@@ -38,8 +38,8 @@ use denote.Triple.Table.{entered, cited}
 use denote.Triple.Walked.{says, Stays, stay_dropped, walk_of, AllGo, Goes-dropped, Walks, ends_at, walked, walk_Meets}
 use denote.Exit.{yes}
 use borrow.Table.OneValue.{part_in}
-use Rattle.lending.proofs.Lending.{Names, shrsAt, toksAt, toks_cut, toks_join}
-use Rattle.lending.proofs.Whole.{start, Held, show-out, show-back}
+use Rattle.lending.proofs.Lending.{Names, shrs_at, toks_at, toks_cut, toks_join}
+use Rattle.lending.proofs.Whole.{start, Held, show_out, show_back}
 use Rattle.states.specs.declared.Member.{Member}
 use Rattle.member.specs.declared.Head.{Head}
 use Rattle.group.specs.declared.SequenceNumber.{SequenceNumber}
@@ -108,9 +108,9 @@ module _ {M : Type 1} {𝓤 : Ura M} (𝓛 : Logic 𝓤) (at_mem : Memory → SP
   Rest = ftrue
 
   goes_in : (ν : ℕ) (ns : Names arrays) → Is B.the_row h.head (LL.vals B.the_type B'.the_laws h.head)
-      → ent 𝓤 (⋆ 𝓛 (‵ (shrsAt (named 0) (ν ∷ []) arrays (start lendable) (lendable.all h).1 ns b o Rest) ∷ raw (toksAt 𝓛 (ν ∷ []) 7 full_share (mean 𝓛 Toks)) ∷ [])) ((On 𝓛 at_mem run).pre (to ν ns))
+      → ent 𝓤 (⋆ 𝓛 (‵ (shrs_at (named 0) (ν ∷ []) arrays (start lendable) (lendable.all h).1 ns b o Rest) ∷ raw (toks_at 𝓛 (ν ∷ []) 7 full_share (mean 𝓛 Toks)) ∷ [])) ((On 𝓛 at_mem run).pre (to ν ns))
   goes_in ν ns is =
-      qed 𝓛 (‵ (shrsAt (named 0) (ν ∷ []) arrays (start lendable) (lendable.all h).1 ns b o Rest) ∷ raw (toksAt 𝓛 (ν ∷ []) 7 full_share (mean 𝓛 Toks)) ∷ []) ∵
+      qed 𝓛 (‵ (shrs_at (named 0) (ν ∷ []) arrays (start lendable) (lendable.all h).1 ns b o Rest) ∷ raw (toks_at 𝓛 (ν ∷ []) 7 full_share (mean 𝓛 Toks)) ∷ []) ∵
       owned ! B.the_row (Is B.the_row) (LL.makes B.the_type B'.the_plain 𝓛) h.head _ is $ fjoin ! $ move ! (1 ∷ 0 ∷ []) $ join ! $ frame ! $ done !
 
   abbrev Ends : Type 0
@@ -145,12 +145,12 @@ module _ {M : Type 1} {𝓤 : Ura M} (𝓛 : Logic 𝓤) (at_mem : Memory → SP
         assigns ! (addr ! (from ! (hop ! (look ! 22 refl) (fld ! refl (stop !))))) (from ! (stop !)) (init ! 4 refl (tt, tt)) $
         -- the arrays are cut out of the struct, and lent for a lifetime ν of the call
         use2 𝓛 (‵ (part_at T.the_row q' h b o)) (part_in 𝓛 T.the_row refl q' h b o (hval h)) $ lft_new ! tt (λ ν. move ! (1 ∷ 26 ∷ []) $
-        use2 𝓛 (later (some (λ (ns : Names arrays). ‵ (shrsAt (named 0) (ν ∷ []) arrays (start lendable) (lendable.all h).1 ns b o Rest) ⊛ Held lendable 𝓛 (ν ∷ []) q' h b o))) (show-out lendable 𝓛 (named 0) (ν ∷ []) h b o q' Rest) $ await ! tt $ pick ! (λ ns. split ! $
+        use2 𝓛 (later (some (λ (ns : Names arrays). ‵ (shrs_at (named 0) (ν ∷ []) arrays (start lendable) (lendable.all h).1 ns b o Rest) ⊛ Held lendable 𝓛 (ν ∷ []) q' h b o))) (show_out lendable 𝓛 (named 0) (ν ∷ []) h b o q' Rest) $ await ! tt $ pick ! (λ ns. split ! $
         -- [the references and the other parameters; what is kept; kν; what shuts it; the fractured borrow; the locals (5); the other tokens (27)]
-        move ! (2 ∷ 27 ∷ []) $ use2 𝓛 (raw (toksAt 𝓛 (ν ∷ []) 7 full_share (mean 𝓛 Toks))) (toks_cut 𝓛 (ν ∷ []) 7 full_share (mean 𝓛 Toks)) $ move ! (1 ∷ 0 ∷ []) $ use2 𝓛 (raw ((On 𝓛 at_mem run).pre (to ν ns))) (goes_in ν ns (LL.owed T.the_type T'.the_laws h _ was).0) $
+        move ! (2 ∷ 27 ∷ []) $ use2 𝓛 (raw (toks_at 𝓛 (ν ∷ []) 7 full_share (mean 𝓛 Toks))) (toks_cut 𝓛 (ν ∷ []) 7 full_share (mean 𝓛 Toks)) $ move ! (1 ∷ 0 ∷ []) $ use2 𝓛 (raw ((On 𝓛 at_mem run).pre (to ν ns))) (goes_in ν ns (LL.owed T.the_type T'.the_laws h _ was).0) $
         -- [its pre; what is kept; what shuts it; the fractured borrow; the locals (4)]
         calls_at ! fm (On 𝓛 at_mem run) known (to ν ns) (and_then ! (load ! (from ! (stop !)) (look ! 20 refl)) (and_then ! (load ! (from ! (stop !)) (look ! 18 refl)) (and_then ! (load ! (from ! (stop !)) (look ! 16 refl)) (and_then ! (load ! (from ! (stop !)) (look ! 14 refl)) (and_then ! (load ! (from ! (stop !)) (look ! 12 refl)) (and_then ! (load ! (from ! (stop !)) (look ! 10 refl)) (and_then ! (load ! (from ! (stop !)) (look ! 8 refl)) (and_then ! (load ! (from ! (stop !)) (look ! 6 refl)) (and_then ! (load ! (from ! (stop !)) (look ! 4 refl)) (no_more !)))))))))) (λ w.
-        use1 𝓛 (later (some (λ (r : SequenceNumber). (raw (toksAt 𝓛 (ν ∷ []) 7 full_share (mean 𝓛 Toks)) ⊛ ‵ ((Y.the_row).own_val r (w ∷ []))) ⊛ raw (ensured 𝓛 on.ended (on.clauses 𝓛 at_mem run) (lfts ν) (args ns) tt r)))) (id⊢ 𝓤 _) $ await ! tt $ pick ! (λ r.
+        use1 𝓛 (later (some (λ (r : SequenceNumber). (raw (toks_at 𝓛 (ν ∷ []) 7 full_share (mean 𝓛 Toks)) ⊛ ‵ ((Y.the_row).own_val r (w ∷ []))) ⊛ raw (ensured 𝓛 on.ended (on.clauses 𝓛 at_mem run) (lfts ν) (args ns) tt r)))) (id⊢ 𝓤 _) $ await ! tt $ pick ! (λ r.
         split ! $ move ! (1 ∷ []) $ use1 𝓛 (some (λ (zs : Ends). ‵ (lasts on.ended (lfts ν) (args ns) zs) ⊛ raw (fact 𝓤 (Said r zs)))) (id⊢ 𝓤 _) $ pick ! (λ zs.
         split ! $ move ! (1 ∷ []) $ heard ! (Said r zs) (λ e. fsplit ! $ drop ! $
         fsplit ! $ drop ! $ fsplit ! $ drop ! $ fsplit ! $ drop ! $ fsplit ! $ drop ! $ fsplit ! $ drop ! $ fsplit ! $ drop ! $ fsplit ! $ drop ! $ fsplit ! $ drop ! $
@@ -158,7 +158,7 @@ module _ {M : Type 1} {𝓤 : Ura M} (𝓛 : Logic 𝓤) (at_mem : Memory → SP
         -- [the outputs' lasts; tokens and the reply; what is kept; what shuts it; the fractured borrow; the locals (4)]
         move ! (0 ∷ []) $ split ! $ move ! (1 ∷ []) $ facts ! Y.the_row (Is Y.the_row) (shows 𝓛 Y.the_row) r (w ∷ []) (λ is. land ! (from ! (stop !)) (init ! 24 refl ((LL.lawful Y.the_type Y'.the_laws 𝓛).typed r _ is).0) $
         -- the lifetime is ended, the share is back, and the borrow is shut
-        use1 𝓛 (‵ (flft (ν ∷ []) full_share) ⊛ Toks) (toks_join 𝓛 (ν ∷ []) 7 full_share (mean 𝓛 Toks)) $ split ! $ lft_end ! tt $ move ! (0 ∷ 2 ∷ []) $ use2 𝓛 (later (‵ (part_at T.the_row q' h b o))) (show-back lendable 𝓛 (named 0) (ν ∷ []) h b o q') $ await ! tt $ move ! (2 ∷ 0 ∷ []) $ obor_close ! tt $ drop ! $
+        use1 𝓛 (‵ (flft (ν ∷ []) full_share) ⊛ Toks) (toks_join 𝓛 (ν ∷ []) 7 full_share (mean 𝓛 Toks)) $ split ! $ lft_end ! tt $ move ! (0 ∷ 2 ∷ []) $ use2 𝓛 (later (‵ (part_at T.the_row q' h b o))) (show_back lendable 𝓛 (named 0) (ν ∷ []) h b o q') $ await ! tt $ move ! (2 ∷ 0 ∷ []) $ obor_close ! tt $ drop ! $
         -- [k; the other tokens; the outputs' lasts; the fractured borrow; the locals (3)]
         returns ! (look ! 23 refl) $ forget ! 3 refl $ forget ! 5 refl $ forget ! 7 refl $ forget ! 9 refl $ forget ! 11 refl $ forget ! 13 refl $ forget ! 15 refl $ forget ! 17 refl $ forget ! 19 refl $ forget ! 21 refl $ forget ! 23 refl $
         move ! (23 ∷ 24 ∷ []) $ free1 ! $ move ! (21 ∷ 22 ∷ []) $ free1 ! $ move ! (19 ∷ 20 ∷ []) $ free1 ! $ move ! (17 ∷ 18 ∷ []) $ free1 ! $ move ! (15 ∷ 16 ∷ []) $ free1 ! $ move ! (13 ∷ 14 ∷ []) $ free1 ! $ move ! (11 ∷ 12 ∷ []) $ free1 ! $ move ! (9 ∷ 10 ∷ []) $ free1 ! $ move ! (7 ∷ 8 ∷ []) $ free1 ! $ move ! (5 ∷ 6 ∷ []) $ free1 ! $ move ! (3 ∷ 4 ∷ []) $ free1 ! $ free0 ! $
@@ -186,4 +186,4 @@ row-end-spec 𝓤 𝓛 𝓜 𝓡 =
     entered 𝓤 𝓛.H (triple_of 𝓛 f.signature (f.spec 𝓛 𝓜.mem 𝓡.run))
     (tables 𝓤 𝓛.H 𝓜 𝓡 code.env).C (tables 𝓤 𝓛.H 𝓜 𝓡 code.env).Λ #of code.function (code.unfolded 𝓤 𝓛.H 𝓜 𝓡)
     (meets 𝓛 𝓜.mem 𝓡.run (tables_of 𝓤 𝓛.H 𝓜 (tables 𝓤 𝓛.H 𝓜 𝓡 code.env))
-    (cited 𝓤 𝓛.H (On 𝓛 𝓜.mem 𝓡.run) 𝓜 𝓡 code.env #on on-def.routine code.calls-member::row-end-on (on-thm.met 𝓤 𝓛 𝓜 𝓡)))
+    (cited 𝓤 𝓛.H (On 𝓛 𝓜.mem 𝓡.run) 𝓜 𝓡 code.env #on on-def.routine code.calls_member::row-end-on (on-thm.met 𝓤 𝓛 𝓜 𝓡)))

@@ -41,8 +41,8 @@ use denote.Triple.Table.{entered, cited}
 use denote.Triple.Walked.{says, Stays, stay_dropped, gave_slice, walk_of, AllGo, Goes-dropped, Goes-gave_slice, Walks, ends_at, walked, walk_Meets}
 use denote.Exit.{yes}
 use borrow.Table.OneValue.{part_in}
-use Rattle.lending.proofs.Lending.{Names, shrsAt, toksAt, toks_cut, toks_join}
-use Rattle.lending.proofs.Whole.{start, Held, show-out, show-back}
+use Rattle.lending.proofs.Lending.{Names, shrs_at, toks_at, toks_cut, toks_join}
+use Rattle.lending.proofs.Whole.{start, Held, show_out, show_back}
 use Rattle.states.specs.declared.Member.{Member}
 use Rattle.member.specs.declared.Head.{Head}
 use Rattle.member.specs.declared.Reply.{Reply}
@@ -77,11 +77,11 @@ module _ {M : Type 1} {𝓤 : Ura M} (𝓛 : Logic 𝓤) (at_mem : Memory → SP
   a = (record { ref_ptr = (b, o); ghost_name = γ; now = h }, (out, tt))
 
   -- the machine values
-  abbrev out-val : Val
-  out-val = slice_val out.ref_ptr (length out.now)
+  abbrev out_val : Val
+  out_val = slice_val out.ref_ptr (length out.now)
 
   abbrev vals : List Val × (List Val × (Unit {0}))
-  vals = (vptr b o ∷ [], (out-val ∷ [], tt))
+  vals = (vptr b o ∷ [], (out_val ∷ [], tt))
 
   abbrev Post : Val → SProp 𝓤
   Post = (walk_of 𝓛 f.ended stayed (f.clauses 𝓛 at_mem run)).post (((κ, (κ₁, tt)), (q, (q₁, tt)), tt, a, vals), tt)
@@ -104,7 +104,7 @@ module _ {M : Type 1} {𝓤 : Ura M} (𝓛 : Logic 𝓤) (at_mem : Memory → SP
   lfts ν = (ν ∷ [], (ν ∷ [], (ν ∷ [], (ν ∷ [], (ν ∷ [], (ν ∷ [], (ν ∷ [], (ν ∷ [], (κ₁, tt)))))))))
 
   abbrev to : ℕ → Names arrays → (On 𝓛 at_mem run).Ghost
-  to ν ns = ((lfts ν, (PosShare.left full_share, (PosShare.left (PosShare.right full_share), (PosShare.left (PosShare.right (PosShare.right full_share)), (PosShare.left (PosShare.right (PosShare.right (PosShare.right full_share))), (PosShare.left (PosShare.right (PosShare.right (PosShare.right (PosShare.right full_share)))), (PosShare.left (PosShare.right (PosShare.right (PosShare.right (PosShare.right (PosShare.right full_share))))), (PosShare.left (PosShare.right (PosShare.right (PosShare.right (PosShare.right (PosShare.right (PosShare.right full_share)))))), (PosShare.right (PosShare.right (PosShare.right (PosShare.right (PosShare.right (PosShare.right (PosShare.right full_share)))))), (q₁, tt))))))))), tt, args ns, (LL.val B.the_type B'.the_laws h.head ∷ [], (vptr b (o + 32) ∷ [], (vptr b (o + 52) ∷ [], (vptr b (o + 84) ∷ [], (vptr b (o + 89) ∷ [], (vptr b (o + 94) ∷ [], (vptr b (o + 102) ∷ [], (vptr b (o + 110) ∷ [], (vptr b (o + 1310) ∷ [], (out-val ∷ [], tt))))))))))), tt)
+  to ν ns = ((lfts ν, (PosShare.left full_share, (PosShare.left (PosShare.right full_share), (PosShare.left (PosShare.right (PosShare.right full_share)), (PosShare.left (PosShare.right (PosShare.right (PosShare.right full_share))), (PosShare.left (PosShare.right (PosShare.right (PosShare.right (PosShare.right full_share)))), (PosShare.left (PosShare.right (PosShare.right (PosShare.right (PosShare.right (PosShare.right full_share))))), (PosShare.left (PosShare.right (PosShare.right (PosShare.right (PosShare.right (PosShare.right (PosShare.right full_share)))))), (PosShare.right (PosShare.right (PosShare.right (PosShare.right (PosShare.right (PosShare.right (PosShare.right full_share)))))), (q₁, tt))))))))), tt, args ns, (LL.val B.the_type B'.the_laws h.head ∷ [], (vptr b (o + 32) ∷ [], (vptr b (o + 52) ∷ [], (vptr b (o + 84) ∷ [], (vptr b (o + 89) ∷ [], (vptr b (o + 94) ∷ [], (vptr b (o + 102) ∷ [], (vptr b (o + 110) ∷ [], (vptr b (o + 1310) ∷ [], (out_val ∷ [], tt))))))))))), tt)
 
   -- the other parameters' tokens
   abbrev Toks : Item 𝓤
@@ -112,12 +112,12 @@ module _ {M : Type 1} {𝓤 : Ura M} (𝓛 : Logic 𝓤) (at_mem : Memory → SP
 
   -- what the callee is handed beside the head and the arrays
   abbrev Rest : Fml
-  Rest = fsep ((MutSlice (named 1) κ₁ u8).own_val out (out-val ∷ [])) (ftrue)
+  Rest = fsep ((MutSlice (named 1) κ₁ u8).own_val out (out_val ∷ [])) (ftrue)
 
   goes_in : (ν : ℕ) (ns : Names arrays) → Is B.the_row h.head (LL.vals B.the_type B'.the_laws h.head)
-      → ent 𝓤 (⋆ 𝓛 (‵ (shrsAt (named 0) (ν ∷ []) arrays (start lendable) (lendable.all h).1 ns b o Rest) ∷ raw (toksAt 𝓛 (ν ∷ []) 7 full_share (mean 𝓛 Toks)) ∷ [])) ((On 𝓛 at_mem run).pre (to ν ns))
+      → ent 𝓤 (⋆ 𝓛 (‵ (shrs_at (named 0) (ν ∷ []) arrays (start lendable) (lendable.all h).1 ns b o Rest) ∷ raw (toks_at 𝓛 (ν ∷ []) 7 full_share (mean 𝓛 Toks)) ∷ [])) ((On 𝓛 at_mem run).pre (to ν ns))
   goes_in ν ns is =
-      qed 𝓛 (‵ (shrsAt (named 0) (ν ∷ []) arrays (start lendable) (lendable.all h).1 ns b o Rest) ∷ raw (toksAt 𝓛 (ν ∷ []) 7 full_share (mean 𝓛 Toks)) ∷ []) ∵
+      qed 𝓛 (‵ (shrs_at (named 0) (ν ∷ []) arrays (start lendable) (lendable.all h).1 ns b o Rest) ∷ raw (toks_at 𝓛 (ν ∷ []) 7 full_share (mean 𝓛 Toks)) ∷ []) ∵
       owned ! B.the_row (Is B.the_row) (LL.makes B.the_type B'.the_plain 𝓛) h.head _ is $ fjoin ! $ move ! (1 ∷ 0 ∷ []) $ join ! $ frame ! $ done !
 
   abbrev Ends : Type 0
@@ -128,13 +128,13 @@ module _ {M : Type 1} {𝓤 : Ura M} (𝓛 : Logic 𝓤) (at_mem : Memory → SP
   Said r zs = Reported h out.now r zs.1.1.1.1.1.1.1.1.1.0
 
   module _ (C : Calls 𝓤 H) (Λ : Loops 𝓤 H) (fm : FmC 𝓤 H 𝓛.laws C) (known : Triple 𝓤 (C #on) (On 𝓛 at_mem run)) where
-    walk : ent 𝓤 (on_entry 𝓛 f.signature (κ, (κ₁, tt)) (q, (q₁, tt)) a vals) (WpFn 𝓤 H C Λ code.function (vptr b o ∷ out-val ∷ []) Post)
+    walk : ent 𝓤 (on_entry 𝓛 f.signature (κ, (κ₁, tt)) (q, (q₁, tt)) a vals) (WpFn 𝓤 H C Λ code.function (vptr b o ∷ out_val ∷ []) Post)
     walk =
         qed 𝓛 ((‵ (flft κ q) ⊛ ‵ (flft κ₁ q₁) ⊛ ‵ ftrue) ∷ ‵ (fsep ((ShrRef (named 0) κ T.the_row).own_val a.0 (vptr b o ∷ [])) Rest) ∷ []) ∵
         split ! $ move ! (2 ∷ []) $ fsplit ! $ fsplit3 ! $ drop ! $
         -- [res; the fractured borrow; the other parameters; k; the other tokens]
         keep ! (1 ∷ 3 ∷ 2 ∷ 4 ∷ []) $
-        enter ! C Λ code.function (vptr b o ∷ out-val ∷ []) _ $
+        enter ! C Λ code.function (vptr b o ∷ out_val ∷ []) _ $
         alloc1 ! (λ l₀. alloc1 ! (λ l₁. alloc1 ! (λ l₂. alloc1 ! (λ l₃. alloc1 ! (λ l₄. alloc1 ! (λ l₅. alloc1 ! (λ l₆. alloc1 ! (λ l₇. alloc1 ! (λ l₈. alloc1 ! (λ l₉. alloc1 ! (λ l₁₀. alloc1 ! (λ l₁₁. alloc1 ! (λ l₁₂. alloc1 ! (λ l₁₃. alloc0 ! $ params1 ! $
         pass1 ! (init ! 24 refl (tt, tt)) $ pass1 ! (init ! 22 refl (tt, (tt, (record { fits = out-room.0 }, tt)))) $ pass0 ! $
         move ! (28 ∷ 29 ∷ []) $ looks ! tt T.the_row (Is T.the_row) (shows 𝓛 T.the_row) (LL.vals T.the_type T'.the_laws) (LL.tells T.the_type T'.the_laws) (LL.copy T.the_type T'.the_copy 𝓛) h b o (λ q' vs.
@@ -154,12 +154,12 @@ module _ {M : Type 1} {𝓤 : Ura M} (𝓛 : Logic 𝓤) (at_mem : Memory → SP
         assigns ! (agg ! (and_then ! (load ! (from ! (stop !)) (look ! 6 refl)) (and_then ! (load ! (from ! (fld ! refl (stop !))) (look_in ! 26 (sub ! 1 refl (whole !)))) (no_more !)))) (from ! (stop !)) (init ! 4 refl (tt, (tt, (record { fits = out-room.0 }, tt)))) $
         -- the arrays are cut out of the struct, and lent for a lifetime ν of the call
         use2 𝓛 (‵ (part_at T.the_row q' h b o)) (part_in 𝓛 T.the_row refl q' h b o (hval h)) $ lft_new ! tt (λ ν. move ! (1 ∷ 32 ∷ []) $
-        use2 𝓛 (later (some (λ (ns : Names arrays). ‵ (shrsAt (named 0) (ν ∷ []) arrays (start lendable) (lendable.all h).1 ns b o Rest) ⊛ Held lendable 𝓛 (ν ∷ []) q' h b o))) (show-out lendable 𝓛 (named 0) (ν ∷ []) h b o q' Rest) $ await ! tt $ pick ! (λ ns. split ! $
+        use2 𝓛 (later (some (λ (ns : Names arrays). ‵ (shrs_at (named 0) (ν ∷ []) arrays (start lendable) (lendable.all h).1 ns b o Rest) ⊛ Held lendable 𝓛 (ν ∷ []) q' h b o))) (show_out lendable 𝓛 (named 0) (ν ∷ []) h b o q' Rest) $ await ! tt $ pick ! (λ ns. split ! $
         -- [the references and the other parameters; what is kept; kν; what shuts it; the fractured borrow; the locals (5); the other tokens (33)]
-        move ! (2 ∷ 33 ∷ []) $ use2 𝓛 (raw (toksAt 𝓛 (ν ∷ []) 7 full_share (mean 𝓛 Toks))) (toks_cut 𝓛 (ν ∷ []) 7 full_share (mean 𝓛 Toks)) $ move ! (1 ∷ 0 ∷ []) $ use2 𝓛 (raw ((On 𝓛 at_mem run).pre (to ν ns))) (goes_in ν ns (LL.owed T.the_type T'.the_laws h _ was).0) $
+        move ! (2 ∷ 33 ∷ []) $ use2 𝓛 (raw (toks_at 𝓛 (ν ∷ []) 7 full_share (mean 𝓛 Toks))) (toks_cut 𝓛 (ν ∷ []) 7 full_share (mean 𝓛 Toks)) $ move ! (1 ∷ 0 ∷ []) $ use2 𝓛 (raw ((On 𝓛 at_mem run).pre (to ν ns))) (goes_in ν ns (LL.owed T.the_type T'.the_laws h _ was).0) $
         -- [its pre; what is kept; what shuts it; the fractured borrow; the locals (4)]
         calls_at ! fm (On 𝓛 at_mem run) known (to ν ns) (and_then ! (load ! (from ! (stop !)) (look ! 24 refl)) (and_then ! (load ! (from ! (stop !)) (look ! 22 refl)) (and_then ! (load ! (from ! (stop !)) (look ! 20 refl)) (and_then ! (load ! (from ! (stop !)) (look ! 18 refl)) (and_then ! (load ! (from ! (stop !)) (look ! 16 refl)) (and_then ! (load ! (from ! (stop !)) (look ! 14 refl)) (and_then ! (load ! (from ! (stop !)) (look ! 12 refl)) (and_then ! (load ! (from ! (stop !)) (look ! 10 refl)) (and_then ! (load ! (from ! (stop !)) (look ! 8 refl)) (and_then ! (load ! (from ! (stop !)) (look ! 4 refl)) (no_more !))))))))))) (λ w.
-        use1 𝓛 (later (some (λ (r : Reply). (raw (toksAt 𝓛 (ν ∷ []) 7 full_share (mean 𝓛 Toks)) ⊛ ‵ ((Y.the_row).own_val r (w ∷ []))) ⊛ raw (ensured 𝓛 on.ended (on.clauses 𝓛 at_mem run) (lfts ν) (args ns) tt r)))) (id⊢ 𝓤 _) $ await ! tt $ pick ! (λ r.
+        use1 𝓛 (later (some (λ (r : Reply). (raw (toks_at 𝓛 (ν ∷ []) 7 full_share (mean 𝓛 Toks)) ⊛ ‵ ((Y.the_row).own_val r (w ∷ []))) ⊛ raw (ensured 𝓛 on.ended (on.clauses 𝓛 at_mem run) (lfts ν) (args ns) tt r)))) (id⊢ 𝓤 _) $ await ! tt $ pick ! (λ r.
         split ! $ move ! (1 ∷ []) $ use1 𝓛 (some (λ (zs : Ends). ‵ (lasts on.ended (lfts ν) (args ns) zs) ⊛ raw (fact 𝓤 (Said r zs)))) (id⊢ 𝓤 _) $ pick ! (λ zs.
         split ! $ move ! (1 ∷ []) $ heard ! (Said r zs) (λ e. fsplit ! $ drop ! $
         fsplit ! $ drop ! $ fsplit ! $ drop ! $ fsplit ! $ drop ! $ fsplit ! $ drop ! $ fsplit ! $ drop ! $ fsplit ! $ drop ! $ fsplit ! $ drop ! $ fsplit ! $ drop ! $
@@ -167,7 +167,7 @@ module _ {M : Type 1} {𝓤 : Ura M} (𝓛 : Logic 𝓤) (at_mem : Memory → SP
         -- [the outputs' lasts; tokens and the reply; what is kept; what shuts it; the fractured borrow; the locals (5)]
         move ! (1 ∷ []) $ split ! $ move ! (1 ∷ []) $ facts ! Y.the_row (Is Y.the_row) (shows 𝓛 Y.the_row) r (w ∷ []) (λ is. land ! (from ! (stop !)) (init ! 31 refl ((LL.lawful Y.the_type Y'.the_laws 𝓛).typed r _ is).0) $
         -- the lifetime is ended, the share is back, and the borrow is shut
-        use1 𝓛 (‵ (flft (ν ∷ []) full_share) ⊛ Toks) (toks_join 𝓛 (ν ∷ []) 7 full_share (mean 𝓛 Toks)) $ split ! $ lft_end ! tt $ move ! (0 ∷ 3 ∷ []) $ use2 𝓛 (later (‵ (part_at T.the_row q' h b o))) (show-back lendable 𝓛 (named 0) (ν ∷ []) h b o q') $ await ! tt $ move ! (3 ∷ 0 ∷ []) $ obor_close ! tt $ drop ! $
+        use1 𝓛 (‵ (flft (ν ∷ []) full_share) ⊛ Toks) (toks_join 𝓛 (ν ∷ []) 7 full_share (mean 𝓛 Toks)) $ split ! $ lft_end ! tt $ move ! (0 ∷ 3 ∷ []) $ use2 𝓛 (later (‵ (part_at T.the_row q' h b o))) (show_back lendable 𝓛 (named 0) (ν ∷ []) h b o q') $ await ! tt $ move ! (3 ∷ 0 ∷ []) $ obor_close ! tt $ drop ! $
         -- [k; the other tokens; the outputs' lasts; the fractured borrow; the locals (4)]
         returns ! (look ! 30 refl) $ forget ! 4 refl $ forget ! 6 refl $ forget ! 8 refl $ forget ! 10 refl $ forget ! 12 refl $ forget ! 14 refl $ forget ! 16 refl $ forget ! 18 refl $ forget ! 20 refl $ forget ! 22 refl $ forget ! 24 refl $ forget ! 26 refl $ forget ! 28 refl $ forget ! 30 refl $
         move ! (30 ∷ 31 ∷ []) $ free1 ! $ move ! (28 ∷ 29 ∷ []) $ free1 ! $ move ! (26 ∷ 27 ∷ []) $ free1 ! $ move ! (24 ∷ 25 ∷ []) $ free1 ! $ move ! (22 ∷ 23 ∷ []) $ free1 ! $ move ! (20 ∷ 21 ∷ []) $ free1 ! $ move ! (18 ∷ 19 ∷ []) $ free1 ! $ move ! (16 ∷ 17 ∷ []) $ free1 ! $ move ! (14 ∷ 15 ∷ []) $ free1 ! $ move ! (12 ∷ 13 ∷ []) $ free1 ! $ move ! (10 ∷ 11 ∷ []) $ free1 ! $ move ! (8 ∷ 9 ∷ []) $ free1 ! $ move ! (6 ∷ 7 ∷ []) $ free1 ! $ move ! (4 ∷ 5 ∷ []) $ free1 ! $ free0 ! $

@@ -41,7 +41,7 @@ use denote.Triple.Clauses.{ensured, lasts}
 use denote.Triple.Table.{entered, cited}
 use denote.Triple.Walked.{says, Stays, stay_ref, gave_slice, walk_of, AllGo, Goes-ref, Goes-gave_slice, Walks, ends_at, walked, walk_Meets}
 use borrow.Table.OneValue.{part_in, part_out}
-use Rattle.lending.proofs.Lending.{Names, refsAt, toksAt, toks_cut, toks_join}
+use Rattle.lending.proofs.Lending.{Names, refs_at, toks_at, toks_cut, toks_join}
 use Rattle.lending.proofs.Whole.{start, Values, Kept, lend, back}
 use Rattle.states.specs.declared.Member.{Member}
 use Rattle.member.specs.declared.Head.{Head}
@@ -73,8 +73,8 @@ abbrev yval : Reply → Val
 yval r = LL.val Y.the_type Y'.the_laws r
 
 -- what the callee's result owns, at its machine value
-owed-done : (r : Done) (w : Val) → Is S.the_row r (w ∷ []) → Is B.the_row r.head (LL.vals B.the_type B'.the_laws r.head) × Is Y.the_row r.reply (yval r.reply ∷ [])
-owed-done r w is =
+owed_done : (r : Done) (w : Val) → Is S.the_row r (w ∷ []) → Is B.the_row r.head (LL.vals B.the_type B'.the_laws r.head) × Is Y.the_row r.reply (yval r.reply ∷ [])
+owed_done r w is =
     let all = LL.owed S.the_type S'.the_laws r (LL.vals S.the_type S'.the_laws r) (subst (Is S.the_row r) (LL.tells S.the_type S'.the_laws r (w ∷ []) is) is) in
     (all.0, all.1.0)
 
@@ -89,11 +89,11 @@ module _ {M : Type 1} {𝓤 : Ura M} (𝓛 : Logic 𝓤) (at_mem : Memory → SP
   a = (record { ref_ptr = (b, o); ghost_name = γ; now = h }, (out, tt))
 
   -- the machine values
-  abbrev out-val : Val
-  out-val = slice_val out.ref_ptr (length out.now)
+  abbrev out_val : Val
+  out_val = slice_val out.ref_ptr (length out.now)
 
   abbrev vals : List Val × (List Val × (Unit {0}))
-  vals = (vptr b o ∷ [], (out-val ∷ [], tt))
+  vals = (vptr b o ∷ [], (out_val ∷ [], tt))
 
   abbrev Post : Val → SProp 𝓤
   Post = (walk_of 𝓛 f.ended stayed (f.clauses 𝓛 at_mem run)).post (((κ, (κ₁, tt)), (q, (q₁, tt)), tt, a, vals), tt)
@@ -117,7 +117,7 @@ module _ {M : Type 1} {𝓤 : Ura M} (𝓛 : Logic 𝓤) (at_mem : Memory → SP
   lfts ν = (ν ∷ [], (ν ∷ [], (ν ∷ [], (ν ∷ [], (ν ∷ [], (ν ∷ [], (ν ∷ [], (ν ∷ [], (κ₁, tt)))))))))
 
   abbrev to : ℕ → Names arrays → (On 𝓛 at_mem run).Ghost
-  to ν ns = ((lfts ν, (PosShare.left full_share, (PosShare.left (PosShare.right full_share), (PosShare.left (PosShare.right (PosShare.right full_share)), (PosShare.left (PosShare.right (PosShare.right (PosShare.right full_share))), (PosShare.left (PosShare.right (PosShare.right (PosShare.right (PosShare.right full_share)))), (PosShare.left (PosShare.right (PosShare.right (PosShare.right (PosShare.right (PosShare.right full_share))))), (PosShare.left (PosShare.right (PosShare.right (PosShare.right (PosShare.right (PosShare.right (PosShare.right full_share)))))), (PosShare.right (PosShare.right (PosShare.right (PosShare.right (PosShare.right (PosShare.right (PosShare.right full_share)))))), (q₁, tt))))))))), tt, args ns, (LL.val B.the_type B'.the_laws h.head ∷ [], (vptr b (o + 32) ∷ [], (vptr b (o + 52) ∷ [], (vptr b (o + 84) ∷ [], (vptr b (o + 89) ∷ [], (vptr b (o + 94) ∷ [], (vptr b (o + 102) ∷ [], (vptr b (o + 110) ∷ [], (vptr b (o + 1310) ∷ [], (out-val ∷ [], tt))))))))))), tt)
+  to ν ns = ((lfts ν, (PosShare.left full_share, (PosShare.left (PosShare.right full_share), (PosShare.left (PosShare.right (PosShare.right full_share)), (PosShare.left (PosShare.right (PosShare.right (PosShare.right full_share))), (PosShare.left (PosShare.right (PosShare.right (PosShare.right (PosShare.right full_share)))), (PosShare.left (PosShare.right (PosShare.right (PosShare.right (PosShare.right (PosShare.right full_share))))), (PosShare.left (PosShare.right (PosShare.right (PosShare.right (PosShare.right (PosShare.right (PosShare.right full_share)))))), (PosShare.right (PosShare.right (PosShare.right (PosShare.right (PosShare.right (PosShare.right (PosShare.right full_share)))))), (q₁, tt))))))))), tt, args ns, (LL.val B.the_type B'.the_laws h.head ∷ [], (vptr b (o + 32) ∷ [], (vptr b (o + 52) ∷ [], (vptr b (o + 84) ∷ [], (vptr b (o + 89) ∷ [], (vptr b (o + 94) ∷ [], (vptr b (o + 102) ∷ [], (vptr b (o + 110) ∷ [], (vptr b (o + 1310) ∷ [], (out_val ∷ [], tt))))))))))), tt)
 
   -- the other parameters' tokens
   abbrev Toks : Item 𝓤
@@ -125,15 +125,15 @@ module _ {M : Type 1} {𝓤 : Ura M} (𝓛 : Logic 𝓤) (at_mem : Memory → SP
 
   -- what the callee is handed beside the head and the arrays, and what it says of that at its return
   abbrev Rest : Fml
-  Rest = fsep ((MutSlice (named 1) κ₁ u8).own_val out (out-val ∷ [])) (ftrue)
+  Rest = fsep ((MutSlice (named 1) κ₁ u8).own_val out (out_val ∷ [])) (ftrue)
 
   abbrev Left : List ℕ → Fml
   Left out-end = fsep (fsep (finally u8 out.ghost_name out-end) (feq ℕ (length out-end) (length out.now))) (ftrue)
 
   goes_in : (ν : ℕ) (ns : Names arrays) → Is B.the_row h.head (LL.vals B.the_type B'.the_laws h.head)
-      → ent 𝓤 (⋆ 𝓛 (‵ (refsAt (named 0) (ν ∷ []) arrays (start lendable) (lendable.all h).1 ns b o Rest) ∷ raw (toksAt 𝓛 (ν ∷ []) 7 full_share (mean 𝓛 Toks)) ∷ [])) ((On 𝓛 at_mem run).pre (to ν ns))
+      → ent 𝓤 (⋆ 𝓛 (‵ (refs_at (named 0) (ν ∷ []) arrays (start lendable) (lendable.all h).1 ns b o Rest) ∷ raw (toks_at 𝓛 (ν ∷ []) 7 full_share (mean 𝓛 Toks)) ∷ [])) ((On 𝓛 at_mem run).pre (to ν ns))
   goes_in ν ns is =
-      qed 𝓛 (‵ (refsAt (named 0) (ν ∷ []) arrays (start lendable) (lendable.all h).1 ns b o Rest) ∷ raw (toksAt 𝓛 (ν ∷ []) 7 full_share (mean 𝓛 Toks)) ∷ []) ∵
+      qed 𝓛 (‵ (refs_at (named 0) (ν ∷ []) arrays (start lendable) (lendable.all h).1 ns b o Rest) ∷ raw (toks_at 𝓛 (ν ∷ []) 7 full_share (mean 𝓛 Toks)) ∷ []) ∵
       owned ! B.the_row (Is B.the_row) (LL.makes B.the_type B'.the_plain 𝓛) h.head _ is $ fjoin ! $ move ! (1 ∷ 0 ∷ []) $ join ! $ frame ! $ done !
 
   abbrev Ends : Type 0
@@ -147,13 +147,13 @@ module _ {M : Type 1} {𝓤 : Ura M} (𝓛 : Logic 𝓤) (at_mem : Memory → SP
   Said r zs = Taken h out.now r.reply (headed r.head (with h (ended zs))) zs.1.1.1.1.1.1.1.1.1.0
 
   module _ (C : Calls 𝓤 H) (Λ : Loops 𝓤 H) (fm : FmC 𝓤 H 𝓛.laws C) (known : Triple 𝓤 (C #on) (On 𝓛 at_mem run)) where
-    walk : ent 𝓤 (on_entry 𝓛 f.signature (κ, (κ₁, tt)) (q, (q₁, tt)) a vals) (WpFn 𝓤 H C Λ code.function (vptr b o ∷ out-val ∷ []) Post)
+    walk : ent 𝓤 (on_entry 𝓛 f.signature (κ, (κ₁, tt)) (q, (q₁, tt)) a vals) (WpFn 𝓤 H C Λ code.function (vptr b o ∷ out_val ∷ []) Post)
     walk =
         qed 𝓛 ((‵ (flft κ q) ⊛ ‵ (flft κ₁ q₁) ⊛ ‵ ftrue) ∷ ‵ (fsep ((MutRef (named 0) κ T.the_row).own_val a.0 (vptr b o ∷ [])) Rest) ∷ []) ∵
         split ! $ move ! (2 ∷ []) $ fsplit ! $ fsplit3 ! $ drop ! $
         -- [obs; bor; the other parameters; k; the other tokens]
         move ! (0 ∷ 1 ∷ 3 ∷ []) $
-        enter ! C Λ code.function (vptr b o ∷ out-val ∷ []) _ $
+        enter ! C Λ code.function (vptr b o ∷ out_val ∷ []) _ $
         alloc1 ! (λ l₀. alloc1 ! (λ l₁. alloc1 ! (λ l₂. alloc1 ! (λ l₃. alloc1 ! (λ l₄. alloc1 ! (λ l₅. alloc1 ! (λ l₆. alloc1 ! (λ l₇. alloc1 ! (λ l₈. alloc1 ! (λ l₉. alloc1 ! (λ l₁₀. alloc1 ! (λ l₁₁. alloc1 ! (λ l₁₂. alloc1 ! (λ l₁₃. alloc1 ! (λ l₁₄. alloc0 ! $ params1 ! $
         pass1 ! (init ! 26 refl (tt, tt)) $ pass1 ! (init ! 24 refl (tt, (tt, (record { fits = out-room.0 }, tt)))) $ pass0 ! $
         move ! (30 ∷ 31 ∷ 32 ∷ []) $ opens ! tt T.the_row {h = h} b o (λ vs.
@@ -173,12 +173,12 @@ module _ {M : Type 1} {𝓤 : Ura M} (𝓛 : Logic 𝓤) (at_mem : Memory → SP
         assigns ! (agg ! (and_then ! (load ! (from ! (stop !)) (look ! 7 refl)) (and_then ! (load ! (from ! (fld ! refl (stop !))) (look_in ! 29 (sub ! 1 refl (whole !)))) (no_more !)))) (from ! (stop !)) (init ! 5 refl (tt, (tt, (record { fits = out-room.0 }, tt)))) $
         -- the arrays are cut out of the struct, and lent for a lifetime ν of the call
         use2 𝓛 (‵ (part_at T.the_row full_share h b o)) (part_in 𝓛 T.the_row refl full_share h b o (hval h)) $ lft_new ! tt (λ ν. move ! (1 ∷ 35 ∷ []) $
-        use2 𝓛 (later (some (λ (ns : Names arrays). ‵ (refsAt (named 0) (ν ∷ []) arrays (start lendable) (lendable.all h).1 ns b o Rest) ⊛ Kept lendable 𝓛 (ν ∷ []) h b o ns))) (lend lendable 𝓛 (named 0) (ν ∷ []) h b o Rest) $ await ! tt $ pick ! (λ ns. split ! $
+        use2 𝓛 (later (some (λ (ns : Names arrays). ‵ (refs_at (named 0) (ν ∷ []) arrays (start lendable) (lendable.all h).1 ns b o Rest) ⊛ Kept lendable 𝓛 (ν ∷ []) h b o ns))) (lend lendable 𝓛 (named 0) (ν ∷ []) h b o Rest) $ await ! tt $ pick ! (λ ns. split ! $
         -- [the references and the other parameters; what is kept; kν; the open borrow; obs; auth; the locals (6); the other tokens (36)]
-        move ! (2 ∷ 36 ∷ []) $ use2 𝓛 (raw (toksAt 𝓛 (ν ∷ []) 7 full_share (mean 𝓛 Toks))) (toks_cut 𝓛 (ν ∷ []) 7 full_share (mean 𝓛 Toks)) $ move ! (1 ∷ 0 ∷ []) $ use2 𝓛 (raw ((On 𝓛 at_mem run).pre (to ν ns))) (goes_in ν ns (LL.owed T.the_type T'.the_laws h _ was).0) $
+        move ! (2 ∷ 36 ∷ []) $ use2 𝓛 (raw (toks_at 𝓛 (ν ∷ []) 7 full_share (mean 𝓛 Toks))) (toks_cut 𝓛 (ν ∷ []) 7 full_share (mean 𝓛 Toks)) $ move ! (1 ∷ 0 ∷ []) $ use2 𝓛 (raw ((On 𝓛 at_mem run).pre (to ν ns))) (goes_in ν ns (LL.owed T.the_type T'.the_laws h _ was).0) $
         -- [its pre; what is kept; the open borrow; obs; auth; the locals (5)]
         calls_at ! fm (On 𝓛 at_mem run) known (to ν ns) (and_then ! (load ! (from ! (stop !)) (look ! 25 refl)) (and_then ! (load ! (from ! (stop !)) (look ! 23 refl)) (and_then ! (load ! (from ! (stop !)) (look ! 21 refl)) (and_then ! (load ! (from ! (stop !)) (look ! 19 refl)) (and_then ! (load ! (from ! (stop !)) (look ! 17 refl)) (and_then ! (load ! (from ! (stop !)) (look ! 15 refl)) (and_then ! (load ! (from ! (stop !)) (look ! 13 refl)) (and_then ! (load ! (from ! (stop !)) (look ! 11 refl)) (and_then ! (load ! (from ! (stop !)) (look ! 9 refl)) (and_then ! (load ! (from ! (stop !)) (look ! 5 refl)) (no_more !))))))))))) (λ w.
-        use1 𝓛 (later (some (λ (r : Done). (raw (toksAt 𝓛 (ν ∷ []) 7 full_share (mean 𝓛 Toks)) ⊛ ‵ ((S.the_row).own_val r (w ∷ []))) ⊛ raw (ensured 𝓛 on.ended (on.clauses 𝓛 at_mem run) (lfts ν) (args ns) tt r)))) (id⊢ 𝓤 _) $ await ! tt $ pick ! (λ r.
+        use1 𝓛 (later (some (λ (r : Done). (raw (toks_at 𝓛 (ν ∷ []) 7 full_share (mean 𝓛 Toks)) ⊛ ‵ ((S.the_row).own_val r (w ∷ []))) ⊛ raw (ensured 𝓛 on.ended (on.clauses 𝓛 at_mem run) (lfts ν) (args ns) tt r)))) (id⊢ 𝓤 _) $ await ! tt $ pick ! (λ r.
         split ! $ move ! (1 ∷ []) $ use1 𝓛 (some (λ (zs : Ends). ‵ (lasts on.ended (lfts ν) (args ns) zs) ⊛ raw (fact 𝓤 (Said r zs)))) (id⊢ 𝓤 _) $ pick ! (λ zs.
         split ! $ move ! (1 ∷ []) $ heard ! (Said r zs) (λ e. fsplit ! $ drop ! $
         -- [the lasts; tokens and the result; what is kept; the open borrow; obs; auth; the locals (6)]
@@ -190,15 +190,15 @@ module _ {M : Type 1} {𝓤 : Ura M} (𝓛 : Logic 𝓤) (at_mem : Memory → SP
         move ! (1 ∷ []) $ use1 𝓛 (some (λ (v : Val). ‵ (fat full_share T'.mir b o v) ⊛ ‵ ((T.the_row).own_val (with h (ended zs)) (v ∷ [])))) (part_out 𝓛 T.the_row refl full_share (with h (ended zs)) b o) $ pick ! (λ v. split ! $ move ! (1 ∷ []) $
         facts ! T.the_row (Is T.the_row) (shows 𝓛 T.the_row) (with h (ended zs)) (v ∷ []) (λ was'. rewrite ! 0 (λ (u : Val). ‵ (fat full_share T'.mir b o u)) (ap only (LL.tells T.the_type T'.the_laws (with h (ended zs)) (v ∷ []) was')) refl $
         -- [the struct's cell; the outputs' lasts; the other tokens; the open borrow; obs; auth; the locals (6)]
-        assigns ! (of_opd ! (load ! (from ! (fld ! refl (stop !))) (look_in ! 28 (sub ! 0 refl (whole !))))) (from ! (hop ! (look ! 32 refl) (fld ! refl (stop !)))) (store_in ! 0 (sub ! 0 refl (whole !)) ((LL.lawful B.the_type B'.the_laws 𝓛).typed r.head _ (owed-done r w is).0).0) $
-        assigns ! (of_opd ! (load ! (from ! (fld ! refl (stop !))) (look_in ! 28 (sub ! 1 refl (whole !))))) (from ! (stop !)) (init ! 34 refl ((LL.lawful Y.the_type Y'.the_laws 𝓛).typed r.reply _ (owed-done r w is).1).0) $
+        assigns ! (of_opd ! (load ! (from ! (fld ! refl (stop !))) (look_in ! 28 (sub ! 0 refl (whole !))))) (from ! (hop ! (look ! 32 refl) (fld ! refl (stop !)))) (store_in ! 0 (sub ! 0 refl (whole !)) ((LL.lawful B.the_type B'.the_laws 𝓛).typed r.head _ (owed_done r w is).0).0) $
+        assigns ! (of_opd ! (load ! (from ! (fld ! refl (stop !))) (look_in ! 28 (sub ! 1 refl (whole !))))) (from ! (stop !)) (init ! 34 refl ((LL.lawful Y.the_type Y'.the_laws 𝓛).typed r.reply _ (owed_done r w is).1).0) $
         use1 𝓛 (‵ (cell_at full_share (T.the_row).mir (hval (headed r.head (with h (ended zs))) ∷ []) b o)) (𝓛.laws.at_raw full_share T'.mir b o (hval (headed r.head (with h (ended zs))))) $
-        owned ! T.the_row (Is T.the_row) (LL.makes T.the_type T'.the_plain 𝓛) (headed r.head (with h (ended zs))) _ (made r.head (owed-done r w is).0 (with h (ended zs)) v was') $
+        owned ! T.the_row (Is T.the_row) (LL.makes T.the_type T'.the_plain 𝓛) (headed r.head (with h (ended zs))) _ (made r.head (owed_done r w is).0 (with h (ended zs)) v was') $
         move ! (1 ∷ 0 ∷ 4 ∷ 5 ∷ 6 ∷ []) $ closes ! tt T.the_row (headed r.head (with h (ended zs))) (hval (headed r.head (with h (ended zs))) ∷ []) b o $
         -- [obs; bor; k; the outputs' lasts; the other tokens; the locals (5)]
         returns ! (look ! 33 refl) $ forget ! 5 refl $ forget ! 7 refl $ forget ! 9 refl $ forget ! 11 refl $ forget ! 13 refl $ forget ! 15 refl $ forget ! 17 refl $ forget ! 19 refl $ forget ! 21 refl $ forget ! 23 refl $ forget ! 25 refl $ forget ! 27 refl $ forget ! 29 refl $ forget ! 31 refl $ forget ! 33 refl $
         move ! (33 ∷ 34 ∷ []) $ free1 ! $ move ! (31 ∷ 32 ∷ []) $ free1 ! $ move ! (29 ∷ 30 ∷ []) $ free1 ! $ move ! (27 ∷ 28 ∷ []) $ free1 ! $ move ! (25 ∷ 26 ∷ []) $ free1 ! $ move ! (23 ∷ 24 ∷ []) $ free1 ! $ move ! (21 ∷ 22 ∷ []) $ free1 ! $ move ! (19 ∷ 20 ∷ []) $ free1 ! $ move ! (17 ∷ 18 ∷ []) $ free1 ! $ move ! (15 ∷ 16 ∷ []) $ free1 ! $ move ! (13 ∷ 14 ∷ []) $ free1 ! $ move ! (11 ∷ 12 ∷ []) $ free1 ! $ move ! (9 ∷ 10 ∷ []) $ free1 ! $ move ! (7 ∷ 8 ∷ []) $ free1 ! $ move ! (5 ∷ 6 ∷ []) $ free1 ! $ free0 ! $
-        keep ! (0 ∷ 1 ∷ 2 ∷ 4 ∷ 3 ∷ []) $ by ! (exits r.reply (owed-done r w is).1 (headed r.head (with h (ended zs))) zs.1.1.1.1.1.1.1.1.1.0 out-len e))))))))))))))))))))))))))))
+        keep ! (0 ∷ 1 ∷ 2 ∷ 4 ∷ 3 ∷ []) $ by ! (exits r.reply (owed_done r w is).1 (headed r.head (with h (ended zs))) zs.1.1.1.1.1.1.1.1.1.0 out-len e))))))))))))))))))))))))))))
 
 module _ {M : Type 1} {𝓤 : Ura M} (𝓛 : Logic 𝓤) (at_mem : Memory → SProp 𝓤) (run : Routine → Fun 𝓤) where
   open 𝓛 use {H}

@@ -43,7 +43,7 @@ use denote.Triple.Table.{entered, cited}
 use denote.Triple.Walked.{says, Stays, stay_ref, stay_dropped, walk_of, AllGo, Goes-ref, Goes-dropped, Walks, ends_at, walked, walk_Meets}
 use denote.Exit.{yes}
 use borrow.Table.OneValue.{part_in, part_out}
-use Rattle.lending.proofs.Lending.{Names, refsAt, toksAt, toks_cut, toks_join}
+use Rattle.lending.proofs.Lending.{Names, refs_at, toks_at, toks_cut, toks_join}
 use Rattle.lending.proofs.Whole.{start, Values, Kept, lend, back}
 use Rattle.states.specs.declared.Sequencer.{Sequencer}
 use Rattle.sequencer.specs.declared.Head.{Head}
@@ -75,8 +75,8 @@ abbrev yval : Verdict → Val
 yval r = EL.val Y.the_type Y'.the_laws r
 
 -- what the callee's result owns, at its machine value
-owed-done : (r : Start) (w : Val) → Is S.the_row r (w ∷ []) → Is B.the_row r.head (LL.vals B.the_type B'.the_laws r.head) × Is Y.the_row r.verdict (yval r.verdict ∷ [])
-owed-done r w is =
+owed_done : (r : Start) (w : Val) → Is S.the_row r (w ∷ []) → Is B.the_row r.head (LL.vals B.the_type B'.the_laws r.head) × Is Y.the_row r.verdict (yval r.verdict ∷ [])
+owed_done r w is =
     let all = LL.owed S.the_type S'.the_laws r (LL.vals S.the_type S'.the_laws r) (subst (Is S.the_row r) (LL.tells S.the_type S'.the_laws r (w ∷ []) is) is) in
     (all.0, all.1.0)
 
@@ -84,24 +84,24 @@ abbrev On : {M : Type 1} {𝓤 : Ura M} (𝓛 : Logic 𝓤) (at_mem : Memory →
 On 𝓛 at_mem run = triple_of 𝓛 on.signature (on.spec 𝓛 at_mem run)
 
 module _ {M : Type 1} {𝓤 : Ura M} (𝓛 : Logic 𝓤) (at_mem : Memory → SProp 𝓤) (run : Routine → Fun 𝓤) (κ : Lft) (q : Share) (b o : ℕ) (γ : GName) (h : Sequencer)
-    (n : ℕ) (n-is : Is u8 n (vint w8 n ∷ [])) (group : ℕ) (group-is : Is u32 group (vint w32 group ∷ [])) (resilience : ℕ) (resilience-is : Is u8 resilience (vint w8 resilience ∷ [])) where
+    (n : ℕ) (n_is : Is u8 n (vint w8 n ∷ [])) (group : ℕ) (group_is : Is u32 group (vint w32 group ∷ [])) (resilience : ℕ) (resilience-is : Is u8 resilience (vint w8 resilience ∷ [])) where
   open 𝓛 use {H}
 
   abbrev a : MutBor Sequencer × (ℕ × (ℕ × (ℕ × (Unit {0}))))
   a = (record { ref_ptr = (b, o); ghost_name = γ; now = h }, (n, (group, (resilience, tt))))
 
   -- the machine values
-  abbrev n-val : Val
-  n-val = vint w8 n
+  abbrev n_val : Val
+  n_val = vint w8 n
 
-  abbrev group-val : Val
-  group-val = vint w32 group
+  abbrev group_val : Val
+  group_val = vint w32 group
 
-  abbrev resilience-val : Val
-  resilience-val = vint w8 resilience
+  abbrev resilience_val : Val
+  resilience_val = vint w8 resilience
 
   abbrev vals : List Val × (List Val × (List Val × (List Val × (Unit {0}))))
-  vals = (vptr b o ∷ [], (n-val ∷ [], (group-val ∷ [], (resilience-val ∷ [], tt))))
+  vals = (vptr b o ∷ [], (n_val ∷ [], (group_val ∷ [], (resilience_val ∷ [], tt))))
 
   abbrev Post : Val → SProp 𝓤
   Post = (walk_of 𝓛 f.ended stayed (f.clauses 𝓛 at_mem run)).post (((κ, tt), (q, tt), tt, a, vals), tt)
@@ -125,7 +125,7 @@ module _ {M : Type 1} {𝓤 : Ura M} (𝓛 : Logic 𝓤) (at_mem : Memory → SP
   lfts ν = (ν ∷ [], (ν ∷ [], (ν ∷ [], (ν ∷ [], (ν ∷ [], (ν ∷ [], (ν ∷ [], (ν ∷ [], tt))))))))
 
   abbrev to : ℕ → Names arrays → (On 𝓛 at_mem run).Ghost
-  to ν ns = ((lfts ν, (PosShare.left full_share, (PosShare.left (PosShare.right full_share), (PosShare.left (PosShare.right (PosShare.right full_share)), (PosShare.left (PosShare.right (PosShare.right (PosShare.right full_share))), (PosShare.left (PosShare.right (PosShare.right (PosShare.right (PosShare.right full_share)))), (PosShare.left (PosShare.right (PosShare.right (PosShare.right (PosShare.right (PosShare.right full_share))))), (PosShare.left (PosShare.right (PosShare.right (PosShare.right (PosShare.right (PosShare.right (PosShare.right full_share)))))), (PosShare.right (PosShare.right (PosShare.right (PosShare.right (PosShare.right (PosShare.right (PosShare.right full_share)))))), tt)))))))), tt, args ns, (LL.val B.the_type B'.the_laws h.head ∷ [], (vptr b (o + 24) ∷ [], (vptr b (o + 88) ∷ [], (vptr b (o + 152) ∷ [], (vptr b (o + 216) ∷ [], (vptr b (o + 344) ∷ [], (vptr b (o + 408) ∷ [], (vptr b (o + 440) ∷ [], (vptr b (o + 472) ∷ [], (n-val ∷ [], (group-val ∷ [], (resilience-val ∷ [], tt))))))))))))), tt)
+  to ν ns = ((lfts ν, (PosShare.left full_share, (PosShare.left (PosShare.right full_share), (PosShare.left (PosShare.right (PosShare.right full_share)), (PosShare.left (PosShare.right (PosShare.right (PosShare.right full_share))), (PosShare.left (PosShare.right (PosShare.right (PosShare.right (PosShare.right full_share)))), (PosShare.left (PosShare.right (PosShare.right (PosShare.right (PosShare.right (PosShare.right full_share))))), (PosShare.left (PosShare.right (PosShare.right (PosShare.right (PosShare.right (PosShare.right (PosShare.right full_share)))))), (PosShare.right (PosShare.right (PosShare.right (PosShare.right (PosShare.right (PosShare.right (PosShare.right full_share)))))), tt)))))))), tt, args ns, (LL.val B.the_type B'.the_laws h.head ∷ [], (vptr b (o + 24) ∷ [], (vptr b (o + 88) ∷ [], (vptr b (o + 152) ∷ [], (vptr b (o + 216) ∷ [], (vptr b (o + 344) ∷ [], (vptr b (o + 408) ∷ [], (vptr b (o + 440) ∷ [], (vptr b (o + 472) ∷ [], (n_val ∷ [], (group_val ∷ [], (resilience_val ∷ [], tt))))))))))))), tt)
 
   -- the other parameters' tokens
   abbrev Toks : Item 𝓤
@@ -133,15 +133,15 @@ module _ {M : Type 1} {𝓤 : Ura M} (𝓛 : Logic 𝓤) (at_mem : Memory → SP
 
   -- what the callee is handed beside the head and the arrays, and what it says of that at its return
   abbrev Rest : Fml
-  Rest = fsep (u8.own_val n (n-val ∷ [])) (fsep (u32.own_val group (group-val ∷ [])) (fsep (u8.own_val resilience (resilience-val ∷ [])) (ftrue)))
+  Rest = fsep (u8.own_val n (n_val ∷ [])) (fsep (u32.own_val group (group_val ∷ [])) (fsep (u8.own_val resilience (resilience_val ∷ [])) (ftrue)))
 
   abbrev Left : Fml
   Left = fsep ftrue (fsep ftrue (fsep ftrue (ftrue)))
 
   goes_in : (ν : ℕ) (ns : Names arrays) → Is B.the_row h.head (LL.vals B.the_type B'.the_laws h.head)
-      → ent 𝓤 (⋆ 𝓛 (‵ (refsAt (named 0) (ν ∷ []) arrays (start lendable) (lendable.all h).1 ns b o Rest) ∷ raw (toksAt 𝓛 (ν ∷ []) 7 full_share (mean 𝓛 Toks)) ∷ [])) ((On 𝓛 at_mem run).pre (to ν ns))
+      → ent 𝓤 (⋆ 𝓛 (‵ (refs_at (named 0) (ν ∷ []) arrays (start lendable) (lendable.all h).1 ns b o Rest) ∷ raw (toks_at 𝓛 (ν ∷ []) 7 full_share (mean 𝓛 Toks)) ∷ [])) ((On 𝓛 at_mem run).pre (to ν ns))
   goes_in ν ns is =
-      qed 𝓛 (‵ (refsAt (named 0) (ν ∷ []) arrays (start lendable) (lendable.all h).1 ns b o Rest) ∷ raw (toksAt 𝓛 (ν ∷ []) 7 full_share (mean 𝓛 Toks)) ∷ []) ∵
+      qed 𝓛 (‵ (refs_at (named 0) (ν ∷ []) arrays (start lendable) (lendable.all h).1 ns b o Rest) ∷ raw (toks_at 𝓛 (ν ∷ []) 7 full_share (mean 𝓛 Toks)) ∷ []) ∵
       owned ! B.the_row (Is B.the_row) (LL.makes B.the_type B'.the_plain 𝓛) h.head _ is $ fjoin ! $ move ! (1 ∷ 0 ∷ []) $ join ! $ frame ! $ done !
 
   abbrev Ends : Type 0
@@ -155,15 +155,15 @@ module _ {M : Type 1} {𝓤 : Ura M} (𝓛 : Logic 𝓤) (at_mem : Memory → SP
   Said r zs = Opens h n group resilience r.verdict (headed r.head (with h (ended zs)))
 
   module _ (C : Calls 𝓤 H) (Λ : Loops 𝓤 H) (fm : FmC 𝓤 H 𝓛.laws C) (known : Triple 𝓤 (C #on) (On 𝓛 at_mem run)) where
-    walk : ent 𝓤 (on_entry 𝓛 f.signature (κ, tt) (q, tt) a vals) (WpFn 𝓤 H C Λ code.function (vptr b o ∷ n-val ∷ group-val ∷ resilience-val ∷ []) Post)
+    walk : ent 𝓤 (on_entry 𝓛 f.signature (κ, tt) (q, tt) a vals) (WpFn 𝓤 H C Λ code.function (vptr b o ∷ n_val ∷ group_val ∷ resilience_val ∷ []) Post)
     walk =
         qed 𝓛 ((‵ (flft κ q) ⊛ ‵ ftrue) ∷ ‵ (fsep ((MutRef (named 0) κ T.the_row).own_val a.0 (vptr b o ∷ [])) Rest) ∷ []) ∵
         split ! $ move ! (2 ∷ []) $ fsplit ! $ fsplit3 ! $ drop ! $
         -- [obs; bor; the other parameters; k; the other tokens]
         move ! (0 ∷ 1 ∷ 3 ∷ []) $
-        enter ! C Λ code.function (vptr b o ∷ n-val ∷ group-val ∷ resilience-val ∷ []) _ $
+        enter ! C Λ code.function (vptr b o ∷ n_val ∷ group_val ∷ resilience_val ∷ []) _ $
         alloc1 ! (λ l₀. alloc1 ! (λ l₁. alloc1 ! (λ l₂. alloc1 ! (λ l₃. alloc1 ! (λ l₄. alloc1 ! (λ l₅. alloc1 ! (λ l₆. alloc1 ! (λ l₇. alloc1 ! (λ l₈. alloc1 ! (λ l₉. alloc1 ! (λ l₁₀. alloc1 ! (λ l₁₁. alloc1 ! (λ l₁₂. alloc1 ! (λ l₁₃. alloc1 ! (λ l₁₄. alloc0 ! $ params1 ! $
-        pass1 ! (init ! 26 refl (tt, tt)) $ pass1 ! (init ! 24 refl ((uint_Lawful 𝓛 w8).typed n _ n-is).0) $ pass1 ! (init ! 22 refl ((uint_Lawful 𝓛 w32).typed group _ group-is).0) $ pass1 ! (init ! 20 refl ((uint_Lawful 𝓛 w8).typed resilience _ resilience-is).0) $ pass0 ! $
+        pass1 ! (init ! 26 refl (tt, tt)) $ pass1 ! (init ! 24 refl ((uint_Lawful 𝓛 w8).typed n _ n_is).0) $ pass1 ! (init ! 22 refl ((uint_Lawful 𝓛 w32).typed group _ group_is).0) $ pass1 ! (init ! 20 refl ((uint_Lawful 𝓛 w8).typed resilience _ resilience-is).0) $ pass0 ! $
         move ! (30 ∷ 31 ∷ 32 ∷ []) $ opens ! tt T.the_row {h = h} b o (λ vs.
         spelt ! T.the_row (Is T.the_row) (shows 𝓛 T.the_row) (LL.vals T.the_type T'.the_laws) (LL.tells T.the_type T'.the_laws) full_share h vs b o $ use1 𝓛 (‵ (fat full_share T'.mir b o (hval h))) (𝓛.laws.raw_at full_share T'.mir b o (hval h)) $
         move ! (1 ∷ []) $ peeks ! T.the_row (Is T.the_row) (shows 𝓛 T.the_row) h (hval h ∷ []) (λ was. move ! (1 ∷ 0 ∷ []) $
@@ -179,12 +179,12 @@ module _ {M : Type 1} {𝓤 : Ura M} (𝓛 : Logic 𝓤) (at_mem : Memory → SP
         assigns ! (addr ! (from ! (hop ! (look ! 31 refl) (fld ! refl (stop !))))) (from ! (stop !)) (init ! 5 refl (tt, tt)) $
         -- the arrays are cut out of the struct, and lent for a lifetime ν of the call
         use2 𝓛 (‵ (part_at T.the_row full_share h b o)) (part_in 𝓛 T.the_row refl full_share h b o (hval h)) $ lft_new ! tt (λ ν. move ! (1 ∷ 35 ∷ []) $
-        use2 𝓛 (later (some (λ (ns : Names arrays). ‵ (refsAt (named 0) (ν ∷ []) arrays (start lendable) (lendable.all h).1 ns b o Rest) ⊛ Kept lendable 𝓛 (ν ∷ []) h b o ns))) (lend lendable 𝓛 (named 0) (ν ∷ []) h b o Rest) $ await ! tt $ pick ! (λ ns. split ! $
+        use2 𝓛 (later (some (λ (ns : Names arrays). ‵ (refs_at (named 0) (ν ∷ []) arrays (start lendable) (lendable.all h).1 ns b o Rest) ⊛ Kept lendable 𝓛 (ν ∷ []) h b o ns))) (lend lendable 𝓛 (named 0) (ν ∷ []) h b o Rest) $ await ! tt $ pick ! (λ ns. split ! $
         -- [the references and the other parameters; what is kept; kν; the open borrow; obs; auth; the locals (6); the other tokens (36)]
-        move ! (2 ∷ 36 ∷ []) $ use2 𝓛 (raw (toksAt 𝓛 (ν ∷ []) 7 full_share (mean 𝓛 Toks))) (toks_cut 𝓛 (ν ∷ []) 7 full_share (mean 𝓛 Toks)) $ move ! (1 ∷ 0 ∷ []) $ use2 𝓛 (raw ((On 𝓛 at_mem run).pre (to ν ns))) (goes_in ν ns (LL.owed T.the_type T'.the_laws h _ was).0) $
+        move ! (2 ∷ 36 ∷ []) $ use2 𝓛 (raw (toks_at 𝓛 (ν ∷ []) 7 full_share (mean 𝓛 Toks))) (toks_cut 𝓛 (ν ∷ []) 7 full_share (mean 𝓛 Toks)) $ move ! (1 ∷ 0 ∷ []) $ use2 𝓛 (raw ((On 𝓛 at_mem run).pre (to ν ns))) (goes_in ν ns (LL.owed T.the_type T'.the_laws h _ was).0) $
         -- [its pre; what is kept; the open borrow; obs; auth; the locals (5)]
         calls_at ! fm (On 𝓛 at_mem run) known (to ν ns) (and_then ! (load ! (from ! (stop !)) (look ! 21 refl)) (and_then ! (load ! (from ! (stop !)) (look ! 19 refl)) (and_then ! (load ! (from ! (stop !)) (look ! 17 refl)) (and_then ! (load ! (from ! (stop !)) (look ! 15 refl)) (and_then ! (load ! (from ! (stop !)) (look ! 13 refl)) (and_then ! (load ! (from ! (stop !)) (look ! 11 refl)) (and_then ! (load ! (from ! (stop !)) (look ! 9 refl)) (and_then ! (load ! (from ! (stop !)) (look ! 7 refl)) (and_then ! (load ! (from ! (stop !)) (look ! 5 refl)) (and_then ! (load ! (from ! (stop !)) (look ! 29 refl)) (and_then ! (load ! (from ! (stop !)) (look ! 27 refl)) (and_then ! (load ! (from ! (stop !)) (look ! 25 refl)) (no_more !))))))))))))) (λ w.
-        use1 𝓛 (later (some (λ (r : Start). (raw (toksAt 𝓛 (ν ∷ []) 7 full_share (mean 𝓛 Toks)) ⊛ ‵ ((S.the_row).own_val r (w ∷ []))) ⊛ raw (ensured 𝓛 on.ended (on.clauses 𝓛 at_mem run) (lfts ν) (args ns) tt r)))) (id⊢ 𝓤 _) $ await ! tt $ pick ! (λ r.
+        use1 𝓛 (later (some (λ (r : Start). (raw (toks_at 𝓛 (ν ∷ []) 7 full_share (mean 𝓛 Toks)) ⊛ ‵ ((S.the_row).own_val r (w ∷ []))) ⊛ raw (ensured 𝓛 on.ended (on.clauses 𝓛 at_mem run) (lfts ν) (args ns) tt r)))) (id⊢ 𝓤 _) $ await ! tt $ pick ! (λ r.
         split ! $ move ! (1 ∷ []) $ use1 𝓛 (some (λ (zs : Ends). ‵ (lasts on.ended (lfts ν) (args ns) zs) ⊛ raw (fact 𝓤 (Said r zs)))) (id⊢ 𝓤 _) $ pick ! (λ zs.
         split ! $ move ! (1 ∷ []) $ heard ! (Said r zs) (λ e. fsplit ! $ drop ! $
         -- [the lasts; tokens and the result; what is kept; the open borrow; obs; auth; the locals (6)]
@@ -196,15 +196,15 @@ module _ {M : Type 1} {𝓤 : Ura M} (𝓛 : Logic 𝓤) (at_mem : Memory → SP
         move ! (0 ∷ []) $ use1 𝓛 (some (λ (v : Val). ‵ (fat full_share T'.mir b o v) ⊛ ‵ ((T.the_row).own_val (with h (ended zs)) (v ∷ [])))) (part_out 𝓛 T.the_row refl full_share (with h (ended zs)) b o) $ pick ! (λ v. split ! $ move ! (1 ∷ []) $
         facts ! T.the_row (Is T.the_row) (shows 𝓛 T.the_row) (with h (ended zs)) (v ∷ []) (λ was'. rewrite ! 0 (λ (u : Val). ‵ (fat full_share T'.mir b o u)) (ap only (LL.tells T.the_type T'.the_laws (with h (ended zs)) (v ∷ []) was')) refl $
         -- [the struct's cell; the outputs' lasts; the other tokens; the open borrow; obs; auth; the locals (5)]
-        assigns ! (of_opd ! (load ! (from ! (fld ! refl (stop !))) (look_in ! 23 (sub ! 0 refl (whole !))))) (from ! (hop ! (look ! 31 refl) (fld ! refl (stop !)))) (store_in ! 0 (sub ! 0 refl (whole !)) ((LL.lawful B.the_type B'.the_laws 𝓛).typed r.head _ (owed-done r w is).0).0) $
-        assigns ! (of_opd ! (load ! (from ! (fld ! refl (stop !))) (look_in ! 23 (sub ! 1 refl (whole !))))) (from ! (stop !)) (init ! 33 refl ((EL.lawful Y.the_type Y'.the_laws 𝓛 tt).typed r.verdict _ (owed-done r w is).1).0) $
+        assigns ! (of_opd ! (load ! (from ! (fld ! refl (stop !))) (look_in ! 23 (sub ! 0 refl (whole !))))) (from ! (hop ! (look ! 31 refl) (fld ! refl (stop !)))) (store_in ! 0 (sub ! 0 refl (whole !)) ((LL.lawful B.the_type B'.the_laws 𝓛).typed r.head _ (owed_done r w is).0).0) $
+        assigns ! (of_opd ! (load ! (from ! (fld ! refl (stop !))) (look_in ! 23 (sub ! 1 refl (whole !))))) (from ! (stop !)) (init ! 33 refl ((EL.lawful Y.the_type Y'.the_laws 𝓛 tt).typed r.verdict _ (owed_done r w is).1).0) $
         use1 𝓛 (‵ (cell_at full_share (T.the_row).mir (hval (headed r.head (with h (ended zs))) ∷ []) b o)) (𝓛.laws.at_raw full_share T'.mir b o (hval (headed r.head (with h (ended zs))))) $
-        owned ! T.the_row (Is T.the_row) (LL.makes T.the_type T'.the_plain 𝓛) (headed r.head (with h (ended zs))) _ (made r.head (owed-done r w is).0 (with h (ended zs)) v was') $
+        owned ! T.the_row (Is T.the_row) (LL.makes T.the_type T'.the_plain 𝓛) (headed r.head (with h (ended zs))) _ (made r.head (owed_done r w is).0 (with h (ended zs)) v was') $
         move ! (1 ∷ 0 ∷ 3 ∷ 4 ∷ 5 ∷ []) $ closes ! tt T.the_row (headed r.head (with h (ended zs))) (hval (headed r.head (with h (ended zs))) ∷ []) b o $
         -- [obs; bor; k; the outputs' lasts; the other tokens; the locals (4)]
         returns ! (look ! 32 refl) $ forget ! 4 refl $ forget ! 6 refl $ forget ! 8 refl $ forget ! 10 refl $ forget ! 12 refl $ forget ! 14 refl $ forget ! 16 refl $ forget ! 18 refl $ forget ! 20 refl $ forget ! 22 refl $ forget ! 24 refl $ forget ! 26 refl $ forget ! 28 refl $ forget ! 30 refl $ forget ! 32 refl $
         move ! (32 ∷ 33 ∷ []) $ free1 ! $ move ! (30 ∷ 31 ∷ []) $ free1 ! $ move ! (28 ∷ 29 ∷ []) $ free1 ! $ move ! (26 ∷ 27 ∷ []) $ free1 ! $ move ! (24 ∷ 25 ∷ []) $ free1 ! $ move ! (22 ∷ 23 ∷ []) $ free1 ! $ move ! (20 ∷ 21 ∷ []) $ free1 ! $ move ! (18 ∷ 19 ∷ []) $ free1 ! $ move ! (16 ∷ 17 ∷ []) $ free1 ! $ move ! (14 ∷ 15 ∷ []) $ free1 ! $ move ! (12 ∷ 13 ∷ []) $ free1 ! $ move ! (10 ∷ 11 ∷ []) $ free1 ! $ move ! (8 ∷ 9 ∷ []) $ free1 ! $ move ! (6 ∷ 7 ∷ []) $ free1 ! $ move ! (4 ∷ 5 ∷ []) $ free1 ! $ free0 ! $
-        keep ! (0 ∷ 1 ∷ 2 ∷ 3 ∷ []) $ by ! (exits r.verdict (owed-done r w is).1 (headed r.head (with h (ended zs))) e)))))))))))))))))))))))))))
+        keep ! (0 ∷ 1 ∷ 2 ∷ 3 ∷ []) $ by ! (exits r.verdict (owed_done r w is).1 (headed r.head (with h (ended zs))) e)))))))))))))))))))))))))))
 
 module _ {M : Type 1} {𝓤 : Ura M} (𝓛 : Logic 𝓤) (at_mem : Memory → SProp 𝓤) (run : Routine → Fun 𝓤) where
   open 𝓛 use {H}

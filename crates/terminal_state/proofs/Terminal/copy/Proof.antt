@@ -41,9 +41,9 @@ use denote.Triple.Table.{entered, cited}
 use denote.Triple.Walked.{says, Stays, stay_dropped, gave_slice, walk_of, AllGo, Goes-dropped, Goes-gave_slice, Walks, ends_at, walked, walk_Meets}
 use denote.Exit.{yes}
 use borrow.Table.OneValue.{part_in}
-use Rattle.lending.proofs.Lending.{Names, shrsAt, toksAt, toks_cut, toks_join}
-use Rattle.terminal_state.proofs.Walking.{alloc_all, addrs-all, loads-all, past-trues, free_all}
-use Rattle.lending.proofs.Whole.{start, Held, show-out, show-back}
+use Rattle.lending.proofs.Lending.{Names, shrs_at, toks_at, toks_cut, toks_join}
+use Rattle.terminal_state.proofs.Walking.{alloc_all, addrs_all, loads_all, past_trues, free_all}
+use Rattle.lending.proofs.Whole.{start, Held, show_out, show_back}
 use Rattle.terminal_state.specs.declared.Terminal.{Terminal}
 use Rattle.recovery.specs.declared.Head.{Head}
 use Rattle.sequencer.specs.declared.Reply.{Reply}
@@ -81,14 +81,14 @@ module _ {M : Type 1} {𝓤 : Ura M} (𝓛 : Logic 𝓤) (at_mem : Memory → SP
   a = (record { ref_ptr = (b, o); ghost_name = γ; now = h }, (number, (out, tt)))
 
   -- the machine values
-  abbrev number-val : Val
-  number-val = LL.val N₁.the_type N₁'.the_laws number
+  abbrev number_val : Val
+  number_val = LL.val N₁.the_type N₁'.the_laws number
 
-  abbrev out-val : Val
-  out-val = slice_val out.ref_ptr (length out.now)
+  abbrev out_val : Val
+  out_val = slice_val out.ref_ptr (length out.now)
 
   abbrev vals : List Val × (List Val × (List Val × (Unit {0})))
-  vals = (vptr b o ∷ [], (number-val ∷ [], (out-val ∷ [], tt)))
+  vals = (vptr b o ∷ [], (number_val ∷ [], (out_val ∷ [], tt)))
 
   abbrev Post : Val → SProp 𝓤
   Post = (walk_of 𝓛 f.ended stayed (f.clauses 𝓛 at_mem run)).post (((κ, (κ₁, tt)), (q, (q₁, tt)), tt, a, vals), tt)
@@ -111,7 +111,7 @@ module _ {M : Type 1} {𝓤 : Ura M} (𝓛 : Logic 𝓤) (at_mem : Memory → SP
   lfts ν = (ν ∷ [], (ν ∷ [], (ν ∷ [], (ν ∷ [], (ν ∷ [], (ν ∷ [], (ν ∷ [], (ν ∷ [], (ν ∷ [], (ν ∷ [], (ν ∷ [], (ν ∷ [], (ν ∷ [], (ν ∷ [], (ν ∷ [], (ν ∷ [], (ν ∷ [], (ν ∷ [], (ν ∷ [], (ν ∷ [], (ν ∷ [], (ν ∷ [], (κ₁, tt)))))))))))))))))))))))
 
   abbrev to : ℕ → Names arrays → (On 𝓛 at_mem run).Ghost
-  to ν ns = ((lfts ν, (PosShare.left full_share, (PosShare.left (PosShare.right full_share), (PosShare.left (PosShare.right (PosShare.right full_share)), (PosShare.left (PosShare.right (PosShare.right (PosShare.right full_share))), (PosShare.left (PosShare.right (PosShare.right (PosShare.right (PosShare.right full_share)))), (PosShare.left (PosShare.right (PosShare.right (PosShare.right (PosShare.right (PosShare.right full_share))))), (PosShare.left (PosShare.right (PosShare.right (PosShare.right (PosShare.right (PosShare.right (PosShare.right full_share)))))), (PosShare.left (PosShare.right (PosShare.right (PosShare.right (PosShare.right (PosShare.right (PosShare.right (PosShare.right full_share))))))), (PosShare.left (PosShare.right (PosShare.right (PosShare.right (PosShare.right (PosShare.right (PosShare.right (PosShare.right (PosShare.right full_share)))))))), (PosShare.left (PosShare.right (PosShare.right (PosShare.right (PosShare.right (PosShare.right (PosShare.right (PosShare.right (PosShare.right (PosShare.right full_share))))))))), (PosShare.left (PosShare.right (PosShare.right (PosShare.right (PosShare.right (PosShare.right (PosShare.right (PosShare.right (PosShare.right (PosShare.right (PosShare.right full_share)))))))))), (PosShare.left (PosShare.right (PosShare.right (PosShare.right (PosShare.right (PosShare.right (PosShare.right (PosShare.right (PosShare.right (PosShare.right (PosShare.right (PosShare.right full_share))))))))))), (PosShare.left (PosShare.right (PosShare.right (PosShare.right (PosShare.right (PosShare.right (PosShare.right (PosShare.right (PosShare.right (PosShare.right (PosShare.right (PosShare.right (PosShare.right full_share)))))))))))), (PosShare.left (PosShare.right (PosShare.right (PosShare.right (PosShare.right (PosShare.right (PosShare.right (PosShare.right (PosShare.right (PosShare.right (PosShare.right (PosShare.right (PosShare.right (PosShare.right full_share))))))))))))), (PosShare.left (PosShare.right (PosShare.right (PosShare.right (PosShare.right (PosShare.right (PosShare.right (PosShare.right (PosShare.right (PosShare.right (PosShare.right (PosShare.right (PosShare.right (PosShare.right (PosShare.right full_share)))))))))))))), (PosShare.left (PosShare.right (PosShare.right (PosShare.right (PosShare.right (PosShare.right (PosShare.right (PosShare.right (PosShare.right (PosShare.right (PosShare.right (PosShare.right (PosShare.right (PosShare.right (PosShare.right (PosShare.right full_share))))))))))))))), (PosShare.left (PosShare.right (PosShare.right (PosShare.right (PosShare.right (PosShare.right (PosShare.right (PosShare.right (PosShare.right (PosShare.right (PosShare.right (PosShare.right (PosShare.right (PosShare.right (PosShare.right (PosShare.right (PosShare.right full_share)))))))))))))))), (PosShare.left (PosShare.right (PosShare.right (PosShare.right (PosShare.right (PosShare.right (PosShare.right (PosShare.right (PosShare.right (PosShare.right (PosShare.right (PosShare.right (PosShare.right (PosShare.right (PosShare.right (PosShare.right (PosShare.right (PosShare.right full_share))))))))))))))))), (PosShare.left (PosShare.right (PosShare.right (PosShare.right (PosShare.right (PosShare.right (PosShare.right (PosShare.right (PosShare.right (PosShare.right (PosShare.right (PosShare.right (PosShare.right (PosShare.right (PosShare.right (PosShare.right (PosShare.right (PosShare.right (PosShare.right full_share)))))))))))))))))), (PosShare.left (PosShare.right (PosShare.right (PosShare.right (PosShare.right (PosShare.right (PosShare.right (PosShare.right (PosShare.right (PosShare.right (PosShare.right (PosShare.right (PosShare.right (PosShare.right (PosShare.right (PosShare.right (PosShare.right (PosShare.right (PosShare.right (PosShare.right full_share))))))))))))))))))), (PosShare.left (PosShare.right (PosShare.right (PosShare.right (PosShare.right (PosShare.right (PosShare.right (PosShare.right (PosShare.right (PosShare.right (PosShare.right (PosShare.right (PosShare.right (PosShare.right (PosShare.right (PosShare.right (PosShare.right (PosShare.right (PosShare.right (PosShare.right (PosShare.right full_share)))))))))))))))))))), (PosShare.right (PosShare.right (PosShare.right (PosShare.right (PosShare.right (PosShare.right (PosShare.right (PosShare.right (PosShare.right (PosShare.right (PosShare.right (PosShare.right (PosShare.right (PosShare.right (PosShare.right (PosShare.right (PosShare.right (PosShare.right (PosShare.right (PosShare.right (PosShare.right full_share)))))))))))))))))))), (q₁, tt))))))))))))))))))))))), tt, args ns, (LL.val B.the_type B'.the_laws h.head ∷ [], (vptr b (o + 80) ∷ [], (vptr b (o + 100) ∷ [], (vptr b (o + 132) ∷ [], (vptr b (o + 137) ∷ [], (vptr b (o + 142) ∷ [], (vptr b (o + 150) ∷ [], (vptr b (o + 158) ∷ [], (vptr b (o + 1358) ∷ [], (vptr b (o + 3280) ∷ [], (vptr b (o + 3408) ∷ [], (vptr b (o + 3440) ∷ [], (vptr b (o + 3472) ∷ [], (vptr b (o + 11152) ∷ [], (vptr b (o + 11216) ∷ [], (vptr b (o + 11280) ∷ [], (vptr b (o + 11344) ∷ [], (vptr b (o + 11408) ∷ [], (vptr b (o + 11472) ∷ [], (vptr b (o + 11600) ∷ [], (vptr b (o + 11664) ∷ [], (vptr b (o + 11696) ∷ [], (vptr b (o + 11728) ∷ [], (number-val ∷ [], (out-val ∷ [], tt)))))))))))))))))))))))))), tt)
+  to ν ns = ((lfts ν, (PosShare.left full_share, (PosShare.left (PosShare.right full_share), (PosShare.left (PosShare.right (PosShare.right full_share)), (PosShare.left (PosShare.right (PosShare.right (PosShare.right full_share))), (PosShare.left (PosShare.right (PosShare.right (PosShare.right (PosShare.right full_share)))), (PosShare.left (PosShare.right (PosShare.right (PosShare.right (PosShare.right (PosShare.right full_share))))), (PosShare.left (PosShare.right (PosShare.right (PosShare.right (PosShare.right (PosShare.right (PosShare.right full_share)))))), (PosShare.left (PosShare.right (PosShare.right (PosShare.right (PosShare.right (PosShare.right (PosShare.right (PosShare.right full_share))))))), (PosShare.left (PosShare.right (PosShare.right (PosShare.right (PosShare.right (PosShare.right (PosShare.right (PosShare.right (PosShare.right full_share)))))))), (PosShare.left (PosShare.right (PosShare.right (PosShare.right (PosShare.right (PosShare.right (PosShare.right (PosShare.right (PosShare.right (PosShare.right full_share))))))))), (PosShare.left (PosShare.right (PosShare.right (PosShare.right (PosShare.right (PosShare.right (PosShare.right (PosShare.right (PosShare.right (PosShare.right (PosShare.right full_share)))))))))), (PosShare.left (PosShare.right (PosShare.right (PosShare.right (PosShare.right (PosShare.right (PosShare.right (PosShare.right (PosShare.right (PosShare.right (PosShare.right (PosShare.right full_share))))))))))), (PosShare.left (PosShare.right (PosShare.right (PosShare.right (PosShare.right (PosShare.right (PosShare.right (PosShare.right (PosShare.right (PosShare.right (PosShare.right (PosShare.right (PosShare.right full_share)))))))))))), (PosShare.left (PosShare.right (PosShare.right (PosShare.right (PosShare.right (PosShare.right (PosShare.right (PosShare.right (PosShare.right (PosShare.right (PosShare.right (PosShare.right (PosShare.right (PosShare.right full_share))))))))))))), (PosShare.left (PosShare.right (PosShare.right (PosShare.right (PosShare.right (PosShare.right (PosShare.right (PosShare.right (PosShare.right (PosShare.right (PosShare.right (PosShare.right (PosShare.right (PosShare.right (PosShare.right full_share)))))))))))))), (PosShare.left (PosShare.right (PosShare.right (PosShare.right (PosShare.right (PosShare.right (PosShare.right (PosShare.right (PosShare.right (PosShare.right (PosShare.right (PosShare.right (PosShare.right (PosShare.right (PosShare.right (PosShare.right full_share))))))))))))))), (PosShare.left (PosShare.right (PosShare.right (PosShare.right (PosShare.right (PosShare.right (PosShare.right (PosShare.right (PosShare.right (PosShare.right (PosShare.right (PosShare.right (PosShare.right (PosShare.right (PosShare.right (PosShare.right (PosShare.right full_share)))))))))))))))), (PosShare.left (PosShare.right (PosShare.right (PosShare.right (PosShare.right (PosShare.right (PosShare.right (PosShare.right (PosShare.right (PosShare.right (PosShare.right (PosShare.right (PosShare.right (PosShare.right (PosShare.right (PosShare.right (PosShare.right (PosShare.right full_share))))))))))))))))), (PosShare.left (PosShare.right (PosShare.right (PosShare.right (PosShare.right (PosShare.right (PosShare.right (PosShare.right (PosShare.right (PosShare.right (PosShare.right (PosShare.right (PosShare.right (PosShare.right (PosShare.right (PosShare.right (PosShare.right (PosShare.right (PosShare.right full_share)))))))))))))))))), (PosShare.left (PosShare.right (PosShare.right (PosShare.right (PosShare.right (PosShare.right (PosShare.right (PosShare.right (PosShare.right (PosShare.right (PosShare.right (PosShare.right (PosShare.right (PosShare.right (PosShare.right (PosShare.right (PosShare.right (PosShare.right (PosShare.right (PosShare.right full_share))))))))))))))))))), (PosShare.left (PosShare.right (PosShare.right (PosShare.right (PosShare.right (PosShare.right (PosShare.right (PosShare.right (PosShare.right (PosShare.right (PosShare.right (PosShare.right (PosShare.right (PosShare.right (PosShare.right (PosShare.right (PosShare.right (PosShare.right (PosShare.right (PosShare.right (PosShare.right full_share)))))))))))))))))))), (PosShare.right (PosShare.right (PosShare.right (PosShare.right (PosShare.right (PosShare.right (PosShare.right (PosShare.right (PosShare.right (PosShare.right (PosShare.right (PosShare.right (PosShare.right (PosShare.right (PosShare.right (PosShare.right (PosShare.right (PosShare.right (PosShare.right (PosShare.right (PosShare.right full_share)))))))))))))))))))), (q₁, tt))))))))))))))))))))))), tt, args ns, (LL.val B.the_type B'.the_laws h.head ∷ [], (vptr b (o + 80) ∷ [], (vptr b (o + 100) ∷ [], (vptr b (o + 132) ∷ [], (vptr b (o + 137) ∷ [], (vptr b (o + 142) ∷ [], (vptr b (o + 150) ∷ [], (vptr b (o + 158) ∷ [], (vptr b (o + 1358) ∷ [], (vptr b (o + 3280) ∷ [], (vptr b (o + 3408) ∷ [], (vptr b (o + 3440) ∷ [], (vptr b (o + 3472) ∷ [], (vptr b (o + 11152) ∷ [], (vptr b (o + 11216) ∷ [], (vptr b (o + 11280) ∷ [], (vptr b (o + 11344) ∷ [], (vptr b (o + 11408) ∷ [], (vptr b (o + 11472) ∷ [], (vptr b (o + 11600) ∷ [], (vptr b (o + 11664) ∷ [], (vptr b (o + 11696) ∷ [], (vptr b (o + 11728) ∷ [], (number_val ∷ [], (out_val ∷ [], tt)))))))))))))))))))))))))), tt)
 
   -- the other parameters' tokens
   abbrev Toks : Item 𝓤
@@ -119,27 +119,27 @@ module _ {M : Type 1} {𝓤 : Ura M} (𝓛 : Logic 𝓤) (at_mem : Memory → SP
 
   -- what the callee is handed beside the head and the arrays, and what it says of that at its return
   abbrev Rest : Fml
-  Rest = fsep ((N₁.the_row).own_val number (number-val ∷ [])) (fsep ((MutSlice (named 1) κ₁ u8).own_val out (out-val ∷ [])) (ftrue))
+  Rest = fsep ((N₁.the_row).own_val number (number_val ∷ [])) (fsep ((MutSlice (named 1) κ₁ u8).own_val out (out_val ∷ [])) (ftrue))
 
   abbrev Left : List ℕ → Fml
   Left out-end = fsep ftrue (fsep (fsep (finally u8 out.ghost_name out-end) (feq ℕ (length out-end) (length out.now))) (ftrue))
 
   goes_in : (ν : ℕ) (ns : Names arrays) → Is B.the_row h.head (LL.vals B.the_type B'.the_laws h.head)
-      → ent 𝓤 (⋆ 𝓛 (‵ (shrsAt (named 0) (ν ∷ []) arrays (start lendable) (lendable.all h).1 ns b o Rest) ∷ raw (toksAt 𝓛 (ν ∷ []) 21 full_share (mean 𝓛 Toks)) ∷ [])) ((On 𝓛 at_mem run).pre (to ν ns))
+      → ent 𝓤 (⋆ 𝓛 (‵ (shrs_at (named 0) (ν ∷ []) arrays (start lendable) (lendable.all h).1 ns b o Rest) ∷ raw (toks_at 𝓛 (ν ∷ []) 21 full_share (mean 𝓛 Toks)) ∷ [])) ((On 𝓛 at_mem run).pre (to ν ns))
   goes_in ν ns is =
-      qed 𝓛 (‵ (shrsAt (named 0) (ν ∷ []) arrays (start lendable) (lendable.all h).1 ns b o Rest) ∷ raw (toksAt 𝓛 (ν ∷ []) 21 full_share (mean 𝓛 Toks)) ∷ []) ∵
+      qed 𝓛 (‵ (shrs_at (named 0) (ν ∷ []) arrays (start lendable) (lendable.all h).1 ns b o Rest) ∷ raw (toks_at 𝓛 (ν ∷ []) 21 full_share (mean 𝓛 Toks)) ∷ []) ∵
       owned ! B.the_row (Is B.the_row) (LL.makes B.the_type B'.the_plain 𝓛) h.head _ is $ fjoin ! $ move ! (1 ∷ 0 ∷ []) $ join ! $ frame ! $ done !
 
   abbrev Ends : Type 0
   Ends = Unit {0} × (Unit {0} × (Unit {0} × (Unit {0} × (Unit {0} × (Unit {0} × (Unit {0} × (Unit {0} × (Unit {0} × (Unit {0} × (Unit {0} × (Unit {0} × (Unit {0} × (Unit {0} × (Unit {0} × (Unit {0} × (Unit {0} × (Unit {0} × (Unit {0} × (Unit {0} × (Unit {0} × (Unit {0} × (Unit {0} × (Unit {0} × (List ℕ × (Unit {0})))))))))))))))))))))))))
 
   -- the arrays are lent for the lifetime ν, and the callee has what it asks
-  goes-out : (q' : Share) (ν : ℕ) → Is B.the_row h.head (LL.vals B.the_type B'.the_laws h.head)
+  goes_out : (q' : Share) (ν : ℕ) → Is B.the_row h.head (LL.vals B.the_type B'.the_laws h.head)
       → ent 𝓤 (⋆ 𝓛 (‵ (part_at T.the_row q' h b o) ∷ ‵ Rest ∷ (‵ (flft (ν ∷ []) full_share) ⊛ Toks) ∷ [])) (H.⇛ (ex 𝓤 (λ (ns : Names arrays). sep 𝓤 ((On 𝓛 at_mem run).pre (to ν ns)) (mean 𝓛 (Held lendable 𝓛 (ν ∷ []) q' h b o)))))
-  goes-out q' ν is =
+  goes_out q' ν is =
       qed 𝓛 (‵ (part_at T.the_row q' h b o) ∷ ‵ Rest ∷ (‵ (flft (ν ∷ []) full_share) ⊛ Toks) ∷ []) ∵ updating ! $
-      use2 𝓛 (later (some (λ (ns : Names arrays). ‵ (shrsAt (named 0) (ν ∷ []) arrays (start lendable) (lendable.all h).1 ns b o Rest) ⊛ Held lendable 𝓛 (ν ∷ []) q' h b o))) (show-out lendable 𝓛 (named 0) (ν ∷ []) h b o q' Rest) $ await ! tt $ pick ! (λ ns. split ! $
-      move ! (2 ∷ []) $ use1 𝓛 (raw (toksAt 𝓛 (ν ∷ []) 21 full_share (mean 𝓛 Toks))) (toks_cut 𝓛 (ν ∷ []) 21 full_share (mean 𝓛 Toks)) $ move ! (1 ∷ 0 ∷ []) $ use2 𝓛 (raw ((On 𝓛 at_mem run).pre (to ν ns))) (goes_in ν ns is) $
+      use2 𝓛 (later (some (λ (ns : Names arrays). ‵ (shrs_at (named 0) (ν ∷ []) arrays (start lendable) (lendable.all h).1 ns b o Rest) ⊛ Held lendable 𝓛 (ν ∷ []) q' h b o))) (show_out lendable 𝓛 (named 0) (ν ∷ []) h b o q' Rest) $ await ! tt $ pick ! (λ ns. split ! $
+      move ! (2 ∷ []) $ use1 𝓛 (raw (toks_at 𝓛 (ν ∷ []) 21 full_share (mean 𝓛 Toks))) (toks_cut 𝓛 (ν ∷ []) 21 full_share (mean 𝓛 Toks)) $ move ! (1 ∷ 0 ∷ []) $ use2 𝓛 (raw ((On 𝓛 at_mem run).pre (to ν ns))) (goes_in ν ns is) $
       at_once ! $ show ! (λ (ns : Names arrays). sep 𝓤 ((On 𝓛 at_mem run).pre (to ν ns)) (mean 𝓛 (Held lendable 𝓛 (ν ∷ []) q' h b o))) ns $ done !)
 
   -- what the callee promises
@@ -147,13 +147,13 @@ module _ {M : Type 1} {𝓤 : Ura M} (𝓛 : Logic 𝓤) (at_mem : Memory → SP
   Said r zs = Copied h number out.now r zs.1.1.1.1.1.1.1.1.1.1.1.1.1.1.1.1.1.1.1.1.1.1.1.1.0
 
   module _ (C : Calls 𝓤 H) (Λ : Loops 𝓤 H) (fm : FmC 𝓤 H 𝓛.laws C) (known : Triple 𝓤 (C #on) (On 𝓛 at_mem run)) where
-    walk : ent 𝓤 (on_entry 𝓛 f.signature (κ, (κ₁, tt)) (q, (q₁, tt)) a vals) (WpFn 𝓤 H C Λ code.function (vptr b o ∷ number-val ∷ out-val ∷ []) Post)
+    walk : ent 𝓤 (on_entry 𝓛 f.signature (κ, (κ₁, tt)) (q, (q₁, tt)) a vals) (WpFn 𝓤 H C Λ code.function (vptr b o ∷ number_val ∷ out_val ∷ []) Post)
     walk =
         qed 𝓛 ((‵ (flft κ q) ⊛ ‵ (flft κ₁ q₁) ⊛ ‵ ftrue) ∷ ‵ (fsep ((ShrRef (named 0) κ T.the_row).own_val a.0 (vptr b o ∷ [])) Rest) ∷ []) ∵
         split ! $ move ! (2 ∷ []) $ fsplit ! $ fsplit3 ! $ drop ! $
         -- [res; the fractured borrow; the other parameters; k; the other tokens]
         keep ! (1 ∷ 3 ∷ 2 ∷ 4 ∷ []) $
-        enter ! C Λ code.function (vptr b o ∷ number-val ∷ out-val ∷ []) _ $
+        enter ! C Λ code.function (vptr b o ∷ number_val ∷ out_val ∷ []) _ $
         alloc_all ! (λ l₀ l₁ l₂ l₃ l₄ l₅ l₆ l₇ l₈ l₉ l₁₀ l₁₁ l₁₂ l₁₃ l₁₄ l₁₅ l₁₆ l₁₇ l₁₈ l₁₉ l₂₀ l₂₁ l₂₂ l₂₃ l₂₄ l₂₅ l₂₆ l₂₇ l₂₈. params1 ! $
         pass1 ! (init ! 54 refl (tt, tt)) $ pass1 ! (init ! 52 refl ((LL.lawful N₁.the_type N₁'.the_laws 𝓛).typed number _ number_is).0) $ pass1 ! (init ! 50 refl (tt, (tt, (record { fits = out-room.0 }, tt)))) $ pass0 ! $
         move ! (58 ∷ 59 ∷ []) $ looks ! tt T.the_row (Is T.the_row) (shows 𝓛 T.the_row) (LL.vals T.the_type T'.the_laws) (LL.tells T.the_type T'.the_laws) (LL.copy T.the_type T'.the_copy 𝓛) h b o (λ q' vs.
@@ -161,22 +161,22 @@ module _ {M : Type 1} {𝓤 : Ura M} (𝓛 : Logic 𝓤) (at_mem : Memory → SP
         move ! (1 ∷ []) $ peeks ! T.the_row (Is T.the_row) (shows 𝓛 T.the_row) h (hval h ∷ []) (λ was. move ! (1 ∷ 0 ∷ []) $
         -- [the struct's cell; what it owns; what shuts it; the fractured borrow; _28 (4); …; _0 (60); …; the other parameters (62); the other tokens]
         assigns ! (of_opd ! (load ! (from ! (hop ! (look ! 58 refl) (fld ! refl (stop !)))) (look_in ! 0 (sub ! 0 refl (whole !))))) (from ! (stop !)) (init ! 52 refl ((LL.lawful B.the_type B'.the_laws 𝓛).typed h.head _ (LL.owed T.the_type T'.the_laws h _ was).0).0) $
-        addrs-all ! _ b o 58 (record { home = 5; at = 50; part = 1; type = _; offset = 80 } ∷ record { home = 6; at = 48; part = 2; type = _; offset = 100 } ∷ record { home = 7; at = 46; part = 3; type = _; offset = 132 } ∷ record { home = 8; at = 44; part = 4; type = _; offset = 137 } ∷ record { home = 9; at = 42; part = 5; type = _; offset = 142 } ∷ record { home = 10; at = 40; part = 6; type = _; offset = 150 } ∷ record { home = 11; at = 38; part = 7; type = _; offset = 158 } ∷ record { home = 12; at = 36; part = 8; type = _; offset = 1358 } ∷ record { home = 13; at = 34; part = 9; type = _; offset = 3280 } ∷ record { home = 14; at = 32; part = 10; type = _; offset = 3408 } ∷ record { home = 15; at = 30; part = 11; type = _; offset = 3440 } ∷ record { home = 16; at = 28; part = 12; type = _; offset = 3472 } ∷ record { home = 17; at = 26; part = 13; type = _; offset = 11152 } ∷ record { home = 18; at = 24; part = 14; type = _; offset = 11216 } ∷ record { home = 19; at = 22; part = 15; type = _; offset = 11280 } ∷ record { home = 20; at = 20; part = 16; type = _; offset = 11344 } ∷ record { home = 21; at = 18; part = 17; type = _; offset = 11408 } ∷ record { home = 22; at = 16; part = 18; type = _; offset = 11472 } ∷ record { home = 23; at = 14; part = 19; type = _; offset = 11600 } ∷ record { home = 24; at = 12; part = 20; type = _; offset = 11664 } ∷ record { home = 25; at = 10; part = 21; type = _; offset = 11696 } ∷ record { home = 26; at = 8; part = 22; type = _; offset = 11728 } ∷ []) (refl, refl, refl, (tt, tt), (refl, refl, refl, (tt, tt), (refl, refl, refl, (tt, tt), (refl, refl, refl, (tt, tt), (refl, refl, refl, (tt, tt), (refl, refl, refl, (tt, tt), (refl, refl, refl, (tt, tt), (refl, refl, refl, (tt, tt), (refl, refl, refl, (tt, tt), (refl, refl, refl, (tt, tt), (refl, refl, refl, (tt, tt), (refl, refl, refl, (tt, tt), (refl, refl, refl, (tt, tt), (refl, refl, refl, (tt, tt), (refl, refl, refl, (tt, tt), (refl, refl, refl, (tt, tt), (refl, refl, refl, (tt, tt), (refl, refl, refl, (tt, tt), (refl, refl, refl, (tt, tt), (refl, refl, refl, (tt, tt), (refl, refl, refl, (tt, tt), (refl, refl, refl, (tt, tt), tt)))))))))))))))))))))) $
+        addrs_all ! _ b o 58 (record { home = 5; at = 50; part = 1; type = _; offset = 80 } ∷ record { home = 6; at = 48; part = 2; type = _; offset = 100 } ∷ record { home = 7; at = 46; part = 3; type = _; offset = 132 } ∷ record { home = 8; at = 44; part = 4; type = _; offset = 137 } ∷ record { home = 9; at = 42; part = 5; type = _; offset = 142 } ∷ record { home = 10; at = 40; part = 6; type = _; offset = 150 } ∷ record { home = 11; at = 38; part = 7; type = _; offset = 158 } ∷ record { home = 12; at = 36; part = 8; type = _; offset = 1358 } ∷ record { home = 13; at = 34; part = 9; type = _; offset = 3280 } ∷ record { home = 14; at = 32; part = 10; type = _; offset = 3408 } ∷ record { home = 15; at = 30; part = 11; type = _; offset = 3440 } ∷ record { home = 16; at = 28; part = 12; type = _; offset = 3472 } ∷ record { home = 17; at = 26; part = 13; type = _; offset = 11152 } ∷ record { home = 18; at = 24; part = 14; type = _; offset = 11216 } ∷ record { home = 19; at = 22; part = 15; type = _; offset = 11280 } ∷ record { home = 20; at = 20; part = 16; type = _; offset = 11344 } ∷ record { home = 21; at = 18; part = 17; type = _; offset = 11408 } ∷ record { home = 22; at = 16; part = 18; type = _; offset = 11472 } ∷ record { home = 23; at = 14; part = 19; type = _; offset = 11600 } ∷ record { home = 24; at = 12; part = 20; type = _; offset = 11664 } ∷ record { home = 25; at = 10; part = 21; type = _; offset = 11696 } ∷ record { home = 26; at = 8; part = 22; type = _; offset = 11728 } ∷ []) (refl, refl, refl, (tt, tt), (refl, refl, refl, (tt, tt), (refl, refl, refl, (tt, tt), (refl, refl, refl, (tt, tt), (refl, refl, refl, (tt, tt), (refl, refl, refl, (tt, tt), (refl, refl, refl, (tt, tt), (refl, refl, refl, (tt, tt), (refl, refl, refl, (tt, tt), (refl, refl, refl, (tt, tt), (refl, refl, refl, (tt, tt), (refl, refl, refl, (tt, tt), (refl, refl, refl, (tt, tt), (refl, refl, refl, (tt, tt), (refl, refl, refl, (tt, tt), (refl, refl, refl, (tt, tt), (refl, refl, refl, (tt, tt), (refl, refl, refl, (tt, tt), (refl, refl, refl, (tt, tt), (refl, refl, refl, (tt, tt), (refl, refl, refl, (tt, tt), (refl, refl, refl, (tt, tt), tt)))))))))))))))))))))) $
         assigns ! (addr ! (from ! (fld ! refl (hop ! (look_in ! 54 (sub ! 0 refl (whole !))) (stop !))))) (from ! (stop !)) (init ! 6 refl (tt, tt)) $
         assigns ! (agg ! (and_then ! (load ! (from ! (stop !)) (look ! 6 refl)) (and_then ! (load ! (from ! (fld ! refl (stop !))) (look_in ! 54 (sub ! 1 refl (whole !)))) (no_more !)))) (from ! (stop !)) (init ! 4 refl (tt, (tt, (record { fits = out-room.0 }, tt)))) $
         -- the arrays are cut out of the struct, and lent for a lifetime ν of the call
         use2 𝓛 (‵ (part_at T.the_row q' h b o)) (part_in 𝓛 T.the_row refl q' h b o (hval h)) $ lft_new ! tt (λ ν. move ! (0 ∷ 63 ∷ []) $ join ! $ move ! (1 ∷ 62 ∷ 0 ∷ []) $
-        use3 𝓛 (later (some (λ (ns : Names arrays). raw ((On 𝓛 at_mem run).pre (to ν ns)) ⊛ Held lendable 𝓛 (ν ∷ []) q' h b o))) (goes-out q' ν (LL.owed T.the_type T'.the_laws h _ was).0) $ await ! tt $ pick ! (λ ns. split ! $
+        use3 𝓛 (later (some (λ (ns : Names arrays). raw ((On 𝓛 at_mem run).pre (to ν ns)) ⊛ Held lendable 𝓛 (ν ∷ []) q' h b o))) (goes_out q' ν (LL.owed T.the_type T'.the_laws h _ was).0) $ await ! tt $ pick ! (λ ns. split ! $
         -- [its pre; what is kept; what shuts it; the fractured borrow; the locals (4)]
-        calls_at ! fm (On 𝓛 at_mem run) known (to ν ns) (loads-all ! ((4, 52) ∷ (5, 50) ∷ (6, 48) ∷ (7, 46) ∷ (8, 44) ∷ (9, 42) ∷ (10, 40) ∷ (11, 38) ∷ (12, 36) ∷ (13, 34) ∷ (14, 32) ∷ (15, 30) ∷ (16, 28) ∷ (17, 26) ∷ (18, 24) ∷ (19, 22) ∷ (20, 20) ∷ (21, 18) ∷ (22, 16) ∷ (23, 14) ∷ (24, 12) ∷ (25, 10) ∷ (26, 8) ∷ (2, 56) ∷ (28, 4) ∷ []) (refl, (refl, (refl, (refl, (refl, (refl, (refl, (refl, (refl, (refl, (refl, (refl, (refl, (refl, (refl, (refl, (refl, (refl, (refl, (refl, (refl, (refl, (refl, (refl, (refl, tt)))))))))))))))))))))))))) (λ w.
-        use1 𝓛 (later (some (λ (r : Reply). (raw (toksAt 𝓛 (ν ∷ []) 21 full_share (mean 𝓛 Toks)) ⊛ ‵ ((Y.the_row).own_val r (w ∷ []))) ⊛ raw (ensured 𝓛 on.ended (on.clauses 𝓛 at_mem run) (lfts ν) (args ns) tt r)))) (id⊢ 𝓤 _) $ await ! tt $ pick ! (λ r.
+        calls_at ! fm (On 𝓛 at_mem run) known (to ν ns) (loads_all ! ((4, 52) ∷ (5, 50) ∷ (6, 48) ∷ (7, 46) ∷ (8, 44) ∷ (9, 42) ∷ (10, 40) ∷ (11, 38) ∷ (12, 36) ∷ (13, 34) ∷ (14, 32) ∷ (15, 30) ∷ (16, 28) ∷ (17, 26) ∷ (18, 24) ∷ (19, 22) ∷ (20, 20) ∷ (21, 18) ∷ (22, 16) ∷ (23, 14) ∷ (24, 12) ∷ (25, 10) ∷ (26, 8) ∷ (2, 56) ∷ (28, 4) ∷ []) (refl, (refl, (refl, (refl, (refl, (refl, (refl, (refl, (refl, (refl, (refl, (refl, (refl, (refl, (refl, (refl, (refl, (refl, (refl, (refl, (refl, (refl, (refl, (refl, (refl, tt)))))))))))))))))))))))))) (λ w.
+        use1 𝓛 (later (some (λ (r : Reply). (raw (toks_at 𝓛 (ν ∷ []) 21 full_share (mean 𝓛 Toks)) ⊛ ‵ ((Y.the_row).own_val r (w ∷ []))) ⊛ raw (ensured 𝓛 on.ended (on.clauses 𝓛 at_mem run) (lfts ν) (args ns) tt r)))) (id⊢ 𝓤 _) $ await ! tt $ pick ! (λ r.
         split ! $ move ! (1 ∷ []) $ use1 𝓛 (some (λ (zs : Ends). ‵ (lasts on.ended (lfts ν) (args ns) zs) ⊛ raw (fact 𝓤 (Said r zs)))) (id⊢ 𝓤 _) $ pick ! (λ zs.
-        split ! $ move ! (1 ∷ []) $ heard ! (Said r zs) (λ e. use1 𝓛 (‵ (Left zs.1.1.1.1.1.1.1.1.1.1.1.1.1.1.1.1.1.1.1.1.1.1.1.1.0)) (past-trues 𝓛 23 (Left zs.1.1.1.1.1.1.1.1.1.1.1.1.1.1.1.1.1.1.1.1.1.1.1.1.0)) $
+        split ! $ move ! (1 ∷ []) $ heard ! (Said r zs) (λ e. use1 𝓛 (‵ (Left zs.1.1.1.1.1.1.1.1.1.1.1.1.1.1.1.1.1.1.1.1.1.1.1.1.0)) (past_trues 𝓛 23 (Left zs.1.1.1.1.1.1.1.1.1.1.1.1.1.1.1.1.1.1.1.1.1.1.1.1.0)) $
         fsplit ! $ drop ! $ fsplit ! $ fsplit ! $ move ! (1 ∷ []) $ feq_l ! (λ out-len. move ! (1 ∷ []) $ drop ! $
         -- [the outputs' lasts; tokens and the reply; what is kept; what shuts it; the fractured borrow; the locals (5)]
         move ! (1 ∷ []) $ split ! $ move ! (1 ∷ []) $ facts ! Y.the_row (Is Y.the_row) (shows 𝓛 Y.the_row) r (w ∷ []) (λ is. land ! (from ! (stop !)) (init ! 61 refl ((LL.lawful Y.the_type Y'.the_laws 𝓛).typed r _ is).0) $
         -- the lifetime is ended, the share is back, and the borrow is shut
-        use1 𝓛 (‵ (flft (ν ∷ []) full_share) ⊛ Toks) (toks_join 𝓛 (ν ∷ []) 21 full_share (mean 𝓛 Toks)) $ split ! $ lft_end ! tt $ move ! (0 ∷ 3 ∷ []) $ use2 𝓛 (later (‵ (part_at T.the_row q' h b o))) (show-back lendable 𝓛 (named 0) (ν ∷ []) h b o q') $ await ! tt $ move ! (3 ∷ 0 ∷ []) $ obor_close ! tt $ drop ! $
+        use1 𝓛 (‵ (flft (ν ∷ []) full_share) ⊛ Toks) (toks_join 𝓛 (ν ∷ []) 21 full_share (mean 𝓛 Toks)) $ split ! $ lft_end ! tt $ move ! (0 ∷ 3 ∷ []) $ use2 𝓛 (later (‵ (part_at T.the_row q' h b o))) (show_back lendable 𝓛 (named 0) (ν ∷ []) h b o q') $ await ! tt $ move ! (3 ∷ 0 ∷ []) $ obor_close ! tt $ drop ! $
         -- [k; the other tokens; the outputs' lasts; the fractured borrow; the locals (4)]
         returns ! (look ! 60 refl) $ free_all ! (_ ∷ _ ∷ _ ∷ _ ∷ []) (record { type = _; block = l₀; value = _ } ∷ record { type = _; block = l₁; value = _ } ∷ record { type = _; block = l₂; value = _ } ∷ record { type = _; block = l₃; value = _ } ∷ record { type = _; block = l₄; value = _ } ∷ record { type = _; block = l₅; value = _ } ∷ record { type = _; block = l₆; value = _ } ∷ record { type = _; block = l₇; value = _ } ∷ record { type = _; block = l₈; value = _ } ∷ record { type = _; block = l₉; value = _ } ∷ record { type = _; block = l₁₀; value = _ } ∷ record { type = _; block = l₁₁; value = _ } ∷ record { type = _; block = l₁₂; value = _ } ∷ record { type = _; block = l₁₃; value = _ } ∷ record { type = _; block = l₁₄; value = _ } ∷ record { type = _; block = l₁₅; value = _ } ∷ record { type = _; block = l₁₆; value = _ } ∷ record { type = _; block = l₁₇; value = _ } ∷ record { type = _; block = l₁₈; value = _ } ∷ record { type = _; block = l₁₉; value = _ } ∷ record { type = _; block = l₂₀; value = _ } ∷ record { type = _; block = l₂₁; value = _ } ∷ record { type = _; block = l₂₂; value = _ } ∷ record { type = _; block = l₂₃; value = _ } ∷ record { type = _; block = l₂₄; value = _ } ∷ record { type = _; block = l₂₅; value = _ } ∷ record { type = _; block = l₂₆; value = _ } ∷ record { type = _; block = l₂₇; value = _ } ∷ record { type = _; block = l₂₈; value = _ } ∷ []) $
         keep ! (0 ∷ 1 ∷ 2 ∷ []) $ by ! (exits r w is zs.1.1.1.1.1.1.1.1.1.1.1.1.1.1.1.1.1.1.1.1.1.1.1.1.0 out-len e))))))))))))

@@ -42,8 +42,8 @@ use denote.Triple.Table.{entered, cited}
 use denote.Triple.Walked.{says, Stays, stay_ref, stay_dropped, gave_slice, walk_of, AllGo, Goes-ref, Goes-dropped, Goes-gave_slice, Walks, ends_at, walked, walk_Meets}
 use denote.Exit.{yes}
 use borrow.Table.OneValue.{part_in, part_out}
-use Rattle.lending.proofs.Lending.{Names, refsAt, toksAt, toks_cut, toks_join}
-use Rattle.terminal_state.proofs.Walking.{blank, full, tailOf, envOf, laid, alloc_all, addrs-all, loads-all, free_all}
+use Rattle.lending.proofs.Lending.{Names, refs_at, toks_at, toks_cut, toks_join}
+use Rattle.terminal_state.proofs.Walking.{blank, full, tail_of, env_of, laid, alloc_all, addrs_all, loads_all, free_all}
 use Rattle.lending.proofs.Whole.{start, Values, Kept, lend, back}
 use Rattle.terminal_state.specs.declared.Terminal.{Terminal}
 use Rattle.recovery.specs.declared.Head.{Head}
@@ -75,8 +75,8 @@ abbrev yval : Reply → Val
 yval r = LL.val Y.the_type Y'.the_laws r
 
 -- what the callee's result owns, at its machine value
-owed-done : (r : Step) (w : Val) → Is S.the_row r (w ∷ []) → Is B.the_row r.head (LL.vals B.the_type B'.the_laws r.head) × Is Y.the_row r.reply (yval r.reply ∷ [])
-owed-done r w is =
+owed_done : (r : Step) (w : Val) → Is S.the_row r (w ∷ []) → Is B.the_row r.head (LL.vals B.the_type B'.the_laws r.head) × Is Y.the_row r.reply (yval r.reply ∷ [])
+owed_done r w is =
     let all = LL.owed S.the_type S'.the_laws r (LL.vals S.the_type S'.the_laws r) (subst (Is S.the_row r) (LL.tells S.the_type S'.the_laws r (w ∷ []) is) is) in
     (all.0, all.1.0)
 
@@ -91,14 +91,14 @@ module _ {M : Type 1} {𝓤 : Ura M} (𝓛 : Logic 𝓤) (at_mem : Memory → SP
   a = (record { ref_ptr = (b, o); ghost_name = γ; now = h }, (packet, (out, tt)))
 
   -- the machine values
-  abbrev packet-val : Val
-  packet-val = slice_val packet.ref_ptr (length packet.now)
+  abbrev packet_val : Val
+  packet_val = slice_val packet.ref_ptr (length packet.now)
 
-  abbrev out-val : Val
-  out-val = slice_val out.ref_ptr (length out.now)
+  abbrev out_val : Val
+  out_val = slice_val out.ref_ptr (length out.now)
 
   abbrev vals : List Val × (List Val × (List Val × (Unit {0})))
-  vals = (vptr b o ∷ [], (packet-val ∷ [], (out-val ∷ [], tt)))
+  vals = (vptr b o ∷ [], (packet_val ∷ [], (out_val ∷ [], tt)))
 
   abbrev Post : Val → SProp 𝓤
   Post = (walk_of 𝓛 f.ended stayed (f.clauses 𝓛 at_mem run)).post (((κ, (κ₁, (κ₂, tt))), (q, (q₁, (q₂, tt))), tt, a, vals), tt)
@@ -122,7 +122,7 @@ module _ {M : Type 1} {𝓤 : Ura M} (𝓛 : Logic 𝓤) (at_mem : Memory → SP
   lfts ν = (ν ∷ [], (ν ∷ [], (ν ∷ [], (ν ∷ [], (ν ∷ [], (ν ∷ [], (ν ∷ [], (ν ∷ [], (ν ∷ [], (ν ∷ [], (ν ∷ [], (ν ∷ [], (ν ∷ [], (ν ∷ [], (ν ∷ [], (ν ∷ [], (ν ∷ [], (ν ∷ [], (ν ∷ [], (ν ∷ [], (ν ∷ [], (ν ∷ [], (κ₁, (κ₂, tt))))))))))))))))))))))))
 
   abbrev to : ℕ → Names arrays → (On 𝓛 at_mem run).Ghost
-  to ν ns = ((lfts ν, (PosShare.left full_share, (PosShare.left (PosShare.right full_share), (PosShare.left (PosShare.right (PosShare.right full_share)), (PosShare.left (PosShare.right (PosShare.right (PosShare.right full_share))), (PosShare.left (PosShare.right (PosShare.right (PosShare.right (PosShare.right full_share)))), (PosShare.left (PosShare.right (PosShare.right (PosShare.right (PosShare.right (PosShare.right full_share))))), (PosShare.left (PosShare.right (PosShare.right (PosShare.right (PosShare.right (PosShare.right (PosShare.right full_share)))))), (PosShare.left (PosShare.right (PosShare.right (PosShare.right (PosShare.right (PosShare.right (PosShare.right (PosShare.right full_share))))))), (PosShare.left (PosShare.right (PosShare.right (PosShare.right (PosShare.right (PosShare.right (PosShare.right (PosShare.right (PosShare.right full_share)))))))), (PosShare.left (PosShare.right (PosShare.right (PosShare.right (PosShare.right (PosShare.right (PosShare.right (PosShare.right (PosShare.right (PosShare.right full_share))))))))), (PosShare.left (PosShare.right (PosShare.right (PosShare.right (PosShare.right (PosShare.right (PosShare.right (PosShare.right (PosShare.right (PosShare.right (PosShare.right full_share)))))))))), (PosShare.left (PosShare.right (PosShare.right (PosShare.right (PosShare.right (PosShare.right (PosShare.right (PosShare.right (PosShare.right (PosShare.right (PosShare.right (PosShare.right full_share))))))))))), (PosShare.left (PosShare.right (PosShare.right (PosShare.right (PosShare.right (PosShare.right (PosShare.right (PosShare.right (PosShare.right (PosShare.right (PosShare.right (PosShare.right (PosShare.right full_share)))))))))))), (PosShare.left (PosShare.right (PosShare.right (PosShare.right (PosShare.right (PosShare.right (PosShare.right (PosShare.right (PosShare.right (PosShare.right (PosShare.right (PosShare.right (PosShare.right (PosShare.right full_share))))))))))))), (PosShare.left (PosShare.right (PosShare.right (PosShare.right (PosShare.right (PosShare.right (PosShare.right (PosShare.right (PosShare.right (PosShare.right (PosShare.right (PosShare.right (PosShare.right (PosShare.right (PosShare.right full_share)))))))))))))), (PosShare.left (PosShare.right (PosShare.right (PosShare.right (PosShare.right (PosShare.right (PosShare.right (PosShare.right (PosShare.right (PosShare.right (PosShare.right (PosShare.right (PosShare.right (PosShare.right (PosShare.right (PosShare.right full_share))))))))))))))), (PosShare.left (PosShare.right (PosShare.right (PosShare.right (PosShare.right (PosShare.right (PosShare.right (PosShare.right (PosShare.right (PosShare.right (PosShare.right (PosShare.right (PosShare.right (PosShare.right (PosShare.right (PosShare.right (PosShare.right full_share)))))))))))))))), (PosShare.left (PosShare.right (PosShare.right (PosShare.right (PosShare.right (PosShare.right (PosShare.right (PosShare.right (PosShare.right (PosShare.right (PosShare.right (PosShare.right (PosShare.right (PosShare.right (PosShare.right (PosShare.right (PosShare.right (PosShare.right full_share))))))))))))))))), (PosShare.left (PosShare.right (PosShare.right (PosShare.right (PosShare.right (PosShare.right (PosShare.right (PosShare.right (PosShare.right (PosShare.right (PosShare.right (PosShare.right (PosShare.right (PosShare.right (PosShare.right (PosShare.right (PosShare.right (PosShare.right (PosShare.right full_share)))))))))))))))))), (PosShare.left (PosShare.right (PosShare.right (PosShare.right (PosShare.right (PosShare.right (PosShare.right (PosShare.right (PosShare.right (PosShare.right (PosShare.right (PosShare.right (PosShare.right (PosShare.right (PosShare.right (PosShare.right (PosShare.right (PosShare.right (PosShare.right (PosShare.right full_share))))))))))))))))))), (PosShare.left (PosShare.right (PosShare.right (PosShare.right (PosShare.right (PosShare.right (PosShare.right (PosShare.right (PosShare.right (PosShare.right (PosShare.right (PosShare.right (PosShare.right (PosShare.right (PosShare.right (PosShare.right (PosShare.right (PosShare.right (PosShare.right (PosShare.right (PosShare.right full_share)))))))))))))))))))), (PosShare.right (PosShare.right (PosShare.right (PosShare.right (PosShare.right (PosShare.right (PosShare.right (PosShare.right (PosShare.right (PosShare.right (PosShare.right (PosShare.right (PosShare.right (PosShare.right (PosShare.right (PosShare.right (PosShare.right (PosShare.right (PosShare.right (PosShare.right (PosShare.right full_share)))))))))))))))))))), (q₁, (q₂, tt)))))))))))))))))))))))), tt, args ns, (LL.val B.the_type B'.the_laws h.head ∷ [], (vptr b (o + 80) ∷ [], (vptr b (o + 100) ∷ [], (vptr b (o + 132) ∷ [], (vptr b (o + 137) ∷ [], (vptr b (o + 142) ∷ [], (vptr b (o + 150) ∷ [], (vptr b (o + 158) ∷ [], (vptr b (o + 1358) ∷ [], (vptr b (o + 3280) ∷ [], (vptr b (o + 3408) ∷ [], (vptr b (o + 3440) ∷ [], (vptr b (o + 3472) ∷ [], (vptr b (o + 11152) ∷ [], (vptr b (o + 11216) ∷ [], (vptr b (o + 11280) ∷ [], (vptr b (o + 11344) ∷ [], (vptr b (o + 11408) ∷ [], (vptr b (o + 11472) ∷ [], (vptr b (o + 11600) ∷ [], (vptr b (o + 11664) ∷ [], (vptr b (o + 11696) ∷ [], (vptr b (o + 11728) ∷ [], (packet-val ∷ [], (out-val ∷ [], tt)))))))))))))))))))))))))), tt)
+  to ν ns = ((lfts ν, (PosShare.left full_share, (PosShare.left (PosShare.right full_share), (PosShare.left (PosShare.right (PosShare.right full_share)), (PosShare.left (PosShare.right (PosShare.right (PosShare.right full_share))), (PosShare.left (PosShare.right (PosShare.right (PosShare.right (PosShare.right full_share)))), (PosShare.left (PosShare.right (PosShare.right (PosShare.right (PosShare.right (PosShare.right full_share))))), (PosShare.left (PosShare.right (PosShare.right (PosShare.right (PosShare.right (PosShare.right (PosShare.right full_share)))))), (PosShare.left (PosShare.right (PosShare.right (PosShare.right (PosShare.right (PosShare.right (PosShare.right (PosShare.right full_share))))))), (PosShare.left (PosShare.right (PosShare.right (PosShare.right (PosShare.right (PosShare.right (PosShare.right (PosShare.right (PosShare.right full_share)))))))), (PosShare.left (PosShare.right (PosShare.right (PosShare.right (PosShare.right (PosShare.right (PosShare.right (PosShare.right (PosShare.right (PosShare.right full_share))))))))), (PosShare.left (PosShare.right (PosShare.right (PosShare.right (PosShare.right (PosShare.right (PosShare.right (PosShare.right (PosShare.right (PosShare.right (PosShare.right full_share)))))))))), (PosShare.left (PosShare.right (PosShare.right (PosShare.right (PosShare.right (PosShare.right (PosShare.right (PosShare.right (PosShare.right (PosShare.right (PosShare.right (PosShare.right full_share))))))))))), (PosShare.left (PosShare.right (PosShare.right (PosShare.right (PosShare.right (PosShare.right (PosShare.right (PosShare.right (PosShare.right (PosShare.right (PosShare.right (PosShare.right (PosShare.right full_share)))))))))))), (PosShare.left (PosShare.right (PosShare.right (PosShare.right (PosShare.right (PosShare.right (PosShare.right (PosShare.right (PosShare.right (PosShare.right (PosShare.right (PosShare.right (PosShare.right (PosShare.right full_share))))))))))))), (PosShare.left (PosShare.right (PosShare.right (PosShare.right (PosShare.right (PosShare.right (PosShare.right (PosShare.right (PosShare.right (PosShare.right (PosShare.right (PosShare.right (PosShare.right (PosShare.right (PosShare.right full_share)))))))))))))), (PosShare.left (PosShare.right (PosShare.right (PosShare.right (PosShare.right (PosShare.right (PosShare.right (PosShare.right (PosShare.right (PosShare.right (PosShare.right (PosShare.right (PosShare.right (PosShare.right (PosShare.right (PosShare.right full_share))))))))))))))), (PosShare.left (PosShare.right (PosShare.right (PosShare.right (PosShare.right (PosShare.right (PosShare.right (PosShare.right (PosShare.right (PosShare.right (PosShare.right (PosShare.right (PosShare.right (PosShare.right (PosShare.right (PosShare.right (PosShare.right full_share)))))))))))))))), (PosShare.left (PosShare.right (PosShare.right (PosShare.right (PosShare.right (PosShare.right (PosShare.right (PosShare.right (PosShare.right (PosShare.right (PosShare.right (PosShare.right (PosShare.right (PosShare.right (PosShare.right (PosShare.right (PosShare.right (PosShare.right full_share))))))))))))))))), (PosShare.left (PosShare.right (PosShare.right (PosShare.right (PosShare.right (PosShare.right (PosShare.right (PosShare.right (PosShare.right (PosShare.right (PosShare.right (PosShare.right (PosShare.right (PosShare.right (PosShare.right (PosShare.right (PosShare.right (PosShare.right (PosShare.right full_share)))))))))))))))))), (PosShare.left (PosShare.right (PosShare.right (PosShare.right (PosShare.right (PosShare.right (PosShare.right (PosShare.right (PosShare.right (PosShare.right (PosShare.right (PosShare.right (PosShare.right (PosShare.right (PosShare.right (PosShare.right (PosShare.right (PosShare.right (PosShare.right (PosShare.right full_share))))))))))))))))))), (PosShare.left (PosShare.right (PosShare.right (PosShare.right (PosShare.right (PosShare.right (PosShare.right (PosShare.right (PosShare.right (PosShare.right (PosShare.right (PosShare.right (PosShare.right (PosShare.right (PosShare.right (PosShare.right (PosShare.right (PosShare.right (PosShare.right (PosShare.right (PosShare.right full_share)))))))))))))))))))), (PosShare.right (PosShare.right (PosShare.right (PosShare.right (PosShare.right (PosShare.right (PosShare.right (PosShare.right (PosShare.right (PosShare.right (PosShare.right (PosShare.right (PosShare.right (PosShare.right (PosShare.right (PosShare.right (PosShare.right (PosShare.right (PosShare.right (PosShare.right (PosShare.right full_share)))))))))))))))))))), (q₁, (q₂, tt)))))))))))))))))))))))), tt, args ns, (LL.val B.the_type B'.the_laws h.head ∷ [], (vptr b (o + 80) ∷ [], (vptr b (o + 100) ∷ [], (vptr b (o + 132) ∷ [], (vptr b (o + 137) ∷ [], (vptr b (o + 142) ∷ [], (vptr b (o + 150) ∷ [], (vptr b (o + 158) ∷ [], (vptr b (o + 1358) ∷ [], (vptr b (o + 3280) ∷ [], (vptr b (o + 3408) ∷ [], (vptr b (o + 3440) ∷ [], (vptr b (o + 3472) ∷ [], (vptr b (o + 11152) ∷ [], (vptr b (o + 11216) ∷ [], (vptr b (o + 11280) ∷ [], (vptr b (o + 11344) ∷ [], (vptr b (o + 11408) ∷ [], (vptr b (o + 11472) ∷ [], (vptr b (o + 11600) ∷ [], (vptr b (o + 11664) ∷ [], (vptr b (o + 11696) ∷ [], (vptr b (o + 11728) ∷ [], (packet_val ∷ [], (out_val ∷ [], tt)))))))))))))))))))))))))), tt)
 
   -- the other parameters' tokens
   abbrev Toks : Item 𝓤
@@ -130,15 +130,15 @@ module _ {M : Type 1} {𝓤 : Ura M} (𝓛 : Logic 𝓤) (at_mem : Memory → SP
 
   -- what the callee is handed beside the head and the arrays, and what it says of that at its return
   abbrev Rest : Fml
-  Rest = fsep ((ShrSlice (named 1) κ₁ u8).own_val packet (packet-val ∷ [])) (fsep ((MutSlice (named 2) κ₂ u8).own_val out (out-val ∷ [])) (ftrue))
+  Rest = fsep ((ShrSlice (named 1) κ₁ u8).own_val packet (packet_val ∷ [])) (fsep ((MutSlice (named 2) κ₂ u8).own_val out (out_val ∷ [])) (ftrue))
 
   abbrev Left : List ℕ → Fml
   Left out-end = fsep ftrue (fsep (fsep (finally u8 out.ghost_name out-end) (feq ℕ (length out-end) (length out.now))) (ftrue))
 
   goes_in : (ν : ℕ) (ns : Names arrays) → Is B.the_row h.head (LL.vals B.the_type B'.the_laws h.head)
-      → ent 𝓤 (⋆ 𝓛 (‵ (refsAt (named 0) (ν ∷ []) arrays (start lendable) (lendable.all h).1 ns b o Rest) ∷ raw (toksAt 𝓛 (ν ∷ []) 21 full_share (mean 𝓛 Toks)) ∷ [])) ((On 𝓛 at_mem run).pre (to ν ns))
+      → ent 𝓤 (⋆ 𝓛 (‵ (refs_at (named 0) (ν ∷ []) arrays (start lendable) (lendable.all h).1 ns b o Rest) ∷ raw (toks_at 𝓛 (ν ∷ []) 21 full_share (mean 𝓛 Toks)) ∷ [])) ((On 𝓛 at_mem run).pre (to ν ns))
   goes_in ν ns is =
-      qed 𝓛 (‵ (refsAt (named 0) (ν ∷ []) arrays (start lendable) (lendable.all h).1 ns b o Rest) ∷ raw (toksAt 𝓛 (ν ∷ []) 21 full_share (mean 𝓛 Toks)) ∷ []) ∵
+      qed 𝓛 (‵ (refs_at (named 0) (ν ∷ []) arrays (start lendable) (lendable.all h).1 ns b o Rest) ∷ raw (toks_at 𝓛 (ν ∷ []) 21 full_share (mean 𝓛 Toks)) ∷ []) ∵
       owned ! B.the_row (Is B.the_row) (LL.makes B.the_type B'.the_plain 𝓛) h.head _ is $ fjoin ! $ move ! (1 ∷ 0 ∷ []) $ join ! $ frame ! $ done !
 
   abbrev Ends : Type 0
@@ -148,12 +148,12 @@ module _ {M : Type 1} {𝓤 : Ura M} (𝓛 : Logic 𝓤) (at_mem : Memory → SP
   ended zs = (zs.1.0, (zs.1.1.0, (zs.1.1.1.0, (zs.1.1.1.1.0, (zs.1.1.1.1.1.0, (zs.1.1.1.1.1.1.0, (zs.1.1.1.1.1.1.1.0, (zs.1.1.1.1.1.1.1.1.0, (zs.1.1.1.1.1.1.1.1.1.0, (zs.1.1.1.1.1.1.1.1.1.1.0, (zs.1.1.1.1.1.1.1.1.1.1.1.0, (zs.1.1.1.1.1.1.1.1.1.1.1.1.0, (zs.1.1.1.1.1.1.1.1.1.1.1.1.1.0, (zs.1.1.1.1.1.1.1.1.1.1.1.1.1.1.0, (zs.1.1.1.1.1.1.1.1.1.1.1.1.1.1.1.0, (zs.1.1.1.1.1.1.1.1.1.1.1.1.1.1.1.1.0, (zs.1.1.1.1.1.1.1.1.1.1.1.1.1.1.1.1.1.0, (zs.1.1.1.1.1.1.1.1.1.1.1.1.1.1.1.1.1.1.0, (zs.1.1.1.1.1.1.1.1.1.1.1.1.1.1.1.1.1.1.1.0, (zs.1.1.1.1.1.1.1.1.1.1.1.1.1.1.1.1.1.1.1.1.0, (zs.1.1.1.1.1.1.1.1.1.1.1.1.1.1.1.1.1.1.1.1.1.0, (zs.1.1.1.1.1.1.1.1.1.1.1.1.1.1.1.1.1.1.1.1.1.1.0, tt))))))))))))))))))))))
 
   -- the arrays are lent for the lifetime ν, and the callee has what it asks
-  goes-out : (ν : ℕ) → Is B.the_row h.head (LL.vals B.the_type B'.the_laws h.head)
+  goes_out : (ν : ℕ) → Is B.the_row h.head (LL.vals B.the_type B'.the_laws h.head)
       → ent 𝓤 (⋆ 𝓛 (‵ (part_at T.the_row full_share h b o) ∷ ‵ Rest ∷ (‵ (flft (ν ∷ []) full_share) ⊛ Toks) ∷ [])) (H.⇛ (ex 𝓤 (λ (ns : Names arrays). sep 𝓤 ((On 𝓛 at_mem run).pre (to ν ns)) (mean 𝓛 (Kept lendable 𝓛 (ν ∷ []) h b o ns)))))
-  goes-out ν is =
+  goes_out ν is =
       qed 𝓛 (‵ (part_at T.the_row full_share h b o) ∷ ‵ Rest ∷ (‵ (flft (ν ∷ []) full_share) ⊛ Toks) ∷ []) ∵ updating ! $
-      use2 𝓛 (later (some (λ (ns : Names arrays). ‵ (refsAt (named 0) (ν ∷ []) arrays (start lendable) (lendable.all h).1 ns b o Rest) ⊛ Kept lendable 𝓛 (ν ∷ []) h b o ns))) (lend lendable 𝓛 (named 0) (ν ∷ []) h b o Rest) $ await ! tt $ pick ! (λ ns. split ! $
-      move ! (2 ∷ []) $ use1 𝓛 (raw (toksAt 𝓛 (ν ∷ []) 21 full_share (mean 𝓛 Toks))) (toks_cut 𝓛 (ν ∷ []) 21 full_share (mean 𝓛 Toks)) $ move ! (1 ∷ 0 ∷ []) $ use2 𝓛 (raw ((On 𝓛 at_mem run).pre (to ν ns))) (goes_in ν ns is) $
+      use2 𝓛 (later (some (λ (ns : Names arrays). ‵ (refs_at (named 0) (ν ∷ []) arrays (start lendable) (lendable.all h).1 ns b o Rest) ⊛ Kept lendable 𝓛 (ν ∷ []) h b o ns))) (lend lendable 𝓛 (named 0) (ν ∷ []) h b o Rest) $ await ! tt $ pick ! (λ ns. split ! $
+      move ! (2 ∷ []) $ use1 𝓛 (raw (toks_at 𝓛 (ν ∷ []) 21 full_share (mean 𝓛 Toks))) (toks_cut 𝓛 (ν ∷ []) 21 full_share (mean 𝓛 Toks)) $ move ! (1 ∷ 0 ∷ []) $ use2 𝓛 (raw ((On 𝓛 at_mem run).pre (to ν ns))) (goes_in ν ns is) $
       at_once ! $ show ! (λ (ns : Names arrays). sep 𝓤 ((On 𝓛 at_mem run).pre (to ν ns)) (mean 𝓛 (Kept lendable 𝓛 (ν ∷ []) h b o ns))) ns $ done !)
 
   -- what the callee promises
@@ -174,10 +174,10 @@ module _ {M : Type 1} {𝓤 : Ura M} (𝓛 : Logic 𝓤) (at_mem : Memory → SP
   module _ (C : Calls 𝓤 H) (Λ : Loops 𝓤 H) (fm : FmC 𝓤 H 𝓛.laws C) (known : Triple 𝓤 (C #on) (On 𝓛 at_mem run)) where
     -- behind the call: the result is stored, the arrays come back, and the borrow is closed
     after : (l₀ l₁ l₂ l₃ l₄ l₅ l₆ l₇ l₈ l₉ l₁₀ l₁₁ l₁₂ l₁₃ l₁₄ l₁₅ l₁₆ l₁₇ l₁₈ l₁₉ l₂₀ l₂₁ l₂₂ l₂₃ l₂₄ l₂₅ l₂₆ l₂₇ l₂₈ l₂₉ ν : ℕ) (ns : Names arrays) (w : Val)
-        → Seq Go 𝓛 (raw ((On 𝓛 at_mem run).post (to ν ns) w) ∷ Kept lendable 𝓛 (ν ∷ []) h b o ns ∷ ‵ (fobor κ q (Body (mem T.the_row) b o γ)) ∷ ‵ (fobs γ ((T.the_row).coded.code h)) ∷ ‵ (fauth γ ((T.the_row).coded.code h)) ∷ laid 𝓛 (code.function).locals (l₀ ∷ l₁ ∷ l₂ ∷ l₃ ∷ l₄ ∷ l₅ ∷ l₆ ∷ l₇ ∷ l₈ ∷ l₉ ∷ l₁₀ ∷ l₁₁ ∷ l₁₂ ∷ l₁₃ ∷ l₁₄ ∷ l₁₅ ∷ l₁₆ ∷ l₁₇ ∷ l₁₈ ∷ l₁₉ ∷ l₂₀ ∷ l₂₁ ∷ l₂₂ ∷ l₂₃ ∷ l₂₄ ∷ l₂₅ ∷ l₂₆ ∷ l₂₇ ∷ l₂₈ ∷ l₂₉ ∷ []) (blank ∷ full (vptr b o) ∷ full packet-val ∷ full out-val ∷ blank ∷ full (LL.val B.the_type B'.the_laws h.head) ∷ full (vptr b (o + 80)) ∷ full (vptr b (o + 100)) ∷ full (vptr b (o + 132)) ∷ full (vptr b (o + 137)) ∷ full (vptr b (o + 142)) ∷ full (vptr b (o + 150)) ∷ full (vptr b (o + 158)) ∷ full (vptr b (o + 1358)) ∷ full (vptr b (o + 3280)) ∷ full (vptr b (o + 3408)) ∷ full (vptr b (o + 3440)) ∷ full (vptr b (o + 3472)) ∷ full (vptr b (o + 11152)) ∷ full (vptr b (o + 11216)) ∷ full (vptr b (o + 11280)) ∷ full (vptr b (o + 11344)) ∷ full (vptr b (o + 11408)) ∷ full (vptr b (o + 11472)) ∷ full (vptr b (o + 11600)) ∷ full (vptr b (o + 11664)) ∷ full (vptr b (o + 11696)) ∷ full (vptr b (o + 11728)) ∷ full (vptr out.ptr.0 out.ptr.1) ∷ full out-val ∷ []) [])
-        (lands C Λ (envOf 𝓛 (code.function).locals (l₀ ∷ l₁ ∷ l₂ ∷ l₃ ∷ l₄ ∷ l₅ ∷ l₆ ∷ l₇ ∷ l₈ ∷ l₉ ∷ l₁₀ ∷ l₁₁ ∷ l₁₂ ∷ l₁₃ ∷ l₁₄ ∷ l₁₅ ∷ l₁₆ ∷ l₁₇ ∷ l₁₈ ∷ l₁₉ ∷ l₂₀ ∷ l₂₁ ∷ l₂₂ ∷ l₂₃ ∷ l₂₄ ∷ l₂₅ ∷ l₂₆ ∷ l₂₇ ∷ l₂₈ ∷ l₂₉ ∷ [])) (place 4 []) w (tailOf 26 (code.function).body) (at_ret (envOf 𝓛 (code.function).locals (l₀ ∷ l₁ ∷ l₂ ∷ l₃ ∷ l₄ ∷ l₅ ∷ l₆ ∷ l₇ ∷ l₈ ∷ l₉ ∷ l₁₀ ∷ l₁₁ ∷ l₁₂ ∷ l₁₃ ∷ l₁₄ ∷ l₁₅ ∷ l₁₆ ∷ l₁₇ ∷ l₁₈ ∷ l₁₉ ∷ l₂₀ ∷ l₂₁ ∷ l₂₂ ∷ l₂₃ ∷ l₂₄ ∷ l₂₅ ∷ l₂₆ ∷ l₂₇ ∷ l₂₈ ∷ l₂₉ ∷ [])) Post))
+        → Seq Go 𝓛 (raw ((On 𝓛 at_mem run).post (to ν ns) w) ∷ Kept lendable 𝓛 (ν ∷ []) h b o ns ∷ ‵ (fobor κ q (Body (mem T.the_row) b o γ)) ∷ ‵ (fobs γ ((T.the_row).coded.code h)) ∷ ‵ (fauth γ ((T.the_row).coded.code h)) ∷ laid 𝓛 (code.function).locals (l₀ ∷ l₁ ∷ l₂ ∷ l₃ ∷ l₄ ∷ l₅ ∷ l₆ ∷ l₇ ∷ l₈ ∷ l₉ ∷ l₁₀ ∷ l₁₁ ∷ l₁₂ ∷ l₁₃ ∷ l₁₄ ∷ l₁₅ ∷ l₁₆ ∷ l₁₇ ∷ l₁₈ ∷ l₁₉ ∷ l₂₀ ∷ l₂₁ ∷ l₂₂ ∷ l₂₃ ∷ l₂₄ ∷ l₂₅ ∷ l₂₆ ∷ l₂₇ ∷ l₂₈ ∷ l₂₉ ∷ []) (blank ∷ full (vptr b o) ∷ full packet_val ∷ full out_val ∷ blank ∷ full (LL.val B.the_type B'.the_laws h.head) ∷ full (vptr b (o + 80)) ∷ full (vptr b (o + 100)) ∷ full (vptr b (o + 132)) ∷ full (vptr b (o + 137)) ∷ full (vptr b (o + 142)) ∷ full (vptr b (o + 150)) ∷ full (vptr b (o + 158)) ∷ full (vptr b (o + 1358)) ∷ full (vptr b (o + 3280)) ∷ full (vptr b (o + 3408)) ∷ full (vptr b (o + 3440)) ∷ full (vptr b (o + 3472)) ∷ full (vptr b (o + 11152)) ∷ full (vptr b (o + 11216)) ∷ full (vptr b (o + 11280)) ∷ full (vptr b (o + 11344)) ∷ full (vptr b (o + 11408)) ∷ full (vptr b (o + 11472)) ∷ full (vptr b (o + 11600)) ∷ full (vptr b (o + 11664)) ∷ full (vptr b (o + 11696)) ∷ full (vptr b (o + 11728)) ∷ full (vptr out.ptr.0 out.ptr.1) ∷ full out_val ∷ []) [])
+        (lands C Λ (env_of 𝓛 (code.function).locals (l₀ ∷ l₁ ∷ l₂ ∷ l₃ ∷ l₄ ∷ l₅ ∷ l₆ ∷ l₇ ∷ l₈ ∷ l₉ ∷ l₁₀ ∷ l₁₁ ∷ l₁₂ ∷ l₁₃ ∷ l₁₄ ∷ l₁₅ ∷ l₁₆ ∷ l₁₇ ∷ l₁₈ ∷ l₁₉ ∷ l₂₀ ∷ l₂₁ ∷ l₂₂ ∷ l₂₃ ∷ l₂₄ ∷ l₂₅ ∷ l₂₆ ∷ l₂₇ ∷ l₂₈ ∷ l₂₉ ∷ [])) (place 4 []) w (tail_of 26 (code.function).body) (at_ret (env_of 𝓛 (code.function).locals (l₀ ∷ l₁ ∷ l₂ ∷ l₃ ∷ l₄ ∷ l₅ ∷ l₆ ∷ l₇ ∷ l₈ ∷ l₉ ∷ l₁₀ ∷ l₁₁ ∷ l₁₂ ∷ l₁₃ ∷ l₁₄ ∷ l₁₅ ∷ l₁₆ ∷ l₁₇ ∷ l₁₈ ∷ l₁₉ ∷ l₂₀ ∷ l₂₁ ∷ l₂₂ ∷ l₂₃ ∷ l₂₄ ∷ l₂₅ ∷ l₂₆ ∷ l₂₇ ∷ l₂₈ ∷ l₂₉ ∷ [])) Post))
     after l₀ l₁ l₂ l₃ l₄ l₅ l₆ l₇ l₈ l₉ l₁₀ l₁₁ l₁₂ l₁₃ l₁₄ l₁₅ l₁₆ l₁₇ l₁₈ l₁₉ l₂₀ l₂₁ l₂₂ l₂₃ l₂₄ l₂₅ l₂₆ l₂₇ l₂₈ l₂₉ ν ns w =
-        use1 𝓛 (later (some (λ (r : Step). (raw (toksAt 𝓛 (ν ∷ []) 21 full_share (mean 𝓛 Toks)) ⊛ ‵ ((S.the_row).own_val r (w ∷ []))) ⊛ raw (ensured 𝓛 on.ended (on.clauses 𝓛 at_mem run) (lfts ν) (args ns) tt r)))) (id⊢ 𝓤 _) $ await ! tt $ pick ! (λ r.
+        use1 𝓛 (later (some (λ (r : Step). (raw (toks_at 𝓛 (ν ∷ []) 21 full_share (mean 𝓛 Toks)) ⊛ ‵ ((S.the_row).own_val r (w ∷ []))) ⊛ raw (ensured 𝓛 on.ended (on.clauses 𝓛 at_mem run) (lfts ν) (args ns) tt r)))) (id⊢ 𝓤 _) $ await ! tt $ pick ! (λ r.
         -- [tokens and the result; what is ensured; what is kept; the open borrow; obs; auth; the locals (6)]
         split ! $ split ! $ move ! (1 ∷ []) $ facts ! S.the_row (Is S.the_row) (shows 𝓛 S.the_row) r (w ∷ []) (λ is. land ! (from ! (stop !)) (init ! 56 refl ((LL.lawful S.the_type S'.the_laws 𝓛).typed r _ is).0) $
         rewrite ! 56 (λ (u : Val). ‵ (fat full_share S'.mir l₄ 0 u)) (ap only (LL.tells S.the_type S'.the_laws r (w ∷ []) is)) refl $
@@ -188,59 +188,59 @@ module _ {M : Type 1} {𝓤 : Ura M} (𝓛 : Logic 𝓤) (at_mem : Memory → SP
         move ! (1 ∷ []) $ use1 𝓛 (some (λ (v : Val). ‵ (fat full_share T'.mir b o v) ⊛ ‵ ((T.the_row).own_val h₁ (v ∷ [])))) (part_out 𝓛 T.the_row refl full_share h₁ b o) $ pick ! (λ v. split ! $ move ! (1 ∷ []) $
         facts ! T.the_row (Is T.the_row) (shows 𝓛 T.the_row) h₁ (v ∷ []) (λ was'. rewrite ! 0 (λ (u : Val). ‵ (fat full_share T'.mir b o u)) (ap only (LL.tells T.the_type T'.the_laws h₁ (v ∷ []) was')) refl $
         -- [the struct's cell; the outputs' lasts; the other tokens; the open borrow; obs; auth; the locals (6)]
-        assigns ! (of_opd ! (load ! (from ! (fld ! refl (stop !))) (look_in ! 56 (sub ! 0 refl (whole !))))) (from ! (hop ! (look ! 62 refl) (fld ! refl (stop !)))) (store_in ! 0 (sub ! 0 refl (whole !)) ((LL.lawful B.the_type B'.the_laws 𝓛).typed r.head _ (owed-done r w is).0).0) $
-        assigns ! (of_opd ! (load ! (from ! (fld ! refl (stop !))) (look_in ! 56 (sub ! 1 refl (whole !))))) (from ! (stop !)) (init ! 64 refl ((LL.lawful Y.the_type Y'.the_laws 𝓛).typed r.reply _ (owed-done r w is).1).0) $
+        assigns ! (of_opd ! (load ! (from ! (fld ! refl (stop !))) (look_in ! 56 (sub ! 0 refl (whole !))))) (from ! (hop ! (look ! 62 refl) (fld ! refl (stop !)))) (store_in ! 0 (sub ! 0 refl (whole !)) ((LL.lawful B.the_type B'.the_laws 𝓛).typed r.head _ (owed_done r w is).0).0) $
+        assigns ! (of_opd ! (load ! (from ! (fld ! refl (stop !))) (look_in ! 56 (sub ! 1 refl (whole !))))) (from ! (stop !)) (init ! 64 refl ((LL.lawful Y.the_type Y'.the_laws 𝓛).typed r.reply _ (owed_done r w is).1).0) $
         use1 𝓛 (‵ (cell_at full_share (T.the_row).mir (hval (headed r.head h₁) ∷ []) b o)) (𝓛.laws.at_raw full_share T'.mir b o (hval (headed r.head h₁))) $
-        owned ! T.the_row (Is T.the_row) (LL.makes T.the_type T'.the_plain 𝓛) (headed r.head h₁) _ (made r.head (owed-done r w is).0 h₁ v was') $
+        owned ! T.the_row (Is T.the_row) (LL.makes T.the_type T'.the_plain 𝓛) (headed r.head h₁) _ (made r.head (owed_done r w is).0 h₁ v was') $
         move ! (1 ∷ 0 ∷ 4 ∷ 5 ∷ 6 ∷ []) $ closes ! tt T.the_row (headed r.head h₁) (hval (headed r.head h₁) ∷ []) b o $
         -- [obs; bor; k; the outputs' lasts; the other tokens; the locals (5)]
         returns ! (look ! 63 refl) $ free_all ! (_ ∷ _ ∷ _ ∷ _ ∷ _ ∷ []) (record { type = _; block = l₀; value = _ } ∷ record { type = _; block = l₁; value = _ } ∷ record { type = _; block = l₂; value = _ } ∷ record { type = _; block = l₃; value = _ } ∷ record { type = _; block = l₄; value = _ } ∷ record { type = _; block = l₅; value = _ } ∷ record { type = _; block = l₆; value = _ } ∷ record { type = _; block = l₇; value = _ } ∷ record { type = _; block = l₈; value = _ } ∷ record { type = _; block = l₉; value = _ } ∷ record { type = _; block = l₁₀; value = _ } ∷ record { type = _; block = l₁₁; value = _ } ∷ record { type = _; block = l₁₂; value = _ } ∷ record { type = _; block = l₁₃; value = _ } ∷ record { type = _; block = l₁₄; value = _ } ∷ record { type = _; block = l₁₅; value = _ } ∷ record { type = _; block = l₁₆; value = _ } ∷ record { type = _; block = l₁₇; value = _ } ∷ record { type = _; block = l₁₈; value = _ } ∷ record { type = _; block = l₁₉; value = _ } ∷ record { type = _; block = l₂₀; value = _ } ∷ record { type = _; block = l₂₁; value = _ } ∷ record { type = _; block = l₂₂; value = _ } ∷ record { type = _; block = l₂₃; value = _ } ∷ record { type = _; block = l₂₄; value = _ } ∷ record { type = _; block = l₂₅; value = _ } ∷ record { type = _; block = l₂₆; value = _ } ∷ record { type = _; block = l₂₇; value = _ } ∷ record { type = _; block = l₂₈; value = _ } ∷ record { type = _; block = l₂₉; value = _ } ∷ []) $
-        keep ! (0 ∷ 1 ∷ 2 ∷ 4 ∷ 3 ∷ []) $ by ! (exits r.reply (owed-done r w is).1 (headed r.head h₁) out-end out-len e)))))))))
+        keep ! (0 ∷ 1 ∷ 2 ∷ 4 ∷ 3 ∷ []) $ by ! (exits r.reply (owed_done r w is).1 (headed r.head h₁) out-end out-len e)))))))))
 
     -- all is laid out: the arrays are lent, and the callee is called
     hands_on : (l₀ l₁ l₂ l₃ l₄ l₅ l₆ l₇ l₈ l₉ l₁₀ l₁₁ l₁₂ l₁₃ l₁₄ l₁₅ l₁₆ l₁₇ l₁₈ l₁₉ l₂₀ l₂₁ l₂₂ l₂₃ l₂₄ l₂₅ l₂₆ l₂₇ l₂₈ l₂₉ : ℕ) → Is T.the_row h (hval h ∷ [])
-        → Seq Go 𝓛 (‵ (fat full_share T'.mir b o (hval h)) ∷ ‵ ((T.the_row).own_val h (hval h ∷ [])) ∷ ‵ (fobor κ q (Body (mem T.the_row) b o γ)) ∷ ‵ (fobs γ ((T.the_row).coded.code h)) ∷ ‵ (fauth γ ((T.the_row).coded.code h)) ∷ laid 𝓛 (code.function).locals (l₀ ∷ l₁ ∷ l₂ ∷ l₃ ∷ l₄ ∷ l₅ ∷ l₆ ∷ l₇ ∷ l₈ ∷ l₉ ∷ l₁₀ ∷ l₁₁ ∷ l₁₂ ∷ l₁₃ ∷ l₁₄ ∷ l₁₅ ∷ l₁₆ ∷ l₁₇ ∷ l₁₈ ∷ l₁₉ ∷ l₂₀ ∷ l₂₁ ∷ l₂₂ ∷ l₂₃ ∷ l₂₄ ∷ l₂₅ ∷ l₂₆ ∷ l₂₇ ∷ l₂₈ ∷ l₂₉ ∷ []) (blank ∷ full (vptr b o) ∷ full packet-val ∷ full out-val ∷ blank ∷ full (LL.val B.the_type B'.the_laws h.head) ∷ full (vptr b (o + 80)) ∷ full (vptr b (o + 100)) ∷ full (vptr b (o + 132)) ∷ full (vptr b (o + 137)) ∷ full (vptr b (o + 142)) ∷ full (vptr b (o + 150)) ∷ full (vptr b (o + 158)) ∷ full (vptr b (o + 1358)) ∷ full (vptr b (o + 3280)) ∷ full (vptr b (o + 3408)) ∷ full (vptr b (o + 3440)) ∷ full (vptr b (o + 3472)) ∷ full (vptr b (o + 11152)) ∷ full (vptr b (o + 11216)) ∷ full (vptr b (o + 11280)) ∷ full (vptr b (o + 11344)) ∷ full (vptr b (o + 11408)) ∷ full (vptr b (o + 11472)) ∷ full (vptr b (o + 11600)) ∷ full (vptr b (o + 11664)) ∷ full (vptr b (o + 11696)) ∷ full (vptr b (o + 11728)) ∷ full (vptr out.ptr.0 out.ptr.1) ∷ full out-val ∷ []) (‵ Rest ∷ Toks ∷ []))
-        (runs C Λ (envOf 𝓛 (code.function).locals (l₀ ∷ l₁ ∷ l₂ ∷ l₃ ∷ l₄ ∷ l₅ ∷ l₆ ∷ l₇ ∷ l₈ ∷ l₉ ∷ l₁₀ ∷ l₁₁ ∷ l₁₂ ∷ l₁₃ ∷ l₁₄ ∷ l₁₅ ∷ l₁₆ ∷ l₁₇ ∷ l₁₈ ∷ l₁₉ ∷ l₂₀ ∷ l₂₁ ∷ l₂₂ ∷ l₂₃ ∷ l₂₄ ∷ l₂₅ ∷ l₂₆ ∷ l₂₇ ∷ l₂₈ ∷ l₂₉ ∷ [])) (tailOf 25 (code.function).body) (at_ret (envOf 𝓛 (code.function).locals (l₀ ∷ l₁ ∷ l₂ ∷ l₃ ∷ l₄ ∷ l₅ ∷ l₆ ∷ l₇ ∷ l₈ ∷ l₉ ∷ l₁₀ ∷ l₁₁ ∷ l₁₂ ∷ l₁₃ ∷ l₁₄ ∷ l₁₅ ∷ l₁₆ ∷ l₁₇ ∷ l₁₈ ∷ l₁₉ ∷ l₂₀ ∷ l₂₁ ∷ l₂₂ ∷ l₂₃ ∷ l₂₄ ∷ l₂₅ ∷ l₂₆ ∷ l₂₇ ∷ l₂₈ ∷ l₂₉ ∷ [])) Post))
+        → Seq Go 𝓛 (‵ (fat full_share T'.mir b o (hval h)) ∷ ‵ ((T.the_row).own_val h (hval h ∷ [])) ∷ ‵ (fobor κ q (Body (mem T.the_row) b o γ)) ∷ ‵ (fobs γ ((T.the_row).coded.code h)) ∷ ‵ (fauth γ ((T.the_row).coded.code h)) ∷ laid 𝓛 (code.function).locals (l₀ ∷ l₁ ∷ l₂ ∷ l₃ ∷ l₄ ∷ l₅ ∷ l₆ ∷ l₇ ∷ l₈ ∷ l₉ ∷ l₁₀ ∷ l₁₁ ∷ l₁₂ ∷ l₁₃ ∷ l₁₄ ∷ l₁₅ ∷ l₁₆ ∷ l₁₇ ∷ l₁₈ ∷ l₁₉ ∷ l₂₀ ∷ l₂₁ ∷ l₂₂ ∷ l₂₃ ∷ l₂₄ ∷ l₂₅ ∷ l₂₆ ∷ l₂₇ ∷ l₂₈ ∷ l₂₉ ∷ []) (blank ∷ full (vptr b o) ∷ full packet_val ∷ full out_val ∷ blank ∷ full (LL.val B.the_type B'.the_laws h.head) ∷ full (vptr b (o + 80)) ∷ full (vptr b (o + 100)) ∷ full (vptr b (o + 132)) ∷ full (vptr b (o + 137)) ∷ full (vptr b (o + 142)) ∷ full (vptr b (o + 150)) ∷ full (vptr b (o + 158)) ∷ full (vptr b (o + 1358)) ∷ full (vptr b (o + 3280)) ∷ full (vptr b (o + 3408)) ∷ full (vptr b (o + 3440)) ∷ full (vptr b (o + 3472)) ∷ full (vptr b (o + 11152)) ∷ full (vptr b (o + 11216)) ∷ full (vptr b (o + 11280)) ∷ full (vptr b (o + 11344)) ∷ full (vptr b (o + 11408)) ∷ full (vptr b (o + 11472)) ∷ full (vptr b (o + 11600)) ∷ full (vptr b (o + 11664)) ∷ full (vptr b (o + 11696)) ∷ full (vptr b (o + 11728)) ∷ full (vptr out.ptr.0 out.ptr.1) ∷ full out_val ∷ []) (‵ Rest ∷ Toks ∷ []))
+        (runs C Λ (env_of 𝓛 (code.function).locals (l₀ ∷ l₁ ∷ l₂ ∷ l₃ ∷ l₄ ∷ l₅ ∷ l₆ ∷ l₇ ∷ l₈ ∷ l₉ ∷ l₁₀ ∷ l₁₁ ∷ l₁₂ ∷ l₁₃ ∷ l₁₄ ∷ l₁₅ ∷ l₁₆ ∷ l₁₇ ∷ l₁₈ ∷ l₁₉ ∷ l₂₀ ∷ l₂₁ ∷ l₂₂ ∷ l₂₃ ∷ l₂₄ ∷ l₂₅ ∷ l₂₆ ∷ l₂₇ ∷ l₂₈ ∷ l₂₉ ∷ [])) (tail_of 25 (code.function).body) (at_ret (env_of 𝓛 (code.function).locals (l₀ ∷ l₁ ∷ l₂ ∷ l₃ ∷ l₄ ∷ l₅ ∷ l₆ ∷ l₇ ∷ l₈ ∷ l₉ ∷ l₁₀ ∷ l₁₁ ∷ l₁₂ ∷ l₁₃ ∷ l₁₄ ∷ l₁₅ ∷ l₁₆ ∷ l₁₇ ∷ l₁₈ ∷ l₁₉ ∷ l₂₀ ∷ l₂₁ ∷ l₂₂ ∷ l₂₃ ∷ l₂₄ ∷ l₂₅ ∷ l₂₆ ∷ l₂₇ ∷ l₂₈ ∷ l₂₉ ∷ [])) Post))
     hands_on l₀ l₁ l₂ l₃ l₄ l₅ l₆ l₇ l₈ l₉ l₁₀ l₁₁ l₁₂ l₁₃ l₁₄ l₁₅ l₁₆ l₁₇ l₁₈ l₁₉ l₂₀ l₂₁ l₂₂ l₂₃ l₂₄ l₂₅ l₂₆ l₂₇ l₂₈ l₂₉ was =
         -- the arrays are cut out of the struct, and lent for a lifetime ν of the call
         use2 𝓛 (‵ (part_at T.the_row full_share h b o)) (part_in 𝓛 T.the_row refl full_share h b o (hval h)) $ lft_new ! tt (λ ν. move ! (0 ∷ 66 ∷ []) $ join ! $ move ! (1 ∷ 65 ∷ 0 ∷ []) $
-        use3 𝓛 (later (some (λ (ns : Names arrays). raw ((On 𝓛 at_mem run).pre (to ν ns)) ⊛ Kept lendable 𝓛 (ν ∷ []) h b o ns))) (goes-out ν (LL.owed T.the_type T'.the_laws h _ was).0) $ await ! tt $ pick ! (λ ns. split ! $
+        use3 𝓛 (later (some (λ (ns : Names arrays). raw ((On 𝓛 at_mem run).pre (to ν ns)) ⊛ Kept lendable 𝓛 (ν ∷ []) h b o ns))) (goes_out ν (LL.owed T.the_type T'.the_laws h _ was).0) $ await ! tt $ pick ! (λ ns. split ! $
         -- [its pre; what is kept; the open borrow; obs; auth; the locals (5)]
-        calls_at ! fm (On 𝓛 at_mem run) known (to ν ns) (loads-all ! ((5, 53) ∷ (6, 51) ∷ (7, 49) ∷ (8, 47) ∷ (9, 45) ∷ (10, 43) ∷ (11, 41) ∷ (12, 39) ∷ (13, 37) ∷ (14, 35) ∷ (15, 33) ∷ (16, 31) ∷ (17, 29) ∷ (18, 27) ∷ (19, 25) ∷ (20, 23) ∷ (21, 21) ∷ (22, 19) ∷ (23, 17) ∷ (24, 15) ∷ (25, 13) ∷ (26, 11) ∷ (27, 9) ∷ (2, 59) ∷ (29, 5) ∷ []) (refl, (refl, (refl, (refl, (refl, (refl, (refl, (refl, (refl, (refl, (refl, (refl, (refl, (refl, (refl, (refl, (refl, (refl, (refl, (refl, (refl, (refl, (refl, (refl, (refl, tt)))))))))))))))))))))))))) (λ w. after l₀ l₁ l₂ l₃ l₄ l₅ l₆ l₇ l₈ l₉ l₁₀ l₁₁ l₁₂ l₁₃ l₁₄ l₁₅ l₁₆ l₁₇ l₁₈ l₁₉ l₂₀ l₂₁ l₂₂ l₂₃ l₂₄ l₂₅ l₂₆ l₂₇ l₂₈ l₂₉ ν ns w)))
+        calls_at ! fm (On 𝓛 at_mem run) known (to ν ns) (loads_all ! ((5, 53) ∷ (6, 51) ∷ (7, 49) ∷ (8, 47) ∷ (9, 45) ∷ (10, 43) ∷ (11, 41) ∷ (12, 39) ∷ (13, 37) ∷ (14, 35) ∷ (15, 33) ∷ (16, 31) ∷ (17, 29) ∷ (18, 27) ∷ (19, 25) ∷ (20, 23) ∷ (21, 21) ∷ (22, 19) ∷ (23, 17) ∷ (24, 15) ∷ (25, 13) ∷ (26, 11) ∷ (27, 9) ∷ (2, 59) ∷ (29, 5) ∷ []) (refl, (refl, (refl, (refl, (refl, (refl, (refl, (refl, (refl, (refl, (refl, (refl, (refl, (refl, (refl, (refl, (refl, (refl, (refl, (refl, (refl, (refl, (refl, (refl, (refl, tt)))))))))))))))))))))))))) (λ w. after l₀ l₁ l₂ l₃ l₄ l₅ l₆ l₇ l₈ l₉ l₁₀ l₁₁ l₁₂ l₁₃ l₁₄ l₁₅ l₁₆ l₁₇ l₁₈ l₁₉ l₂₀ l₂₁ l₂₂ l₂₃ l₂₄ l₂₅ l₂₆ l₂₇ l₂₈ l₂₉ ν ns w)))
 
     -- the next ones
     addresses₃ : (l₀ l₁ l₂ l₃ l₄ l₅ l₆ l₇ l₈ l₉ l₁₀ l₁₁ l₁₂ l₁₃ l₁₄ l₁₅ l₁₆ l₁₇ l₁₈ l₁₉ l₂₀ l₂₁ l₂₂ l₂₃ l₂₄ l₂₅ l₂₆ l₂₇ l₂₈ l₂₉ : ℕ) → Is T.the_row h (hval h ∷ [])
-        → Seq Go 𝓛 (‵ (fat full_share T'.mir b o (hval h)) ∷ ‵ ((T.the_row).own_val h (hval h ∷ [])) ∷ ‵ (fobor κ q (Body (mem T.the_row) b o γ)) ∷ ‵ (fobs γ ((T.the_row).coded.code h)) ∷ ‵ (fauth γ ((T.the_row).coded.code h)) ∷ laid 𝓛 (code.function).locals (l₀ ∷ l₁ ∷ l₂ ∷ l₃ ∷ l₄ ∷ l₅ ∷ l₆ ∷ l₇ ∷ l₈ ∷ l₉ ∷ l₁₀ ∷ l₁₁ ∷ l₁₂ ∷ l₁₃ ∷ l₁₄ ∷ l₁₅ ∷ l₁₆ ∷ l₁₇ ∷ l₁₈ ∷ l₁₉ ∷ l₂₀ ∷ l₂₁ ∷ l₂₂ ∷ l₂₃ ∷ l₂₄ ∷ l₂₅ ∷ l₂₆ ∷ l₂₇ ∷ l₂₈ ∷ l₂₉ ∷ []) (blank ∷ full (vptr b o) ∷ full packet-val ∷ full out-val ∷ blank ∷ full (LL.val B.the_type B'.the_laws h.head) ∷ full (vptr b (o + 80)) ∷ full (vptr b (o + 100)) ∷ full (vptr b (o + 132)) ∷ full (vptr b (o + 137)) ∷ full (vptr b (o + 142)) ∷ full (vptr b (o + 150)) ∷ full (vptr b (o + 158)) ∷ full (vptr b (o + 1358)) ∷ full (vptr b (o + 3280)) ∷ full (vptr b (o + 3408)) ∷ full (vptr b (o + 3440)) ∷ full (vptr b (o + 3472)) ∷ full (vptr b (o + 11152)) ∷ full (vptr b (o + 11216)) ∷ full (vptr b (o + 11280)) ∷ full (vptr b (o + 11344)) ∷ blank ∷ blank ∷ blank ∷ blank ∷ blank ∷ blank ∷ blank ∷ blank ∷ []) (‵ Rest ∷ Toks ∷ []))
-        (runs C Λ (envOf 𝓛 (code.function).locals (l₀ ∷ l₁ ∷ l₂ ∷ l₃ ∷ l₄ ∷ l₅ ∷ l₆ ∷ l₇ ∷ l₈ ∷ l₉ ∷ l₁₀ ∷ l₁₁ ∷ l₁₂ ∷ l₁₃ ∷ l₁₄ ∷ l₁₅ ∷ l₁₆ ∷ l₁₇ ∷ l₁₈ ∷ l₁₉ ∷ l₂₀ ∷ l₂₁ ∷ l₂₂ ∷ l₂₃ ∷ l₂₄ ∷ l₂₅ ∷ l₂₆ ∷ l₂₇ ∷ l₂₈ ∷ l₂₉ ∷ [])) (tailOf 17 (code.function).body) (at_ret (envOf 𝓛 (code.function).locals (l₀ ∷ l₁ ∷ l₂ ∷ l₃ ∷ l₄ ∷ l₅ ∷ l₆ ∷ l₇ ∷ l₈ ∷ l₉ ∷ l₁₀ ∷ l₁₁ ∷ l₁₂ ∷ l₁₃ ∷ l₁₄ ∷ l₁₅ ∷ l₁₆ ∷ l₁₇ ∷ l₁₈ ∷ l₁₉ ∷ l₂₀ ∷ l₂₁ ∷ l₂₂ ∷ l₂₃ ∷ l₂₄ ∷ l₂₅ ∷ l₂₆ ∷ l₂₇ ∷ l₂₈ ∷ l₂₉ ∷ [])) Post))
+        → Seq Go 𝓛 (‵ (fat full_share T'.mir b o (hval h)) ∷ ‵ ((T.the_row).own_val h (hval h ∷ [])) ∷ ‵ (fobor κ q (Body (mem T.the_row) b o γ)) ∷ ‵ (fobs γ ((T.the_row).coded.code h)) ∷ ‵ (fauth γ ((T.the_row).coded.code h)) ∷ laid 𝓛 (code.function).locals (l₀ ∷ l₁ ∷ l₂ ∷ l₃ ∷ l₄ ∷ l₅ ∷ l₆ ∷ l₇ ∷ l₈ ∷ l₉ ∷ l₁₀ ∷ l₁₁ ∷ l₁₂ ∷ l₁₃ ∷ l₁₄ ∷ l₁₅ ∷ l₁₆ ∷ l₁₇ ∷ l₁₈ ∷ l₁₉ ∷ l₂₀ ∷ l₂₁ ∷ l₂₂ ∷ l₂₃ ∷ l₂₄ ∷ l₂₅ ∷ l₂₆ ∷ l₂₇ ∷ l₂₈ ∷ l₂₉ ∷ []) (blank ∷ full (vptr b o) ∷ full packet_val ∷ full out_val ∷ blank ∷ full (LL.val B.the_type B'.the_laws h.head) ∷ full (vptr b (o + 80)) ∷ full (vptr b (o + 100)) ∷ full (vptr b (o + 132)) ∷ full (vptr b (o + 137)) ∷ full (vptr b (o + 142)) ∷ full (vptr b (o + 150)) ∷ full (vptr b (o + 158)) ∷ full (vptr b (o + 1358)) ∷ full (vptr b (o + 3280)) ∷ full (vptr b (o + 3408)) ∷ full (vptr b (o + 3440)) ∷ full (vptr b (o + 3472)) ∷ full (vptr b (o + 11152)) ∷ full (vptr b (o + 11216)) ∷ full (vptr b (o + 11280)) ∷ full (vptr b (o + 11344)) ∷ blank ∷ blank ∷ blank ∷ blank ∷ blank ∷ blank ∷ blank ∷ blank ∷ []) (‵ Rest ∷ Toks ∷ []))
+        (runs C Λ (env_of 𝓛 (code.function).locals (l₀ ∷ l₁ ∷ l₂ ∷ l₃ ∷ l₄ ∷ l₅ ∷ l₆ ∷ l₇ ∷ l₈ ∷ l₉ ∷ l₁₀ ∷ l₁₁ ∷ l₁₂ ∷ l₁₃ ∷ l₁₄ ∷ l₁₅ ∷ l₁₆ ∷ l₁₇ ∷ l₁₈ ∷ l₁₉ ∷ l₂₀ ∷ l₂₁ ∷ l₂₂ ∷ l₂₃ ∷ l₂₄ ∷ l₂₅ ∷ l₂₆ ∷ l₂₇ ∷ l₂₈ ∷ l₂₉ ∷ [])) (tail_of 17 (code.function).body) (at_ret (env_of 𝓛 (code.function).locals (l₀ ∷ l₁ ∷ l₂ ∷ l₃ ∷ l₄ ∷ l₅ ∷ l₆ ∷ l₇ ∷ l₈ ∷ l₉ ∷ l₁₀ ∷ l₁₁ ∷ l₁₂ ∷ l₁₃ ∷ l₁₄ ∷ l₁₅ ∷ l₁₆ ∷ l₁₇ ∷ l₁₈ ∷ l₁₉ ∷ l₂₀ ∷ l₂₁ ∷ l₂₂ ∷ l₂₃ ∷ l₂₄ ∷ l₂₅ ∷ l₂₆ ∷ l₂₇ ∷ l₂₈ ∷ l₂₉ ∷ [])) Post))
     addresses₃ l₀ l₁ l₂ l₃ l₄ l₅ l₆ l₇ l₈ l₉ l₁₀ l₁₁ l₁₂ l₁₃ l₁₄ l₁₅ l₁₆ l₁₇ l₁₈ l₁₉ l₂₀ l₂₁ l₂₂ l₂₃ l₂₄ l₂₅ l₂₆ l₂₇ l₂₈ l₂₉ was =
-        addrs-all ! _ b o 61 (record { home = 22; at = 19; part = 17; type = _; offset = 11408 } ∷ record { home = 23; at = 17; part = 18; type = _; offset = 11472 } ∷ record { home = 24; at = 15; part = 19; type = _; offset = 11600 } ∷ record { home = 25; at = 13; part = 20; type = _; offset = 11664 } ∷ record { home = 26; at = 11; part = 21; type = _; offset = 11696 } ∷ record { home = 27; at = 9; part = 22; type = _; offset = 11728 } ∷ []) (refl, refl, refl, (tt, tt), (refl, refl, refl, (tt, tt), (refl, refl, refl, (tt, tt), (refl, refl, refl, (tt, tt), (refl, refl, refl, (tt, tt), (refl, refl, refl, (tt, tt), tt)))))) $
+        addrs_all ! _ b o 61 (record { home = 22; at = 19; part = 17; type = _; offset = 11408 } ∷ record { home = 23; at = 17; part = 18; type = _; offset = 11472 } ∷ record { home = 24; at = 15; part = 19; type = _; offset = 11600 } ∷ record { home = 25; at = 13; part = 20; type = _; offset = 11664 } ∷ record { home = 26; at = 11; part = 21; type = _; offset = 11696 } ∷ record { home = 27; at = 9; part = 22; type = _; offset = 11728 } ∷ []) (refl, refl, refl, (tt, tt), (refl, refl, refl, (tt, tt), (refl, refl, refl, (tt, tt), (refl, refl, refl, (tt, tt), (refl, refl, refl, (tt, tt), (refl, refl, refl, (tt, tt), tt)))))) $
         assigns ! (addr ! (from ! (fld ! refl (hop ! (look_in ! 57 (sub ! 0 refl (whole !))) (stop !))))) (from ! (stop !)) (init ! 7 refl (tt, tt)) $
         assigns ! (agg ! (and_then ! (load ! (from ! (stop !)) (look ! 7 refl)) (and_then ! (load ! (from ! (fld ! refl (stop !))) (look_in ! 57 (sub ! 1 refl (whole !)))) (no_more !)))) (from ! (stop !)) (init ! 5 refl (tt, (tt, (record { fits = out-room.0 }, tt)))) $
         hands_on l₀ l₁ l₂ l₃ l₄ l₅ l₆ l₇ l₈ l₉ l₁₀ l₁₁ l₁₂ l₁₃ l₁₄ l₁₅ l₁₆ l₁₇ l₁₈ l₁₉ l₂₀ l₂₁ l₂₂ l₂₃ l₂₄ l₂₅ l₂₆ l₂₇ l₂₈ l₂₉ was
 
     -- the next ones
     addresses₂ : (l₀ l₁ l₂ l₃ l₄ l₅ l₆ l₇ l₈ l₉ l₁₀ l₁₁ l₁₂ l₁₃ l₁₄ l₁₅ l₁₆ l₁₇ l₁₈ l₁₉ l₂₀ l₂₁ l₂₂ l₂₃ l₂₄ l₂₅ l₂₆ l₂₇ l₂₈ l₂₉ : ℕ) → Is T.the_row h (hval h ∷ [])
-        → Seq Go 𝓛 (‵ (fat full_share T'.mir b o (hval h)) ∷ ‵ ((T.the_row).own_val h (hval h ∷ [])) ∷ ‵ (fobor κ q (Body (mem T.the_row) b o γ)) ∷ ‵ (fobs γ ((T.the_row).coded.code h)) ∷ ‵ (fauth γ ((T.the_row).coded.code h)) ∷ laid 𝓛 (code.function).locals (l₀ ∷ l₁ ∷ l₂ ∷ l₃ ∷ l₄ ∷ l₅ ∷ l₆ ∷ l₇ ∷ l₈ ∷ l₉ ∷ l₁₀ ∷ l₁₁ ∷ l₁₂ ∷ l₁₃ ∷ l₁₄ ∷ l₁₅ ∷ l₁₆ ∷ l₁₇ ∷ l₁₈ ∷ l₁₉ ∷ l₂₀ ∷ l₂₁ ∷ l₂₂ ∷ l₂₃ ∷ l₂₄ ∷ l₂₅ ∷ l₂₆ ∷ l₂₇ ∷ l₂₈ ∷ l₂₉ ∷ []) (blank ∷ full (vptr b o) ∷ full packet-val ∷ full out-val ∷ blank ∷ full (LL.val B.the_type B'.the_laws h.head) ∷ full (vptr b (o + 80)) ∷ full (vptr b (o + 100)) ∷ full (vptr b (o + 132)) ∷ full (vptr b (o + 137)) ∷ full (vptr b (o + 142)) ∷ full (vptr b (o + 150)) ∷ full (vptr b (o + 158)) ∷ full (vptr b (o + 1358)) ∷ blank ∷ blank ∷ blank ∷ blank ∷ blank ∷ blank ∷ blank ∷ blank ∷ blank ∷ blank ∷ blank ∷ blank ∷ blank ∷ blank ∷ blank ∷ blank ∷ []) (‵ Rest ∷ Toks ∷ []))
-        (runs C Λ (envOf 𝓛 (code.function).locals (l₀ ∷ l₁ ∷ l₂ ∷ l₃ ∷ l₄ ∷ l₅ ∷ l₆ ∷ l₇ ∷ l₈ ∷ l₉ ∷ l₁₀ ∷ l₁₁ ∷ l₁₂ ∷ l₁₃ ∷ l₁₄ ∷ l₁₅ ∷ l₁₆ ∷ l₁₇ ∷ l₁₈ ∷ l₁₉ ∷ l₂₀ ∷ l₂₁ ∷ l₂₂ ∷ l₂₃ ∷ l₂₄ ∷ l₂₅ ∷ l₂₆ ∷ l₂₇ ∷ l₂₈ ∷ l₂₉ ∷ [])) (tailOf 9 (code.function).body) (at_ret (envOf 𝓛 (code.function).locals (l₀ ∷ l₁ ∷ l₂ ∷ l₃ ∷ l₄ ∷ l₅ ∷ l₆ ∷ l₇ ∷ l₈ ∷ l₉ ∷ l₁₀ ∷ l₁₁ ∷ l₁₂ ∷ l₁₃ ∷ l₁₄ ∷ l₁₅ ∷ l₁₆ ∷ l₁₇ ∷ l₁₈ ∷ l₁₉ ∷ l₂₀ ∷ l₂₁ ∷ l₂₂ ∷ l₂₃ ∷ l₂₄ ∷ l₂₅ ∷ l₂₆ ∷ l₂₇ ∷ l₂₈ ∷ l₂₉ ∷ [])) Post))
+        → Seq Go 𝓛 (‵ (fat full_share T'.mir b o (hval h)) ∷ ‵ ((T.the_row).own_val h (hval h ∷ [])) ∷ ‵ (fobor κ q (Body (mem T.the_row) b o γ)) ∷ ‵ (fobs γ ((T.the_row).coded.code h)) ∷ ‵ (fauth γ ((T.the_row).coded.code h)) ∷ laid 𝓛 (code.function).locals (l₀ ∷ l₁ ∷ l₂ ∷ l₃ ∷ l₄ ∷ l₅ ∷ l₆ ∷ l₇ ∷ l₈ ∷ l₉ ∷ l₁₀ ∷ l₁₁ ∷ l₁₂ ∷ l₁₃ ∷ l₁₄ ∷ l₁₅ ∷ l₁₆ ∷ l₁₇ ∷ l₁₈ ∷ l₁₉ ∷ l₂₀ ∷ l₂₁ ∷ l₂₂ ∷ l₂₃ ∷ l₂₄ ∷ l₂₅ ∷ l₂₆ ∷ l₂₇ ∷ l₂₈ ∷ l₂₉ ∷ []) (blank ∷ full (vptr b o) ∷ full packet_val ∷ full out_val ∷ blank ∷ full (LL.val B.the_type B'.the_laws h.head) ∷ full (vptr b (o + 80)) ∷ full (vptr b (o + 100)) ∷ full (vptr b (o + 132)) ∷ full (vptr b (o + 137)) ∷ full (vptr b (o + 142)) ∷ full (vptr b (o + 150)) ∷ full (vptr b (o + 158)) ∷ full (vptr b (o + 1358)) ∷ blank ∷ blank ∷ blank ∷ blank ∷ blank ∷ blank ∷ blank ∷ blank ∷ blank ∷ blank ∷ blank ∷ blank ∷ blank ∷ blank ∷ blank ∷ blank ∷ []) (‵ Rest ∷ Toks ∷ []))
+        (runs C Λ (env_of 𝓛 (code.function).locals (l₀ ∷ l₁ ∷ l₂ ∷ l₃ ∷ l₄ ∷ l₅ ∷ l₆ ∷ l₇ ∷ l₈ ∷ l₉ ∷ l₁₀ ∷ l₁₁ ∷ l₁₂ ∷ l₁₃ ∷ l₁₄ ∷ l₁₅ ∷ l₁₆ ∷ l₁₇ ∷ l₁₈ ∷ l₁₉ ∷ l₂₀ ∷ l₂₁ ∷ l₂₂ ∷ l₂₃ ∷ l₂₄ ∷ l₂₅ ∷ l₂₆ ∷ l₂₇ ∷ l₂₈ ∷ l₂₉ ∷ [])) (tail_of 9 (code.function).body) (at_ret (env_of 𝓛 (code.function).locals (l₀ ∷ l₁ ∷ l₂ ∷ l₃ ∷ l₄ ∷ l₅ ∷ l₆ ∷ l₇ ∷ l₈ ∷ l₉ ∷ l₁₀ ∷ l₁₁ ∷ l₁₂ ∷ l₁₃ ∷ l₁₄ ∷ l₁₅ ∷ l₁₆ ∷ l₁₇ ∷ l₁₈ ∷ l₁₉ ∷ l₂₀ ∷ l₂₁ ∷ l₂₂ ∷ l₂₃ ∷ l₂₄ ∷ l₂₅ ∷ l₂₆ ∷ l₂₇ ∷ l₂₈ ∷ l₂₉ ∷ [])) Post))
     addresses₂ l₀ l₁ l₂ l₃ l₄ l₅ l₆ l₇ l₈ l₉ l₁₀ l₁₁ l₁₂ l₁₃ l₁₄ l₁₅ l₁₆ l₁₇ l₁₈ l₁₉ l₂₀ l₂₁ l₂₂ l₂₃ l₂₄ l₂₅ l₂₆ l₂₇ l₂₈ l₂₉ was =
-        addrs-all ! _ b o 61 (record { home = 14; at = 35; part = 9; type = _; offset = 3280 } ∷ record { home = 15; at = 33; part = 10; type = _; offset = 3408 } ∷ record { home = 16; at = 31; part = 11; type = _; offset = 3440 } ∷ record { home = 17; at = 29; part = 12; type = _; offset = 3472 } ∷ record { home = 18; at = 27; part = 13; type = _; offset = 11152 } ∷ record { home = 19; at = 25; part = 14; type = _; offset = 11216 } ∷ record { home = 20; at = 23; part = 15; type = _; offset = 11280 } ∷ record { home = 21; at = 21; part = 16; type = _; offset = 11344 } ∷ []) (refl, refl, refl, (tt, tt), (refl, refl, refl, (tt, tt), (refl, refl, refl, (tt, tt), (refl, refl, refl, (tt, tt), (refl, refl, refl, (tt, tt), (refl, refl, refl, (tt, tt), (refl, refl, refl, (tt, tt), (refl, refl, refl, (tt, tt), tt)))))))) $
+        addrs_all ! _ b o 61 (record { home = 14; at = 35; part = 9; type = _; offset = 3280 } ∷ record { home = 15; at = 33; part = 10; type = _; offset = 3408 } ∷ record { home = 16; at = 31; part = 11; type = _; offset = 3440 } ∷ record { home = 17; at = 29; part = 12; type = _; offset = 3472 } ∷ record { home = 18; at = 27; part = 13; type = _; offset = 11152 } ∷ record { home = 19; at = 25; part = 14; type = _; offset = 11216 } ∷ record { home = 20; at = 23; part = 15; type = _; offset = 11280 } ∷ record { home = 21; at = 21; part = 16; type = _; offset = 11344 } ∷ []) (refl, refl, refl, (tt, tt), (refl, refl, refl, (tt, tt), (refl, refl, refl, (tt, tt), (refl, refl, refl, (tt, tt), (refl, refl, refl, (tt, tt), (refl, refl, refl, (tt, tt), (refl, refl, refl, (tt, tt), (refl, refl, refl, (tt, tt), tt)))))))) $
         addresses₃ l₀ l₁ l₂ l₃ l₄ l₅ l₆ l₇ l₈ l₉ l₁₀ l₁₁ l₁₂ l₁₃ l₁₄ l₁₅ l₁₆ l₁₇ l₁₈ l₁₉ l₂₀ l₂₁ l₂₂ l₂₃ l₂₄ l₂₅ l₂₆ l₂₇ l₂₈ l₂₉ was
 
     -- the addresses of the arrays are taken, some at a time
     addresses₁ : (l₀ l₁ l₂ l₃ l₄ l₅ l₆ l₇ l₈ l₉ l₁₀ l₁₁ l₁₂ l₁₃ l₁₄ l₁₅ l₁₆ l₁₇ l₁₈ l₁₉ l₂₀ l₂₁ l₂₂ l₂₃ l₂₄ l₂₅ l₂₆ l₂₇ l₂₈ l₂₉ : ℕ) → Is T.the_row h (hval h ∷ [])
-        → Seq Go 𝓛 (‵ (fat full_share T'.mir b o (hval h)) ∷ ‵ ((T.the_row).own_val h (hval h ∷ [])) ∷ ‵ (fobor κ q (Body (mem T.the_row) b o γ)) ∷ ‵ (fobs γ ((T.the_row).coded.code h)) ∷ ‵ (fauth γ ((T.the_row).coded.code h)) ∷ laid 𝓛 (code.function).locals (l₀ ∷ l₁ ∷ l₂ ∷ l₃ ∷ l₄ ∷ l₅ ∷ l₆ ∷ l₇ ∷ l₈ ∷ l₉ ∷ l₁₀ ∷ l₁₁ ∷ l₁₂ ∷ l₁₃ ∷ l₁₄ ∷ l₁₅ ∷ l₁₆ ∷ l₁₇ ∷ l₁₈ ∷ l₁₉ ∷ l₂₀ ∷ l₂₁ ∷ l₂₂ ∷ l₂₃ ∷ l₂₄ ∷ l₂₅ ∷ l₂₆ ∷ l₂₇ ∷ l₂₈ ∷ l₂₉ ∷ []) (blank ∷ full (vptr b o) ∷ full packet-val ∷ full out-val ∷ blank ∷ full (LL.val B.the_type B'.the_laws h.head) ∷ blank ∷ blank ∷ blank ∷ blank ∷ blank ∷ blank ∷ blank ∷ blank ∷ blank ∷ blank ∷ blank ∷ blank ∷ blank ∷ blank ∷ blank ∷ blank ∷ blank ∷ blank ∷ blank ∷ blank ∷ blank ∷ blank ∷ blank ∷ blank ∷ []) (‵ Rest ∷ Toks ∷ []))
-        (runs C Λ (envOf 𝓛 (code.function).locals (l₀ ∷ l₁ ∷ l₂ ∷ l₃ ∷ l₄ ∷ l₅ ∷ l₆ ∷ l₇ ∷ l₈ ∷ l₉ ∷ l₁₀ ∷ l₁₁ ∷ l₁₂ ∷ l₁₃ ∷ l₁₄ ∷ l₁₅ ∷ l₁₆ ∷ l₁₇ ∷ l₁₈ ∷ l₁₉ ∷ l₂₀ ∷ l₂₁ ∷ l₂₂ ∷ l₂₃ ∷ l₂₄ ∷ l₂₅ ∷ l₂₆ ∷ l₂₇ ∷ l₂₈ ∷ l₂₉ ∷ [])) (tailOf 1 (code.function).body) (at_ret (envOf 𝓛 (code.function).locals (l₀ ∷ l₁ ∷ l₂ ∷ l₃ ∷ l₄ ∷ l₅ ∷ l₆ ∷ l₇ ∷ l₈ ∷ l₉ ∷ l₁₀ ∷ l₁₁ ∷ l₁₂ ∷ l₁₃ ∷ l₁₄ ∷ l₁₅ ∷ l₁₆ ∷ l₁₇ ∷ l₁₈ ∷ l₁₉ ∷ l₂₀ ∷ l₂₁ ∷ l₂₂ ∷ l₂₃ ∷ l₂₄ ∷ l₂₅ ∷ l₂₆ ∷ l₂₇ ∷ l₂₈ ∷ l₂₉ ∷ [])) Post))
+        → Seq Go 𝓛 (‵ (fat full_share T'.mir b o (hval h)) ∷ ‵ ((T.the_row).own_val h (hval h ∷ [])) ∷ ‵ (fobor κ q (Body (mem T.the_row) b o γ)) ∷ ‵ (fobs γ ((T.the_row).coded.code h)) ∷ ‵ (fauth γ ((T.the_row).coded.code h)) ∷ laid 𝓛 (code.function).locals (l₀ ∷ l₁ ∷ l₂ ∷ l₃ ∷ l₄ ∷ l₅ ∷ l₆ ∷ l₇ ∷ l₈ ∷ l₉ ∷ l₁₀ ∷ l₁₁ ∷ l₁₂ ∷ l₁₃ ∷ l₁₄ ∷ l₁₅ ∷ l₁₆ ∷ l₁₇ ∷ l₁₈ ∷ l₁₉ ∷ l₂₀ ∷ l₂₁ ∷ l₂₂ ∷ l₂₃ ∷ l₂₄ ∷ l₂₅ ∷ l₂₆ ∷ l₂₇ ∷ l₂₈ ∷ l₂₉ ∷ []) (blank ∷ full (vptr b o) ∷ full packet_val ∷ full out_val ∷ blank ∷ full (LL.val B.the_type B'.the_laws h.head) ∷ blank ∷ blank ∷ blank ∷ blank ∷ blank ∷ blank ∷ blank ∷ blank ∷ blank ∷ blank ∷ blank ∷ blank ∷ blank ∷ blank ∷ blank ∷ blank ∷ blank ∷ blank ∷ blank ∷ blank ∷ blank ∷ blank ∷ blank ∷ blank ∷ []) (‵ Rest ∷ Toks ∷ []))
+        (runs C Λ (env_of 𝓛 (code.function).locals (l₀ ∷ l₁ ∷ l₂ ∷ l₃ ∷ l₄ ∷ l₅ ∷ l₆ ∷ l₇ ∷ l₈ ∷ l₉ ∷ l₁₀ ∷ l₁₁ ∷ l₁₂ ∷ l₁₃ ∷ l₁₄ ∷ l₁₅ ∷ l₁₆ ∷ l₁₇ ∷ l₁₈ ∷ l₁₉ ∷ l₂₀ ∷ l₂₁ ∷ l₂₂ ∷ l₂₃ ∷ l₂₄ ∷ l₂₅ ∷ l₂₆ ∷ l₂₇ ∷ l₂₈ ∷ l₂₉ ∷ [])) (tail_of 1 (code.function).body) (at_ret (env_of 𝓛 (code.function).locals (l₀ ∷ l₁ ∷ l₂ ∷ l₃ ∷ l₄ ∷ l₅ ∷ l₆ ∷ l₇ ∷ l₈ ∷ l₉ ∷ l₁₀ ∷ l₁₁ ∷ l₁₂ ∷ l₁₃ ∷ l₁₄ ∷ l₁₅ ∷ l₁₆ ∷ l₁₇ ∷ l₁₈ ∷ l₁₉ ∷ l₂₀ ∷ l₂₁ ∷ l₂₂ ∷ l₂₃ ∷ l₂₄ ∷ l₂₅ ∷ l₂₆ ∷ l₂₇ ∷ l₂₈ ∷ l₂₉ ∷ [])) Post))
     addresses₁ l₀ l₁ l₂ l₃ l₄ l₅ l₆ l₇ l₈ l₉ l₁₀ l₁₁ l₁₂ l₁₃ l₁₄ l₁₅ l₁₆ l₁₇ l₁₈ l₁₉ l₂₀ l₂₁ l₂₂ l₂₃ l₂₄ l₂₅ l₂₆ l₂₇ l₂₈ l₂₉ was =
-        addrs-all ! _ b o 61 (record { home = 6; at = 51; part = 1; type = _; offset = 80 } ∷ record { home = 7; at = 49; part = 2; type = _; offset = 100 } ∷ record { home = 8; at = 47; part = 3; type = _; offset = 132 } ∷ record { home = 9; at = 45; part = 4; type = _; offset = 137 } ∷ record { home = 10; at = 43; part = 5; type = _; offset = 142 } ∷ record { home = 11; at = 41; part = 6; type = _; offset = 150 } ∷ record { home = 12; at = 39; part = 7; type = _; offset = 158 } ∷ record { home = 13; at = 37; part = 8; type = _; offset = 1358 } ∷ []) (refl, refl, refl, (tt, tt), (refl, refl, refl, (tt, tt), (refl, refl, refl, (tt, tt), (refl, refl, refl, (tt, tt), (refl, refl, refl, (tt, tt), (refl, refl, refl, (tt, tt), (refl, refl, refl, (tt, tt), (refl, refl, refl, (tt, tt), tt)))))))) $
+        addrs_all ! _ b o 61 (record { home = 6; at = 51; part = 1; type = _; offset = 80 } ∷ record { home = 7; at = 49; part = 2; type = _; offset = 100 } ∷ record { home = 8; at = 47; part = 3; type = _; offset = 132 } ∷ record { home = 9; at = 45; part = 4; type = _; offset = 137 } ∷ record { home = 10; at = 43; part = 5; type = _; offset = 142 } ∷ record { home = 11; at = 41; part = 6; type = _; offset = 150 } ∷ record { home = 12; at = 39; part = 7; type = _; offset = 158 } ∷ record { home = 13; at = 37; part = 8; type = _; offset = 1358 } ∷ []) (refl, refl, refl, (tt, tt), (refl, refl, refl, (tt, tt), (refl, refl, refl, (tt, tt), (refl, refl, refl, (tt, tt), (refl, refl, refl, (tt, tt), (refl, refl, refl, (tt, tt), (refl, refl, refl, (tt, tt), (refl, refl, refl, (tt, tt), tt)))))))) $
         addresses₂ l₀ l₁ l₂ l₃ l₄ l₅ l₆ l₇ l₈ l₉ l₁₀ l₁₁ l₁₂ l₁₃ l₁₄ l₁₅ l₁₆ l₁₇ l₁₈ l₁₉ l₂₀ l₂₁ l₂₂ l₂₃ l₂₄ l₂₅ l₂₆ l₂₇ l₂₈ l₂₉ was
 
-    walk : ent 𝓤 (on_entry 𝓛 f.signature (κ, (κ₁, (κ₂, tt))) (q, (q₁, (q₂, tt))) a vals) (WpFn 𝓤 H C Λ code.function (vptr b o ∷ packet-val ∷ out-val ∷ []) Post)
+    walk : ent 𝓤 (on_entry 𝓛 f.signature (κ, (κ₁, (κ₂, tt))) (q, (q₁, (q₂, tt))) a vals) (WpFn 𝓤 H C Λ code.function (vptr b o ∷ packet_val ∷ out_val ∷ []) Post)
     walk =
         qed 𝓛 ((‵ (flft κ q) ⊛ ‵ (flft κ₁ q₁) ⊛ ‵ (flft κ₂ q₂) ⊛ ‵ ftrue) ∷ ‵ (fsep ((MutRef (named 0) κ T.the_row).own_val a.0 (vptr b o ∷ [])) Rest) ∷ []) ∵
         split ! $ move ! (2 ∷ []) $ fsplit ! $ fsplit3 ! $ drop ! $
         -- [obs; bor; the other parameters; k; the other tokens]
         move ! (0 ∷ 1 ∷ 3 ∷ []) $
-        enter ! C Λ code.function (vptr b o ∷ packet-val ∷ out-val ∷ []) _ $
+        enter ! C Λ code.function (vptr b o ∷ packet_val ∷ out_val ∷ []) _ $
         alloc_all ! (λ l₀ l₁ l₂ l₃ l₄ l₅ l₆ l₇ l₈ l₉ l₁₀ l₁₁ l₁₂ l₁₃ l₁₄ l₁₅ l₁₆ l₁₇ l₁₈ l₁₉ l₂₀ l₂₁ l₂₂ l₂₃ l₂₄ l₂₅ l₂₆ l₂₇ l₂₈ l₂₉. params1 ! $
         pass1 ! (init ! 56 refl (tt, tt)) $ pass1 ! (init ! 54 refl (tt, (tt, (record { fits = packet-room.0 }, tt)))) $ pass1 ! (init ! 52 refl (tt, (tt, (record { fits = out-room.0 }, tt)))) $ pass0 ! $
         move ! (60 ∷ 61 ∷ 62 ∷ []) $ opens ! tt T.the_row {h = h} b o (λ vs.
@@ -272,4 +272,4 @@ order-spec 𝓤 𝓛 𝓜 𝓡 =
     entered 𝓤 𝓛.H (triple_of 𝓛 f.signature (f.spec 𝓛 𝓜.mem 𝓡.run))
     (tables 𝓤 𝓛.H 𝓜 𝓡 code.env).C (tables 𝓤 𝓛.H 𝓜 𝓡 code.env).Λ #of code.function (code.unfolded 𝓤 𝓛.H 𝓜 𝓡)
     (meets 𝓛 𝓜.mem 𝓡.run (tables_of 𝓤 𝓛.H 𝓜 (tables 𝓤 𝓛.H 𝓜 𝓡 code.env))
-    (cited 𝓤 𝓛.H (On 𝓛 𝓜.mem 𝓡.run) 𝓜 𝓡 code.env #on on-def.routine code.calls-terminal-state::order-on (on-thm.met 𝓤 𝓛 𝓜 𝓡)))
+    (cited 𝓤 𝓛.H (On 𝓛 𝓜.mem 𝓡.run) 𝓜 𝓡 code.env #on on-def.routine code.calls-terminal-state::order_on_lem (on-thm.met 𝓤 𝓛 𝓜 𝓡)))

@@ -3,7 +3,7 @@
 use mathlib.Core.Path.{refl, sym, ap, ◌∙◌}
 use Rattle.group.specs.Opening as group
 use Rattle.workload.specs.Calls.{opened}
-use Rattle.workload.proofs.Choosing.{laid-whole, open-many, done, none_within}
+use Rattle.workload.proofs.Choosing.{laid_whole, open_many, done, none_within}
 use borrow.Author.Rules.{rules}
 use Rattle.workload.proofs.Load.open.Statement.{statement}
 use Rattle.workload.proofs.Load.open.Tie as tie
@@ -18,7 +18,7 @@ returns : tie.Need-returns
 unfolding opened
 returns c =
     let a = c.before.before.args in
-    done (ap (opened a.seed) (open-many a.n a.group c.before.if1.true)) _ _ c.refused.ensures refl (none_within c.refused.ensures)
+    done (ap (opened a.seed) (open_many a.n a.group c.before.if1.true)) _ _ c.refused.ensures refl (none_within c.refused.ensures)
 
 cast-fresh : tie.Need-overflow-cast-fresh
 cast-fresh c = search rules
@@ -46,7 +46,7 @@ unfolding opened
 returns-2 c =
     let a = c.before.before.before.before.before.before.before.before.args in
     let e = sym c.before.before.before.before.before.before.fresh.ensures.0 ∙ c.before.before.before.before.opened.given.1 in
-    let l = laid-whole c.put_two.ensures in
+    let l = laid_whole c.put_two.ensures in
     let f = c.put_two.ensures.fits in
     done (ap (opened a.seed) e) _ _ (rw l.size) l.lent (search rules)
 

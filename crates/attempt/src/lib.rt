@@ -1,5 +1,7 @@
 // A terminal's part in a reset: it invites, replies, notes the replies to its own invitation, makes a group of them, and enters one. The work
 // of each call is lent its state in parts: the numbers of its head by value, and all arrays.
+#![tactic(auto)]
+
 ghost use Rattle.std.specs.Prelude.{◌≡◌, true, [], ◌≤◌, ◌<◌, length, set, replicate};
 ghost use Rattle.group.specs.Choice.{if◌then◌else◌, ◌and◌, ◌<?◌};
 ghost use Rattle.group.specs.Lent.{Laid};
@@ -23,7 +25,7 @@ use packet::{Header, Packet};
 use recovery::Head;
 
 // What the work of a call gives back: the next head, and what the caller is told.
-#[derive(Drop)]
+#[derive(Clone, Copy)]
 pub struct Done {
     pub head: Head,
     pub reply: member::Reply,

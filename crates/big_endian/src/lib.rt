@@ -1,4 +1,6 @@
 // Big-endian numbers of two and of four bytes: read at an index of a slice, and given as their bytes.
+#![tactic(auto)]
+
 ghost use Rattle.std.specs.Prelude.{◌≡◌, ◌+◌, ◌*◌, ◌≤◌, length};
 ghost use Rattle.big_endian.specs.Number.{number_at, bytes_of};
 

@@ -1,5 +1,7 @@
 // What programs in other languages call: packets read and written, a schedule played, and the lines of a load, on numbers and
 // byte slices.
+#![tactic(auto)]
+
 ghost use Rattle.std.specs.Prelude.{◌≡◌, [], ◌∷◌, length, get_or};
 ghost use Rattle.group.specs.Lent.{front};
 ghost use Rattle.packet.specs.Packet.{read_of, write_of};

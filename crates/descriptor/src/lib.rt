@@ -1,5 +1,7 @@
 // A descriptor that is read, and one that is written to, each with a tally of the bytes that went through it. The fields are
 // private: a tally grows only by reading and by writing, so a promise about it is one about the bytes read or handed on.
+#![tactic(auto)]
+
 ghost use Rattle.std.specs.Prelude.{◌≡◌, take};
 ghost use Rattle.descriptor.specs.Tally.{nothing, counted, tallied};
 ghost use Rattle.io.specs.Counts.{IsPrefixLen};

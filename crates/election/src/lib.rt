@@ -1,5 +1,7 @@
 // What a result leaves at a survivor, in place: its member is the made group's, its part in the reset ends, and the elected terminal's
 // sequencer begins.
+#![tactic(auto)]
+
 ghost use Rattle.std.specs.Prelude.{◌≡◌, length};
 ghost use Rattle.group.specs.Limits.{members_most};
 ghost use Rattle.history.specs.View.{Places};

@@ -1,4 +1,6 @@
 // What programs in C or Rust call beside the two ends: packets, the work list, the journal and the plan, on numbers and byte slices.
+#![tactic(auto)]
+
 ghost use Rattle.std.specs.Prelude.{◌≡◌, [], ◌∷◌, ◌<◌, length};
 ghost use Rattle.group.specs.Lent.{front};
 ghost use Rattle.packet.specs.Packet.{read_of, write_of};
@@ -22,7 +24,7 @@ use packet::{Header, Reading, Writing};
 // What a call tells: the code of its answer, and the answer's one number or how many bytes lie at the front of the lent output; 0 where it
 // has neither.
 #[repr(C)]
-#[derive(Drop)]
+#[derive(Clone, Copy)]
 pub struct Answer {
     pub code: u32,
     pub number: usize,
@@ -30,7 +32,7 @@ pub struct Answer {
 
 // What reading a journal or one of its blocks tells.
 #[repr(C)]
-#[derive(Drop)]
+#[derive(Clone, Copy)]
 pub struct Found {
     pub code: u32,
     pub blocks: usize,
@@ -39,7 +41,7 @@ pub struct Found {
 
 // What reading a record of a block tells: its payload has that length, from that start on.
 #[repr(C)]
-#[derive(Drop)]
+#[derive(Clone, Copy)]
 pub struct Record {
     pub code: u32,
     pub number: u32,

@@ -1,4 +1,6 @@
 // Both ends for programs in other languages: the caller owns the state, a call changes it where it lies, and what it answers comes back as numbers.
+#![tactic(auto)]
+
 ghost use Rattle.std.specs.Prelude.{◌≡◌};
 ghost use Rattle.group.specs.Codes.{flag_of};
 ghost use Rattle.ends.specs.Telling.{sequencer_told, member_told, opening_told};
@@ -10,7 +12,7 @@ use states::{Member, Sequencer};
 // What a call tells: the code of its answer, the answer's numbers in their order, whether the following number may be taken too (1)
 // or not (0), and how many bytes lie at the front of the lent output. A number that the answer does not have is 0.
 #[repr(C)]
-#[derive(Drop)]
+#[derive(Clone, Copy)]
 pub struct Told {
     pub code: u32,
     pub first: u32,

@@ -1,8 +1,10 @@
 // The numbers of a repeatable load, from a seed of 32 bits on.
+#![tactic(auto)]
+
 ghost use Rattle.std.specs.Prelude.{◌≡◌};
 ghost use Rattle.generator.specs.Generator.{stepped, output_of};
 
-#[derive(Drop)]
+#[derive(Clone, Copy)]
 pub struct Generator {
     pub state: u32,
 }

@@ -1,4 +1,6 @@
 // The group's own description: its limits, its two kinds of number, and what may be refused.
+#![tactic(auto)]
+
 ghost use Rattle.std.specs.Prelude.{◌≡◌, ◌≤◌, ◌<◌};
 ghost use Rattle.group.specs.Limits.{members_most, places_most, payload_most, held_most, waiting_most, header_size, longest_packet, largest_number, jobs_most, job_most};
 ghost use Rattle.group.specs.Refusal.{number_of};
@@ -8,16 +10,16 @@ ghost use Rattle.group.specs.Wording.{opened_wording};
 
 // A sequence number: the place of a message in the order, from 1. 0 means none yet.
 #[repr(C)]
-#[derive(Drop)]
+#[derive(Clone, Copy)]
 pub struct SequenceNumber(pub u32);
 
 // A member number: from 0, below the group's n.
 #[repr(C)]
-#[derive(Drop)]
+#[derive(Clone, Copy)]
 pub struct MemberNumber(pub u8);
 
 // What document 01's 18 questions refuse, in their order, and what document 02 adds.
-#[derive(Drop)]
+#[derive(Clone, Copy)]
 pub enum Refusal {
     UnsoundState,
     ShortOutput,
@@ -86,7 +88,7 @@ impl Refusal {
 }
 
 // What a list of questions comes to: every answer is yes, or the first no.
-#[derive(Drop)]
+#[derive(Clone, Copy)]
 pub enum Verdict {
     Accepted,
     Refused(Refusal),
@@ -95,7 +97,7 @@ pub enum Verdict {
 // A group of n members under its number, how many members other than the sequencer's must have a message before it is taken, its survivors,
 // one bit a member, and the elected one: the member whose terminal has the sequencer.
 #[repr(C)]
-#[derive(Drop)]
+#[derive(Clone, Copy)]
 pub struct Group {
     pub n: u8,
     pub resilience: u8,
@@ -105,7 +107,7 @@ pub struct Group {
 }
 
 // What opening a group answers.
-#[derive(Drop)]
+#[derive(Clone, Copy)]
 pub enum Opened {
     Open(Group),
     Refused(Refusal),

@@ -1,4 +1,6 @@
 // The table of acknowledgements and the places of the history: when they are sound, what noting does to them, and what is asked of them.
+#![tactic(auto)]
+
 ghost use Rattle.std.specs.Prelude.{true, [], ◌≡◌, ◌-◌, ◌<◌, ◌≤◌, length, get_or, set};
 ghost use Rattle.std.specs.Int.Count.{ones};
 ghost use Rattle.group.specs.Choice.{if◌then◌else◌, ◌and◌, ◌<?◌, ◌≤?◌, ◌=?◌};
@@ -19,7 +21,7 @@ use group::{Group, MemberNumber, Refusal, SequenceNumber, Verdict};
 use packet::Packet;
 
 // Who sent a packet, and the number that it acknowledges.
-#[derive(Drop)]
+#[derive(Clone, Copy)]
 pub struct Sender {
     pub member: MemberNumber,
     pub taken: SequenceNumber,

@@ -1,4 +1,6 @@
 // A work list: up to 64 jobs, oldest first, each waiting or given to a member. It is lent to each feed.
+#![tactic(auto)]
+
 ghost use Rattle.std.specs.Prelude.{◌≡◌, true, ◌≤◌, ◌<◌, length, drop, get_or};
 ghost use Rattle.group.specs.Choice.{◌=?◌};
 ghost use Rattle.group.specs.Limits.{payload_most, jobs_most, job_most};
@@ -13,7 +15,7 @@ use group::{Group, MemberNumber, Refusal};
 
 // A record of the list: it is unused, or its job waits, or it is given to a member.
 #[repr(C)]
-#[derive(Drop)]
+#[derive(Clone, Copy)]
 pub struct Job {
     pub state: u8,
     pub member: MemberNumber,
@@ -22,7 +24,7 @@ pub struct Job {
 }
 
 // What a feed answers; a fetch is given the job at a place of the list.
-#[derive(Drop)]
+#[derive(Clone, Copy)]
 pub enum Answer {
     Refused(Refusal),
     Added,
@@ -34,7 +36,7 @@ pub enum Answer {
 const LAST: usize = Group::JOBS - 1;
 
 // What a feed comes to: the records after it, and its answer.
-#[derive(Drop)]
+#[derive(Clone, Copy)]
 pub struct Outcome {
     pub jobs: [Job; Group::JOBS],
     pub answer: Answer,

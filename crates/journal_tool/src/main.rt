@@ -2,6 +2,8 @@
 // `rewrite FILE NEW`; commands are parted by `then`. A message is a line, `number originator count payload`, the payload in hex or
 // `-`, and the last line is `blocks B messages M`; of a plan each line is `unit description`. Input and output are C's, so nothing
 // is promised here; what is read and written is worked out by `journal`, `plan` and `text`.
+#![tactic(auto)]
+
 ghost use Rattle.std.specs.Prelude.{◌≡◌, ◌+◌, ◌*◌, ◌<◌, ◌≤◌, length};
 ghost use Rattle.group.specs.Limits.{payload_most};
 ghost use Rattle.journal.specs.Laws.{StandsIn};
@@ -98,7 +100,7 @@ fn print_records(block: &[u8], records: usize) {
 }
 
 // What is known of a journal after some blocks, and whether reading goes on. No file has so many blocks that a count wraps.
-#[derive(Drop)]
+#[derive(Clone, Copy)]
 struct Known {
     tail: Tail,
     blocks: usize,
@@ -172,7 +174,7 @@ fn read_blocks(file: i32, total: u64, prints: bool) -> Known {
 }
 
 // How many blocks a file has. Its length may be no multiple of a block's, with so many before the rest, or not to be had.
-#[derive(Drop)]
+#[derive(Clone, Copy)]
 enum Size {
     Blocks(u64),
     Uneven(u64),
@@ -236,7 +238,7 @@ fn put_block(file: i32, blocks: usize, block: [u8; Block::SIZE]) -> bool {
 
 // A writer with its block in hand, and the blocks and messages of its file. It is stopped by a line of another form, and by a
 // card that does not take a block.
-#[derive(Drop)]
+#[derive(Clone, Copy)]
 struct Session {
     writer: Writer,
     hand: [u8; Block::SIZE],
@@ -310,7 +312,7 @@ fn field_end(line: &[u8], from: usize) -> usize
 }
 
 // A message of three numbers and so many bytes of payload, or a line of another form.
-#[derive(Drop)]
+#[derive(Clone, Copy)]
 enum Line {
     Message {
         number: u32,
@@ -421,7 +423,7 @@ fn write_line(mut session: Session, file: i32, line: &[u8]) -> Session
 }
 
 // Whether there is a byte, and which.
-#[derive(Drop)]
+#[derive(Clone, Copy)]
 struct Typed {
     got: bool,
     byte: u8,
@@ -438,7 +440,7 @@ fn type_byte() -> Typed {
 }
 
 // The line that was typed so far, and whether the input goes on behind it. One that fills the array is of another form.
-#[derive(Drop)]
+#[derive(Clone, Copy)]
 struct Input {
     line: [u8; LINE_MOST],
     length: usize,
@@ -700,7 +702,7 @@ fn rewrite(journal: &[u8], name: &[u8], out: &mut [u8]) {
 }
 
 // What is asked.
-#[derive(Drop)]
+#[derive(Clone, Copy)]
 enum Command {
     List,
     Append,

@@ -1,4 +1,6 @@
 // Prints a repeatable load, a schedule for `play`: `load seed n group events`.
+#![tactic(auto)]
+
 ghost use Rattle.std.specs.Prelude.{◌≡◌, ◌+◌, ◌≤◌, length, take};
 ghost use Rattle.descriptor.specs.Descriptor.{Takes};
 ghost use Rattle.text.specs.LaidAt.{LaidAt};
@@ -17,14 +19,14 @@ use workload::{Answer, Load};
 const GATHERED: usize = 4096;
 
 // A load, and the index behind the line that was laid.
-#[derive(Drop)]
+#[derive(Clone, Copy)]
 struct Placed {
     load: Load,
     next: usize,
 }
 
 // Lines that were gathered: the load behind them, how many events are left, and how many bytes the lines have.
-#[derive(Drop)]
+#[derive(Clone, Copy)]
 struct Part {
     load: Load,
     left: u32,
@@ -32,7 +34,7 @@ struct Part {
 }
 
 // What opening the load answered, and the sink behind the load.
-#[derive(Drop)]
+#[derive(Clone, Copy)]
 struct Printed {
     answer: Answer,
     sink: Sink,

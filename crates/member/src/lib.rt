@@ -1,5 +1,7 @@
 // The member: it submits messages, holds what comes until it can be taken in order, and acknowledges what it has. Here are its head, its answers
 // and the steps of its calls, which are lent its state in parts: the numbers of its head by value, and arrays.
+#![tactic(auto)]
+
 ghost use Rattle.std.specs.Prelude.{◌≡◌, [], ◌+◌, ◌-◌, ◌*◌, ◌≤◌, ◌<◌, length, take, get_or};
 ghost use Rattle.group.specs.Lent.{Laid};
 ghost use Rattle.group.specs.Limits.{held_most, waiting_most, payload_most, longest_packet, largest_number};
@@ -17,7 +19,7 @@ use packet::Packet;
 
 // The numbers of a member: they go by value.
 #[repr(C)]
-#[derive(Drop)]
+#[derive(Clone, Copy)]
 pub struct Head {
     pub group: Group,
     pub number: MemberNumber,
@@ -28,7 +30,7 @@ pub struct Head {
 }
 
 // What a call answers. What a take hands out goes with its payload, which lies at the front of the lent output.
-#[derive(Drop)]
+#[derive(Clone, Copy)]
 pub enum Answer {
     Refused(Refusal),
     Sent,
@@ -51,21 +53,21 @@ pub enum Answer {
 }
 
 // What a call says: its answer, and how many bytes it wrote to the front of the lent output.
-#[derive(Drop)]
+#[derive(Clone, Copy)]
 pub struct Reply {
     pub answer: Answer,
     pub written: usize,
 }
 
 // What the work of a call gives back: the next head, and what the caller is told.
-#[derive(Drop)]
+#[derive(Clone, Copy)]
 pub struct Done {
     pub head: Head,
     pub reply: Reply,
 }
 
 // What the work of opening gives back.
-#[derive(Drop)]
+#[derive(Clone, Copy)]
 pub struct Begun {
     pub head: Head,
     pub verdict: Verdict,

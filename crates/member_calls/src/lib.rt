@@ -1,4 +1,6 @@
 // The calls of a member on its head and on lent arrays: each asks its questions, then takes its step.
+#![tactic(auto)]
+
 ghost use Rattle.std.specs.Prelude.{◌≡◌, true, ◌≤◌, length};
 ghost use Rattle.group.specs.Limits.{payload_most, longest_packet};
 ghost use Rattle.group.specs.Opening.{description_of};

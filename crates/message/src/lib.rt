@@ -1,5 +1,7 @@
 // The two loops by which a payload is kept: one copies it, the other fills with zeros what lies behind it. What a kept message is stands in
 // specs/.
+#![tactic(auto)]
+
 ghost use Rattle.std.specs.Prelude.{◌≡◌, ◌≤◌, length};
 ghost use Rattle.group.specs.Lent.{front};
 ghost use Rattle.message.specs.Message.{zeroed_from};

@@ -1,4 +1,6 @@
 // Packets: a header of 20 bytes and the payload behind it.
+#![tactic(auto)]
+
 ghost use Rattle.std.specs.Prelude.{true, ◌≡◌, ◌+◌, ◌<◌, ◌≤◌, length};
 ghost use Rattle.group.specs.Choice.{if◌then◌else◌, ◌and◌, ◌≤?◌, ◌=?◌};
 ghost use Rattle.group.specs.Limits.{header_size, payload_most};
@@ -11,7 +13,7 @@ ghost use Rattle.packet.specs.Wording.{reading_wording, writing_wording};
 use group::{Group, MemberNumber, Refusal, SequenceNumber, Verdict};
 
 // The fields of a header as they stand in its bytes. L is not among them: it is the payload's length.
-#[derive(Drop)]
+#[derive(Clone, Copy)]
 pub struct Header {
     pub kind: u8,
     pub member: MemberNumber,
@@ -22,21 +24,21 @@ pub struct Header {
 }
 
 // What reading a packet answers.
-#[derive(Drop)]
+#[derive(Clone, Copy)]
 pub enum Reading {
     Fields(Header),
     Refused(Refusal),
 }
 
 // What writing a packet answers: how many bytes it wrote, or what is refused.
-#[derive(Drop)]
+#[derive(Clone, Copy)]
 pub enum Writing {
     Bytes(usize),
     Refused(Refusal),
 }
 
 // What the fields of each kind mean.
-#[derive(Drop)]
+#[derive(Clone, Copy)]
 pub enum Packet {
     Request {
         sender: MemberNumber,

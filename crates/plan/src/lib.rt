@@ -1,4 +1,6 @@
 // The plan that a journal's messages come to, and the journal rewritten to the fewest records that give the same plan.
+#![tactic(auto)]
+
 ghost use Rattle.std.specs.Prelude.{◌≡◌, [], ◌+◌, ◌*◌, ◌-◌, ◌/◌, ◌%◌, ◌≤◌, ◌<◌, length, get_or, take};
 ghost use Rattle.group.specs.Choice.{if◌then◌else◌, ◌and◌, ◌<?◌, ◌=?◌};
 ghost use Rattle.group.specs.Lent.{front};
@@ -18,7 +20,7 @@ use group::{Refusal, SequenceNumber};
 use journal::{Block, COMPACT_MARK, Cursor, Reading, Record, Spot, Walk};
 
 // What a call answers: how many bytes it laid at the front of the lent output, or why none.
-#[derive(Drop)]
+#[derive(Clone, Copy)]
 pub enum Answer {
     Bytes(usize),
     Refused(Refusal),
@@ -271,7 +273,7 @@ fn spot_at(journal: &[u8], start: usize) -> Spot
 
 // Blocks being packed: of the block in hand the first number, the records and the bytes that they take, and how many blocks stand
 // before it. The block itself is lent to each call.
-#[derive(Drop)]
+#[derive(Clone, Copy)]
 struct Packer {
     first: u32,
     records: usize,

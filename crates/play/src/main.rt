@@ -1,4 +1,6 @@
 // Plays the schedule on standard input, and prints what each event answers.
+#![tactic(auto)]
+
 use descriptor::{Sink, Source};
 
 fn main() {

@@ -1,4 +1,6 @@
 // Plays a whole schedule from one slice to another.
+#![tactic(auto)]
+
 ghost use Rattle.std.specs.Prelude.{◌≡◌, ◌++◌, ◌≤◌, length, take};
 ghost use Rattle.group.specs.Choice.{if◌then◌else◌, ◌<?◌};
 ghost use Rattle.group.specs.Lent.{front};

@@ -1,5 +1,7 @@
 // Plays a schedule as its input comes: a group that is run, the number of the next event, and the line that has not ended. The numbers
 // go by value, and every array behind a reference.
+#![tactic(auto)]
+
 ghost use Rattle.std.specs.Prelude.{Bool, true, false, ◌≡◌, ◌++◌, ◌≤◌, ◌<◌, length, take};
 ghost use Rattle.group.specs.Choice.{if◌then◌else◌, ◌<?◌};
 ghost use Rattle.group.specs.Lent.{front};
@@ -32,7 +34,7 @@ pub const LINE: usize = LINE_MOST + 1;
 pub const OUTPUT: usize = LINE_ROOM + 2 * Group::PACKET;
 
 // Where playing stands: the first line is awaited, events are read, a line ended them, no group was opened.
-#[derive(Drop)]
+#[derive(Clone, Copy)]
 pub enum Phase {
     Opening,
     Running,
@@ -42,7 +44,7 @@ pub enum Phase {
 
 // The numbers of a player: those of its group, the number of the next event, where playing stands, and how many bytes are kept of a
 // line that has not ended.
-#[derive(Drop)]
+#[derive(Clone, Copy)]
 pub struct Player {
     pub head: Head,
     pub number: u64,
@@ -52,7 +54,7 @@ pub struct Player {
 
 // What a part of the input gives: the player's numbers after it, how much of the part was read, and how many bytes were printed to
 // the front of the lent output.
-#[derive(Drop)]
+#[derive(Clone, Copy)]
 pub struct Fed {
     pub player: Player,
     pub used: usize,
@@ -60,7 +62,7 @@ pub struct Fed {
 }
 
 // What a line gives.
-#[derive(Drop)]
+#[derive(Clone, Copy)]
 struct Told {
     head: Head,
     number: u64,
@@ -69,7 +71,7 @@ struct Told {
 }
 
 // What a command asks of the group: a call of a member, with that many bytes, or of the sequencer, or a packet handed over.
-#[derive(Drop)]
+#[derive(Clone, Copy)]
 enum Action {
     Nothing,
     Member {

@@ -1,4 +1,6 @@
 // Plays the schedule with resets on standard input, and prints what each event answers and what each terminal comes to.
+#![tactic(auto)]
+
 use descriptor::{Sink, Source};
 
 fn main() {

@@ -1,5 +1,7 @@
 // A terminal: a member, what it keeps to begin a group with, its part in a reset, and maybe a sequencer.
 // The work of each call is lent its state in parts: the numbers of its head by value, and all arrays.
+#![tactic(auto)]
+
 ghost use Rattle.std.specs.Prelude.{◌≡◌, true, ◌+◌, ◌-◌, ◌*◌, ◌^◌, ◌≤◌, ◌<◌, length, get_or, set, replicate};
 ghost use Rattle.group.specs.Choice.{if◌then◌else◌, ◌and◌, ◌<?◌, ◌≤?◌, ◌=?◌};
 ghost use Rattle.group.specs.Limits.{members_most, places_most, held_most, payload_most};
@@ -23,7 +25,7 @@ use group::{Group, MemberNumber, SequenceNumber};
 // (1: yes, 0: no), to which attempt, with which number; whether its own invitation is open, with which number, and whose replies came, one
 // bit a member; whether it has a sequencer, and whether that is frozen.
 #[repr(C)]
-#[derive(Drop)]
+#[derive(Clone, Copy)]
 pub struct Head {
     pub member: member::Head,
     pub sequencer: sequencer::Head,

@@ -1,4 +1,6 @@
 // What the program that plays a schedule prints.
+#![tactic(auto)]
+
 ghost use Rattle.std.specs.Prelude.{◌≡◌, [], ◌∷◌, ◌++◌, map, ◌+◌, ◌*◌, ◌≤◌, ◌<◌, length};
 ghost use Rattle.group.specs.Choice.{◌≤?◌};
 ghost use Rattle.group.specs.Lent.{front};

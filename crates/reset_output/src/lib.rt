@@ -1,1 +1,3 @@
 // What a schedule with resets prints: specs and proofs alone.
+#![tactic(auto)]
+

@@ -1,5 +1,7 @@
 // Plays a schedule with resets as its input comes: a world of terminals that is run, the number of the next event, and the line that has not
 // ended. The numbers go by value, and every array behind a reference. What is kept of a line, the phases and the limits are the player's.
+#![tactic(auto)]
+
 ghost use Rattle.std.specs.Prelude.{Bool, true, false, ◌≡◌, ◌≤◌, ◌<◌, length, take};
 ghost use Rattle.group.specs.Limits.{members_most};
 ghost use Rattle.player.specs.Parts.{told_as};
@@ -26,7 +28,7 @@ use text::{Found, line_end};
 
 // The numbers of a player: those of its world, the number of the next event, where playing stands, and how many bytes are kept of a line
 // that has not ended.
-#[derive(Drop)]
+#[derive(Clone, Copy)]
 pub struct Player {
     pub world: World,
     pub number: u64,
@@ -36,7 +38,7 @@ pub struct Player {
 
 // What a part of the input gives: the player's numbers after it, how much of the part was read, and how many bytes were printed to
 // the front of the lent output.
-#[derive(Drop)]
+#[derive(Clone, Copy)]
 pub struct Fed {
     pub player: Player,
     pub used: usize,
@@ -44,7 +46,7 @@ pub struct Fed {
 }
 
 // What a line gives.
-#[derive(Drop)]
+#[derive(Clone, Copy)]
 struct Told {
     world: World,
     number: u64,
@@ -53,7 +55,7 @@ struct Told {
 }
 
 // What a command asks of the world: a call of a terminal, with that many bytes, or a packet handed to one.
-#[derive(Drop)]
+#[derive(Clone, Copy)]
 enum Action {
     Nothing,
     Act { call: Call, i: usize, length: usize },

@@ -1,4 +1,6 @@
 // Reads a schedule with resets: what a line means as an event of terminals. The first line is that of a schedule without.
+#![tactic(auto)]
+
 ghost use Rattle.std.specs.Prelude.{◌≡◌, ◌*◌, ◌≤◌, ◌<◌, length};
 ghost use Rattle.std.proofs.Math.Option.{some};
 ghost use Rattle.group.specs.Lent.{front};
@@ -11,7 +13,7 @@ use schedule::{LINE_MOST, PAYLOAD_ROOM, Parts, fields};
 use text::{Numeral, is_hex, lay_hex, letter, number};
 
 // What a line means as an event. A submit's payload lies at the front of the bytes that were lent.
-#[derive(Drop)]
+#[derive(Clone, Copy)]
 pub enum Command {
     Other,
     Submit { terminal: u32, length: usize },

@@ -1,5 +1,7 @@
 // The world with resets that can be run: room for every terminal, and room for the packets of a schedule. Its numbers go by value, and every
 // array behind a reference: those of the terminals one behind the other, so that a call is lent the arrays of one terminal.
+#![tactic(auto)]
+
 ghost use Rattle.std.specs.Prelude.{◌≡◌, true, ◌<◌, length};
 ghost use Rattle.group.specs.Limits.{members_most};
 ghost use Rattle.recovery.specs.Calls.{fresh_terminal};
@@ -19,14 +21,14 @@ use terminal_rows::{
 };
 
 // How many terminals there are, and how many packets were written.
-#[derive(Drop)]
+#[derive(Clone, Copy)]
 pub struct World {
     pub n: u8,
     pub count: usize,
 }
 
 // What a call gives: the terminal's next head, its answer, and how many bytes it wrote to the front of the lent output.
-#[derive(Drop)]
+#[derive(Clone, Copy)]
 pub struct Called {
     pub head: Head,
     pub reply: Reply,
@@ -34,7 +36,7 @@ pub struct Called {
 }
 
 // What an event gives: the world's numbers after it, its answer, and how many bytes a call wrote to the front of the lent output.
-#[derive(Drop)]
+#[derive(Clone, Copy)]
 pub struct Happening {
     pub world: World,
     pub reply: Reply,
@@ -42,7 +44,7 @@ pub struct Happening {
 }
 
 // What opening gives. Where it is refused, there is no terminal.
-#[derive(Drop)]
+#[derive(Clone, Copy)]
 pub struct Opened {
     pub world: World,
     pub verdict: Verdict,

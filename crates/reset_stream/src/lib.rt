@@ -1,5 +1,7 @@
 // Plays a schedule with resets from a source to a sink. Each part of the input that was read goes to the player, and what it printed is handed
 // on at once.
+#![tactic(auto)]
+
 ghost use Rattle.std.specs.Prelude.{[], ◌++◌, ◌≤◌};
 ghost use Rattle.descriptor.specs.Descriptor.{Takes};
 ghost use Rattle.group.specs.Lent.{Laid};
@@ -22,14 +24,14 @@ use stream::{Played, put_text};
 use terminal_rows::{MASKS, NUMBERS, SMALL};
 
 // The player and the sink after a part of the input.
-#[derive(Drop)]
+#[derive(Clone, Copy)]
 struct Step {
     player: Player,
     sink: Sink,
 }
 
 // The same with the source, and whether to go on: the input has not ended, and the sink takes what it is handed.
-#[derive(Drop)]
+#[derive(Clone, Copy)]
 struct Turn {
     player: Player,
     source: Source,

@@ -1,6 +1,8 @@
 // Rounds of calls for the benchmark and the fuzz, of what does not cross a boundary by itself: reading packets, the work list, the
 // journal and its plan, and the generator; no user links it. What the calls answer comes back as a running sum. Promised is only what is proved of
 // every function: it is safe and ends. What it calls has its own promise.
+#![tactic(auto)]
+
 ghost use Rattle.std.specs.Prelude.{◌+◌, ◌≤◌, length};
 
 use generator::Generator;
@@ -156,7 +158,7 @@ fn list_of(records: &[u8]) -> [Job; Group::JOBS] {
 }
 
 // A list and the running sum of its answers.
-#[derive(Drop)]
+#[derive(Clone, Copy)]
 struct Feeding {
     jobs: [Job; Group::JOBS],
     sum: u64,
@@ -227,7 +229,7 @@ pub extern "C" fn rounds_journal_record(sum: u64, block: &[u8], at: usize, numbe
 }
 
 // A writer, the index behind the blocks that it laid in the output, and the running sum of its answers.
-#[derive(Drop)]
+#[derive(Clone, Copy)]
 struct Journaling {
     writer: Writer,
     place: usize,

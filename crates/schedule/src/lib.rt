@@ -1,4 +1,6 @@
 // Reads a schedule: what a line means as an event, and the first line as the opening of a group.
+#![tactic(auto)]
+
 ghost use Rattle.std.specs.Prelude.{◌≡◌, [], ◌∷◌, ◌+◌, ◌-◌, ◌*◌, ◌≤◌, ◌<◌, length, take, drop};
 ghost use Rattle.std.proofs.Math.Option.{some};
 ghost use Rattle.group.specs.Lent.{front};
@@ -16,7 +18,7 @@ pub const LINE_MOST: usize = 1000;
 pub const PAYLOAD_ROOM: usize = LINE_MOST / 2;
 
 // What a line means as an event. A submit's payload lies at the front of the bytes that were lent.
-#[derive(Drop)]
+#[derive(Clone, Copy)]
 pub enum Command {
     Other,
     Submit { member: u32, length: usize },
@@ -30,7 +32,7 @@ pub enum Command {
 }
 
 // What the first line means.
-#[derive(Drop)]
+#[derive(Clone, Copy)]
 pub enum Opening {
     Other,
     Group {
@@ -41,7 +43,7 @@ pub enum Opening {
 }
 
 // Where the spaces stand that part the fields of a line: those before the second, the third and the fourth field.
-#[derive(Drop)]
+#[derive(Clone, Copy)]
 pub enum Parts {
     One,
     Two(usize),

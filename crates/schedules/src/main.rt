@@ -1,4 +1,6 @@
 // Plays the stored schedules one after the other: files 000, 001 and so on, up to the first that is not there.
+#![tactic(auto)]
+
 ghost use Rattle.std.specs.Prelude.{◌<◌};
 
 use descriptor::{Sink, Source};

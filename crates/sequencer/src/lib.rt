@@ -1,5 +1,7 @@
 // The sequencer: it numbers every message, and keeps each until every member is known to have taken it.
 // The work of each call is lent its state in parts: the numbers of its head by value, and all arrays. Here are the steps of that work.
+#![tactic(auto)]
+
 ghost use Rattle.std.specs.Prelude.{◌≡◌, [], ◌<◌, ◌≤◌, length, get_or, take};
 ghost use Rattle.group.specs.Lent.{Laid};
 ghost use Rattle.group.specs.Choice.{if◌then◌else◌, ◌and◌, ◌=?◌};
@@ -25,7 +27,7 @@ use packet::{Header, Packet, Reading};
 // The numbers of the whole: the group's description, the last number given, the last accepted, and the number through which every
 // member has everything.
 #[repr(C)]
-#[derive(Drop)]
+#[derive(Clone, Copy)]
 pub struct Head {
     pub group: Group,
     pub top: SequenceNumber,
@@ -34,7 +36,7 @@ pub struct Head {
 }
 
 // What a call answers.
-#[derive(Drop)]
+#[derive(Clone, Copy)]
 pub enum Answer {
     Refused(Refusal),
     Old,
@@ -49,21 +51,21 @@ pub enum Answer {
 }
 
 // What a call gives back: its answer, and how many bytes it wrote to the front of the lent output.
-#[derive(Drop)]
+#[derive(Clone, Copy)]
 pub struct Reply {
     pub answer: Answer,
     pub written: usize,
 }
 
 // What a call on the arrays gives back: the head that the state has next, and the reply.
-#[derive(Drop)]
+#[derive(Clone, Copy)]
 pub struct Step {
     pub head: Head,
     pub reply: Reply,
 }
 
 // What opening on the arrays gives back.
-#[derive(Drop)]
+#[derive(Clone, Copy)]
 pub struct Start {
     pub head: Head,
     pub verdict: Verdict,
@@ -71,7 +73,7 @@ pub struct Start {
 
 // What a packet changes beside the noting: the number whose place is laid, top, the last accepted number, the sender's last count and
 // repeat count.
-#[derive(Drop)]
+#[derive(Clone, Copy)]
 pub struct Change {
     pub number: SequenceNumber,
     pub top: SequenceNumber,
@@ -82,14 +84,14 @@ pub struct Change {
 }
 
 // Who confirms which number in a packet, if it is a confirmation.
-#[derive(Drop)]
+#[derive(Clone, Copy)]
 pub enum Confirmation {
     None,
     Of(MemberNumber, SequenceNumber),
 }
 
 // What becomes of a packet: it is refused, it marks who confirms a number, or it is noted.
-#[derive(Drop)]
+#[derive(Clone, Copy)]
 pub enum Decision {
     Refuse(Refusal),
     Mark(MemberNumber, SequenceNumber),

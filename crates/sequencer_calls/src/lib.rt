@@ -1,5 +1,7 @@
 // The sequencer's calls, on the arrays: each asks its questions, then takes the steps of `sequencer`, and hands back the head that the state
 // has next and what it answers.
+#![tactic(auto)]
+
 ghost use Rattle.std.specs.Prelude.{◌≡◌, length};
 ghost use Rattle.sequencer.specs.Calls.{call_verdict};
 ghost use Rattle.sequencer.specs.View.{Fits, Placed, whole, view_of};

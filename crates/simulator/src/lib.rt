@@ -1,5 +1,7 @@
 // The group that can be run: a sequencer, room for every member, and room for the packets of a schedule. Its numbers go by value, and
 // every array behind a reference: those of the members one behind the other, so that a call is lent the arrays of one member.
+#![tactic(auto)]
+
 ghost use Rattle.std.specs.Prelude.{◌≡◌, [], ◌∷◌, ◌<◌, ◌≤◌, length, take};
 ghost use Rattle.group.specs.Limits.{members_most, longest_packet};
 ghost use Rattle.sequencer.specs.View as sequencerView;
@@ -16,14 +18,14 @@ pub const PACKETS: usize = 200;
 pub const NUMBERS: usize = 4;
 
 // The numbers of the group: those of its sequencer, whose description is every member's, and how many packets were written.
-#[derive(Drop)]
+#[derive(Clone, Copy)]
 pub struct Head {
     pub sequencer: sequencer::Head,
     pub count: usize,
 }
 
 // The calls of a member; a submission and a packet come with bytes.
-#[derive(Drop)]
+#[derive(Clone, Copy)]
 pub enum MemberCall {
     Submit,
     Repeat,
@@ -33,7 +35,7 @@ pub enum MemberCall {
 }
 
 // The calls of the sequencer; a packet comes with bytes.
-#[derive(Drop)]
+#[derive(Clone, Copy)]
 pub enum SequencerCall {
     Receive,
     Poll,
@@ -41,7 +43,7 @@ pub enum SequencerCall {
 }
 
 // What an event gives: the group's numbers after it, its answer, and how many bytes a call wrote to the front of the lent output.
-#[derive(Drop)]
+#[derive(Clone, Copy)]
 pub struct Happening {
     pub head: Head,
     pub reply: Reply,
@@ -49,7 +51,7 @@ pub struct Happening {
 }
 
 // What opening gives. Where it is refused, there is no member, and no call of the sequencer is accepted.
-#[derive(Drop)]
+#[derive(Clone, Copy)]
 pub struct Opened {
     pub head: Head,
     pub verdict: Verdict,

@@ -1,5 +1,7 @@
 // Both ends as structs that lie where their owner put them: each method lends the end's work the head's numbers and all arrays, and stores the
 // head that comes back.
+#![tactic(auto)]
+
 ghost use Rattle.std.specs.Prelude.{◌≡◌};
 ghost use Rattle.group.specs.Opening.{description_of};
 ghost use Rattle.member.specs.State.{fresh_member};
@@ -13,7 +15,7 @@ use group::{Group, MemberNumber, SequenceNumber, Verdict};
 // often it repeated itself; of each place of the history its message's count (0: none), who confirmed it, originator, length and
 // payload.
 #[repr(C)]
-#[derive(Drop)]
+#[derive(Clone, Copy)]
 pub struct Sequencer {
     pub head: sequencer::Head,
     pub taken: [u32; Group::MEMBERS],
@@ -29,7 +31,7 @@ pub struct Sequencer {
 // A member: its numbers; of each place of its waiting messages and of each that is held its count, 0 for none, its originator, its
 // length and its payload.
 #[repr(C)]
-#[derive(Drop)]
+#[derive(Clone, Copy)]
 pub struct Member {
     pub head: member::Head,
     pub queued: [u32; Group::WAITING],

@@ -1,4 +1,6 @@
 // The payloads of several places in one array of bytes, a place behind the other, each payload with zeros behind it.
+#![tactic(auto)]
+
 ghost use Rattle.std.specs.Prelude.{◌≡◌, ◌+◌, ◌*◌, ◌≤◌, length, drop, replicate};
 ghost use Rattle.group.specs.Limits.{payload_most};
 ghost use Rattle.message.specs.Message.{all_zero, padded};

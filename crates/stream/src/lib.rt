@@ -1,5 +1,7 @@
 // Plays a schedule from a source to a sink. Each part of the input that was read goes to the player, and what the program
 // says of it is handed on at once.
+#![tactic(auto)]
+
 ghost use Rattle.std.specs.Prelude.{◌≡◌, [], ◌++◌, ◌≤◌, length, take};
 ghost use Rattle.descriptor.specs.Descriptor.{Takes};
 ghost use Rattle.group.specs.Limits.{members_most};
@@ -21,14 +23,14 @@ use player::{LINE, OUTPUT, Phase, Player, end, feed, last, phase_of};
 use simulator::{Head, NUMBERS, PACKETS};
 
 // The player and the sink after a part of the input.
-#[derive(Drop)]
+#[derive(Clone, Copy)]
 struct Step {
     player: Player,
     sink: Sink,
 }
 
 // The same with the source, and whether to go on: the input has not ended, and the sink takes what it is handed.
-#[derive(Drop)]
+#[derive(Clone, Copy)]
 struct Turn {
     player: Player,
     source: Source,
@@ -37,7 +39,7 @@ struct Turn {
 }
 
 // The source and the sink after a schedule.
-#[derive(Drop)]
+#[derive(Clone, Copy)]
 pub struct Played {
     pub source: Source,
     pub sink: Sink,

@@ -1,4 +1,6 @@
 // A terminal beside its member: its work list, which is fed what the member takes.
+#![tactic(auto)]
+
 ghost use Rattle.std.specs.Prelude.{◌≡◌};
 ghost use Rattle.member.specs.Order.{took_by};
 ghost use Rattle.packet.specs.Packet.{read_of, payload_at};
@@ -11,21 +13,21 @@ use jobs::Job;
 use packet::{Header, Reading};
 
 // What the list answers to a take: nothing where the take handed out no message.
-#[derive(Drop)]
+#[derive(Clone, Copy)]
 pub enum Fed {
     Nothing,
     Answered(jobs::Answer),
 }
 
 // A list that is fed the messages that a group's packets broadcast, and the number that comes next.
-#[derive(Drop)]
+#[derive(Clone, Copy)]
 pub struct Left {
     pub jobs: [Job; Group::JOBS],
     pub next: usize,
 }
 
 // A list that was fed, and its answer.
-#[derive(Drop)]
+#[derive(Clone, Copy)]
 pub struct Feeding {
     pub jobs: [Job; Group::JOBS],
     pub fed: Fed,

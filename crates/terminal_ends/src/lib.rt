@@ -1,4 +1,6 @@
 // A terminal for programs in other languages: the caller owns it, a call changes it where it lies, and what it answers comes back as numbers.
+#![tactic(auto)]
+
 ghost use Rattle.terminal_ends.specs.Promise.{Opens, Submits, Receives, Takes, Repeats, Reports, Orders, Polls, Copies, Invites, Makes};
 
 use ends::Told;

@@ -1,5 +1,7 @@
 // Opening a terminal: its member opens, and member 0's terminal has the sequencer. The work is lent the terminal in parts: the numbers of its
 // head by value, and all arrays.
+#![tactic(auto)]
+
 ghost use Rattle.std.specs.Prelude.{◌≡◌};
 ghost use Rattle.group.specs.Choice.{if◌then◌else◌, ◌=?◌};
 ghost use Rattle.recovery.specs.View.{whole};
@@ -10,7 +12,7 @@ use group::{Group, MemberNumber, SequenceNumber, Verdict};
 use recovery::Head;
 
 // What opening gives back: the head, and what the caller is told.
-#[derive(Drop)]
+#[derive(Clone, Copy)]
 pub struct Begun {
     pub head: Head,
     pub verdict: Verdict,

@@ -1,5 +1,7 @@
 // A terminal's head in rows of numbers, and the small steps of the world with resets that can be run: its calls by the parts of a terminal
 // that they are lent, what is stored of them, and its opening.
+#![tactic(auto)]
+
 ghost use Rattle.std.specs.Prelude.{◌≡◌, ◌<◌, [], length, get_or, set};
 ghost use Rattle.group.specs.Choice.{if◌then◌else◌, ◌=?◌};
 ghost use Rattle.sequencer.specs.Calls.{fresh_of};
@@ -162,7 +164,7 @@ pub fn write_head(
 
 // The calls of a terminal: its member's, inviting and making, its sequencer's, and its opening as terminal i of a group. A submission and a
 // packet come with bytes.
-#[derive(Drop)]
+#[derive(Clone, Copy)]
 pub enum Call {
     Submit,
     Repeat,
@@ -183,7 +185,7 @@ pub enum Call {
 }
 
 // The same by the parts of a terminal that they are lent: its member's, all of it, its sequencer's.
-#[derive(Drop)]
+#[derive(Clone, Copy)]
 pub enum MemberCall {
     Submit,
     Repeat,
@@ -191,7 +193,7 @@ pub enum MemberCall {
     Status,
 }
 
-#[derive(Drop)]
+#[derive(Clone, Copy)]
 pub enum WholeCall {
     Receive,
     Invite(u32),
@@ -204,14 +206,14 @@ pub enum WholeCall {
     },
 }
 
-#[derive(Drop)]
+#[derive(Clone, Copy)]
 pub enum SequencerCall {
     Order,
     Poll,
     Copy(SequenceNumber),
 }
 
-#[derive(Drop)]
+#[derive(Clone, Copy)]
 pub enum Part {
     Member(MemberCall),
     Whole(WholeCall),

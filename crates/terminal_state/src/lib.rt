@@ -1,5 +1,7 @@
 // A terminal as a struct that lies where its owner put it: each method lends the work of a call the head's numbers and all arrays, and stores
 // the head that comes back.
+#![tactic(auto)]
+
 ghost use Rattle.std.specs.Prelude.{◌≡◌};
 ghost use Rattle.recovery.specs.Promise as promise;
 ghost use Rattle.recovery.specs.View.{whole, seen};
@@ -12,7 +14,7 @@ use recovery::Head;
 // A terminal: its numbers; its member's arrays; of each place of the last messages taken its count (0: none), originator, length and
 // payload; each originator's highest count among all taken, and each replier's number; and its sequencer's arrays.
 #[repr(C)]
-#[derive(Drop)]
+#[derive(Clone, Copy)]
 pub struct Terminal {
     pub head: Head,
     pub queued: [u32; Group::WAITING],

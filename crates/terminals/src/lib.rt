@@ -1,4 +1,6 @@
 // A terminal's calls: the work of each is lent its state in parts, the numbers of its head by value and the arrays that it looks at.
+#![tactic(auto)]
+
 ghost use Rattle.std.specs.Prelude.{true, false, ◌≡◌, ◌*◌, ◌≤◌, length, take};
 ghost use Rattle.group.specs.Limits.{members_most, held_most, payload_most};
 ghost use Rattle.group.specs.declared.Refusal.{Refusal};
@@ -19,7 +21,7 @@ use packet::{Header, Packet, Reading};
 use recovery::Head;
 
 // What the work of a sequencer's call for packets gives back: the next head, and what the caller is told.
-#[derive(Drop)]
+#[derive(Clone, Copy)]
 pub struct Step {
     pub head: Head,
     pub reply: sequencer::Reply,

@@ -1,4 +1,6 @@
 // Text as bytes: the lines of an input, the words, numbers and hex of a line, read and written.
+#![tactic(auto)]
+
 ghost use Rattle.std.specs.Prelude.{◌≡◌, true, [], ◌∷◌, ◌+◌, ◌*◌, ◌%◌, ◌≤◌, ◌<◌, length, drop};
 ghost use Rattle.group.specs.Lent.{front};
 ghost use Rattle.text.specs.Text.{hex_base, digit_of, glyph_of};
@@ -17,14 +19,14 @@ pub const NUMBER_DIGITS: usize = 10;
 pub const COUNT_DIGITS: usize = 20;
 
 // Where a character first stands.
-#[derive(Drop)]
+#[derive(Clone, Copy)]
 pub enum Found {
     At(usize),
     Nothing,
 }
 
 // The number that a field is.
-#[derive(Drop)]
+#[derive(Clone, Copy)]
 pub enum Numeral {
     Of(u32),
     Other,
@@ -206,7 +208,7 @@ fn glyph(d: u8) -> u8
 }
 
 // The digits of a number, in an array from an index on.
-#[derive(Drop)]
+#[derive(Clone, Copy)]
 struct Spelled {
     digits: [u8; COUNT_DIGITS],
     start: usize,

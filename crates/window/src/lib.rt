@@ -1,5 +1,7 @@
 // The window of a member: its 8 places for the numbers above the last taken, its 5 places of messages that wait, and the tests and
 // choices on plain numbers and on one place that its calls are made of.
+#![tactic(auto)]
+
 ghost use Rattle.std.specs.Prelude.{◌≡◌, ◌+◌, ◌-◌, ◌*◌, ◌≤◌, ◌<◌, length, take, set};
 ghost use Rattle.group.specs.Choice.{◌and◌, ◌<?◌, ◌≤?◌, ◌=?◌};
 ghost use Rattle.group.specs.Fold.{all_above};

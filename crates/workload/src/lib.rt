@@ -1,4 +1,6 @@
 // A repeatable load: from a seed, a schedule that `play` reads, a line at a time.
+#![tactic(auto)]
+
 ghost use Rattle.std.specs.Prelude.{◌≡◌, [], ◌∷◌, ◌≤◌, ◌<◌, length};
 ghost use Rattle.generator.specs.Generator.{stepped};
 ghost use Rattle.group.specs.Lent.{front};
@@ -23,7 +25,7 @@ pub const LETTERS: u32 = 8;
 pub const BYTES: u32 = 256;
 
 // An event, as its line has it.
-#[derive(Drop)]
+#[derive(Clone, Copy)]
 enum Event {
     Submit(u32, u8),
     Repeat(u32),
@@ -36,34 +38,34 @@ enum Event {
 }
 
 // A value that was chosen, and the generator behind the choice.
-#[derive(Drop)]
+#[derive(Clone, Copy)]
 struct Drawn {
     generator: Generator,
     value: u32,
 }
 
 // The same with an event.
-#[derive(Drop)]
+#[derive(Clone, Copy)]
 struct Chosen {
     generator: Generator,
     event: Event,
 }
 
 // A load of n members. It has lines while n is 1 to 16.
-#[derive(Drop)]
+#[derive(Clone, Copy)]
 pub struct Load {
     pub generator: Generator,
     pub n: u8,
 }
 
-#[derive(Drop)]
+#[derive(Clone, Copy)]
 pub enum Answer {
     Written,
     Refused(Refusal),
 }
 
 // The load after a call, its answer, and how many bytes it laid at the front of the lent output.
-#[derive(Drop)]
+#[derive(Clone, Copy)]
 pub struct Step {
     pub load: Load,
     pub answer: Answer,

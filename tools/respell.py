@@ -17,7 +17,7 @@ TOKEN = re.compile(r"(?<![\w'\-])" + IDENT)
 DEFINED = re.compile(r"\s*(?:(?:abbrev|unfoldable|pub|instance|ruleset)\s+)*(" + IDENT + r")(?:\s+" + IDENT + r")*\s*[:=](?:\s|$)")
 RULESET = re.compile(r"\s*(?:pub\s+)?ruleset\s+(" + IDENT + r")\s*=")
 # Fields that stand beside what they are named after.
-FIELDS = set("queued-originators queued-lengths queued-payloads held-originators held-lengths held-payloads past-originators past-lengths past-payloads".split())
+FIELDS = set("kept-size queued-originators queued-lengths queued-payloads held-originators held-lengths held-payloads past-originators past-lengths past-payloads".split())
 # Lemmas that have the name which a definition gets, by the crates (or the file) that cite them.
 LEMMAS = {
     "entry_in": ["history/", "sequencer/", "sequencer_calls/"],

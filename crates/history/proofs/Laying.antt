@@ -25,7 +25,7 @@ module _ (kept originators lengths payloads : List ℕ) (sizes : Places kept ori
   laid_sizes count originator size part e =
       let b = sizes.payloads_size in
       record {
-        kept_size_lem = length-set kept at count ∙ sizes.kept_size_lem;
+        kept_size = length-set kept at count ∙ sizes.kept_size;
         originators_size = length-set originators at originator ∙ sizes.originators_size;
         lengths_size = length-set lengths at size ∙ sizes.lengths_size;
         payloads_size = laid_length payloads part at (omega arith) e ∙ b;
@@ -35,7 +35,7 @@ module _ (kept originators lengths payloads : List ℕ) (sizes : Places kept ori
       → messages_in (set kept at count) (set originators at originator) (set lengths at size) (laid_at payloads at part)
       ≡ set (messages_in kept originators lengths payloads) at (record { originator = record { 0 = originator }; count = count; length = size; payload = part })
   laid_message count originator size part e =
-      let a = sizes.kept_size_lem in
+      let a = sizes.kept_size in
       let b = sizes.originators_size in
       let d = sizes.lengths_size in
       let f = sizes.payloads_size in

@@ -12,7 +12,7 @@ pub record Entries (taken counts repeats : List ℕ) : Type 0 where
   pub repeats_size : length repeats ≡ members_most
 
 pub record Places (kept originators lengths payloads : List ℕ) : Type 0 where
-  pub kept_size_lem : length kept ≡ places_most
+  pub kept_size : length kept ≡ places_most
   pub originators_size : length originators ≡ places_most
   pub lengths_size : length lengths ≡ places_most
   pub payloads_size : length payloads ≡ places_most * payload_most

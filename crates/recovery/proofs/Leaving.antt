@@ -62,12 +62,12 @@ whole_seen s t a b f g e =
     (record { counts_size = n.held_size; originators_size = n.held_originators_size; lengths_size = n.held_lengths_size; bytes_size = n.held_payloads_size })
     (ap (λ (v : Terminal). v.member.held) e) in
     let past = messages_whole places_most s.past s.past_originators s.past_lengths s.past_payloads t.past t.past_originators t.past_lengths t.past_payloads
-    (record { counts_size = a.past.kept_size_lem; originators_size = a.past.originators_size; lengths_size = a.past.lengths_size; bytes_size = a.past.payloads_size })
-    (record { counts_size = b.past.kept_size_lem; originators_size = b.past.originators_size; lengths_size = b.past.lengths_size; bytes_size = b.past.payloads_size })
+    (record { counts_size = a.past.kept_size; originators_size = a.past.originators_size; lengths_size = a.past.lengths_size; bytes_size = a.past.payloads_size })
+    (record { counts_size = b.past.kept_size; originators_size = b.past.originators_size; lengths_size = b.past.lengths_size; bytes_size = b.past.payloads_size })
     (ap (λ (v : Terminal). v.kept.past) e) in
     let history = messages_whole places_most s.kept s.originators s.lengths s.payloads t.kept t.originators t.lengths t.payloads
-    (record { counts_size = k.kept_size_lem; originators_size = k.originators_size; lengths_size = k.lengths_size; bytes_size = k.payloads_size })
-    (record { counts_size = l.kept_size_lem; originators_size = l.originators_size; lengths_size = l.lengths_size; bytes_size = l.payloads_size })
+    (record { counts_size = k.kept_size; originators_size = k.originators_size; lengths_size = k.lengths_size; bytes_size = k.payloads_size })
+    (record { counts_size = l.kept_size; originators_size = l.originators_size; lengths_size = l.lengths_size; bytes_size = l.payloads_size })
     (ap (λ (v : Terminal). v.sequencer.history) e) in
     let table = table_whole s.taken s.counts s.repeats t.taken t.counts t.repeats
     (x.counts_size ∙ sym x.taken_size) (x.repeats_size ∙ sym x.taken_size) (y.counts_size ∙ sym y.taken_size) (y.repeats_size ∙ sym y.taken_size)

@@ -124,7 +124,7 @@ pub copied_place : (kept originators lengths payloads source : List ℕ) (at fro
 copied_place kept originators lengths payloads source at from count originator size payloads' h p r e =
     let w : padded (take (from * payload_most + payload_most - from * payload_most) (drop (from * payload_most) source)) ≡ part_of source from =
     ap (λ (k : ℕ). padded (take k (drop (from * payload_most) source))) (part_size from) ∙ padded_whole (part_of source from) (part_length source from r) in
-    let a = p.kept_size_lem in
+    let a = p.kept_size in
     let b = p.originators_size in
     let c = p.lengths_size in
     let d = p.payloads_size in

@@ -103,7 +103,7 @@ module _ (head : Head) (taken counts repeats kept marks originators lengths payl
     next = whole (record { group = head.group; top = head.top; accepted = head.accepted; floor = floor }) taken' counts repeats kept' marks originators' lengths' payloads'
 
     sizes : (length taken ≡ members_most) × (length counts ≡ members_most) × (length repeats ≡ members_most) × (length kept ≡ places_most)
-    sizes = (fits.entries.taken_size, fits.entries.counts_size, fits.entries.repeats_size, fits.places.kept_size_lem)
+    sizes = (fits.entries.taken_size, fits.entries.counts_size, fits.entries.repeats_size, fits.places.kept_size)
 
     table_noted_lem : table_in taken' counts repeats ≡ table_noted (table_in taken counts repeats) m (sender_of packet).taken
     unfolding table_noted

@@ -22,8 +22,8 @@ view_whole s t a b e =
     (x.counts_size ∙ sym x.taken_size) (x.repeats_size ∙ sym x.taken_size) (y.counts_size ∙ sym y.taken_size) (y.repeats_size ∙ sym y.taken_size)
     (ap (λ (v : Seen). v.acknowledgements) e) in
     let history = messages_whole places_most s.kept s.originators s.lengths s.payloads t.kept t.originators t.lengths t.payloads
-    (record { counts_size = k.kept_size_lem; originators_size = k.originators_size; lengths_size = k.lengths_size; bytes_size = k.payloads_size })
-    (record { counts_size = l.kept_size_lem; originators_size = l.originators_size; lengths_size = l.lengths_size; bytes_size = l.payloads_size })
+    (record { counts_size = k.kept_size; originators_size = k.originators_size; lengths_size = k.lengths_size; bytes_size = k.payloads_size })
+    (record { counts_size = l.kept_size; originators_size = l.originators_size; lengths_size = l.lengths_size; bytes_size = l.payloads_size })
     (ap (λ (v : Seen). v.history) e) in
     λ i. record {
       head = record { group = (e i).group; top = (e i).top; accepted = (e i).accepted; floor = (e i).floor };

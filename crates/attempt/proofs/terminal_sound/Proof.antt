@@ -10,13 +10,13 @@ use Rattle.attempt.proofs.terminal_sound.Statement.{statement}
 use Rattle.attempt.proofs.terminal_sound.Tie as tie
 
 beside-sound-requires : tie.Need-beside-sound-requires
-beside-sound-requires c κs = (record { kept_size_lem = search rules; originators_size = search rules; lengths_size = search rules; payloads_size = search rules }, search rules, search rules)
+beside-sound-requires c κs = (record { kept_size = search rules; originators_size = search rules; lengths_size = search rules; payloads_size = search rules }, search rules, search rules)
 
 sound-requires : tie.Need-sound-requires
 sound-requires c κs = record { queued_size = search rules; held_size = search rules; queued_originators_size = search rules; queued_lengths_size = search rules; held_originators_size = search rules; held_lengths_size = search rules; queued_payloads_size = search rules; held_payloads_size = search rules }
 
 sequencer-sound-requires : tie.Need-sequencer-sound-requires
-sequencer-sound-requires c κs = record { counts_long = search rules; repeats_long = search rules; places = record { kept_size_lem = search rules; originators_size = search rules; lengths_size = search rules; payloads_size = search rules }; marks_size = search rules }
+sequencer-sound-requires c κs = record { counts_long = search rules; repeats_long = search rules; places = record { kept_size = search rules; originators_size = search rules; lengths_size = search rules; payloads_size = search rules }; marks_size = search rules }
 
 reply-sound-requires : tie.Need-reply-sound-requires
 reply-sound-requires c κs = search rules

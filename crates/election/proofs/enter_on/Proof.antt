@@ -9,7 +9,7 @@ made-requires : tie.Need-made-requires
 made-requires c κs = search rules
 
 seat-requires : tie.Need-seat-requires
-seat-requires c κs = (record { held_size = search rules; originators_size = search rules; lengths_size = search rules; payloads_size = search rules }, record { kept_size_lem = search rules; originators_size = search rules; lengths_size = search rules; payloads_size = search rules }, search rules)
+seat-requires c κs = (record { held_size = search rules; originators_size = search rules; lengths_size = search rules; payloads_size = search rules }, record { kept_size = search rules; originators_size = search rules; lengths_size = search rules; payloads_size = search rules }, search rules)
 
 enter-member-requires : tie.Need-enter-member-requires
 enter-member-requires c κs = record { held_size = let k = c.before.before.before.before.enter-member-arg in search rules; originators_size = let k = c.before.before.before.enter-member-arg2 in search rules; lengths_size = let k = c.before.before.enter-member-arg3 in search rules; payloads_size = let k = c.before.enter-member-arg4 in search rules }

@@ -13,7 +13,7 @@ use Rattle.recovery.proofs.begin_history.Statement.{statement}
 use Rattle.recovery.proofs.begin_history.Tie as tie
 
 fill-requires : tie.Need-fill-requires
-fill-requires c κs = (record { kept_size_lem = search rules; originators_size = search rules; lengths_size = search rules; payloads_size = search rules }, c.before.before.before.before.before.before.before.before.before.before.before.before.before.before.before.before.requires.0, c.before.before.before.before.before.before.before.before.before.before.before.before.before.before.before.before.requires.1)
+fill-requires c κs = (record { kept_size = search rules; originators_size = search rules; lengths_size = search rules; payloads_size = search rules }, c.before.before.before.before.before.before.before.before.before.before.before.before.before.before.before.before.requires.0, c.before.before.before.before.before.before.before.before.before.before.before.before.before.before.before.before.requires.1)
 
 returns : tie.Need-returns
 returns c = let a = c.before.before.before.before.before.before.before.before.before.before.before.before.before.before.before.before.before.args in c.fill.ensures ∙ ap (λ (l : List Message). filled_of l (messages_in a.past.now a.past_originators.now a.past_lengths.now a.past_payloads.now) (messages_in a.held.now a.held_originators.now a.held_lengths.now a.held_payloads.now) a.taken.0 a.floor.0 (a.last.0 - a.floor.0)) (messages_none places_most)

@@ -30,10 +30,10 @@ loop-less : tie.Need-loop-smaller invariant-loop decreases-loop
 loop-less c = search rules
 
 loop-again : tie.Need-loop-preserved invariant-loop decreases-loop
-loop-again c = let l = c.before.before.before.before.before.before.before.before.before.before.before.before.before.before.before.loop in let k = l.invariant.1 in (l.invariant.0, record { kept_size_lem = c.before.before.before.before.before.before.before.kept.given ∙ k.kept_size_lem; originators_size = c.before.before.before.before.before.originators.given ∙ k.originators_size; lengths_size = c.before.before.before.lengths.given ∙ k.lengths_size; payloads_size = c.before.payloads.given ∙ k.payloads_size }, l.invariant.2, l.invariant.3, search rules, omega arith, filled_on _ _ _ _ _ l.number l.invariant.4 c.before.before.before.before.before.before.before.before.fill_one.ensures l.invariant.6)
+loop-again c = let l = c.before.before.before.before.before.before.before.before.before.before.before.before.before.before.before.loop in let k = l.invariant.1 in (l.invariant.0, record { kept_size = c.before.before.before.before.before.before.before.kept.given ∙ k.kept_size; originators_size = c.before.before.before.before.before.originators.given ∙ k.originators_size; lengths_size = c.before.before.before.lengths.given ∙ k.lengths_size; payloads_size = c.before.payloads.given ∙ k.payloads_size }, l.invariant.2, l.invariant.3, search rules, omega arith, filled_on _ _ _ _ _ l.number l.invariant.4 c.before.before.before.before.before.before.before.before.fill_one.ensures l.invariant.6)
 
 same_length : tie.Need-same-length invariant-loop decreases-loop
-same_length c = let i = c.before.before.loop.invariant in i.1.kept_size_lem ∙ sym i.0.kept_size_lem
+same_length c = let i = c.before.before.loop.invariant in i.1.kept_size ∙ sym i.0.kept_size
 
 same-length-2 : tie.Need-same-length-2 invariant-loop decreases-loop
 same-length-2 c = let i = c.before.before.loop.invariant in i.1.originators_size ∙ sym i.0.originators_size

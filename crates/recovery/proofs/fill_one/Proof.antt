@@ -41,7 +41,7 @@ same-length-4 : tie.Need-same-length-4
 same-length-4 c = search rules
 
 returns : tie.Need-returns
-returns c = let a = c.before.before.before.before.before.before.before.before.before.before.before.before.before.before.before.before.before.before.before.before.before.before.before.before.before.before.before.before.before.before.before.before.before.args in let p = c.before.before.before.before.before.before.before.before.before.before.before.before.before.before.before.before.before.before.before.before.before.before.before.before.before.before.before.before.before.before.before.before.before.requires in from_past a.past.now a.past_originators.now a.past_lengths.now a.past_payloads.now _ a.taken.0 a.number.0 (messages_in a.kept.now a.originators.now a.lengths.now a.payloads.now) _ c.before.before.before.before.before.before.before.before.before.before.before.before.before.before.before.before.before.before.before.place.ensures (search rules) p.1.kept_size_lem c.before.before.before.before.before.before.before.before.copy-place.ensures
+returns c = let a = c.before.before.before.before.before.before.before.before.before.before.before.before.before.before.before.before.before.before.before.before.before.before.before.before.before.before.before.before.before.before.before.before.before.args in let p = c.before.before.before.before.before.before.before.before.before.before.before.before.before.before.before.before.before.before.before.before.before.before.before.before.before.before.before.before.before.before.before.before.before.requires in from_past a.past.now a.past_originators.now a.past_lengths.now a.past_payloads.now _ a.taken.0 a.number.0 (messages_in a.kept.now a.originators.now a.lengths.now a.payloads.now) _ c.before.before.before.before.before.before.before.before.before.before.before.before.before.before.before.before.before.before.before.place.ensures (search rules) p.1.kept_size c.before.before.before.before.before.before.before.before.copy-place.ensures
 
 place-requires-2 : tie.Need-place-requires-2
 place-requires-2 c κs = search rules

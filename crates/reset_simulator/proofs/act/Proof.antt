@@ -39,7 +39,7 @@ returns c =
     let t = terminals_of a.small.now a.masks.now a.numbers.now (rows_of a.queued.now a.held.now a.queued_originators.now a.queued_lengths.now a.held_originators.now a.held_lengths.now a.queued_payloads.now a.held_payloads.now a.past.now a.past_originators.now a.past_lengths.now a.past_payloads.now a.highest.now a.replies.now a.taken.now a.counts.now a.repeats.now a.kept.now a.marks.now a.originators.now a.lengths.now a.payloads.now) in
     let p = packets_of a.sizes.now a.packets.now a.world.count in
     let y = there_yes c.before.before.before.before.before.before.before.before.before.before.before.before.before.before.before.before.before.before.before.before.before.before.before.before.before.before.before.before.before.before.before.before.before.before.before.before.args.world c.before.before.before.before.before.before.before.before.before.before.before.before.before.before.before.before.before.before.before.before.before.before.before.before.before.before.before.before.before.before.before.before.before.before.before.before.args.i c.before.before.before.before.before.before.before.before.before.before.before.before.before.before.before.before.before.before.before.before.before.before.before.before.before.before.before.before.before.before.before.before.before.before.before.before.args.world.n c.before.before.before.before.before.before.before.before.before.before.before.before.before.before.before.before.before.before.before.before.before.before.before.before.before.before.before.before.before.before.before.before.before.is-there.result c.before.before.before.before.before.before.before.before.before.before.before.before.before.before.before.before.before.before.before.before.before.before.before.before.before.before.before.before.before.before.before.before.before.is-there.ensures c.before.before.before.before.before.before.before.before.before.before.before.before.before.before.before.before.before.before.before.before.before.before.before.before.before.before.before.before.before.before.before.before.if1.true in
-    plays a.call a.i a.bytes.now a.world t _ p _ c.before.before.before.before.before.call_at.result a.out.now _ y.0 y.1 c.before.before.before.before.before.before.call-at-arg26.given.0.1 c.before.before.before.before.before.call_at.ensures (rw c.before.before.before.before.kept_size_lem.ensures at c.store.ensures) refl
+    plays a.call a.i a.bytes.now a.world t _ p _ c.before.before.before.before.before.call_at.result a.out.now _ y.0 y.1 c.before.before.before.before.before.before.call-at-arg26.given.0.1 c.before.before.before.before.before.call_at.ensures (rw c.before.before.before.before.kept_size.ensures at c.store.ensures) refl
 
 returns-2 : tie.Need-returns-2
 returns-2 c =

@@ -26,7 +26,7 @@ put-place-requires c κs =
     let a = c.before.before.before.before.before.before.before.before.before.before.args in
     let p = c.before.before.before.before.before.before.before.before.before.before.requires in
     let s = p.3 in
-    (omega (arith, s.payloads_size, p.0), (may_send a.group a.accepted a.floor a.number a.at a.kept.now a.originators.now a.lengths.now a.payloads.now (omega (arith, s.kept_size_lem, p.0)) p.1).0)
+    (omega (arith, s.payloads_size, p.0), (may_send a.group a.accepted a.floor a.number a.at a.kept.now a.originators.now a.lengths.now a.payloads.now (omega (arith, s.kept_size, p.0)) p.1).0)
 
 same_length : tie.Need-same-length
 same_length c = search rules
@@ -36,7 +36,7 @@ returns c =
     let a = c.before.before.before.before.before.before.before.before.before.before.before.before.before.args in
     let p = c.before.before.before.before.before.before.before.before.before.before.before.before.before.requires in
     let s = p.3 in
-    announced_laid a.group a.accepted a.floor a.number a.at a.kept.now a.originators.now a.lengths.now a.payloads.now (omega (arith, s.kept_size_lem, p.0)) _ p.1 p.2 (rw c.before.before.before.before.before.announced.ensures at c.before.before.put-place.ensures)
+    announced_laid a.group a.accepted a.floor a.number a.at a.kept.now a.originators.now a.lengths.now a.payloads.now (omega (arith, s.kept_size, p.0)) _ p.1 p.2 (rw c.before.before.before.before.before.announced.ensures at c.before.before.put-place.ensures)
 
 pub send-spec : {M : Type 1} → statement M
 send-spec = tie.close (tie.spec shared-slice-read-put-place mul-announced shared-slice-read-announced announced-requires shared-slice-read-put-place-2 put-place-requires same_length returns)

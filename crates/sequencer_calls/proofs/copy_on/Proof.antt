@@ -10,7 +10,7 @@ use Rattle.sequencer_calls.proofs.copy_on.Statement.{statement}
 use Rattle.sequencer_calls.proofs.copy_on.Tie as tie
 
 ask-requires : tie.Need-ask-requires
-ask-requires c κs = record { counts_long = search rules; repeats_long = search rules; places = record { kept_size_lem = search rules; originators_size = search rules; lengths_size = search rules; payloads_size = search rules }; marks_size = search rules }
+ask-requires c κs = record { counts_long = search rules; repeats_long = search rules; places = record { kept_size = search rules; originators_size = search rules; lengths_size = search rules; payloads_size = search rules }; marks_size = search rules }
 
 enum_told : tie.Need-enum-told
 enum_told c = search rules

@@ -48,7 +48,7 @@ packet-change-requires : tie.Need-packet-change-requires
 packet-change-requires c κs =
     let a = c.before.before.before.before.before.before.before.before.before.before.before.before.before.before.before.before.before.before.before.before.before.before.before.before.before.before.before.before.before.before.before.before.before.before.before.args in
     let p = c.before.before.before.before.before.before.before.before.before.before.before.before.before.before.before.before.before.before.before.before.before.before.before.before.before.before.before.before.before.before.before.before.before.before.before.requires in
-    (found_left a.head a.taken.now a.counts.now a.repeats.now a.kept.now a.marks.now a.originators.now a.lengths.now a.payloads.now p.2 a.packet a.payload.now _ p.1 _ c.before.before.before.before.before.before.before.before.before.before.before.before.before.before.before.before.before.before.before.before.before.before.before.before.before.sender-of.ensures _ _ _ _ _ _ c.before.before.before.before.before.before.before.before.before.before.before.before.before.before.before.before.before.before.note.ensures.0 c.before.before.before.before.before.before.before.before.before.before.before.before.before.before.before.before.before.before.note.ensures.1 c.before.before.before.before.before.before.before.before.before.before.before.before.before.clear.ensures, c.before.before.before.before.before.before.before.before.before.before.before.before.kept.given ∙ p.2.places.kept_size_lem, c.before.before.before.before.before.before.before.before.before.before.originators.given ∙ p.2.places.originators_size)
+    (found_left a.head a.taken.now a.counts.now a.repeats.now a.kept.now a.marks.now a.originators.now a.lengths.now a.payloads.now p.2 a.packet a.payload.now _ p.1 _ c.before.before.before.before.before.before.before.before.before.before.before.before.before.before.before.before.before.before.before.before.before.before.before.before.before.sender-of.ensures _ _ _ _ _ _ c.before.before.before.before.before.before.before.before.before.before.before.before.before.before.before.before.before.before.note.ensures.0 c.before.before.before.before.before.before.before.before.before.before.before.before.before.before.before.before.before.before.note.ensures.1 c.before.before.before.before.before.before.before.before.before.before.before.before.before.clear.ensures, c.before.before.before.before.before.before.before.before.before.before.before.before.kept.given ∙ p.2.places.kept_size, c.before.before.before.before.before.before.before.before.before.before.originators.given ∙ p.2.places.originators_size)
 
 mul-counts : tie.Need-overflow-mul-counts
 mul-counts c = search rules
@@ -73,7 +73,7 @@ slice-write-repeats c =
 lay-requires : tie.Need-lay-requires
 lay-requires c κs =
     let p = c.before.before.before.before.before.before.before.before.before.before.before.before.before.before.before.before.before.before.before.before.before.before.before.before.before.before.before.before.before.before.before.before.before.before.before.before.before.before.before.before.before.requires in
-    (p.1.sizes.payload, record { kept_size_lem = c.before.before.before.before.before.before.before.before.before.before.before.before.before.before.before.before.before.before.kept.given ∙ p.2.places.kept_size_lem; originators_size = c.before.before.before.before.before.before.before.before.before.before.before.before.before.before.before.before.originators.given ∙ p.2.places.originators_size; lengths_size = c.before.before.before.before.before.before.before.before.before.before.before.before.before.before.lengths.given ∙ p.2.places.lengths_size; payloads_size = c.before.before.before.before.before.before.before.before.before.before.before.before.payloads.given ∙ p.2.places.payloads_size })
+    (p.1.sizes.payload, record { kept_size = c.before.before.before.before.before.before.before.before.before.before.before.before.before.before.before.before.before.before.kept.given ∙ p.2.places.kept_size; originators_size = c.before.before.before.before.before.before.before.before.before.before.before.before.before.before.before.before.originators.given ∙ p.2.places.originators_size; lengths_size = c.before.before.before.before.before.before.before.before.before.before.before.before.before.before.lengths.given ∙ p.2.places.lengths_size; payloads_size = c.before.before.before.before.before.before.before.before.before.before.before.before.payloads.given ∙ p.2.places.payloads_size })
 
 cast-place : tie.Need-overflow-cast-place
 cast-place c = search rules
@@ -86,7 +86,7 @@ send-answer-requires c κs =
     let a = c.before.before.before.before.before.before.before.before.before.before.before.before.before.before.before.before.before.before.before.before.before.before.before.before.before.before.before.before.before.before.before.before.before.before.before.before.before.before.before.before.before.before.before.before.before.before.before.before.before.before.before.before.before.before.before.before.before.before.before.args in
     let p = c.before.before.before.before.before.before.before.before.before.before.before.before.before.before.before.before.before.before.before.before.before.before.before.before.before.before.before.before.before.before.before.before.before.before.before.before.before.before.before.before.before.before.before.before.before.before.before.before.before.before.before.before.before.before.before.before.before.before.before.requires in
     let at = c.before.before.before.before.before.before.before.place.ensures in
-    (omega (arith, at), found_sends a.head a.taken.now a.counts.now a.repeats.now a.kept.now a.marks.now a.originators.now a.lengths.now a.payloads.now p.2 a.packet a.payload.now _ p.1 _ c.before.before.before.before.before.before.before.before.before.before.before.before.before.before.before.before.before.before.before.before.before.before.before.before.before.before.before.before.before.before.before.before.before.before.before.before.before.before.before.before.before.before.before.before.before.before.before.before.before.sender-of.ensures _ _ _ _ _ _ c.before.before.before.before.before.before.before.before.before.before.before.before.before.before.before.before.before.before.before.before.before.before.before.before.before.before.before.before.before.before.before.before.before.before.before.before.before.before.before.before.before.before.note.ensures.0 c.before.before.before.before.before.before.before.before.before.before.before.before.before.before.before.before.before.before.before.before.before.before.before.before.before.before.before.before.before.before.before.before.before.before.before.before.before.before.before.before.before.before.note.ensures.1 c.before.before.before.before.before.before.before.before.before.before.before.before.before.before.before.before.before.before.before.before.before.before.before.before.before.before.before.before.before.before.before.before.before.before.before.before.before.clear.ensures _ c.before.before.before.before.before.before.before.before.before.before.before.before.before.before.before.before.before.before.before.before.before.before.before.packet-change.ensures _ _ _ _ c.before.before.before.before.before.before.before.before.before.before.before.before.before.before.before.before.before.lay.ensures _ c.before.before.before.before.before.before.before.place.ensures, p.1.sizes.output, record { kept_size_lem = c.before.before.before.before.before.before.before.before.before.before.before.before.before.before.before.before.kept2.given ∙ c.before.before.before.before.before.before.before.before.before.before.before.before.before.before.before.before.before.before.before.before.before.before.before.before.before.before.before.before.before.before.before.before.before.before.before.before.kept.given ∙ p.2.places.kept_size_lem; originators_size = c.before.before.before.before.before.before.before.before.before.before.before.before.before.before.originators2.given ∙ c.before.before.before.before.before.before.before.before.before.before.before.before.before.before.before.before.before.before.before.before.before.before.before.before.before.before.before.before.before.before.before.before.before.before.originators.given ∙ p.2.places.originators_size; lengths_size = c.before.before.before.before.before.before.before.before.before.before.before.before.lengths2.given ∙ c.before.before.before.before.before.before.before.before.before.before.before.before.before.before.before.before.before.before.before.before.before.before.before.before.before.before.before.before.before.before.before.before.lengths.given ∙ p.2.places.lengths_size; payloads_size = c.before.before.before.before.before.before.before.before.before.before.payloads2.given ∙ c.before.before.before.before.before.before.before.before.before.before.before.before.before.before.before.before.before.before.before.before.before.before.before.before.before.before.before.before.before.before.payloads.given ∙ p.2.places.payloads_size })
+    (omega (arith, at), found_sends a.head a.taken.now a.counts.now a.repeats.now a.kept.now a.marks.now a.originators.now a.lengths.now a.payloads.now p.2 a.packet a.payload.now _ p.1 _ c.before.before.before.before.before.before.before.before.before.before.before.before.before.before.before.before.before.before.before.before.before.before.before.before.before.before.before.before.before.before.before.before.before.before.before.before.before.before.before.before.before.before.before.before.before.before.before.before.before.sender-of.ensures _ _ _ _ _ _ c.before.before.before.before.before.before.before.before.before.before.before.before.before.before.before.before.before.before.before.before.before.before.before.before.before.before.before.before.before.before.before.before.before.before.before.before.before.before.before.before.before.before.note.ensures.0 c.before.before.before.before.before.before.before.before.before.before.before.before.before.before.before.before.before.before.before.before.before.before.before.before.before.before.before.before.before.before.before.before.before.before.before.before.before.before.before.before.before.before.note.ensures.1 c.before.before.before.before.before.before.before.before.before.before.before.before.before.before.before.before.before.before.before.before.before.before.before.before.before.before.before.before.before.before.before.before.before.before.before.before.before.clear.ensures _ c.before.before.before.before.before.before.before.before.before.before.before.before.before.before.before.before.before.before.before.before.before.before.before.packet-change.ensures _ _ _ _ c.before.before.before.before.before.before.before.before.before.before.before.before.before.before.before.before.before.lay.ensures _ c.before.before.before.before.before.before.before.place.ensures, p.1.sizes.output, record { kept_size = c.before.before.before.before.before.before.before.before.before.before.before.before.before.before.before.before.kept2.given ∙ c.before.before.before.before.before.before.before.before.before.before.before.before.before.before.before.before.before.before.before.before.before.before.before.before.before.before.before.before.before.before.before.before.before.before.before.before.kept.given ∙ p.2.places.kept_size; originators_size = c.before.before.before.before.before.before.before.before.before.before.before.before.before.before.originators2.given ∙ c.before.before.before.before.before.before.before.before.before.before.before.before.before.before.before.before.before.before.before.before.before.before.before.before.before.before.before.before.before.before.before.before.before.before.originators.given ∙ p.2.places.originators_size; lengths_size = c.before.before.before.before.before.before.before.before.before.before.before.before.lengths2.given ∙ c.before.before.before.before.before.before.before.before.before.before.before.before.before.before.before.before.before.before.before.before.before.before.before.before.before.before.before.before.before.before.before.before.lengths.given ∙ p.2.places.lengths_size; payloads_size = c.before.before.before.before.before.before.before.before.before.before.payloads2.given ∙ c.before.before.before.before.before.before.before.before.before.before.before.before.before.before.before.before.before.before.before.before.before.before.before.before.before.before.before.before.before.before.payloads.given ∙ p.2.places.payloads_size })
 
 same_length : tie.Need-same-length
 same_length c = search rules

@@ -10,7 +10,7 @@ use Rattle.sequencer_calls.proofs.receive_on.Statement.{statement}
 use Rattle.sequencer_calls.proofs.receive_on.Tie as tie
 
 judge-requires : tie.Need-judge-requires
-judge-requires c κs = record { counts_long = search rules; repeats_long = search rules; places = record { kept_size_lem = search rules; originators_size = search rules; lengths_size = search rules; payloads_size = search rules }; marks_size = search rules }
+judge-requires c κs = record { counts_long = search rules; repeats_long = search rules; places = record { kept_size = search rules; originators_size = search rules; lengths_size = search rules; payloads_size = search rules }; marks_size = search rules }
 
 enum-known-d : tie.Need-enum-known-d
 enum-known-d c = search rules

@@ -39,7 +39,7 @@ returns c =
     let t = (terminals_of a.head.sequencer.group a.numbers.now (rows_of a.queued.now a.held.now a.queued_originators.now a.queued_lengths.now a.held_originators.now a.held_lengths.now a.queued_payloads.now a.held_payloads.now)) in
     let p = (packets_of a.sizes.now a.packets.now a.head.count) in
     let y = there_yes c.before.before.before.before.before.before.before.before.before.before.before.before.before.before.before.before.before.before.before.before.before.before.args.head c.before.before.before.before.before.before.before.before.before.before.before.before.before.before.before.before.before.before.before.before.before.before.args.i c.before.before.before.before.before.before.before.before.before.before.before.before.before.before.before.before.before.before.before.before.before.before.args.head.sequencer.group.n c.before.before.before.before.before.before.before.before.before.before.before.before.before.before.before.before.before.before.is-there.result c.before.before.before.before.before.before.before.before.before.before.before.before.before.before.before.before.before.before.is-there.ensures c.before.before.before.before.before.before.before.before.before.before.before.before.before.before.before.before.before.if1.true in
-    acts a.call a.i a.bytes.now a.head t _ p _ c.before.before.before.before.before.before.call_at.result a.out.now _ y.0 y.1 refl (search rules) c.before.before.before.before.before.before.call_at.ensures (rw c.before.before.before.before.before.kept_size_lem.ensures at c.before.store.ensures) refl
+    acts a.call a.i a.bytes.now a.head t _ p _ c.before.before.before.before.before.before.call_at.result a.out.now _ y.0 y.1 refl (search rules) c.before.before.before.before.before.before.call_at.ensures (rw c.before.before.before.before.before.kept_size.ensures at c.before.store.ensures) refl
 
 returns-2 : tie.Need-returns-2
 returns-2 c =

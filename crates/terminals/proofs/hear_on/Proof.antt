@@ -6,7 +6,7 @@ use Rattle.terminals.proofs.hear_on.Statement.{statement}
 use Rattle.terminals.proofs.hear_on.Tie as tie
 
 beside-sound-requires : tie.Need-beside-sound-requires
-beside-sound-requires c κs = (record { kept_size_lem = search rules; originators_size = search rules; lengths_size = search rules; payloads_size = search rules }, search rules, search rules)
+beside-sound-requires c κs = (record { kept_size = search rules; originators_size = search rules; lengths_size = search rules; payloads_size = search rules }, search rules, search rules)
 
 ask-requires : tie.Need-ask-requires
 ask-requires c κs = record { queued_size = search rules; held_size = search rules; queued_originators_size = search rules; queued_lengths_size = search rules; held_originators_size = search rules; held_lengths_size = search rules; queued_payloads_size = search rules; held_payloads_size = search rules }

@@ -9,7 +9,7 @@ flags-sound-requires : tie.Need-flags-sound-requires
 flags-sound-requires c κs = search rules
 
 ask-requires : tie.Need-ask-requires
-ask-requires c κs = record { counts_long = search rules; repeats_long = search rules; places = record { kept_size_lem = search rules; originators_size = search rules; lengths_size = search rules; payloads_size = search rules }; marks_size = search rules }
+ask-requires c κs = record { counts_long = search rules; repeats_long = search rules; places = record { kept_size = search rules; originators_size = search rules; lengths_size = search rules; payloads_size = search rules }; marks_size = search rules }
 
 frozen-reply-requires : tie.Need-frozen-reply-requires
 frozen-reply-requires c κs = search rules

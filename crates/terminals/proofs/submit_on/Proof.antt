@@ -6,7 +6,7 @@ use Rattle.terminals.proofs.submit_on.Statement.{statement}
 use Rattle.terminals.proofs.submit_on.Tie as tie
 
 beside-sound-requires : tie.Need-beside-sound-requires
-beside-sound-requires c κs = (record { kept_size_lem = search rules; originators_size = search rules; lengths_size = search rules; payloads_size = search rules }, search rules, search rules)
+beside-sound-requires c κs = (record { kept_size = search rules; originators_size = search rules; lengths_size = search rules; payloads_size = search rules }, search rules, search rules)
 
 submit-on-requires : tie.Need-submit-on-requires
 submit-on-requires c κs = search rules

@@ -6,7 +6,7 @@ use Rattle.terminals.proofs.take_on.Statement.{statement}
 use Rattle.terminals.proofs.take_on.Tie as tie
 
 beside-sound-requires : tie.Need-beside-sound-requires
-beside-sound-requires c κs = (record { kept_size_lem = search rules; originators_size = search rules; lengths_size = search rules; payloads_size = search rules }, search rules, search rules)
+beside-sound-requires c κs = (record { kept_size = search rules; originators_size = search rules; lengths_size = search rules; payloads_size = search rules }, search rules, search rules)
 
 held-sizes-requires : tie.Need-held-sizes-requires
 held-sizes-requires c κs = search rules
@@ -18,7 +18,7 @@ with-member-requires : tie.Need-with-member-requires
 with-member-requires c κs = search rules
 
 remember-requires : tie.Need-remember-requires
-remember-requires c κs = let a = c.before.before.before.before.before.before.before.before.before.before.before.before.before.before.before.before.before.before.before.before.before.before.before.before.before.before.before.before.before.before.before.before.before.before.before.before.before.before.before.args in let f = taken_fits a.head a.queued.now a.held.now a.queued_originators.now a.queued_lengths.now a.held_originators.now a.held_lengths.now a.queued_payloads.now a.held_payloads.now a.past.now a.past_originators.now a.past_lengths.now a.past_payloads.now a.highest.now a.replies.now c.before.before.before.before.before.before.before.before.before.before.before.before.before.before.before.before.before.before.before.before.held-sizes.ensures c.before.before.before.before.before.before.before.before.before.before.take_on.ensures in (record { kept_size_lem = search rules; originators_size = search rules; lengths_size = search rules; payloads_size = search rules }, search rules, f.0, f.1)
+remember-requires c κs = let a = c.before.before.before.before.before.before.before.before.before.before.before.before.before.before.before.before.before.before.before.before.before.before.before.before.before.before.before.before.before.before.before.before.before.before.before.before.before.before.before.args in let f = taken_fits a.head a.queued.now a.held.now a.queued_originators.now a.queued_lengths.now a.held_originators.now a.held_lengths.now a.queued_payloads.now a.held_payloads.now a.past.now a.past_originators.now a.past_lengths.now a.past_payloads.now a.highest.now a.replies.now c.before.before.before.before.before.before.before.before.before.before.before.before.before.before.before.before.before.before.before.before.held-sizes.ensures c.before.before.before.before.before.before.before.before.before.before.take_on.ensures in (record { kept_size = search rules; originators_size = search rules; lengths_size = search rules; payloads_size = search rules }, search rules, f.0, f.1)
 
 same_length : tie.Need-same-length
 same_length c = search rules

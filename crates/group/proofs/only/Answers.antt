@@ -1,0 +1,7 @@
+-- Nothing is shifted out.
+use Rattle.group.proofs.Members.{one_shifted}
+use borrow.Author.Rules.{rules}
+use Rattle.group.proofs.only.Goals as goal
+
+pub returns : goal.returns
+returns c = one_shifted c.args.member.0 16 c.requires

@@ -1,0 +1,13 @@
+-- The smaller of the two, by the definition's test.
+use Rattle.group.proofs.Choice.{choices}
+use Rattle.window.specs.Places.{smaller_of}
+use borrow.Author.Rules.{rules}
+use Rattle.window.proofs.earlier.Goals as goal
+
+pub returns-then-a-b : goal.returns-then-a-b
+unfolding smaller_of
+returns-then-a-b c = search (choices, rules) depth 9
+
+pub returns : goal.returns
+unfolding smaller_of
+returns c = search (choices, rules) depth 9

@@ -1,0 +1,48 @@
+-- The loop's invariant: the places are sound exactly if those of the numbers after the first `i` are.
+use mathlib.Core.Path.{◌≡◌}
+use Prim.Native.Nat.{◌+◌, ◌-◌, ◌*◌, ◌≤◌}
+use lib.ListN.{length}
+use Rattle.group.specs.Fold.{all_above}
+use Rattle.group.specs.Limits.{held_most, payload_most}
+use Rattle.group.proofs.Fold.{above_on, above_off, above_done}
+use Rattle.store.specs.Places.{messages_in, mask_of}
+use Rattle.window.specs.Places.{place_of}
+use Rattle.window.specs.Sound.{place_sound}
+use Rattle.window.proofs.Places.{place_in}
+use native.Mathlib.Omega.{arith}
+use borrow.Author.Rules.{rules}
+use Rattle.window.proofs.held_sound.Goals as goal
+
+pub loop-i-init : goal.loop-i-init
+loop-i-init c = let e : c.args.taken.0 + 0 ≡ c.args.taken.0 = omega arith in let p = c.requires in (p.0, p.1, p.2, p.3, p.4, rw e)
+
+pub bounds-counts-at : goal.bounds-counts-at
+bounds-counts-at c = let p = c.place-at.ensures in let l = c.loop-i in omega (arith, p, l.invariant.0)
+
+pub bounds-originators-at : goal.bounds-originators-at
+bounds-originators-at c = let p = c.place-at.ensures in let l = c.loop-i in omega (arith, p, l.invariant.1)
+
+pub bounds-lengths-at : goal.bounds-lengths-at
+bounds-lengths-at c = let p = c.place-at.ensures in let l = c.loop-i in omega (arith, p, l.invariant.2)
+
+pub message_sound-requires : goal.message_sound-requires
+message_sound-requires c = let p = c.place-at.ensures in let l = c.loop-i in (omega (arith, p, l.invariant.3), l.invariant.4)
+
+pub loop-i-preserved : goal.loop-i-preserved
+loop-i-preserved c =
+    let l = c.loop-i in
+    let p = c.place-at.ensures in
+    let q : c.place-at.result ≡ place_of (c.args.taken.0 + l.i + 1) = omega (arith, p) in
+    (l.invariant.0, l.invariant.1, l.invariant.2, l.invariant.3, l.invariant.4, above_on _ _ _ l.i l.invariant.5 c.message_sound.result (omega arith) (place_in _ _ _ _ _ (omega (arith, p, l.invariant.0)) _ _ _ q c.message_sound.ensures) c.if-message_sound.true)
+
+pub returns-else-message_sound : goal.returns-else-message_sound
+returns-else-message_sound c =
+    let l = c.loop-i in
+    let p = c.place-at.ensures in
+    let q : c.place-at.result ≡ place_of (c.args.taken.0 + l.i + 1) = omega (arith, p) in
+    above_off _ _ _ l.i l.invariant.5 c.message_sound.result (omega arith) (place_in _ _ _ _ _ (omega (arith, p, l.invariant.0)) _ _ _ q c.message_sound.ensures) c.if-message_sound.false
+
+pub returns : goal.returns
+returns c =
+    let l = c.loop-i in
+    above_done _ _ _ l.i l.invariant.5 (omega arith)

@@ -1,0 +1,6 @@
+-- One store into the numbers taken, and then the smallest of them.
+use borrow.Author.Rules.{rules}
+use Rattle.history.proofs.note.Goals as goal
+
+pub returns : goal.returns
+returns c = record { noted = rw c.larger.ensures; floor = c.smallest.ensures }

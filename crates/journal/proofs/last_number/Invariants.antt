@@ -1,0 +1,17 @@
+-- The loop's invariant: the last number, of all records, is that of those that are left, from here on.
+use mathlib.Core.Path.{◌≡◌, refl, sym, ap, ◌∙◌}
+use Prim.Native.Nat.{◌≤◌}
+use native.Mathlib.Omega.{arith}
+use Rattle.journal.specs.Limits.{records_at, records_end}
+use Rattle.journal.specs.Walk.{last_or}
+use Rattle.group.proofs.Choice.{if_true, if_false}
+use Rattle.journal.proofs.Walking.{passed_off, passed_on, passed_done}
+use borrow.Author.Rules.{rules}
+use Rattle.journal.proofs.last_number.Given as goal
+
+abbrev pub invariant-loop-left : goal.invariant-loop-left
+invariant-loop-left l =
+    (l.at ≤ records_end) × (last_or l.form l.block records_at l.before l.records ≡ last_or l.form l.block l.at l.number l.left)
+
+abbrev pub decreases-loop-left : goal.decreases-loop-left
+decreases-loop-left l = l.left

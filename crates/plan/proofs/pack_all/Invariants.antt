@@ -1,0 +1,16 @@
+-- The loop's invariant: what was packed and what is left come to the whole.
+use mathlib.Core.Path.{sym, ◌∙◌}
+use Prim.Native.Nat.{◌-◌, ◌<◌}
+use native.Mathlib.Omega.{arith}
+use lib.ListN.{length, take}
+use Rattle.plan.specs.Pack.{messages_at, packs, fresh_packer, packed_by}
+use Rattle.plan.proofs.Stepping.{Stepping, stepping_start, stepping_spotted, stepping_on, stepping_done}
+use borrow.Author.Rules.{rules}
+use Rattle.plan.proofs.pack_all.Given as goal
+
+abbrev pub invariant-loop-i : goal.invariant-loop-i
+invariant-loop-i l =
+    Stepping l.journal l.places l.count (length l.initial.out) (packed_by (packs fresh_packer l.initial.hand l.initial.out) (messages_at l.journal (take l.count l.places))) (packs l.packer l.hand l.out) l.i
+
+abbrev pub decreases-loop-i : goal.decreases-loop-i
+decreases-loop-i l = l.count - l.i

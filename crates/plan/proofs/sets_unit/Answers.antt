@@ -1,0 +1,10 @@
+-- The definition's two tests, on the record's bytes in the journal.
+use Rattle.plan.proofs.Gathering.{spot_short, spot_begins}
+use borrow.Author.Rules.{rules}
+use Rattle.plan.proofs.sets_unit.Goals as goal
+
+pub returns-then-spot-start-lt3 : goal.returns-then-spot-start-lt3
+returns-then-spot-start-lt3 c = spot_short c.args.journal.now c.args.spot c.requires c.if-spot-start-lt3.true
+
+pub returns : goal.returns
+returns c = spot_begins c.args.journal.now c.args.spot c.requires c.if-spot-start-lt3.false

@@ -1,0 +1,6 @@
+-- What is said is the no.
+use borrow.Author.Rules.{rules}
+use Rattle.member_calls.proofs.declined.Goals as goal
+
+pub returns : goal.returns
+returns c = rw c.refused-reply.ensures

@@ -1,0 +1,20 @@
+-- All arrays are zero; question 18 of the member's number, then those of the group.
+use mathlib.Core.Path.{sym, ap, ◌∙◌}
+use Rattle.group.proofs.Choice.{choices}
+use Rattle.member.specs.Calls.{fresh_of, opened_of}
+use Rattle.member.specs.declared.Begun.{Begun}
+use Rattle.member.proofs.Opening.{opens}
+use borrow.Author.Rules.{rules}
+use Rattle.member_calls.proofs.open_on.Goals as goal
+
+pub returns-then-n-number : goal.returns-then-n-number
+unfolding fresh_of
+returns-then-n-number c = opens (ap (λ (b : Begun). b.head) c.unopened.ensures) (rw c.unopened.ensures (search (choices, rules) depth 9))
+
+pub returns-in-Open : goal.returns-in-Open
+unfolding fresh_of opened_of
+returns-in-Open c = opens c.idle-head.ensures (rw (sym c.fresh-opened.ensures.answer ∙ c.in-Open.is) (search (choices, rules) depth 9))
+
+pub returns-in-Refused : goal.returns-in-Refused
+unfolding fresh_of opened_of
+returns-in-Refused c = opens (ap (λ (b : Begun). b.head) c.unopened-in-Refused.ensures) (rw (sym c.fresh-opened.ensures.answer ∙ c.in-Refused.is, c.unopened-in-Refused.ensures) (search (choices, rules) depth 9))

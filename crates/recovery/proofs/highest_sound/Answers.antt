@@ -1,0 +1,24 @@
+-- The loop's invariant: the entries are sound exactly if those after the first `i` are.
+use mathlib.Core.Path.{◌≡◌, refl}
+use Prim.Native.Nat.{◌-◌, ◌<◌}
+use lib.ListN.{length, drop}
+use native.Mathlib.Omega.{arith}
+use Rattle.group.specs.Choice.{if◌then◌else◌, ◌<?◌, ◌=?◌}
+use Rattle.group.specs.Fold.{all}
+use Rattle.group.specs.Limits.{members_most}
+use Rattle.group.proofs.Fold.{all_on, all_off, all_done}
+use mathlib.Core.Bool.{true}
+use borrow.Author.Rules.{rules}
+use Rattle.recovery.proofs.highest_sound.Goals as goal
+
+pub loop-i-init : goal.loop-i-init
+loop-i-init c = (c.requires, refl)
+
+pub loop-i-preserved : goal.loop-i-preserved
+loop-i-preserved c = let l = c.loop-i in (l.invariant.0, all_on _ _ l.i l.invariant.1 0 c.count_sound.result (omega arith) c.count_sound.ensures c.if-count_sound.true)
+
+pub returns-else-count_sound : goal.returns-else-count_sound
+returns-else-count_sound c = let l = c.loop-i in all_off _ _ l.i l.invariant.1 0 c.count_sound.result (omega arith) c.count_sound.ensures c.if-count_sound.false
+
+pub returns : goal.returns
+returns c = let l = c.loop-i in all_done _ _ l.i l.invariant.1 (omega arith)

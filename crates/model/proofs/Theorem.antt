@@ -20,14 +20,14 @@ use Rattle.message.specs.Order.{Ordered}
 use Rattle.model.specs.Claim.{Claim, Demand3}
 use Rattle.model.specs.Closing.{take_row, close_member, close_from, closing, closing_most}
 use Rattle.model.specs.Log.{order}
-use Rattle.model.specs.World.{Event, no_member, World, run, fresh}
+use Rattle.model.specs.World.{Event, no_member, World, run, step, fresh}
 use Rattle.sequencer.proofs.Ordering.{floor_all}
 use Rattle.sequencer.proofs.Soundness.{sound_of_lem}
 
 run_append : (w : World) (a b : List Event) → run w (a ++ b) ≡ run (run w a) b
 unfolding run
 run_append w [] b = refl
-run_append w (e ∷ a) b = run_append _ a b
+run_append w (e ∷ a) b = run_append (step w e) a b
 
 -- terminal j took all up to a number, and the sequencer knows it
 abbrev Has : World → ℕ → ℕ → Type 0

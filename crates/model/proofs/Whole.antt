@@ -70,7 +70,7 @@ above_drop b (suc k) (x ∷ l) h =
     let e : b + suc k ≡ suc b + k = omega arith in
     if_elim (λ (r : List Ordered). r ≡ drop k l) (b + suc k <? x.number)
     (λ t. let z = h 1 x refl in let y = ltb-true (b + suc k) x.number t in absurd (omega arith))
-    (λ t. rw e (above_drop (suc b) k l (runs_tail b x l h)))
+    (λ t. ap (λ (n : ℕ). above n l) e ∙ above_drop (suc b) k l (runs_tail b x l h))
 
 runs_drop : (b f : ℕ) (l : List Ordered) → Runs b l → Runs (b + f) (drop f l)
 runs_drop b zero l h s m e = let z = h s m e in omega arith

@@ -4,12 +4,12 @@ use mathlib.Core.Path.{◌≡◌, refl, sym, ap, ◌∙◌}
 use mathlib.Core.Logic.{◌≢◌}
 use mathlib.Core.Bool.{true}
 use mathlib.Core.List.{List}
-use Prim.Native.Nat.{ℕ, zero, suc, ◌+◌, ◌-◌, ◌≤◌, ◌<◌}
+use Prim.Native.Nat.{ℕ, zero, suc, ◌+◌, ◌≤◌, ◌<◌}
 use native.Mathlib.Omega.{arith}
 use borrow.Author.Tests.{lt-ltb, le-leb, ltb-true, ltb-false}
 use lib.ListN.{length, drop, set, replicate, length-set, length-drop, length-replicate, get_or-replicate, get_or-eq_default}
 use lib.Seq.{drop_at, get_or-set_same, get_or-set_other}
-use Rattle.group.specs.Choice.{if◌then◌else◌, ◌and◌, ◌<?◌, ◌≤?◌}
+use Rattle.group.specs.Choice.{if◌then◌else◌, ◌<?◌, ◌≤?◌}
 use Rattle.group.specs.Limits.{members_most, jobs_most, job_most}
 use Rattle.group.specs.declared.MemberNumber.{MemberNumber}
 use Rattle.group.proofs.Choice.{if_lt, if_nlt, both_hold, both_then}

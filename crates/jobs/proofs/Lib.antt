@@ -1,13 +1,8 @@
-pub mod Again
 pub mod Asking
 pub mod Closing
 pub mod Counting
 pub mod Forms
 pub mod Keeping
-pub mod Member
 pub mod Moving
 pub mod Places
-pub mod Record
-pub mod Rows
-pub mod Says
 pub mod Soundness

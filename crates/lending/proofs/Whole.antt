@@ -3,14 +3,14 @@
 --                  says that the row lies in memory as the struct of those fields does
 --     lend         h lies at (b, o) ∗ P ⊢ ⇛ ∃ ns. the `&mut` to the rest, and P ∗ Kept ns
 --     back         [†κ] ∗ Kept ns ∗ what says the last values a, and P ⊢ ⇛ (h' lies at (b, o) ∗ P), where h' is h with a for the rest
---     show-out     the share t of h lies at (b, o) ∗ P ⊢ ⇛ ∃ ns. the `&` to the rest, and P ∗ Held
---     show-back    [†κ] ∗ Held ⊢ ⇛ the share t of h lies at (b, o)
+--     show_out     where each field of the rest is lent as a `&` with no token: the share t of h lies at (b, o) ∗ P ⊢ ⇛ the `&` to the rest, and P ∗ Held
+--     show_back    [†κ] ∗ Held ⊢ ⇛ the share t of h lies at (b, o)
 -- Assumes `Logic`.
 use mathlib.Core.Path.{◌≡◌, refl, sym, ap, subst, ◌∙◌}
 use mathlib.Core.List.{List, [], ◌∷◌}
 use Prim.Native.Nat.{ℕ}
 use seplogic.Ra.Ura.{Ura}
-use seplogic.Ra.TreeShare.{full_share}
+use base.Fraction.{full_share}
 use mir.Syntax.{Lifetime, Sym}
 use base.Logic.{SProp, ent, sep, ex, wand, all_e, wand_e}
 use base.Fml.{Fml, Lft, Share, ftrue, fdead}
@@ -22,7 +22,7 @@ use denote.Memory.{part_at}
 use denote.Struct.Struct.{Struct}
 use denote.Struct.Members.{Member, row_of, rows_of, parts_at}
 use denote.Struct.Parts.{shape_of, PartsBack, Struct-parts}
-use Rattle.lending.proofs.Lending.{Names, place, next, refs_at, lents_at, lasts_at, lends_all, all_back, shrs_at, kept_at, shows_all, shown_back}
+use Rattle.lending.proofs.Lending.{Names, place, next, refs_at, lents_at, lasts_at, lends_all, all_back, shrs_at, kept_at, Frees, shows_all, shown_back}
 
 pub record Lendable : Type 2 where
   pub row : RattleType
@@ -88,14 +88,14 @@ module _ (D : Lendable) where
             move ! (2 ∷ []) $ split ! $ move ! (0 ∷ 2 ∷ []) $ fjoin ! $ move ! (1 ∷ 0 ∷ []) $ use2 𝓛 (‵ (part_at D.row full_share h' b o)) (into full_share h' ((D.all h).0, a) e b o) $ at_once ! $ done !
 
         module _ (t : Share) where
-          abbrev Shown : Fml → Names D.rest → SProp 𝓤
-          Shown P ns = sep 𝓤 (sem 𝓛 (shrs_at ℓ κ D.rest start (D.all h).1 ns b o P)) (mean 𝓛 (Held κ t h b o))
+          abbrev Shown : Fml → SProp 𝓤
+          Shown P = sep 𝓤 (sem 𝓛 (shrs_at ℓ κ D.rest start (D.all h).1 b o P)) (mean 𝓛 (Held κ t h b o))
 
-          pub show_out : (P : Fml) → ent 𝓤 (sep 𝓤 (sem 𝓛 (part_at D.row t h b o)) (sem 𝓛 P)) (H.⇛ (ex 𝓤 (Shown P)))
-          show_out P =
+          pub show_out : Frees 𝓛 D.rest → (P : Fml) → ent 𝓤 (sep 𝓤 (sem 𝓛 (part_at D.row t h b o)) (sem 𝓛 P)) (H.⇛ (Shown P))
+          show_out free P =
               qed 𝓛 (‵ (part_at D.row t h b o) ∷ ‵ P ∷ []) ∵ updating ! $ use1 𝓛 (‵ (parts_at t ms 0 (D.all h) b o) ⊛ raw (Back t b o)) (out t h b o) $ split ! $ fsplit ! $
-              move ! (1 ∷ 3 ∷ []) $ use2 𝓛 (later (some (λ (ns : Names D.rest). ‵ (shrs_at ℓ κ D.rest start (D.all h).1 ns b o P) ⊛ ‵ (kept_at κ t D.rest start (D.all h).1 b o)))) (shows_all 𝓛 ℓ κ b o P t D.rest start (D.all h).1) $ await ! tt $ pick ! (λ ns. split ! $
-              at_once ! $ show ! (Shown P) ns $ done !)
+              move ! (1 ∷ 3 ∷ []) $ use2 𝓛 (later (‵ (shrs_at ℓ κ D.rest start (D.all h).1 b o P) ⊛ ‵ (kept_at κ t D.rest start (D.all h).1 b o))) (shows_all 𝓛 ℓ κ b o P t D.rest free start (D.all h).1) $ await ! tt $ split ! $
+              at_once ! $ done !
 
           pub show_back : ent 𝓤 (sep 𝓤 (sem 𝓛 (fdead κ)) (mean 𝓛 (Held κ t h b o))) (H.⇛ (sem 𝓛 (part_at D.row t h b o)))
           show_back =

@@ -1,0 +1,29 @@
+-- As many bytes are read as the packet has.
+use mathlib.Core.Path.{◌≡◌, refl, sym, ap, ◌∙◌}
+use lib.ListN.{length}
+use lib.Seq.{length-take-le}
+use native.Mathlib.Omega.{arith}
+use Rattle.group.specs.Limits.{longest_packet}
+use Rattle.simulator.proofs.Acting.{packet_read, packet_fits}
+use borrow.Author.Rules.{rules}
+use Rattle.simulator.proofs.deliver.Goals as goal
+
+pub slice_bounds-packet-end : goal.slice_bounds-packet-end
+slice_bounds-packet-end c =
+    let a = c.args in
+    let n : length a.packet ≡ longest_packet = c.well_formed.1.1.1.1.1.1.1.1.1.1.1.1.0.1.0.1 in
+    let s = packet_fits c.fitting-most.result a.size c.fitting-most.ensures in
+    omega arith
+
+pub slice_bounds-act-end : goal.slice_bounds-act-end
+slice_bounds-act-end c =
+    let a = c.args in
+    let n : length a.packet ≡ longest_packet = c.well_formed.1.1.1.1.1.1.1.1.1.1.1.1.0.1.0.1 in
+    let s = packet_fits c.fitting-most.result a.size c.fitting-most.ensures in
+    sym (length-take-le c.fitting-most.result a.packet (omega arith))
+
+pub returns : goal.returns
+returns c =
+    let a = c.args in
+    let n : length a.packet ≡ longest_packet = c.well_formed.1.1.1.1.1.1.1.1.1.1.1.1.0.1.0.1 in
+    rw (packet_read c.fitting-most.result a.size a.packet n c.fitting-most.ensures) at c.act.ensures

@@ -1,0 +1,8 @@
+-- The sequencer and every member are opened alike.
+use mathlib.Core.Path.{◌≡◌, refl, sym, ap, ◌∙◌}
+use Rattle.simulator.proofs.Opening.{opens}
+use borrow.Author.Rules.{rules}
+use Rattle.simulator.proofs.open.Goals as goal
+
+pub returns : goal.returns
+returns c = let a = c.args in opens a.n a.number a.resilience _ _ _ _ _ _ c.open_on-start.ensures c.open_members.ensures

@@ -1,5 +1,4 @@
 -- Nothing was read.
--- Assumes nothing.
 use mathlib.Core.Path.{refl, ap}
 use mathlib.Core.List.{[]}
 use native.Mathlib.Omega.{arith}
@@ -10,18 +9,11 @@ use Rattle.simulator.specs.Whole.{group_of}
 use Rattle.simulator.specs.declared.Head.{Head}
 use Rattle.player.proofs.Telling.{phase_is}
 use borrow.Author.Rules.{rules}
-use Rattle.player.proofs.Player.fresh.Statement.{statement}
-use Rattle.player.proofs.Player.fresh.Tie as tie
+use Rattle.player.proofs.Player.fresh.Goals as goal
 
-returns : tie.Need-returns
+pub returns : goal.returns
 unfolding stage_in
 returns c =
     let head : Head = record { sequencer = record { group = record { n = 0; resilience = 0; survivors = 0; elected = record { 0 = 0 }; number = 0 }; top = record { 0 = 0 }; accepted = record { 0 = 0 }; floor = record { 0 = 0 } }; count = 0 } in
     let e = phase_is head Opening (record { members = omega arith; packets = omega arith }) in
     λ w line i. record { stage = ap (λ (p : Phase). stage_in p (group_of w) 0) e i; line = [] }
-
-pub fresh-spec : {M : Type 1} → statement M
-fresh-spec =
-    tie.close
-    (tie.spec
-    returns)

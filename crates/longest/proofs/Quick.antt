@@ -4,7 +4,7 @@ use mathlib.Core.Path.{◌≡◌, refl, ap, ◌∙◌}
 use mathlib.Core.Bool.{Bool, true, false}
 use mathlib.Core.Option.{Option, none, some}
 use mathlib.Core.List.{List, [], ◌∷◌}
-use Prim.Native.Nat.{ℕ, ◌+◌, ◌≤◌, ◌<◌}
+use Prim.Native.Nat.{ℕ, ◌+◌, ◌≤◌}
 use native.Mathlib.Omega.{arith}
 use borrow.Author.Tests.{ltb-true}
 use lib.ListN.{length, get_or, get_elem?}
@@ -12,7 +12,6 @@ use Rattle.group.specs.Choice.{if◌then◌else◌, ◌<?◌, ◌=?◌}
 use Rattle.group.specs.Limits.{members_most, longest_packet, largest_number}
 use Rattle.group.specs.Question.{judged}
 use Rattle.group.specs.declared.Group as description
-use Rattle.group.specs.declared.Verdict.{Verdict}
 use Rattle.member.proofs.Closing.{call_accepted}
 use Rattle.member.specs.Calls as member
 use Rattle.member.specs.Sound as member_sound
@@ -26,7 +25,7 @@ use Rattle.packet.specs.Packet.{payload_at, read_of, written}
 use Rattle.sequencer.specs.Calls as sequencer
 use Rattle.sequencer.specs.Sound as sequencer_sound
 use Rattle.sequencer.specs.State.{Sequencer}
-use Rattle.window.specs.Places.{is_held, message_at}
+use Rattle.window.specs.Places.{message_at}
 
 -- the calls of a sound member that is lent the longest packet's room
 abbrev submit_past : Member → List ℕ → member.Outcome

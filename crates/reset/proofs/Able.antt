@@ -1,22 +1,18 @@
 -- A member can begin a group: what it took, what it keeps of it and what it holds in a row is the order up to its reach, and the sequencer that begins
 -- with it satisfies the sequencer's part of the invariant. Assumes nothing.
 use mathlib.Core.Path.{◌≡◌, refl, sym, ap, ◌∙◌, subst}
-use mathlib.Core.Logic.{◌≢◌}
-use mathlib.Core.Bool.{Bool, true, false}
 use mathlib.Core.Option.{some}
-use mathlib.Core.List.{List, [], ◌∷◌, ◌++◌}
-use Prim.Native.Nat.{ℕ, zero, suc, ◌+◌, ◌-◌, ◌^◌, ◌≤◌, ◌<◌}
-use native.Mathlib.Nat.{le_refl, le_trans}
+use mathlib.Core.List.{List}
+use Prim.Native.Nat.{ℕ, zero, suc, ◌+◌, ◌-◌, ◌≤◌, ◌<◌}
 use native.Mathlib.Omega.{arith}
-use borrow.Author.Tests.{lt-ltb, leb-true, leb-false}
-use lib.ListN.{length, get_or, set, take, replicate, length-replicate}
+use borrow.Author.Tests.{leb-true, leb-false}
+use lib.ListN.{length, get_or, take, length-replicate}
 use lib.Pow.{pow_pos}
-use lib.Seq.{get_or-set_same, get_or-set_other, length-take-le}
-use Rattle.group.proofs.Choice.{if_true}
-use Rattle.group.proofs.Lists.{none≢some, if_elim, eq_or, le_or, at, at_taken, take_at_suc}
+use lib.Seq.{length-take-le}
+use Rattle.group.proofs.Lists.{none≢some, if_elim, at, at_taken}
 use Rattle.group.proofs.Members.{Standing}
-use Rattle.group.specs.Choice.{if◌then◌else◌, ◌<?◌, ◌≤?◌}
-use Rattle.group.specs.Limits.{members_most, places_most, held_most, payload_most, largest_number}
+use Rattle.group.specs.Choice.{◌≤?◌}
+use Rattle.group.specs.Limits.{members_most, places_most, payload_most, largest_number}
 use Rattle.group.specs.declared.Group.{Group}
 use Rattle.history.proofs.Soundness.{count_in}
 use Rattle.history.specs.State as history
@@ -26,7 +22,7 @@ use Rattle.message.specs.Order.{Ordered, own_of}
 use Rattle.member.proofs.Acknowledged.{reach_least, reach_near, reach_holds}
 use Rattle.member.proofs.Invariant.{Content}
 use Rattle.member.proofs.Soundness as member
-use Rattle.member.specs.State.{Member, reach_of}
+use Rattle.member.specs.State.{reach_of}
 use Rattle.sequencer.proofs.Invariant.{SequencerInv}
 use Rattle.sequencer.proofs.Soundness as sequencer
 use Rattle.sequencer.specs.State.{Sequencer}
@@ -35,8 +31,8 @@ use Rattle.window.specs.Places.{larger_of}
 use Rattle.recovery.proofs.Beginning.{table_length, begun_sound, reach_fits, floor_reach, reach_floor, counts_size, counts_unused, message_facts, history_length, history_in, history_out}
 use Rattle.recovery.proofs.Holding.{no_mark}
 use Rattle.recovery.proofs.Kept.{PastFacts, KeptSound, row_length}
-use Rattle.recovery.specs.Begin.{table_from, history_from, begun}
-use Rattle.recovery.specs.State.{Kept, Terminal, kept_floor, message_of_number, counted, counted_row, counts_of}
+use Rattle.recovery.specs.Begin.{history_from, begun}
+use Rattle.recovery.specs.State.{Terminal, kept_floor, message_of_number, counted_row, counts_of}
 use Rattle.reset.proofs.Cutting.{owns_cut}
 use Rattle.reset.proofs.Elected.{entry_at}
 use Rattle.reset.proofs.Remembering.{Remembers, counted_next}

@@ -15,7 +15,6 @@ use Rattle.group.specs.Limits.{held_most, longest_packet}
 use Rattle.group.specs.Question.{judged}
 use Rattle.group.specs.declared.Group.{Group}
 use Rattle.group.specs.declared.Refusal.{Refusal}
-use Rattle.group.specs.declared.Verdict.{Verdict}
 use Rattle.message.specs.Order.{Ordered}
 use Rattle.member.proofs.Closing.{receive_named}
 use Rattle.member.proofs.Invariant as memberInvariant

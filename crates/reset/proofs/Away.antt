@@ -1,19 +1,18 @@
 -- Events that the group made last does not see: at a terminal that was left out, and any that leaves a terminal as it was. Assumes nothing.
-use mathlib.Core.Path.{◌≡◌, refl, sym, ap, ◌∙◌, subst, fun_ext}
-use mathlib.Core.Logic.{◌≢◌, ◌⊎◌, inl, inr}
-use mathlib.Core.Bool.{Bool, true, false, false≢true}
+use mathlib.Core.Path.{◌≡◌, sym, ap, ◌∙◌, subst, fun_ext}
+use mathlib.Core.Logic.{◌≢◌}
+use mathlib.Core.Bool.{true, false, false≢true}
 use mathlib.Core.List.{List, [], ◌∷◌, ◌++◌, append-nil}
 use Prim.Native.Nat.{ℕ, ◌≤◌, ◌<◌}
-use native.Mathlib.Nat.{le_refl, le_trans}
-use Rattle.group.proofs.Lists.{eq_or, All, all_append}
+use native.Mathlib.Nat.{le_refl}
+use Rattle.group.proofs.Lists.{All, all_append}
 use Rattle.group.specs.Members.{is_in}
 use Rattle.group.specs.declared.Group as description
 use Rattle.message.specs.Order.{Ordered}
-use Rattle.member.specs.State.{Member, reach_of}
 use Rattle.sequencer.specs.State.{Sequencer}
 use Rattle.recovery.specs.State.{Reset, Terminal}
 use Rattle.reset.specs.Course.{Course}
-use Rattle.reset.proofs.Invariant.{Busy, Foreign, group_in, Low, Sits, Open, Elsewhere, Covered, elsewhere, Inv, with_order, Goes}
+use Rattle.reset.proofs.Invariant.{Foreign, group_in, Elsewhere, Covered, elsewhere, Inv, Goes}
 use Rattle.reset.proofs.Keep.{keep}
 use Rattle.reset.proofs.Seen.{Seen, same_seen}
 use Rattle.reset.proofs.View.{member_of, sequencer_of}

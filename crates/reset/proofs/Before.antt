@@ -5,18 +5,17 @@ use mathlib.Core.Logic.{◌≢◌, ◌⊎◌, inl, inr}
 use mathlib.Core.Bool.{Bool, true, false, false≢true}
 use mathlib.Core.Option.{Option, none, some}
 use mathlib.Core.List.{List, [], ◌∷◌, ◌++◌, append-nil}
-use Prim.Native.Nat.{ℕ, zero, suc, ◌+◌, ◌-◌, ◌^◌, ◌≤◌, ◌<◌}
-use native.Mathlib.Nat.{le_refl, le_trans}
+use Prim.Native.Nat.{ℕ, ◌+◌, ◌^◌, ◌≤◌, ◌<◌}
 use native.Mathlib.Omega.{arith}
-use borrow.Author.Tests.{lt-ltb, ltb-true, ltb-false, leb-true, eqb-true, eq-eqb}
+use borrow.Author.Tests.{lt-ltb, ltb-true, eqb-true, eq-eqb}
 use lib.Count.{ones}
 use lib.ListN.{length, get_or, set, replicate, get_elem?, length-set, length-replicate}
 use lib.Seq.{get_or-set_same, get_or-set_other}
 use Rattle.group.proofs.Choice.{if_true, both_hold, both_first, both_then}
-use Rattle.group.proofs.Lists.{if_elim, judged_elim, eq_or, le_or, All, all_get, get_last}
+use Rattle.group.proofs.Lists.{if_elim, judged_elim, All, all_get, get_last}
 use Rattle.group.proofs.Members.{in_only, in_or, in_zero}
 use Rattle.group.specs.Choice.{if◌then◌else◌, ◌and◌, ◌<?◌, ◌≤?◌, ◌=?◌}
-use Rattle.group.specs.Limits.{members_most, places_most, held_most, longest_packet, largest_number}
+use Rattle.group.specs.Limits.{members_most, places_most, longest_packet, largest_number}
 use lib.Bits.{bit_or}
 use Rattle.group.specs.Members.{is_in, only_of}
 use Rattle.group.specs.Opening.{description_of}
@@ -24,15 +23,12 @@ use Rattle.group.specs.Question.{judged}
 use Rattle.group.specs.declared.Group as description
 use Rattle.group.specs.declared.MemberNumber.{MemberNumber}
 use Rattle.group.specs.declared.Refusal.{Refusal}
-use Rattle.group.specs.declared.SequenceNumber.{SequenceNumber}
 use Rattle.group.specs.declared.Verdict.{Verdict}
 use Rattle.history.specs.State.{place_of}
-use Rattle.message.specs.Message.{Message}
 use Rattle.message.specs.Order.{Ordered}
 use Rattle.member.proofs.Closing.{receive_named}
-use Rattle.member.proofs.Soundness as memberSoundness
 use Rattle.member.specs.Calls as member
-use Rattle.member.specs.State.{Member, reach_of}
+use Rattle.member.specs.State.{Member}
 use Rattle.member.specs.declared.Answer as memberAnswer
 use Rattle.model.proofs.Invariant.{Inv, facts_in}
 use Rattle.model.proofs.Step.{step_keeps}
@@ -41,14 +37,12 @@ use Rattle.model.specs.Log as modelLog
 use Rattle.model.specs.Log.{numbered_in}
 use Rattle.model.specs.World as model
 use Rattle.model.specs.World.{Answer, absent, by_sequencer, by_member}
-use Rattle.packet.proofs.Facts.{Facts, Says, Known}
+use Rattle.packet.proofs.Facts.{Known}
 use Rattle.packet.proofs.Laws.{read_written, content_fields, fields_group}
 use Rattle.packet.proofs.Permitted.{invitation_fields, reply_fields}
 use Rattle.packet.proofs.RoundTrip.{header_back}
 use Rattle.packet.proofs.Verdicts.{accepted}
-use Rattle.packet.specs.Laws.{Allowed}
-use Rattle.packet.specs.Packet.{header_of, read_of, payload_at, content_of, fields_of, packet_of, from_elected, written}
-use Rattle.packet.specs.declared.Header.{Header}
+use Rattle.packet.specs.Packet.{header_of, read_of, payload_at, fields_of, packet_of, from_elected, written}
 use Rattle.packet.specs.declared.Packet.{Packet}
 use Rattle.packet.specs.declared.Reading.{Reading}
 use Rattle.sequencer.specs.Calls as sequencer
@@ -56,7 +50,6 @@ use Rattle.sequencer.specs.Laws as sequencerLaws
 use Rattle.sequencer.specs.Order.{numbered_by}
 use Rattle.sequencer.specs.Sound as sequencerCalls
 use Rattle.sequencer.specs.State.{Sequencer}
-use Rattle.sequencer.specs.declared.Answer as sequencerAnswer
 use Rattle.window.specs.Places as window
 use Rattle.recovery.proofs.Beginning.{reach_fits}
 use Rattle.recovery.proofs.Holding.{poll_leaves, copy_leaves}
@@ -66,10 +59,10 @@ use Rattle.recovery.proofs.Laws as terminalProofs
 use Rattle.recovery.proofs.Ordering.{reset_other}
 use Rattle.recovery.specs.Calls as terminal
 use Rattle.recovery.specs.Laws as terminalLaws
-use Rattle.recovery.specs.Sound.{member_sound, sequencer_sound, reply_sound, terminal_sound}
+use Rattle.recovery.specs.Sound.{member_sound, sequencer_sound, terminal_sound}
 use Rattle.recovery.specs.State.{Kept, Reset, Terminal, serves, reply_number}
 use Rattle.reset.specs.Course.{took_at, submitted_at, is_sent}
-use Rattle.reset.specs.World.{Event, submit, repeat, take, status, poll, copy, hand_member, hand_sequencer, invite, make, Group, Happened, happen, missing, with_member, with_sequencer, no_terminal, terminal_at, at_terminal, take_at, at_sequencer, hand_to_member, hand_to_sequencer}
+use Rattle.reset.specs.World.{Event, submit, repeat, take, status, poll, copy, hand_member, hand_sequencer, invite, make, Group, Happened, happen, missing, with_member, with_sequencer, no_terminal, terminal_at, at_terminal, at_sequencer, hand_to_member, hand_to_sequencer}
 use Rattle.reset.proofs.Carried.{sound_member, called, submit_is, repeat_is, status_is, take_is}
 use Rattle.reset.proofs.First.{Replied, Steady, steady_replied, same_steady, Stands, SaysReset, Resets, Covered, Rel, Acts, rel_member}
 use Rattle.reset.proofs.Numbering.{poll_adds, copy_adds}

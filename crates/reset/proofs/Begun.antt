@@ -1,19 +1,18 @@
 -- What a terminal begins a group with, as a member, stays the same as it submits and takes; and it is the same of its member as a result will leave it.
 -- Assumes nothing.
-use mathlib.Core.Path.{◌≡◌, refl, sym, ap, ap₂, ◌∙◌, subst}
-use mathlib.Core.Logic.{◌≢◌}
-use mathlib.Core.Bool.{Bool, true, false, false≢true}
-use mathlib.Core.List.{List, []}
-use Prim.Native.Nat.{ℕ, zero, suc, ◌+◌, ◌-◌, ◌%◌, ◌≤◌, ◌<◌}
-use native.Mathlib.Nat.{le_refl, le_trans}
+use mathlib.Core.Path.{◌≡◌, refl, sym, ap, ap₂, ◌∙◌}
+use mathlib.Core.Bool.{true, false}
+use mathlib.Core.List.{List}
+use Prim.Native.Nat.{ℕ, zero, suc, ◌+◌, ◌-◌, ◌≤◌, ◌<◌}
+use native.Mathlib.Nat.{le_refl}
 use native.Mathlib.Omega.{arith}
 use borrow.Author.Tests.{le-leb, lt-leb, leb-false}
-use lib.ListN.{length, get_or, set, length-set}
+use lib.ListN.{length, get_or, set}
 use lib.Seq.{get_or-set_same, get_or-set_other}
-use Rattle.group.proofs.Choice.{if_true, if_false, both_first}
-use Rattle.group.proofs.Lists.{if_elim, judged_elim, eq_or, le_or}
-use Rattle.group.specs.Choice.{if◌then◌else◌, ◌<?◌, ◌≤?◌, ◌=?◌}
-use Rattle.group.specs.Limits.{held_most, places_most, members_most, largest_number, longest_packet}
+use Rattle.group.proofs.Choice.{if_true, if_false}
+use Rattle.group.proofs.Lists.{if_elim, eq_or, le_or}
+use Rattle.group.specs.Choice.{if◌then◌else◌, ◌≤?◌}
+use Rattle.group.specs.Limits.{held_most, places_most}
 use Rattle.group.specs.declared.Group.{Group}
 use Rattle.history.specs.State as history
 use Rattle.message.specs.Message.{Message, empty_message, blank}
@@ -25,12 +24,10 @@ use Rattle.member.specs.State.{Member, reach_of}
 use Rattle.sequencer.specs.State.{Sequencer}
 use Rattle.window.specs.Places as window
 use Rattle.window.specs.Places.{larger_of, smaller_of}
-use Rattle.recovery.proofs.Beginning.{floor_reach, reach_floor}
-use Rattle.recovery.proofs.Kept.{KeptSound}
 use Rattle.recovery.proofs.Laws.{Still}
 use Rattle.recovery.specs.Begin.{begun, counts_in, history_from, elected_sequencer, member_in, dropped_of}
 use Rattle.recovery.specs.Calls as terminal
-use Rattle.recovery.specs.State.{Kept, Terminal, serves, kept_floor, message_of_number, counted, counted_row, counts_of}
+use Rattle.recovery.specs.State.{Terminal, serves, kept_floor, message_of_number, counted, counted_row, counts_of}
 use Rattle.reset.proofs.Cutting.{dropped_same}
 use Rattle.reset.proofs.Made.{reach_same}
 

@@ -1,25 +1,23 @@
 -- A survivor's submit, repeat, status, take, and the packets of the group made last that it gets, in the world. Assumes nothing.
 use mathlib.Core.Path.{◌≡◌, refl, sym, ap, ◌∙◌, subst}
-use mathlib.Core.Logic.{◌≢◌, ◌⊎◌, inl, inr}
-use mathlib.Core.Bool.{Bool, true, false, false≢true}
-use mathlib.Core.Option.{Option, none, some}
-use mathlib.Core.List.{List, [], ◌∷◌, ◌++◌, append-nil}
-use Prim.Native.Nat.{ℕ, zero, suc, ◌+◌, ◌-◌, ◌≤◌, ◌<◌}
-use native.Mathlib.Nat.{le_refl, le_trans}
+use mathlib.Core.Logic.{◌≢◌}
+use mathlib.Core.Bool.{Bool, true, false}
+use mathlib.Core.Option.{some}
+use mathlib.Core.List.{List, [], ◌∷◌, ◌++◌}
+use Prim.Native.Nat.{ℕ, suc, ◌+◌, ◌≤◌, ◌<◌}
+use native.Mathlib.Nat.{le_refl}
 use native.Mathlib.Omega.{arith}
-use borrow.Author.Tests.{eqb-true, ltb-true, eq-eqb, ne_eqb}
-use lib.ListN.{length, get_or, take, get_elem?, length-set}
-use Rattle.group.proofs.Choice.{if_true, if_false, both_first, both_then}
-use Rattle.group.proofs.Lists.{if_elim, judged_elim, eq_or, le_or, at as nth, at_append, All, all_map, all_get}
-use Rattle.group.proofs.Members.{survivor_lt}
-use Rattle.group.specs.Choice.{if◌then◌else◌, ◌and◌, ◌<?◌, ◌=?◌}
+use borrow.Author.Tests.{ltb-true}
+use lib.ListN.{length, get_elem?, length-set}
+use Rattle.group.proofs.Choice.{both_first}
+use Rattle.group.proofs.Lists.{if_elim, eq_or, at as nth, All, all_map, all_get}
+use Rattle.group.specs.Choice.{if◌then◌else◌, ◌and◌}
 use Rattle.group.specs.Limits.{places_most, members_most, held_most, longest_packet, largest_number}
 use Rattle.group.specs.Members.{is_in}
 use Rattle.group.specs.Question.{judged}
 use Rattle.group.specs.declared.Group as description
 use Rattle.group.specs.declared.Refusal.{Refusal}
 use Rattle.group.specs.declared.SequenceNumber.{SequenceNumber}
-use Rattle.group.specs.declared.Verdict.{Verdict}
 use Rattle.history.proofs.Soundness.{taken_in}
 use Rattle.history.specs.State as history
 use Rattle.message.proofs.Owning.{Owns}
@@ -28,7 +26,6 @@ use Rattle.message.specs.Order.{Ordered}
 use Rattle.member.proofs.Invariant as memberInvariant
 use Rattle.member.proofs.Invariant.{MemberGood}
 use Rattle.member.proofs.Laws as memberProofs
-use Rattle.member.proofs.Soundness as memberSoundness
 use Rattle.member.specs.Calls as member
 use Rattle.member.specs.Laws as memberLaws
 use Rattle.member.specs.Order.{took_by, accepted_by}
@@ -36,26 +33,25 @@ use Rattle.member.specs.Sound.{sound_of as memberSoundOf}
 use Rattle.member.specs.State.{Member, reach_of}
 use Rattle.member.specs.declared.Answer.{Answer}
 use Rattle.packet.proofs.Facts.{Voice, KnownBy, SaysBy, Known}
-use Rattle.packet.proofs.Laws.{read_written, content_fields, fields_group}
+use Rattle.packet.proofs.Laws.{read_written, content_fields}
 use Rattle.packet.proofs.RoundTrip.{header_back}
-use Rattle.packet.specs.Packet.{header_of, read_of, payload_at, content_of, fields_of, from_elected, written}
+use Rattle.packet.specs.Packet.{header_of, read_of, content_of, fields_of, from_elected, written}
 use Rattle.packet.specs.declared.Header.{Header}
 use Rattle.packet.specs.declared.Packet.{Packet}
 use Rattle.packet.specs.declared.Reading.{Reading}
-use Rattle.sequencer.proofs.Invariant.{SequencerInv, facts_of}
+use Rattle.sequencer.proofs.Invariant.{facts_of}
 use Rattle.sequencer.specs.State.{Sequencer}
 use Rattle.window.proofs.Row.{le_larger}
 use Rattle.window.specs.Places as window
 use Rattle.recovery.proofs.Beginning.{floor_reach, reach_floor}
-use Rattle.recovery.proofs.Keeping.{Sound, sound_of_lem}
+use Rattle.recovery.proofs.Keeping.{sound_of_lem}
 use Rattle.recovery.proofs.Kept.{counted_length, read_past, read_counts}
 use Rattle.recovery.proofs.Laws as terminalProofs
 use Rattle.recovery.proofs.Laws.{Still, submit_still}
 use Rattle.recovery.specs.Begin.{elected_sequencer, member_in}
 use Rattle.recovery.specs.Calls as terminal
-use Rattle.recovery.specs.Laws as terminalLaws
 use Rattle.recovery.specs.Sound.{member_sound, terminal_sound}
-use Rattle.recovery.specs.State.{Kept, Reset, Terminal, serves, reply_number}
+use Rattle.recovery.specs.State.{Kept, Terminal, serves}
 use Rattle.reset.specs.Course.{Course}
 use Rattle.reset.proofs.Acting as acting
 use Rattle.reset.proofs.Begun.{Same, from_same, elected_member, elected_own, still_same}
@@ -63,10 +59,10 @@ use Rattle.reset.proofs.Begun as begun
 use Rattle.reset.proofs.Carried.{sound_member, called, submit_is, repeat_is, status_is}
 use Rattle.reset.proofs.Cutting.{dropped_same}
 use Rattle.reset.proofs.Same.{known_plain}
-use Rattle.reset.proofs.Invariant.{Has, has_all, Busy, Foreign, group_in, Low, Survivor, Sits, Answered, Open, Covered, ours, elsewhere, resets, FloorLow, Inv, with_order, Goes}
+use Rattle.reset.proofs.Invariant.{Foreign, group_in, Low, Survivor, Covered, ours, elsewhere, FloorLow, Inv}
 use Rattle.reset.proofs.Remembering.{Remembers, message_is, took_remembers, read_remembers}
-use Rattle.reset.proofs.Seen.{Seen, voices}
-use Rattle.reset.proofs.View.{has_result, member_of, sequencer_of, member_here, member_there, sequencer_here, sequencer_there}
+use Rattle.reset.proofs.Seen.{voices}
+use Rattle.reset.proofs.View.{member_of, sequencer_of, member_here, member_there, sequencer_there}
 use Rattle.reset.proofs.Working.{Kin, stands, member_next}
 use Rattle.reset.proofs.Writing.{reads_back, Wrote, wrote_reads, submit_writes, repeat_writes, status_writes, receive_stays}
 

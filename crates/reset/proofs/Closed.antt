@@ -1,7 +1,7 @@
 -- A packet of another group, and any but a reset's to a terminal that replied or to a frozen sequencer, is refused: nothing changes, and nothing is
 -- written. Assumes nothing.
 use mathlib.Core.Path.{◌≡◌, refl, sym, ap, ◌∙◌, subst}
-use mathlib.Core.Bool.{Bool, true, false, false≢true}
+use mathlib.Core.Bool.{true, false, false≢true}
 use mathlib.Core.List.{List, []}
 use Prim.Native.Nat.{ℕ}
 use Rattle.group.proofs.Lists.{if_elim, judged_elim}

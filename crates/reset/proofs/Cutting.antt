@@ -1,15 +1,14 @@
 -- What a terminal has of an order it has of the order's first part, once what it holds above is dropped: what a making, and then a result, does to
 -- a survivor. Assumes nothing.
 use mathlib.Core.Path.{◌≡◌, refl, sym, ap, ◌∙◌, subst}
-use mathlib.Core.Logic.{◌≢◌}
 use mathlib.Core.Bool.{Bool, true, false}
 use mathlib.Core.Option.{some}
 use mathlib.Core.List.{List, [], ◌∷◌, ◌++◌}
-use Prim.Native.Nat.{ℕ, zero, suc, ◌+◌, ◌-◌, ◌≤◌, ◌<◌}
+use Prim.Native.Nat.{ℕ, zero, suc, ◌+◌, ◌≤◌, ◌<◌}
 use native.Mathlib.Nat.{le_refl, le_trans}
 use native.Mathlib.Omega.{arith}
 use borrow.Author.Tests.{leb-true, leb-false}
-use lib.ListN.{length, get_or, set, take, drop, length-append, take-append-drop}
+use lib.ListN.{length, take, drop, length-append, take-append-drop}
 use lib.Seq.{get_or-set_same, get_or-set_other, take-take, take-append-le, take_all, length-take-le}
 use Rattle.group.proofs.Lists.{if_elim, eq_or, le_or, at, at_take}
 use Rattle.group.proofs.Members.{Standing}
@@ -22,13 +21,12 @@ use Rattle.message.specs.Message.{Message, empty_message, blank, message_of}
 use Rattle.message.specs.Order.{Ordered, Submission, own_of, counted_from}
 use Rattle.member.proofs.Invariant.{Content}
 use Rattle.member.proofs.Soundness as member
-use Rattle.member.specs.Laws as memberLaws
-use Rattle.member.specs.State.{Member, first_count}
+use Rattle.member.specs.State.{Member}
 use Rattle.window.proofs.Keeping.{empty_none}
 use Rattle.window.proofs.Row.{le_larger}
-use Rattle.window.specs.Places.{place_of, message_at, larger_of}
+use Rattle.window.specs.Places.{place_of, message_at}
 use Rattle.recovery.proofs.Result.{dropped_length, member_in_lem}
-use Rattle.recovery.specs.Begin.{dropped_of, without, member_in}
+use Rattle.recovery.specs.Begin.{dropped_of, member_in}
 
 if_append : (b : Bool) (m : Submission) (l r : List Submission) → (if b then m ∷ (l ++ r) else (l ++ r)) ≡ (if b then m ∷ l else l) ++ r
 unfolding if◌then◌else◌

@@ -1,13 +1,12 @@
 -- The sequencer that begins from the elected terminal's own keeps the order whole: the part of the invariant that speaks of the sequencer, in the
 -- made group. Assumes nothing.
 use mathlib.Core.Path.{◌≡◌, refl, sym, ap, ◌∙◌, subst}
-use mathlib.Core.Option.{some}
 use mathlib.Core.List.{List}
-use Prim.Native.Nat.{ℕ, ◌+◌, ◌^◌, ◌≤◌, ◌<◌}
+use Prim.Native.Nat.{ℕ, ◌≤◌}
 use native.Mathlib.Omega.{arith}
-use lib.ListN.{length, get_or, replicate, length-replicate, get_or-replicate, get_or-eq_default}
+use lib.ListN.{length, get_or, length-replicate, get_or-eq_default}
 use lib.Pow.{pow_pos}
-use Rattle.group.proofs.Lists.{le_or, at}
+use Rattle.group.proofs.Lists.{le_or}
 use Rattle.group.proofs.Members.{Standing}
 use Rattle.group.specs.Limits.{members_most, places_most, largest_number}
 use Rattle.group.specs.declared.Group.{Group}

@@ -1,11 +1,9 @@
 -- Any survivor can begin a group, from its group's sequencer or from its member, with the result of the group made last or without it: the sequencer that
 -- begins has the order up to what the terminal would reply. Assumes nothing.
-use mathlib.Core.Path.{◌≡◌, refl, sym, ap, ap₂, ◌∙◌, subst}
-use mathlib.Core.Logic.{◌≢◌}
-use mathlib.Core.Bool.{Bool, true, false, false≢true}
-use mathlib.Core.Option.{some}
-use mathlib.Core.List.{List, [], ◌∷◌, ◌++◌}
-use Prim.Native.Nat.{ℕ, zero, suc, ◌+◌, ◌-◌, ◌≤◌, ◌<◌}
+use mathlib.Core.Path.{◌≡◌, refl, sym, ap, ◌∙◌, subst}
+use mathlib.Core.Bool.{Bool, true, false}
+use mathlib.Core.List.{List, [], ◌∷◌}
+use Prim.Native.Nat.{ℕ, suc, ◌-◌, ◌≤◌, ◌<◌}
 use native.Mathlib.Nat.{le_refl, le_trans}
 use native.Mathlib.Omega.{arith}
 use borrow.Author.Tests.{eqb-true}
@@ -13,25 +11,25 @@ use lib.ListN.{length, get_or, take, length-take}
 use Rattle.group.proofs.Choice.{if_true, if_false, both_first, both_then}
 use Rattle.group.proofs.Lists.{if_elim, eq_or}
 use Rattle.group.proofs.Members.{Standing}
-use Rattle.group.specs.Choice.{if◌then◌else◌, ◌and◌, ◌=?◌}
-use Rattle.group.specs.Limits.{places_most, members_most, largest_number}
+use Rattle.group.specs.Choice.{if◌then◌else◌, ◌=?◌}
+use Rattle.group.specs.Limits.{places_most, largest_number}
 use Rattle.group.specs.Members.{is_in}
 use Rattle.group.specs.declared.Group as description
 use Rattle.message.proofs.Owning.{Owns}
 use Rattle.message.specs.Order.{Ordered, Submission, own_of}
-use Rattle.member.proofs.Acknowledged.{reach_least, reach_most}
+use Rattle.member.proofs.Acknowledged.{reach_most}
 use Rattle.member.proofs.Invariant.{Content}
 use Rattle.member.specs.State.{Member, reach_of}
 use Rattle.sequencer.proofs.Invariant.{SequencerInv}
 use Rattle.sequencer.proofs.Soundness as sequencerSoundness
 use Rattle.sequencer.specs.Sound as sequencerSpecs
 use Rattle.sequencer.specs.State.{Sequencer}
-use Rattle.window.proofs.Row.{larger_le, le_larger, smaller_le}
-use Rattle.window.specs.Places.{larger_of, smaller_of}
+use Rattle.window.proofs.Row.{le_larger, smaller_le}
+use Rattle.window.specs.Places.{larger_of}
 use Rattle.recovery.proofs.Beginning.{floor_reach, reach_floor}
-use Rattle.recovery.proofs.Keeping.{Sound, sound_of_lem}
+use Rattle.recovery.proofs.Keeping.{sound_of_lem}
 use Rattle.recovery.proofs.Kept.{KeptSound}
-use Rattle.recovery.specs.Begin.{member_in, counts_in, begun, elected_sequencer}
+use Rattle.recovery.specs.Begin.{elected_sequencer}
 use Rattle.recovery.specs.Calls as terminal
 use Rattle.recovery.specs.Sound.{sequencer_sound}
 use Rattle.recovery.specs.State.{Terminal, serves, reply_number, kept_floor, counts_of}
@@ -39,12 +37,12 @@ use Rattle.reset.specs.Course.{Course}
 use Rattle.reset.proofs.Able.{Numbered, counts_reach, able}
 use Rattle.reset.proofs.Begun.{from_member, elected_member, elected_own, Same, from_same, cut_same}
 use Rattle.reset.proofs.Elected.{begun_inv}
-use Rattle.reset.proofs.Invariant.{Foreign, group_in, Low, Survivor, Sits, Inv}
+use Rattle.reset.proofs.Invariant.{group_in, Low, Survivor, Inv}
 use Rattle.reset.proofs.Keep.{top_le, taken_same}
 use Rattle.reset.proofs.Made.{reach_back}
 use Rattle.reset.proofs.Numbering.{seen_floor}
 use Rattle.reset.proofs.Remembering.{Remembers}
-use Rattle.reset.proofs.View.{has_result, member_of, sequencer_of, member_here, member_there}
+use Rattle.reset.proofs.View.{member_of, member_here, member_there}
 
 -- own messages are at most all
 own_short : (o : ℕ) (l : List Ordered) → length (own_of o l) ≤ length l

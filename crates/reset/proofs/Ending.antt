@@ -1,31 +1,28 @@
 -- The closing round over all survivors. Assumes nothing.
-use mathlib.Core.Path.{◌≡◌, refl, sym, ap, ap₂, ◌∙◌, subst}
+use mathlib.Core.Path.{◌≡◌, refl, sym, ap, ◌∙◌, subst}
 use mathlib.Core.Logic.{◌≢◌}
 use mathlib.Core.Bool.{Bool, true, false, false≢true}
-use mathlib.Core.Option.{Option, some}
+use mathlib.Core.Option.{some}
 use mathlib.Core.List.{List, [], ◌∷◌, ◌++◌}
-use Prim.Native.Nat.{ℕ, zero, suc, ◌+◌, ◌-◌, ◌*◌, ◌≤◌, ◌<◌}
-use native.Mathlib.Nat.{le_refl, le_trans}
+use Prim.Native.Nat.{ℕ, zero, suc, ◌+◌, ◌-◌, ◌≤◌, ◌<◌}
 use native.Mathlib.Omega.{arith}
-use lib.ListN.{length, get_or, get_elem?, length-append}
+use lib.ListN.{length, get_or, get_elem?}
 use Rattle.group.proofs.Choice.{if_true, if_false}
-use Rattle.group.proofs.Counting.{one, count, one_true, one_false}
-use Rattle.group.proofs.Lists.{if_elim, eq_or, get_last, at_some}
+use Rattle.group.proofs.Lists.{eq_or, get_last, at_some}
 use Rattle.group.specs.Choice.{if◌then◌else◌}
-use Rattle.group.specs.Limits.{places_most, longest_packet}
+use Rattle.group.specs.Limits.{longest_packet}
 use Rattle.group.specs.Members.{is_in}
 use Rattle.group.specs.declared.Group as description
 use Rattle.group.specs.declared.MemberNumber.{MemberNumber}
 use Rattle.group.specs.declared.SequenceNumber.{SequenceNumber}
 use Rattle.history.proofs.Soundness.{taken_in}
 use Rattle.message.specs.Order.{Ordered}
-use Rattle.member.proofs.Acknowledged.{acknowledged_least, acknowledged_near, acknowledged_accepted, acknowledged_holds, acknowledged_most}
+use Rattle.member.proofs.Acknowledged.{acknowledged_least, acknowledged_accepted, acknowledged_holds, acknowledged_most}
 use Rattle.member.proofs.Closing.{status_ok}
 use Rattle.member.proofs.Soundness.{sound_of_lem as member_sound_lem}
 use Rattle.member.specs.Calls as member
 use Rattle.member.specs.State.{Member, acknowledged_of}
 use Rattle.model.proofs.Round.{length_snoc}
-use Rattle.model.specs.Closing.{closing_most}
 use Rattle.packet.specs.Laws.{Allowed}
 use Rattle.packet.specs.Packet.{fields_of, packet_of}
 use Rattle.packet.specs.declared.Packet.{Packet}
@@ -41,14 +38,14 @@ use Rattle.sequencer.specs.declared.Answer as sequencerAnswer
 use Rattle.recovery.specs.State.{Terminal}
 use Rattle.reset.specs.Closing.{take_row, close_member, close_from}
 use Rattle.reset.specs.Course.{Course}
-use Rattle.reset.specs.World.{Event, take, status, copy, hand_member, hand_sequencer, Group, happen, no_terminal, terminal_at, World, step, run}
+use Rattle.reset.specs.World.{Event, take, status, copy, hand_member, hand_sequencer, no_terminal, terminal_at, World, step, run}
 use Rattle.reset.proofs.Invariant.{group_in}
-use Rattle.reset.proofs.Round.{Here, inside_lt, elected_in, sequencer_inv, terminal_inv, floor_low, Moves, Takes, take_effect, take_here, Copies, copy_effect, copy_here, Hands, hand_effect, hand_here, Says, status_effect, status_here, Notes, note_effect, note_here}
+use Rattle.reset.proofs.Round.{Here, inside_lt, sequencer_inv, terminal_inv, floor_low, take_effect, take_here, copy_effect, copy_here, hand_effect, hand_here, status_effect, status_here, note_effect, note_here}
 
 run_append : (w : World) (a b : List Event) → run w (a ++ b) ≡ run (run w a) b
 unfolding run
 run_append w [] b = refl
-run_append w (e ∷ a) b = run_append _ a b
+run_append w (e ∷ a) b = run_append (step w e) a b
 
 module _ (n number resilience line : ℕ) (c : Course) (settled : c.attempt ≡ c.number) where
   abbrev group : description.Group

@@ -2,56 +2,29 @@
 -- packets, and what it replied stays what it would reply. Assumes nothing.
 use mathlib.Core.Path.{◌≡◌, refl, sym, ap, ◌∙◌, subst}
 use mathlib.Core.Logic.{◌≢◌, ◌⊎◌, inl, inr}
-use mathlib.Core.Bool.{Bool, true, false, false≢true}
-use mathlib.Core.Option.{Option, none, some}
-use mathlib.Core.List.{List, [], ◌∷◌, ◌++◌, append-nil}
-use Prim.Native.Nat.{ℕ, zero, suc, ◌+◌, ◌-◌, ◌^◌, ◌≤◌, ◌<◌}
-use native.Mathlib.Nat.{le_refl, le_trans}
+use mathlib.Core.Bool.{true}
+use mathlib.Core.Option.{some}
+use mathlib.Core.List.{List, [], ◌++◌}
+use Prim.Native.Nat.{ℕ, ◌≤◌, ◌<◌}
 use native.Mathlib.Omega.{arith}
-use borrow.Author.Tests.{lt-ltb, ltb-true, ltb-false, eqb-true, eq-eqb}
-use lib.ListN.{length, get_or, set, get_elem?, length-set, length-append}
+use lib.ListN.{length, get_or, set, get_elem?, length-set}
 use lib.Seq.{get_or-set_same, get_or-set_other}
-use Rattle.group.proofs.Choice.{if_true, both_first, both_then}
-use Rattle.group.proofs.Lists.{if_elim, judged_elim, eq_or, le_or, All, all_append, all_map, all_get, get_append, get_last}
-use Rattle.group.specs.Choice.{if◌then◌else◌, ◌and◌, ◌<?◌, ◌=?◌}
-use Rattle.group.specs.Limits.{members_most, places_most, longest_packet, largest_number}
+use Rattle.group.proofs.Lists.{eq_or, All, all_append, all_map, get_append}
+use Rattle.group.specs.Choice.{◌=?◌}
+use Rattle.group.specs.Limits.{members_most, places_most, largest_number}
 use Rattle.group.specs.Members.{is_in}
-use Rattle.group.specs.Question.{judged}
-use Rattle.group.specs.declared.Group as description
-use Rattle.group.specs.declared.MemberNumber.{MemberNumber}
-use Rattle.group.specs.declared.Refusal.{Refusal}
-use Rattle.group.specs.declared.SequenceNumber.{SequenceNumber}
-use Rattle.group.specs.declared.Verdict.{Verdict}
-use Rattle.message.specs.Message.{Message}
-use Rattle.message.specs.Order.{Ordered}
-use Rattle.member.proofs.Soundness as memberSoundness
-use Rattle.member.specs.Calls as member
-use Rattle.member.specs.Laws as memberLaws
-use Rattle.member.specs.State.{Member, reach_of}
-use Rattle.member.specs.declared.Answer as memberAnswer
-use Rattle.model.proofs.Invariant.{Inv, facts_in}
-use Rattle.model.proofs.Step.{step_keeps}
-use Rattle.model.specs.Log as modelLog
-use Rattle.model.specs.Log.{numbered_in}
+use Rattle.member.specs.State.{Member}
 use Rattle.model.specs.World as model
 use Rattle.model.specs.World.{Answer, absent, by_sequencer, by_member}
-use Rattle.packet.proofs.Facts.{Facts, Says, Known}
-use Rattle.packet.proofs.Laws.{read_written, content_fields, fields_group}
 use Rattle.packet.specs.Laws.{Allowed}
-use Rattle.packet.specs.Packet.{read_of, payload_at, content_of, fields_of, packet_of, from_elected, written}
-use Rattle.packet.specs.declared.Header.{Header}
+use Rattle.packet.specs.Packet.{fields_of, packet_of}
 use Rattle.packet.specs.declared.Packet.{Packet}
-use Rattle.packet.specs.declared.Reading.{Reading}
-use Rattle.sequencer.specs.Calls as sequencer
 use Rattle.sequencer.specs.Laws as sequencerLaws
-use Rattle.sequencer.specs.Order.{numbered_by}
 use Rattle.sequencer.specs.State.{Sequencer}
-use Rattle.recovery.proofs.Keeping.{Sound, sound_of_lem}
-use Rattle.recovery.specs.Calls as terminal
-use Rattle.recovery.specs.Laws as terminalLaws
+use Rattle.recovery.proofs.Keeping.{sound_of_lem}
 use Rattle.recovery.specs.Sound.{terminal_sound}
-use Rattle.recovery.specs.State.{Kept, Reset, Terminal, reply_number}
-use Rattle.reset.specs.World.{Group, Happened, missing, with_member, with_sequencer, no_terminal, terminal_at, at_terminal, take_at, at_sequencer}
+use Rattle.recovery.specs.State.{Reset, Terminal, reply_number}
+use Rattle.reset.specs.World.{Group, no_terminal, terminal_at}
 
 -- a terminal replied, with a number
 abbrev pub Replied : Terminal → ℕ → Type 0

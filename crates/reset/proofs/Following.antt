@@ -1,17 +1,17 @@
 -- A result: the group made last is the same as its survivors are in it. Assumes nothing.
 use mathlib.Core.Path.{◌≡◌, refl, sym, ap, ◌∙◌, subst}
-use mathlib.Core.Logic.{◌≢◌, ◌⊎◌, inl, inr}
+use mathlib.Core.Logic.{◌≢◌}
 use mathlib.Core.Bool.{Bool, true, false, false≢true}
-use mathlib.Core.List.{List, [], ◌∷◌, ◌++◌, append-nil}
-use Prim.Native.Nat.{ℕ, zero, suc, ◌+◌, ◌-◌, ◌≤◌, ◌<◌}
-use native.Mathlib.Nat.{le_refl, le_trans}
+use mathlib.Core.List.{List, [], ◌++◌, append-nil}
+use Prim.Native.Nat.{ℕ, ◌≤◌, ◌<◌}
+use native.Mathlib.Nat.{le_refl}
 use native.Mathlib.Omega.{arith}
-use borrow.Author.Tests.{eqb-true, eqb-false, eq-eqb, ne_eqb}
-use lib.ListN.{length, get_or, take, replicate, length-replicate}
+use borrow.Author.Tests.{eqb-true, eqb-false, eq-eqb}
+use lib.ListN.{length, take, length-replicate}
 use lib.Seq.{take_all}
 use Rattle.group.proofs.Choice.{if_true, if_false, both_hold, both_first, both_then}
-use Rattle.group.proofs.Lists.{if_elim, eq_or, All}
-use Rattle.group.specs.Choice.{if◌then◌else◌, ◌and◌, ◌=?◌}
+use Rattle.group.proofs.Lists.{if_elim, eq_or}
+use Rattle.group.specs.Choice.{◌=?◌}
 use Rattle.group.specs.Limits.{places_most, members_most, largest_number}
 use Rattle.group.specs.Members.{is_in}
 use Rattle.group.specs.declared.Group as description
@@ -24,14 +24,12 @@ use Rattle.member.specs.State.{Member, reach_of}
 use Rattle.sequencer.proofs.Invariant.{SequencerInv}
 use Rattle.sequencer.specs.Laws as sequencerLaws
 use Rattle.sequencer.specs.State.{Sequencer}
-use Rattle.recovery.proofs.Keeping.{Sound, sound_of_lem}
+use Rattle.recovery.proofs.Keeping.{sound_of_lem}
 use Rattle.recovery.specs.Begin.{made_group, member_in, elected_sequencer, result_of}
-use Rattle.recovery.specs.Calls as terminal
-use Rattle.recovery.specs.Laws as terminalLaws
 use Rattle.recovery.specs.Sound.{terminal_sound}
 use Rattle.recovery.specs.State.{Kept, Reset, Terminal, no_reset, serves, reply_number}
 use Rattle.reset.specs.Course.{Course}
-use Rattle.reset.proofs.Invariant.{Has, Busy, Foreign, group_in, Low, Survivor, Sits, Open, GoodResult, Covered, Inv, with_order, Goes}
+use Rattle.reset.proofs.Invariant.{Foreign, group_in, Low, Survivor, Sits, GoodResult, Inv, Goes}
 use Rattle.reset.proofs.Keep.{keep, low_goes}
 use Rattle.reset.proofs.Numbering.{seen_floor}
 use Rattle.reset.proofs.Remembering.{Remembers}

@@ -1,34 +1,30 @@
 -- The invariant of a world with resets: the group made last as its survivors are in it, each survivor's terminal, the open attempt, and the packets.
 -- Assumes nothing.
-use mathlib.Core.Path.{◌≡◌, refl, sym, ap, ◌∙◌, subst}
+use mathlib.Core.Path.{◌≡◌, refl, sym, ◌∙◌, subst}
 use mathlib.Core.Logic.{◌≢◌, ◌⊎◌, inl, inr}
-use mathlib.Core.Bool.{Bool, true, false, false≢true}
-use mathlib.Core.Option.{Option, none, some}
-use mathlib.Core.List.{List, [], ◌∷◌, ◌++◌}
-use Prim.Native.Nat.{ℕ, zero, suc, ◌+◌, ◌-◌, ◌≤◌, ◌<◌}
-use native.Mathlib.Omega.{arith}
-use borrow.Author.Tests.{eq-eqb, ne_eqb}
-use lib.ListN.{length, get_or, take, get_elem?}
+use mathlib.Core.Bool.{true, false, false≢true}
+use mathlib.Core.Option.{some}
+use mathlib.Core.List.{List, [], ◌∷◌}
+use Prim.Native.Nat.{ℕ, ◌≤◌, ◌<◌}
+use borrow.Author.Tests.{eq-eqb}
+use lib.ListN.{get_or, take, get_elem?}
 use Rattle.group.proofs.Lists.{All}
-use Rattle.group.specs.Choice.{◌=?◌}
 use Rattle.group.specs.Limits.{largest_number}
 use Rattle.group.specs.Members.{is_in}
 use Rattle.group.specs.declared.Group as description
-use Rattle.group.specs.declared.MemberNumber.{MemberNumber}
 use Rattle.message.specs.Order.{Ordered}
-use Rattle.member.specs.State.{Member, reach_of}
+use Rattle.member.specs.State.{reach_of}
 use Rattle.packet.specs.Laws.{Allowed}
 use Rattle.packet.specs.Packet.{read_of, content_of, fields_of, packet_of, survivors_in}
 use Rattle.packet.specs.declared.Header.{Header}
 use Rattle.packet.specs.declared.Packet.{Packet}
 use Rattle.packet.specs.declared.Reading.{Reading}
 use Rattle.sequencer.proofs.Invariant.{SequencerInv}
-use Rattle.sequencer.specs.State.{Sequencer}
 use Rattle.recovery.specs.Calls as terminal
 use Rattle.recovery.specs.Laws as terminalLaws
 use Rattle.recovery.specs.Sound.{terminal_sound}
 use Rattle.recovery.specs.State.{Reset, Terminal, serves, reply_number}
-use Rattle.reset.specs.Course.{Course, Fresh, unused, other}
+use Rattle.reset.specs.Course.{Course, Fresh, other}
 use Rattle.reset.proofs.Remembering.{Remembers}
 use Rattle.reset.proofs.Seen.{Seen}
 use Rattle.reset.proofs.View.{member_of, sequencer_of}

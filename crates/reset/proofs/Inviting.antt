@@ -1,17 +1,16 @@
 -- Inviting, in the world: everything stays, under a number that nothing has. Assumes nothing.
 use mathlib.Core.Path.{◌≡◌, refl, sym, ap, ◌∙◌, subst}
-use mathlib.Core.Logic.{◌≢◌, ◌⊎◌, inl, inr}
-use mathlib.Core.Bool.{Bool, true, false, false≢true}
-use mathlib.Core.List.{List, [], ◌∷◌, ◌++◌, append-nil}
-use Prim.Native.Nat.{ℕ, zero, suc, ◌+◌, ◌-◌, ◌^◌, ◌≤◌, ◌<◌}
-use native.Mathlib.Nat.{le_refl, le_trans}
+use mathlib.Core.Logic.{◌≢◌, inl, inr}
+use mathlib.Core.Bool.{Bool, true, false}
+use mathlib.Core.List.{List, [], ◌∷◌, ◌++◌}
+use Prim.Native.Nat.{ℕ, ◌^◌, ◌≤◌, ◌<◌}
 use native.Mathlib.Omega.{arith}
 use lib.ListN.{length, get_or, set, replicate, length-set, length-replicate}
 use lib.Seq.{get_or-set_same}
-use Rattle.group.proofs.Lists.{if_elim, eq_or, All, all_append, all_map}
+use Rattle.group.proofs.Lists.{eq_or, all_append, all_map}
 use Rattle.group.proofs.Members.{in_only}
 use Rattle.group.specs.Limits.{members_most, longest_packet, largest_number}
-use Rattle.group.specs.Members.{is_in, only_of}
+use Rattle.group.specs.Members.{is_in}
 use Rattle.group.specs.declared.Group as description
 use Rattle.message.specs.Order.{Ordered}
 use Rattle.member.specs.State.{Member, reach_of}
@@ -20,13 +19,13 @@ use Rattle.packet.proofs.Verdicts.{accepted}
 use Rattle.packet.specs.Packet.{fields_of, packet_of}
 use Rattle.packet.specs.declared.Packet.{Packet}
 use Rattle.sequencer.specs.State.{Sequencer}
-use Rattle.recovery.proofs.Keeping.{Sound, sound_of_lem, of_sound, invited_sound}
+use Rattle.recovery.proofs.Keeping.{sound_of_lem, of_sound, invited_sound}
 use Rattle.recovery.proofs.Masks.{only_in}
 use Rattle.recovery.specs.Calls as terminal
 use Rattle.recovery.specs.Sound.{terminal_sound}
-use Rattle.recovery.specs.State.{Reset, Terminal, serves, reply_number}
+use Rattle.recovery.specs.State.{Reset, Terminal, reply_number}
 use Rattle.reset.specs.Course.{Course, Fresh, invited}
-use Rattle.reset.proofs.Invariant.{Has, has_fresh, Busy, Foreign, group_in, Low, Survivor, Sits, Answered, Open, GoodInvitation, GoodReply, GoodResult, SaysReset, Resets, Covered, ours, elsewhere, resets, Inv}
+use Rattle.reset.proofs.Invariant.{Has, has_fresh, Foreign, group_in, Low, Survivor, Sits, Answered, Open, SaysReset, Covered, ours, elsewhere, resets, Inv}
 use Rattle.reset.proofs.Replying.{reset_survivor, freezes_not}
 use Rattle.reset.proofs.Seen.{Seen, same_seen}
 use Rattle.reset.proofs.View.{member_of, sequencer_of, member_reset, sequencer_reset}

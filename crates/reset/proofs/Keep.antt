@@ -1,17 +1,15 @@
 -- An event at one terminal: what the others are, and what was written, stays as the invariant has it, where the event's terminal does its part.
 -- Assumes nothing.
 use mathlib.Core.Path.{◌≡◌, refl, sym, ap, ◌∙◌, subst}
-use mathlib.Core.Logic.{◌≢◌, ◌⊎◌, inl, inr}
-use mathlib.Core.Bool.{Bool, true, false, false≢true}
-use mathlib.Core.Option.{Option, none, some}
-use mathlib.Core.List.{List, [], ◌∷◌, ◌++◌, append-nil}
-use Prim.Native.Nat.{ℕ, zero, suc, ◌+◌, ◌-◌, ◌≤◌, ◌<◌}
-use native.Mathlib.Nat.{le_refl, le_trans}
+use mathlib.Core.Logic.{◌≢◌}
+use mathlib.Core.Bool.{true, false}
+use mathlib.Core.List.{List, ◌++◌}
+use Prim.Native.Nat.{ℕ, ◌≤◌, ◌<◌}
+use native.Mathlib.Nat.{le_trans}
 use native.Mathlib.Omega.{arith}
-use lib.ListN.{length, get_or, take, get_elem?, length-append, length-take}
+use lib.ListN.{length, take, length-take}
 use lib.Seq.{take-append-le}
 use Rattle.group.proofs.Lists.{if_elim, eq_or, All, all_append, all_map, get_append}
-use Rattle.group.proofs.Members.{survivor_lt}
 use Rattle.group.specs.Members.{is_in}
 use Rattle.group.specs.declared.Group as description
 use Rattle.message.specs.Order.{Ordered}
@@ -19,10 +17,10 @@ use Rattle.member.specs.State.{Member, reach_of}
 use Rattle.packet.specs.declared.Packet.{Packet}
 use Rattle.sequencer.proofs.Invariant.{SequencerInv}
 use Rattle.sequencer.specs.State.{Sequencer}
-use Rattle.recovery.specs.State.{Reset, Terminal, serves, reply_number}
+use Rattle.recovery.specs.State.{Terminal, reply_number}
 use Rattle.reset.specs.Course.{Course}
-use Rattle.reset.proofs.Invariant.{Has, Busy, Foreign, group_in, Low, Survivor, Sits, Answered, Open, GoodInvitation, GoodReply, GoodResult, SaysReset, Resets, Elsewhere, Covered, ours, elsewhere, resets, FloorLow, Inv, with_order, Goes}
-use Rattle.reset.proofs.Remembering.{Remembers, longer_remembers}
+use Rattle.reset.proofs.Invariant.{Busy, Foreign, group_in, Low, Survivor, Sits, Answered, Open, SaysReset, Covered, ours, elsewhere, resets, FloorLow, Inv, with_order, Goes}
+use Rattle.reset.proofs.Remembering.{longer_remembers}
 use Rattle.reset.proofs.Seen.{Seen}
 use Rattle.reset.proofs.View.{has_result, member_of, sequencer_of}
 

@@ -1,10 +1,9 @@
 -- Survival at a making in a world where as many as have to confirm have all that is accepted, and every survivor has the result. Assumes nothing.
 use mathlib.Core.Path.{◌≡◌, refl, sym, ap, ◌∙◌, subst}
 use mathlib.Core.Logic.{◌≢◌}
-use mathlib.Core.Bool.{Bool, true, false, false≢true}
-use mathlib.Core.List.{List, []}
+use mathlib.Core.Bool.{true, false≢true}
+use mathlib.Core.List.{List}
 use Prim.Native.Nat.{ℕ, ◌+◌, ◌≤◌, ◌<◌}
-use native.Mathlib.Nat.{le_refl, le_trans}
 use native.Mathlib.Omega.{arith}
 use lib.Count.{ones}
 use lib.ListN.{length, length-take}
@@ -13,19 +12,18 @@ use lib.Seq.{take-take, length-take-le}
 use Rattle.group.proofs.Choice.{if_true}
 use Rattle.group.proofs.Lists.{if_elim}
 use Rattle.group.proofs.Members.{survivor_lt}
-use Rattle.group.specs.Choice.{if◌then◌else◌}
 use Rattle.group.specs.Members.{is_in}
 use Rattle.group.specs.declared.Group as description
 use Rattle.message.specs.Order.{Ordered}
 use Rattle.member.proofs.Acknowledged.{reach_least}
-use Rattle.member.specs.State.{Member, reach_of}
+use Rattle.member.specs.State.{reach_of}
 use Rattle.packet.proofs.Facts.{Voice}
 use Rattle.sequencer.proofs.Soundness as sequencerSoundness
 use Rattle.sequencer.specs.State.{Sequencer}
 use Rattle.window.proofs.Row.{le_larger}
-use Rattle.recovery.specs.Begin.{cut_of, chosen_of}
+use Rattle.recovery.specs.Begin.{cut_of}
 use Rattle.recovery.specs.State.{Reset, Terminal, serves, reply_number}
-use Rattle.reset.specs.Claim.{Begins, Survived, accepted_order}
+use Rattle.reset.specs.Claim.{Begins, Survived}
 use Rattle.reset.specs.Closing as closing
 use Rattle.reset.specs.Course.{Course, is_sent, course_in, taken}
 use Rattle.reset.specs.World.{make, happen, terminal_at, World, step}
@@ -33,12 +31,12 @@ use Rattle.reset.proofs.Electing.{reach_view}
 use Rattle.reset.proofs.Invariant.{group_in, Inv}
 use Rattle.reset.proofs.Keep.{taken_same}
 use Rattle.reset.proofs.Led.{Led, made_next, made_course}
-use Rattle.reset.proofs.Making.{made_from, itself, survives, below, stands_at, reply_most, mask_small, last_order}
+use Rattle.reset.proofs.Making.{itself, survives, reply_most, mask_small}
 use Rattle.reset.proofs.Numbering.{view_is, serves_here}
-use Rattle.reset.proofs.Seen.{voices, voice_at, lost_voice}
+use Rattle.reset.proofs.Seen.{voices}
 use Rattle.reset.proofs.Surviving.{accepted_kept}
 use Rattle.reset.proofs.Unmade.{submitted_in}
-use Rattle.reset.proofs.View.{member_of, sequencer_of, member_here}
+use Rattle.reset.proofs.View.{member_of, sequencer_of}
 
 module _ (n number resilience : ℕ) (w : World) (v : Led n number resilience 0 w) (all : (j : ℕ) → is_in (course_in n number w).survivors j ≡ true → (terminal_at w.group j).member.group.number ≡ (course_in n number w).number)
     (i demand : ℕ) (allowed : (course_in n number w).initiator ≡ i) (sent : is_sent (happen w.group (make i demand)).answer ≡ true) where

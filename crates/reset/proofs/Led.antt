@@ -1,29 +1,23 @@
 -- The worlds that an allowed list leads to satisfy the invariant, from a fresh one on. Assumes nothing.
-use mathlib.Core.Path.{◌≡◌, refl, sym, ap, ap₂, ◌∙◌, subst, fun_ext}
-use mathlib.Core.Logic.{◌≢◌, ◌⊎◌, inl, inr}
+use mathlib.Core.Path.{◌≡◌, refl, sym, ap, ◌∙◌, subst}
+use mathlib.Core.Logic.{inl}
 use mathlib.Core.Bool.{Bool, true, false, false≢true}
-use mathlib.Core.Option.{Option, none, some}
-use mathlib.Core.List.{List, [], ◌∷◌, ◌++◌, append-nil}
-use Prim.Native.Nat.{ℕ, zero, suc, ◌+◌, ◌-◌, ◌≤◌, ◌<◌}
-use native.Mathlib.Nat.{le_refl, le_trans}
+use mathlib.Core.List.{List, [], ◌∷◌, append-nil}
+use Prim.Native.Nat.{ℕ, ◌+◌, ◌<◌}
 use native.Mathlib.Omega.{arith}
 use borrow.Author.Tests.{le-leb, eqb-true, eq-eqb}
 use lib.ListN.{length, get_or, get_elem?}
 use lib.ListN as list
 use lib.Seq.{length-take-le}
-use Rattle.group.proofs.Choice.{if_true, both_first}
-use Rattle.group.proofs.Lists.{if_elim, eq_or, All}
+use Rattle.group.proofs.Choice.{both_first}
 use Rattle.group.proofs.Members.{in_all, all_in, Standing, fresh_standing, others_count}
-use Rattle.group.specs.Choice.{if◌then◌else◌, ◌≤?◌, ◌=?◌}
-use Rattle.group.specs.Limits.{largest_number}
-use Rattle.group.specs.Members.{is_in, all_of}
+use Rattle.group.specs.Choice.{◌≤?◌}
 use Rattle.group.specs.Opening.{description_of}
 use Rattle.group.specs.declared.Group as description
 use Rattle.history.proofs.Soundness.{taken_in}
-use Rattle.message.specs.Order.{Ordered}
 use Rattle.member.proofs.Acknowledged.{reach_most}
 use Rattle.member.proofs.Invariant as memberInvariant
-use Rattle.member.specs.State.{Member, reach_of}
+use Rattle.member.specs.State.{Member}
 use Rattle.model.proofs.Step.{gather_snoc}
 use Rattle.model.specs.Claim.{Opens}
 use Rattle.model.specs.Log.{gather}
@@ -34,19 +28,19 @@ use Rattle.sequencer.specs.Calls as sequencer
 use Rattle.sequencer.specs.State.{Sequencer}
 use Rattle.recovery.specs.Begin.{cut_of, chosen_of}
 use Rattle.recovery.specs.Calls.{fresh_terminal}
-use Rattle.recovery.specs.State.{Terminal, serves, reply_number}
-use Rattle.reset.specs.Claim.{Begins, TakenBegins, MakesNone}
-use Rattle.reset.specs.Course.{Course, opened, is_sent, course_of, course_from, course_in, took_at, submitted_at, taken, Allowed, Handed, Orderly}
-use Rattle.reset.specs.World.{Event, submit, repeat, take, status, poll, copy, hand_member, hand_sequencer, invite, make, Entry, Group, Happened, happen, terminal_at, World, step, run, no_terminal, fresh_terminals, fresh}
+use Rattle.recovery.specs.State.{Terminal}
+use Rattle.reset.specs.Claim.{TakenBegins, MakesNone}
+use Rattle.reset.specs.Course.{Course, opened, is_sent, course_of, course_from, course_in, took_at, submitted_at, taken, Allowed, Orderly}
+use Rattle.reset.specs.World.{Event, submit, repeat, take, status, poll, copy, hand_member, hand_sequencer, invite, make, Entry, happen, terminal_at, World, step, run, no_terminal, fresh_terminals, fresh}
 use Rattle.reset.proofs.Away.{inv_same}
 use Rattle.reset.proofs.First.{Stands}
-use Rattle.reset.proofs.Invariant.{Has, Busy, Foreign, group_in, Low, Survivor, Sits, Inv}
+use Rattle.reset.proofs.Invariant.{Low, Sits, Inv}
 use Rattle.reset.proofs.Making.{made_from}
 use Rattle.reset.proofs.Numbering.{seen_floor}
 use Rattle.reset.proofs.Remembering.{Remembers, fresh_remembers}
 use Rattle.reset.proofs.Same.{terminals_length, terminals_at}
-use Rattle.reset.proofs.Seen.{Seen, voices, voice_at, lost_voice}
-use Rattle.reset.proofs.Stepping.{Next, Asked, step_next, MadeNext, make_sent}
+use Rattle.reset.proofs.Seen.{Seen, voices}
+use Rattle.reset.proofs.Stepping.{Asked, step_next, MadeNext, make_sent}
 use Rattle.reset.proofs.Unmade.{submitted_in, course_snoc, start, fresh_stands}
 use Rattle.reset.proofs.View.{member_of, sequencer_of, member_here, sequencer_here}
 

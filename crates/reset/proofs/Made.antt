@@ -1,6 +1,6 @@
 -- A making: the survivors' invariant of the group before gives that of the made one, whose order is the first part of the order. Assumes nothing.
 use mathlib.Core.Path.{◌≡◌, refl, sym, ap, ◌∙◌, subst}
-use mathlib.Core.Bool.{Bool, true, false}
+use mathlib.Core.Bool.{true}
 use mathlib.Core.List.{List, []}
 use Prim.Native.Nat.{ℕ, ◌+◌, ◌-◌, ◌%◌, ◌≤◌, ◌<◌}
 use native.Mathlib.Nat.{le_refl, le_trans}
@@ -30,7 +30,7 @@ use Rattle.window.specs.Places.{place_of, message_at, smaller_of, larger_of}
 use Rattle.recovery.proofs.Result.{dropped_length}
 use Rattle.recovery.specs.Begin.{dropped_of, member_in}
 use Rattle.reset.proofs.Cutting.{dropped_same, dropped_gone, owns_cut, content_cut}
-use Rattle.reset.proofs.Seen.{Seen, voices, voice_at, lost_voice}
+use Rattle.reset.proofs.Seen.{Seen, voices}
 
 module _ (m : Member) (group : Group) (number : ℕ) (long : length m.held ≡ held_most) where
   abbrev t : ℕ

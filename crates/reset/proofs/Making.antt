@@ -1,35 +1,30 @@
 -- A making, in the world: its survivors, as the result will leave them, have the invariant of the made group. Assumes nothing.
-use mathlib.Core.Path.{◌≡◌, refl, sym, ap, ap₂, ◌∙◌, subst}
-use mathlib.Core.Logic.{◌≢◌, ◌⊎◌, inl, inr}
+use mathlib.Core.Path.{◌≡◌, refl, sym, ap, ◌∙◌, subst}
+use mathlib.Core.Logic.{◌≢◌}
 use mathlib.Core.Bool.{Bool, true, false, false≢true}
 use mathlib.Core.Option.{some}
 use mathlib.Core.List.{List, [], ◌∷◌, ◌++◌, append-nil}
-use Prim.Native.Nat.{ℕ, zero, suc, ◌+◌, ◌-◌, ◌^◌, ◌≤◌, ◌<◌}
-use native.Mathlib.Nat.{le_refl, le_trans, lt_of_lt_of_le}
+use Prim.Native.Nat.{ℕ, ◌^◌, ◌≤◌, ◌<◌}
+use native.Mathlib.Nat.{lt_of_lt_of_le}
 use native.Mathlib.Omega.{arith}
-use borrow.Author.Tests.{eqb-true, eqb-false, eq-eqb}
 use lib.Bits.{bit_and, mask_lt}
 use lib.ListN.{length, get_or, take, get_elem?}
 use lib.Pow.{pow_mono}
 use lib.Seq.{take-take}
 use Rattle.big_endian.proofs.Number.{number_of_bytes}
 use Rattle.big_endian.specs.Number.{number_at, bytes_of}
-use Rattle.group.proofs.Choice.{if_true, if_false, both_hold, both_first, both_then}
-use Rattle.group.proofs.Lists.{if_elim, eq_or, All, all_append, all_map, all_get}
+use Rattle.group.proofs.Choice.{if_true}
+use Rattle.group.proofs.Lists.{if_elim, eq_or, all_append, all_map, all_get}
 use Rattle.group.proofs.Members.{Standing, survivor_lt}
-use Rattle.group.specs.Choice.{if◌then◌else◌, ◌and◌, ◌=?◌}
-use Rattle.group.specs.Limits.{places_most, members_most, longest_packet, largest_number}
+use Rattle.group.specs.Limits.{members_most, longest_packet, largest_number}
 use Rattle.group.specs.Members.{is_in, all_of}
 use Rattle.group.specs.declared.Group as description
-use Rattle.group.specs.declared.MemberNumber.{MemberNumber}
-use Rattle.group.specs.declared.SequenceNumber.{SequenceNumber}
 use Rattle.history.proofs.Soundness.{taken_in}
 use Rattle.history.specs.State.{Acknowledgement}
 use Rattle.message.specs.Order.{Ordered}
 use Rattle.member.proofs.Acknowledged.{reach_least}
 use Rattle.member.proofs.Invariant.{Content}
 use Rattle.member.specs.State.{Member, reach_of}
-use Rattle.packet.proofs.Facts.{Known}
 use Rattle.packet.proofs.Laws.{content_fields, fields_group}
 use Rattle.packet.proofs.Permitted.{result_fields}
 use Rattle.packet.proofs.Verdicts.{accepted}
@@ -42,18 +37,18 @@ use Rattle.sequencer.proofs.Invariant.{SequencerInv}
 use Rattle.sequencer.specs.State.{Sequencer}
 use Rattle.recovery.proofs.Beginning.{table_entry, counts_length, counts_size}
 use Rattle.recovery.proofs.Choosing.{cut_most, chosen_replied}
-use Rattle.recovery.proofs.Keeping.{Sound, sound_of_lem}
-use Rattle.recovery.specs.Begin.{cut_of, chosen_of, made_group, member_in, counts_in, table_from, begun, elected_sequencer, result_of}
+use Rattle.recovery.proofs.Keeping.{sound_of_lem}
+use Rattle.recovery.specs.Begin.{cut_of, chosen_of, made_group, member_in, counts_in, table_from, elected_sequencer, result_of}
 use Rattle.recovery.specs.Calls as terminal
 use Rattle.recovery.specs.Sound.{terminal_sound}
 use Rattle.recovery.specs.State.{Reset, Terminal, serves, reply_number, kept_floor, counts_of}
 use Rattle.reset.specs.Course.{Course}
 use Rattle.reset.proofs.Electing.{reach_view, reply_order, elected_inv, elected_low}
 use Rattle.reset.proofs.Following.{Begun, begins, stays, left_begun, left_member, left_kept, left_reset, resulted_sits, replied_frozen}
-use Rattle.reset.proofs.Invariant.{Has, Busy, Foreign, group_in, Low, Survivor, Sits, Answered, Open, GoodInvitation, GoodReply, GoodResult, SaysReset, Resets, Covered, ours, elsewhere, resets, Inv}
-use Rattle.reset.proofs.Keep.{taken_same, top_le}
+use Rattle.reset.proofs.Invariant.{Has, Busy, Foreign, group_in, Low, Survivor, Sits, Answered, Open, SaysReset, Covered, ours, elsewhere, resets, Inv}
+use Rattle.reset.proofs.Keep.{taken_same}
 use Rattle.reset.proofs.Made.{reach_in_lem, member_twice, lost_now, made_seen}
-use Rattle.reset.proofs.Remembering.{Remembers, cut_remembers}
+use Rattle.reset.proofs.Remembering.{cut_remembers}
 use Rattle.reset.proofs.Same.{known_plain}
 use Rattle.reset.proofs.Seen.{Seen, same_seen}
 use Rattle.reset.proofs.View.{member_of, sequencer_of, member_here, member_there, sequencer_here, sequencer_there}

@@ -1,17 +1,17 @@
 -- How many have to confirm: r members, or all others where they are fewer. Assumes nothing.
 use mathlib.Core.Path.{◌≡◌, refl, sym, ap, ◌∙◌, subst}
-use mathlib.Core.Logic.{◌≢◌, ◌⊎◌, inl, inr}
-use mathlib.Core.Bool.{Bool, true, false, false≢true}
-use Prim.Native.Nat.{ℕ, zero, suc, ◌+◌, ◌-◌, ◌*◌, ◌/◌, ◌%◌, ◌^◌, ◌≤◌, ◌<◌, min}
-use native.Mathlib.Nat.{le_refl, le_trans, pow-suc, mod-lt, zero-lt-suc, suc-ne-zero}
+use mathlib.Core.Logic.{◌≢◌}
+use mathlib.Core.Bool.{Bool, true, false}
+use Prim.Native.Nat.{ℕ, zero, suc, ◌+◌, ◌-◌, ◌*◌, ◌/◌, ◌%◌, ◌^◌, ◌≤◌, ◌<◌}
+use native.Mathlib.Nat.{pow-suc, mod-lt, zero-lt-suc, suc-ne-zero}
 use native.Mathlib.Omega.{arith}
 use borrow.Author.Tests.{eqb-true, eqb-false}
 use lib.Bits.{bit_and, bit_or, and_step, and_self, or_comm}
-use lib.Count.{ones, count_trailing_zeros, under}
+use lib.Count.{count_trailing_zeros, under}
 use Rattle.group.proofs.Counting.{one, count, one_mono, one_false, one_true, count_mono, half_lt, ones_count}
-use Rattle.group.proofs.Lists.{if_elim, eq_or}
-use Rattle.group.proofs.Members.{in_or, in_zero, in_only, in_less, less_in, lowest_in, lowest_lt, lowest_within, lowest_lt_all, without_lt, Standing, others_lt}
-use Rattle.group.specs.Choice.{if◌then◌else◌, ◌=?◌}
+use Rattle.group.proofs.Lists.{if_elim}
+use Rattle.group.proofs.Members.{in_less, less_in, lowest_in, lowest_lt, lowest_within, lowest_lt_all, without_lt, Standing, others_lt}
+use Rattle.group.specs.Choice.{◌=?◌}
 use Rattle.group.specs.Limits.{members_most}
 use Rattle.group.specs.Members.{is_in, lowest, without_lowest, lowest_of, others_of, expected_of, needed_of}
 use Rattle.group.specs.declared.Group.{Group}

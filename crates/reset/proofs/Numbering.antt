@@ -1,29 +1,28 @@
 -- The elected one's sequencer's calls, in the world: its poll and copy, and a packet of the group that it gets. Assumes nothing.
 use mathlib.Core.Path.{◌≡◌, refl, sym, ap, ◌∙◌, subst}
-use mathlib.Core.Logic.{◌≢◌, ◌⊎◌, inl, inr}
-use mathlib.Core.Bool.{Bool, true, false, false≢true}
-use mathlib.Core.Option.{Option, none, some}
-use mathlib.Core.List.{List, [], ◌∷◌, ◌++◌, append-nil}
-use Prim.Native.Nat.{ℕ, zero, suc, ◌+◌, ◌-◌, ◌≤◌, ◌<◌}
-use native.Mathlib.Nat.{le_refl, le_trans}
+use mathlib.Core.Logic.{◌≢◌}
+use mathlib.Core.Bool.{true, false, false≢true}
+use mathlib.Core.Option.{some}
+use mathlib.Core.List.{List, [], ◌++◌, append-nil}
+use Prim.Native.Nat.{ℕ, ◌+◌, ◌≤◌, ◌<◌}
+use native.Mathlib.Nat.{le_refl}
 use native.Mathlib.Omega.{arith}
-use borrow.Author.Tests.{eqb-true, eq-eqb}
-use lib.ListN.{length, get_or, take, get_elem?, length-append}
+use borrow.Author.Tests.{eq-eqb}
+use lib.ListN.{length, take, get_elem?, length-append}
 use lib.Seq.{take_all}
-use Rattle.group.proofs.Choice.{if_true, both_hold, both_first, both_then}
+use Rattle.group.proofs.Choice.{if_true, both_hold}
 use Rattle.group.proofs.Lists.{if_elim, judged_elim, eq_or, All, all_map, all_get}
-use Rattle.group.specs.Choice.{if◌then◌else◌, ◌and◌, ◌<?◌, ◌≤?◌, ◌=?◌}
+use Rattle.group.specs.Choice.{◌and◌, ◌<?◌, ◌≤?◌}
 use Rattle.group.specs.Limits.{longest_packet, largest_number}
 use Rattle.group.specs.Members.{is_in}
 use Rattle.group.specs.declared.Group as description
 use Rattle.group.specs.declared.SequenceNumber.{SequenceNumber}
-use Rattle.history.proofs.Soundness.{taken_in}
 use Rattle.message.specs.Order.{Ordered}
 use Rattle.member.proofs.Acknowledged.{acknowledged_reach, reach_most}
-use Rattle.member.specs.State.{Member, reach_of, acknowledged_of}
+use Rattle.member.specs.State.{Member, reach_of}
 use Rattle.packet.proofs.Facts.{Voice, Known}
 use Rattle.packet.proofs.RoundTrip.{header_back}
-use Rattle.packet.specs.Packet.{header_of, read_of, fields_of, written}
+use Rattle.packet.specs.Packet.{header_of, fields_of, written}
 use Rattle.packet.specs.declared.Header.{Header}
 use Rattle.sequencer.proofs.Invariant.{SequencerInv, facts_of}
 use Rattle.sequencer.proofs.Ordering.{floor_below}
@@ -32,21 +31,20 @@ use Rattle.sequencer.specs.Calls as sequencer
 use Rattle.sequencer.specs.Order.{numbered_by}
 use Rattle.sequencer.specs.State.{Sequencer}
 use Rattle.recovery.proofs.Holding.{poll_leaves, copy_leaves}
-use Rattle.recovery.proofs.Keeping.{Sound, sound_of_lem}
+use Rattle.recovery.proofs.Keeping.{sound_of_lem}
 use Rattle.recovery.proofs.Ordering.{order_keeps}
 use Rattle.recovery.specs.Calls as terminal
-use Rattle.recovery.specs.Laws as terminalLaws
 use Rattle.recovery.specs.Sound.{terminal_sound}
-use Rattle.recovery.specs.State.{Reset, Terminal, serves, reply_number}
+use Rattle.recovery.specs.State.{Terminal, serves, reply_number}
 use Rattle.reset.specs.Course.{Course}
 use Rattle.reset.proofs.Called.{news_covered}
-use Rattle.reset.proofs.Invariant.{Has, Busy, Foreign, group_in, Low, Survivor, Sits, Open, Covered, FloorLow, Inv, with_order, Goes, same_goes}
-use Rattle.reset.proofs.Keep.{keep, low_goes, longer_survivor, taken_same}
-use Rattle.reset.proofs.Remembering.{Remembers, longer_remembers}
+use Rattle.reset.proofs.Invariant.{group_in, Low, Survivor, Open, Inv, with_order, Goes, same_goes}
+use Rattle.reset.proofs.Keep.{keep, low_goes, taken_same}
+use Rattle.reset.proofs.Remembering.{longer_remembers}
 use Rattle.reset.proofs.Same.{order_calls}
 use Rattle.reset.proofs.Seen.{Seen, voices, same_seen, poll_seen, copy_seen, order_seen, order_up}
 use Rattle.reset.proofs.View.{member_of, sequencer_of, member_here, sequencer_here}
-use Rattle.reset.proofs.Writing.{SequencerWrote, FloorAt, poll_sends_own, copy_sends_own, order_sends}
+use Rattle.reset.proofs.Writing.{SequencerWrote, poll_sends_own, copy_sends_own, order_sends}
 
 pub poll_adds : (s : Sequencer) (room : ℕ) → numbered_by (sequencer.poll_of s room).answer (sequencer.poll_of s room).bytes ≡ []
 unfolding sequencer.poll_of sequencer.answered numbered_by

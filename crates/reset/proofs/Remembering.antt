@@ -1,18 +1,16 @@
 -- What a member keeps of the order to begin a group with, and that it stays so: with a take, a floor that is read, a longer order, and an order that
 -- a making cut. Assumes nothing.
 use mathlib.Core.Path.{◌≡◌, refl, sym, ap, ◌∙◌, subst}
-use mathlib.Core.Logic.{◌≢◌}
-use mathlib.Core.Bool.{Bool, true, false}
 use mathlib.Core.Option.{some}
 use mathlib.Core.List.{List, [], ◌∷◌, ◌++◌}
-use Prim.Native.Nat.{ℕ, zero, suc, ◌+◌, ◌-◌, ◌≤◌, ◌<◌}
+use Prim.Native.Nat.{ℕ, suc, ◌+◌, ◌-◌, ◌≤◌, ◌<◌}
 use native.Mathlib.Omega.{arith}
 use borrow.Author.Tests.{lt-ltb}
 use lib.ListN.{length, get_or, set, take, replicate, get_or-replicate, get_or-eq_default}
 use lib.Seq.{get_or-set_same, get_or-set_other, take-take, take-append-le}
 use Rattle.group.proofs.Choice.{if_true}
 use Rattle.group.proofs.Lists.{eq_or, le_or, at, at_append, at_take, take_at_suc}
-use Rattle.group.specs.Choice.{if◌then◌else◌, ◌<?◌}
+use Rattle.group.specs.Choice.{◌<?◌}
 use Rattle.group.specs.Limits.{members_most, places_most}
 use Rattle.history.specs.State as history
 use Rattle.message.proofs.Owning.{Owns, own_more, own_other, own_count}

@@ -2,49 +2,42 @@
 use mathlib.Core.Path.{◌≡◌, refl, sym, ap, ◌∙◌, subst}
 use mathlib.Core.Logic.{◌≢◌, ◌⊎◌, inl, inr}
 use mathlib.Core.Bool.{Bool, true, false, false≢true}
-use mathlib.Core.Option.{Option, none, some}
 use mathlib.Core.List.{List, [], ◌∷◌, ◌++◌, append-nil}
-use Prim.Native.Nat.{ℕ, zero, suc, ◌+◌, ◌-◌, ◌^◌, ◌≤◌, ◌<◌}
-use native.Mathlib.Nat.{le_refl, le_trans}
+use Prim.Native.Nat.{ℕ, ◌^◌, ◌≤◌, ◌<◌}
+use native.Mathlib.Nat.{le_refl}
 use native.Mathlib.Omega.{arith}
-use borrow.Author.Tests.{eqb-true, eqb-false, eq-eqb, ltb-true}
+use borrow.Author.Tests.{eqb-false}
 use lib.Bits.{bit_or}
-use lib.ListN.{length, get_or, set, replicate, get_elem?, length-set, length-replicate}
+use lib.ListN.{length, get_or, set, length-set, length-replicate}
 use lib.Seq.{get_or-set_same, get_or-set_other}
-use Rattle.group.proofs.Choice.{if_true, if_false, both_hold, both_first, both_then}
-use Rattle.group.proofs.Lists.{if_elim, judged_elim, eq_or, All, all_map, all_get}
+use Rattle.group.proofs.Lists.{if_elim, eq_or, All}
 use Rattle.group.proofs.Members.{in_or, in_only}
-use Rattle.group.specs.Choice.{if◌then◌else◌, ◌and◌, ◌<?◌, ◌≤?◌, ◌=?◌}
+use Rattle.group.specs.Choice.{if◌then◌else◌, ◌=?◌}
 use Rattle.group.specs.Limits.{members_most, longest_packet, largest_number}
 use Rattle.group.specs.Members.{is_in, only_of}
 use Rattle.group.specs.Question.{judged}
 use Rattle.group.specs.declared.Group as description
 use Rattle.group.specs.declared.MemberNumber.{MemberNumber}
 use Rattle.group.specs.declared.Refusal.{Refusal}
-use Rattle.group.specs.declared.SequenceNumber.{SequenceNumber}
-use Rattle.group.specs.declared.Verdict.{Verdict}
 use Rattle.message.specs.Order.{Ordered}
 use Rattle.member.specs.State.{Member, reach_of}
 use Rattle.packet.proofs.Laws.{read_written, content_fields, fields_group}
-use Rattle.packet.proofs.Permitted.{invitation_fields, reply_fields}
+use Rattle.packet.proofs.Permitted.{reply_fields}
 use Rattle.packet.proofs.Verdicts.{accepted}
-use Rattle.packet.specs.Laws.{Allowed}
-use Rattle.packet.specs.Packet.{header_of, read_of, payload_at, content_of, fields_of, packet_of, from_elected, written, survivors_in}
-use Rattle.packet.specs.declared.Header.{Header}
+use Rattle.packet.specs.Packet.{read_of, payload_at, fields_of, packet_of}
 use Rattle.packet.specs.declared.Packet.{Packet}
 use Rattle.packet.specs.declared.Reading.{Reading}
 use Rattle.sequencer.specs.State.{Sequencer}
 use Rattle.recovery.proofs.Beginning.{reach_fits}
-use Rattle.recovery.proofs.Keeping.{Sound, sound_of_lem, of_sound, invited_sound, replied_sound, closed_sound, reply_sound_lem}
+use Rattle.recovery.proofs.Keeping.{Sound, sound_of_lem, of_sound, replied_sound, closed_sound, reply_sound_lem}
 use Rattle.recovery.proofs.Masks.{or_in}
 use Rattle.recovery.specs.Calls as terminal
-use Rattle.recovery.specs.Laws as terminalLaws
-use Rattle.recovery.specs.Sound.{member_sound, terminal_sound}
-use Rattle.recovery.specs.State.{Kept, Reset, Terminal, serves, reply_number}
+use Rattle.recovery.specs.Sound.{terminal_sound}
+use Rattle.recovery.specs.State.{Reset, Terminal, serves, reply_number}
 use Rattle.reset.specs.Course.{Course}
 use Rattle.reset.proofs.Before.{reset_named}
 use Rattle.reset.proofs.Carried.{sound_member, called}
-use Rattle.reset.proofs.Invariant.{Has, Busy, Foreign, group_in, Low, Survivor, Sits, Answered, Open, GoodInvitation, GoodReply, GoodResult, SaysReset, Resets, Covered, ours, elsewhere, resets, Inv, with_order, Goes}
+use Rattle.reset.proofs.Invariant.{Busy, Foreign, group_in, Low, Survivor, Answered, Open, GoodInvitation, GoodReply, SaysReset, Resets, Covered, resets, Inv, Goes}
 use Rattle.reset.proofs.Keep.{keep, low_goes}
 use Rattle.reset.proofs.Seen.{Seen, same_seen}
 use Rattle.reset.proofs.View.{member_of, sequencer_of, member_reset, sequencer_reset}

@@ -2,50 +2,41 @@
 -- over and a take; then a status, handed to that sequencer. Assumes nothing.
 use mathlib.Core.Path.{◌≡◌, refl, sym, ap, ◌∙◌, subst}
 use mathlib.Core.Logic.{◌≢◌}
-use mathlib.Core.Bool.{Bool, true, false, false≢true}
-use mathlib.Core.Option.{Option, some}
+use mathlib.Core.Bool.{true, false, false≢true}
+use mathlib.Core.Option.{some}
 use mathlib.Core.List.{List, [], ◌∷◌, ◌++◌, append-nil}
-use Prim.Native.Nat.{ℕ, zero, suc, ◌+◌, ◌-◌, ◌≤◌, ◌<◌}
-use native.Mathlib.Nat.{le_refl, le_trans}
+use Prim.Native.Nat.{ℕ, ◌+◌, ◌≤◌, ◌<◌}
+use native.Mathlib.Nat.{le_trans}
 use native.Mathlib.Omega.{arith}
 use borrow.Author.Tests.{lt-ltb, eq-eqb}
-use lib.ListN.{length, get_or, set, get_elem?, length-append}
+use lib.ListN.{length, get_or, set, get_elem?}
 use lib.Seq.{get_or-set_same, get_or-set_other}
-use Rattle.group.proofs.Choice.{if_true, both_hold, both_first}
-use Rattle.group.proofs.Lists.{if_elim, eq_or, get_last, at_some}
+use Rattle.group.proofs.Choice.{if_true, both_hold}
+use Rattle.group.proofs.Lists.{if_elim, eq_or}
 use Rattle.group.proofs.Members.{survivor_lt}
-use Rattle.group.specs.Choice.{if◌then◌else◌, ◌and◌, ◌<?◌, ◌=?◌}
-use Rattle.group.specs.Limits.{longest_packet, largest_number}
+use Rattle.group.specs.Choice.{if◌then◌else◌, ◌and◌, ◌<?◌}
+use Rattle.group.specs.Limits.{longest_packet}
 use Rattle.group.specs.Members.{is_in}
 use Rattle.group.specs.Question.{judged}
 use Rattle.group.specs.declared.Group as description
 use Rattle.group.specs.declared.MemberNumber.{MemberNumber}
 use Rattle.group.specs.declared.SequenceNumber.{SequenceNumber}
-use Rattle.group.specs.declared.Verdict.{Verdict}
 use Rattle.history.proofs.Soundness.{taken_in}
 use Rattle.message.specs.Order.{Ordered}
-use Rattle.member.proofs.Acknowledged.{acknowledged_least, acknowledged_accepted, acknowledged_holds, acknowledged_most}
-use Rattle.member.proofs.Closing.{HandOk, hand_ok, TakeOk, take_ok, status_is, status_ok, receive_named}
+use Rattle.member.proofs.Closing.{HandOk, hand_ok, take_ok, status_is, receive_named}
 use Rattle.member.proofs.Invariant as memberInvariant
-use Rattle.member.proofs.Soundness.{sound_of_lem as member_sound_lem}
 use Rattle.member.specs.Calls as member
 use Rattle.member.specs.Sound as memberSpecs
 use Rattle.member.specs.State.{Member, acknowledged_of}
-use Rattle.model.proofs.Round.{written_one, packet_long, length_snoc}
+use Rattle.model.proofs.Round.{written_one, packet_long}
 use Rattle.model.specs.Log.{numbered_in}
-use Rattle.model.specs.World.{Answer, by_sequencer, by_member}
+use Rattle.model.specs.World.{by_sequencer}
 use Rattle.packet.proofs.Laws.{read_written, content_fields, fields_group}
-use Rattle.packet.proofs.RoundTrip.{packet_length}
 use Rattle.packet.specs.Laws.{Allowed}
-use Rattle.packet.specs.Packet.{read_of, payload_at, content_of, fields_of, packet_of, from_elected, written}
+use Rattle.packet.specs.Packet.{content_of, fields_of, packet_of, from_elected, written}
 use Rattle.packet.specs.declared.Packet.{Packet}
-use Rattle.packet.specs.declared.Reading.{Reading}
-use Rattle.sequencer.proofs.Histories.{broadcast_may}
 use Rattle.sequencer.proofs.Invariant.{SequencerInv}
-use Rattle.sequencer.proofs.Ordering.{copy_ok, status_own, status_other, floor_below}
-use Rattle.sequencer.proofs.Ordering as sequencerOrdering
-use Rattle.sequencer.proofs.Packets.{announced_accepted}
-use Rattle.sequencer.proofs.Soundness.{sound_of_lem}
+use Rattle.sequencer.proofs.Ordering.{status_own, status_other, floor_below}
 use Rattle.sequencer.specs.Calls as sequencer
 use Rattle.sequencer.specs.Note.{with_table, note_of}
 use Rattle.sequencer.specs.Order.{numbered_by}
@@ -53,23 +44,21 @@ use Rattle.sequencer.specs.State.{Sequencer}
 use Rattle.sequencer.specs.declared.Answer as sequencerAnswer
 use Rattle.window.specs.Places.{message_at}
 use Rattle.recovery.specs.Calls as terminal
-use Rattle.recovery.specs.Sound.{member_sound, terminal_sound}
-use Rattle.recovery.specs.State.{Terminal, serves}
+use Rattle.recovery.specs.Sound.{member_sound}
+use Rattle.recovery.specs.State.{Terminal}
 use Rattle.reset.specs.Claim.{MakesNone}
-use Rattle.reset.specs.Closing.{take_row, close_member}
 use Rattle.reset.specs.Course as course
 use Rattle.reset.specs.Course.{Course, opened, course_of, course_in, taken, OfAttempt, Handed}
-use Rattle.reset.specs.World.{Event, take, status, copy, hand_member, hand_sequencer, Entry, Group, Happened, happen, missing, with_member, with_sequencer, no_terminal, terminal_at, World, step, run}
+use Rattle.reset.specs.World.{Event, take, status, copy, hand_member, hand_sequencer, Entry, Group, Happened, happen, missing, no_terminal, terminal_at, World, step}
 use Rattle.reset.proofs.Invariant.{group_in, Low, Survivor, Inv}
 use Rattle.reset.proofs.Led.{Led, asked, step_led}
 use Rattle.reset.proofs.Numbering.{own_seen}
 use Rattle.reset.proofs.Carried.{sound_member, called, take_is, status_is as terminal-status}
 use Rattle.reset.proofs.Same.{order_calls}
-use Rattle.reset.proofs.Seen.{Seen}
 use Rattle.reset.proofs.Staying.{step_stays}
-use Rattle.reset.proofs.Stepping.{take_calm, status_calm}
+use Rattle.reset.proofs.Stepping.{take_calm}
 use Rattle.reset.proofs.Unmade.{submitted_in, course_snoc}
-use Rattle.reset.proofs.View.{member_of, member_here}
+use Rattle.reset.proofs.View.{member_here}
 
 -- a sound terminal's calls are its member's
 module _ (t : Terminal) (sound : member_sound t ≡ true) where

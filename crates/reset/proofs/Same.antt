@@ -1,20 +1,18 @@
 -- Without a reset each event of the world answers, writes and leaves what it does in the group of `model`: no terminal replies, so no packet is
 -- refused but where the member and the sequencer refuse it. Assumes nothing.
 use mathlib.Core.Path.{◌≡◌, refl, sym, ap, ◌∙◌, subst}
-use mathlib.Core.Logic.{◌≢◌}
 use mathlib.Core.Bool.{Bool, true, false, false≢true}
 use mathlib.Core.Option.{Option, none, some}
 use mathlib.Core.List.{List, [], ◌∷◌, ◌++◌}
-use Prim.Native.Nat.{ℕ, zero, suc, ◌+◌, ◌-◌, ◌≤◌, ◌<◌}
-use native.Mathlib.Nat.{le_refl}
+use Prim.Native.Nat.{ℕ, zero, suc, ◌+◌, ◌≤◌, ◌<◌}
 use native.Mathlib.Omega.{arith}
-use borrow.Author.Tests.{lt-ltb, ltb-true, leb-true, le-leb, eq-eqb}
+use borrow.Author.Tests.{lt-ltb, ltb-true, eq-eqb}
 use lib.ListN.{length, get_or, set, get_elem?, replicate, length-set, length-replicate, get_or-replicate, get_or-eq_default}
 use lib.Seq.{get_or-set_same, get_or-set_other}
-use Rattle.group.proofs.Choice.{if_true, both_hold, both_first, both_then}
+use Rattle.group.proofs.Choice.{if_true, both_first}
 use Rattle.group.proofs.Lists.{if_elim, judged_elim, le_or, set_each, all_get}
-use Rattle.group.specs.Choice.{if◌then◌else◌, ◌and◌, ◌<?◌, ◌≤?◌, ◌=?◌}
-use Rattle.group.specs.Limits.{members_most, places_most, held_most, longest_packet, largest_number}
+use Rattle.group.specs.Choice.{if◌then◌else◌, ◌<?◌, ◌≤?◌, ◌=?◌}
+use Rattle.group.specs.Limits.{members_most, places_most, longest_packet, largest_number}
 use Rattle.group.specs.Opening.{description_of}
 use Rattle.group.specs.Question.{judged}
 use Rattle.group.specs.declared.Group as description
@@ -22,7 +20,6 @@ use Rattle.group.specs.declared.Refusal.{Refusal}
 use Rattle.group.specs.declared.Verdict.{Verdict}
 use Rattle.message.proofs.Kept.{empty_zero}
 use Rattle.message.specs.Message.{Message, empty_message, blank, is_empty}
-use Rattle.message.specs.Order.{Ordered}
 use Rattle.history.specs.State.{place_of}
 use Rattle.member.proofs.Closing.{receive_is}
 use Rattle.member.proofs.Soundness as memberSoundness
@@ -37,14 +34,12 @@ use Rattle.model.specs.World as model
 use Rattle.model.specs.World.{Answer, absent, by_sequencer, by_member}
 use Rattle.packet.proofs.Facts.{Facts, Says, Known}
 use Rattle.packet.proofs.Laws.{read_written, content_fields, fields_group}
-use Rattle.packet.specs.Packet.{read_of, payload_at, content_of, fields_of, from_elected, written}
-use Rattle.packet.specs.declared.Header.{Header}
+use Rattle.packet.specs.Packet.{read_of, payload_at, fields_of, from_elected, written}
 use Rattle.packet.specs.declared.Packet.{Packet}
 use Rattle.packet.specs.declared.Reading.{Reading}
 use Rattle.sequencer.specs.Calls as sequencer
 use Rattle.sequencer.specs.State.{Sequencer}
 use Rattle.window.specs.Places as window
-use Rattle.recovery.proofs.Asking.{member_called}
 use Rattle.recovery.proofs.Keeping.{of_member_lem, ResetSound}
 use Rattle.recovery.proofs.Kept.{KeptSound, took_kept, counted_length, read_kept, read_past, read_counts}
 use Rattle.recovery.proofs.Laws.{Frame, content_frame}
@@ -53,8 +48,8 @@ use Rattle.recovery.specs.Calls as terminal
 use Rattle.recovery.specs.Calls.{fresh_terminal}
 use Rattle.recovery.specs.Sound.{member_sound}
 use Rattle.recovery.specs.State.{Kept, Terminal, no_reset, fresh_kept}
-use Rattle.reset.specs.Same.{event_in, events_in, entry_in, entries_in, Alike, SameWithoutReset}
-use Rattle.reset.specs.World.{Event, Entry, Group, World, Happened, happen, missing, with_member, with_sequencer, no_terminal, terminal_at, at_terminal, take_at, at_sequencer, hand_to_member, hand_to_sequencer, step, run, fresh_terminals, fresh}
+use Rattle.reset.specs.Same.{event_in, events_in, entry_in, entries_in, SameWithoutReset}
+use Rattle.reset.specs.World.{Entry, Group, World, Happened, happen, missing, with_member, with_sequencer, no_terminal, terminal_at, at_terminal, take_at, at_sequencer, hand_to_member, hand_to_sequencer, step, run, fresh_terminals, fresh}
 
 -- terminal i of a world without a reset: the group's member, no part in a reset, and, if it is 0, the group's sequencer
 pub record Quiet (i : ℕ) (t : Terminal) (m : Member) (s : Sequencer) : Type 0 where

@@ -3,15 +3,14 @@
 -- keeps it. Assumes nothing.
 use mathlib.Core.Path.{◌≡◌, refl, sym, ap, ◌∙◌, subst, fun_ext}
 use mathlib.Core.Logic.{◌≢◌}
-use mathlib.Core.Bool.{Bool, true, false, false≢true}
-use mathlib.Core.Option.{some}
+use mathlib.Core.Bool.{Bool, true, false}
 use mathlib.Core.List.{List, ◌++◌}
-use Prim.Native.Nat.{ℕ, ◌+◌, ◌≤◌, ◌<◌}
+use Prim.Native.Nat.{ℕ, ◌≤◌, ◌<◌}
 use native.Mathlib.Nat.{le_refl, le_trans}
 use native.Mathlib.Omega.{arith}
 use lib.ListN.{length, length-take}
 use Rattle.group.proofs.Choice.{if_true, if_false}
-use Rattle.group.proofs.Lists.{if_elim, eq_or, at, at_append, All, all_append, all_map}
+use Rattle.group.proofs.Lists.{if_elim, eq_or, at_append, All, all_append, all_map}
 use Rattle.group.proofs.Members.{Standing, survivor_lt}
 use Rattle.group.specs.Choice.{if◌then◌else◌}
 use Rattle.group.specs.Limits.{longest_packet, largest_number}

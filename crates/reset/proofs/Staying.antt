@@ -1,10 +1,9 @@
 -- Who has the result of the group made last keeps it until the next making. Assumes nothing.
 use mathlib.Core.Path.{◌≡◌, refl, sym, ap, ◌∙◌, subst}
-use mathlib.Core.Logic.{◌≢◌, ◌⊎◌, inl, inr}
-use mathlib.Core.Bool.{Bool, true, false, false≢true}
+use mathlib.Core.Bool.{Bool, true, false}
 use mathlib.Core.Option.{Option, none, some}
-use mathlib.Core.List.{List, [], ◌∷◌, ◌++◌}
-use Prim.Native.Nat.{ℕ, ◌+◌, ◌≤◌, ◌<◌}
+use mathlib.Core.List.{List, []}
+use Prim.Native.Nat.{ℕ, ◌<◌}
 use native.Mathlib.Omega.{arith}
 use borrow.Author.Tests.{ltb-true, eqb-true}
 use lib.Count.{ones}
@@ -12,25 +11,21 @@ use lib.ListN.{length, get_or, set, get_elem?}
 use lib.Seq.{get_or-set_same, get_or-set_other}
 use Rattle.group.proofs.Choice.{both_first}
 use Rattle.group.proofs.Lists.{if_elim, judged_elim, eq_or, all_get}
-use Rattle.group.specs.Choice.{if◌then◌else◌, ◌and◌, ◌<?◌, ◌≤?◌, ◌=?◌}
+use Rattle.group.specs.Choice.{◌and◌, ◌<?◌, ◌≤?◌, ◌=?◌}
 use Rattle.group.specs.Limits.{longest_packet}
-use Rattle.group.specs.Members.{is_in, is_within, all_of}
-use Rattle.group.specs.Question.{judged}
+use Rattle.group.specs.Members.{is_in}
 use Rattle.group.specs.declared.Group as description
-use Rattle.group.specs.declared.Refusal.{Refusal}
 use Rattle.message.specs.Order.{Ordered}
 use Rattle.member.specs.State.{Member}
 use Rattle.model.specs.World.{by_member}
 use Rattle.packet.proofs.Laws.{content_fields}
-use Rattle.packet.specs.Packet.{read_of, payload_at, content_of, fields_of, survivors_in}
-use Rattle.packet.specs.declared.Header.{Header}
+use Rattle.packet.specs.Packet.{read_of, fields_of}
 use Rattle.packet.specs.declared.Packet.{Packet}
-use Rattle.packet.specs.declared.Reading.{Reading}
 use Rattle.recovery.specs.Calls as terminal
 use Rattle.recovery.specs.State.{Terminal}
 use Rattle.reset.specs.Course.{Course, is_sent, OfAttempt, Handed}
-use Rattle.reset.specs.World.{Event, submit, repeat, take, status, poll, copy, hand_member, hand_sequencer, invite, make, Group, Happened, happen, missing, with_member, with_sequencer, no_terminal, terminal_at, at_terminal, at_sequencer, hand_to_member, hand_to_sequencer}
-use Rattle.reset.proofs.Invariant.{Survivor, SaysReset, Resets, Covered, ours, elsewhere, resets, Inv}
+use Rattle.reset.specs.World.{Event, submit, repeat, take, status, poll, copy, hand_member, hand_sequencer, invite, make, Group, Happened, happen, missing, no_terminal, terminal_at, at_terminal, at_sequencer, hand_to_member, hand_to_sequencer}
+use Rattle.reset.proofs.Invariant.{SaysReset, Covered, ours, elsewhere, resets, Inv}
 use Rattle.reset.proofs.Replying.{of_reset_lem, reset_reads, reset_is}
 use Rattle.reset.proofs.Stepping.{Calm, submit_calm, repeat_calm, status_calm, take_calm, ours_reads, Asked}
 use Rattle.reset.proofs.Writing.{receive_stays}

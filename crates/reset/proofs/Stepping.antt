@@ -1,21 +1,19 @@
 -- Every allowed event keeps the world's invariant; a making sets where the made group began. Assumes nothing.
 use mathlib.Core.Path.{◌≡◌, refl, sym, ap, ◌∙◌, subst}
-use mathlib.Core.Logic.{◌≢◌, ◌⊎◌, inl, inr}
+use mathlib.Core.Logic.{◌≢◌}
 use mathlib.Core.Bool.{Bool, true, false, false≢true}
 use mathlib.Core.Option.{Option, none, some}
-use mathlib.Core.List.{List, [], ◌∷◌, ◌++◌, append-nil}
-use Prim.Native.Nat.{ℕ, zero, suc, ◌+◌, ◌-◌, ◌≤◌, ◌<◌}
-use native.Mathlib.Nat.{le_refl, le_trans}
+use mathlib.Core.List.{List, [], ◌++◌, append-nil}
+use Prim.Native.Nat.{ℕ, ◌+◌, ◌≤◌, ◌<◌}
 use native.Mathlib.Omega.{arith}
-use borrow.Author.Tests.{ltb-true, eqb-true, eqb-false, eq-eqb, ne_eqb}
+use borrow.Author.Tests.{ltb-true, eqb-true, eq-eqb, ne_eqb}
 use lib.Count.{ones}
 use lib.ListN.{length, get_or, set, get_elem?, length-set}
 use lib.ListN as list
 use lib.Seq.{get_or-set_same, get_or-set_other}
 use Rattle.big_endian.specs.Number.{bytes_of}
-use Rattle.group.proofs.Choice.{if_true, if_false, both_hold, both_first, both_then}
+use Rattle.group.proofs.Choice.{if_true, if_false, both_first, both_then}
 use Rattle.group.proofs.Lists.{if_elim, judged_elim, eq_or, All, all_map, all_get}
-use Rattle.group.proofs.Members.{survivor_lt}
 use Rattle.group.specs.Choice.{if◌then◌else◌, ◌and◌, ◌<?◌, ◌≤?◌, ◌=?◌}
 use Rattle.group.specs.Limits.{longest_packet, largest_number}
 use Rattle.group.specs.Members.{is_in, is_within, all_of}
@@ -32,10 +30,10 @@ use Rattle.member.specs.State.{Member}
 use Rattle.member.specs.declared.Answer as memberAnswer
 use Rattle.model.proofs.Round.{written_one, packet_long}
 use Rattle.model.specs.Log.{numbered_in, took_in, accepted_in}
-use Rattle.model.specs.World.{Answer, absent, by_sequencer, by_member}
+use Rattle.model.specs.World.{absent, by_sequencer, by_member}
 use Rattle.packet.proofs.Laws.{content_fields, fields_group}
 use Rattle.packet.proofs.RoundTrip.{header_back, payload_back}
-use Rattle.packet.specs.Packet.{header_of, header_bytes, read_of, payload_at, content_of, fields_of, packet_of, survivors_in, survivors_size, written}
+use Rattle.packet.specs.Packet.{header_of, read_of, payload_at, content_of, fields_of, packet_of, survivors_in, survivors_size, written}
 use Rattle.packet.specs.declared.Header.{Header}
 use Rattle.packet.specs.declared.Packet.{Packet}
 use Rattle.packet.specs.declared.Reading.{Reading}
@@ -48,21 +46,21 @@ use Rattle.recovery.proofs.Ordering.{ordered_group}
 use Rattle.recovery.specs.Begin.{cut_of, chosen_of, result_of}
 use Rattle.recovery.specs.Calls as terminal
 use Rattle.recovery.specs.Sound.{terminal_sound}
-use Rattle.recovery.specs.State.{Kept, Reset, Terminal, serves, reply_number}
-use Rattle.reset.specs.Course.{Course, numbering, invited, made, is_sent, bytes_in, course_of, took_at, submitted_at, Fresh, OfAttempt, Handed}
-use Rattle.reset.specs.World.{Event, submit, repeat, take, status, poll, copy, hand_member, hand_sequencer, invite, make, Group, Happened, happen, missing, with_member, with_sequencer, no_terminal, terminal_at, at_terminal, take_at, at_sequencer, hand_to_member, hand_to_sequencer}
+use Rattle.recovery.specs.State.{Reset, Terminal, reply_number}
+use Rattle.reset.specs.Course.{Course, invited, made, is_sent, bytes_in, course_of, took_at, submitted_at, Fresh, OfAttempt, Handed}
+use Rattle.reset.specs.World.{Event, submit, repeat, take, status, poll, copy, hand_member, hand_sequencer, invite, make, Group, Happened, happen, missing, with_member, with_sequencer, no_terminal, terminal_at, at_terminal, at_sequencer, hand_to_member, hand_to_sequencer}
 use Rattle.reset.proofs.Away.{inv_same, more_packets, away_next}
 use Rattle.reset.proofs.Before.{if_either}
 use Rattle.reset.proofs.Called.{wrote_covered, submit_next, repeat_next, status_next, take_next, receive_next}
-use Rattle.reset.proofs.Closed.{Shut, shut_receives, SequencerShut, shut_orders, reset_orders}
-use Rattle.reset.proofs.Following.{result_next, replied_frozen}
-use Rattle.reset.proofs.Invariant.{Has, has_all, Busy, Foreign, group_in, Low, Survivor, Sits, Elsewhere, GoodReply, GoodResult, SaysReset, Resets, Covered, ours, elsewhere, resets, Inv, with_order}
+use Rattle.reset.proofs.Closed.{Shut, shut_receives, shut_orders, reset_orders}
+use Rattle.reset.proofs.Following.{result_next}
+use Rattle.reset.proofs.Invariant.{has_all, Foreign, Low, Survivor, Elsewhere, GoodReply, GoodResult, SaysReset, Resets, Covered, ours, elsewhere, resets, Inv, with_order}
 use Rattle.reset.proofs.Inviting.{invite_next}
-use Rattle.reset.proofs.Making.{made_from, attempt_is, itself, survives, stands_at, survivors_back, fields_fit, make_next}
+use Rattle.reset.proofs.Making.{made_from, attempt_is, itself, stands_at, survivors_back, fields_fit, make_next}
 use Rattle.reset.proofs.Numbering.{poll_next, copy_next, order_is, order_next}
 use Rattle.reset.proofs.Replying.{of_reset_lem, reset_reads, reset_is, invited_next, counted_next}
 use Rattle.reset.proofs.Same.{known_plain}
-use Rattle.reset.proofs.Writing.{reads_back, Wrote, wrote_reads, SequencerWrote, poll_sends_own, copy_sends_own, order_sends, submit_writes, repeat_writes, status_writes, Stays, receive_stays}
+use Rattle.reset.proofs.Writing.{reads_back, Wrote, wrote_reads, SequencerWrote, poll_sends_own, copy_sends_own, order_sends, submit_writes, repeat_writes, status_writes, receive_stays}
 
 -- a call that leaves the group, the part in a reset, and the sequencer
 pub record Calm (t t' : Terminal) : Type 0 where

@@ -3,11 +3,11 @@
 use mathlib.Core.Path.{◌≡◌, refl, sym, ap, ◌∙◌, subst}
 use mathlib.Core.Logic.{◌≢◌}
 use mathlib.Core.Bool.{Bool, true, false, false≢true}
-use mathlib.Core.List.{List, [], ◌∷◌, ◌++◌, append-nil}
-use Prim.Native.Nat.{ℕ, zero, suc, ◌+◌, ◌-◌, ◌^◌, ◌≤◌, ◌<◌}
-use native.Mathlib.Nat.{le_refl, le_trans, lt_of_lt_of_le}
+use mathlib.Core.List.{List, [], append-nil}
+use Prim.Native.Nat.{ℕ, zero, suc, ◌+◌, ◌^◌, ◌≤◌, ◌<◌}
+use native.Mathlib.Nat.{le_refl, lt_of_lt_of_le}
 use native.Mathlib.Omega.{arith}
-use borrow.Author.Tests.{ltb-true, leb-true, eqb-true, eq-eqb, ne_eqb}
+use borrow.Author.Tests.{ltb-true, leb-true, eqb-true, ne_eqb}
 use lib.Bits.{bit_and, mask_lt}
 use lib.Count.{ones, ones-ones}
 use lib.ListN.{length, get_or, get_elem?, length-take}
@@ -15,29 +15,26 @@ use lib.Pow.{pow_mono}
 use lib.ListN as list
 use lib.Seq.{take-take, length-take-le}
 use Rattle.group.proofs.Choice.{if_true, if_false, both_first, both_then}
-use Rattle.group.proofs.Counting.{one, count, count_more, one_false, one_true, ones_count}
+use Rattle.group.proofs.Counting.{one, count, count_more, one_true, ones_count}
 use Rattle.group.proofs.Expected.{needed_are}
-use Rattle.group.proofs.Lists.{if_elim, judged_elim, le_or}
+use Rattle.group.proofs.Lists.{if_elim, judged_elim}
 use Rattle.group.proofs.Members.{in_all, Standing, fresh_standing, others_in}
 use Rattle.group.specs.Choice.{if◌then◌else◌, ◌and◌, ◌<?◌, ◌≤?◌, ◌=?◌}
 use Rattle.group.specs.Limits.{members_most, longest_packet, largest_number}
-use Rattle.group.specs.Members.{is_in, all_of, others_of, needed_of}
+use Rattle.group.specs.Members.{is_in, all_of, others_of}
 use Rattle.group.specs.Opening.{description_of}
 use Rattle.group.specs.declared.Group as description
-use Rattle.group.specs.declared.MemberNumber.{MemberNumber}
-use Rattle.group.specs.declared.Refusal.{Refusal}
 use Rattle.big_endian.proofs.Number.{number_of_bytes}
 use Rattle.big_endian.specs.Number.{number_at, bytes_of}
 use Rattle.message.specs.Order.{Ordered}
 use Rattle.member.proofs.Acknowledged.{reach_least}
 use Rattle.member.specs.State.{Member, reach_of}
-use Rattle.member.specs.declared.Answer as memberAnswer
-use Rattle.model.proofs.Invariant.{Inv, reach_in}
+use Rattle.model.proofs.Invariant.{reach_in}
 use Rattle.model.specs.Claim.{Opens}
 use Rattle.model.specs.World as model
 use Rattle.model.specs.World.{Answer, by_member}
 use Rattle.packet.proofs.RoundTrip.{header_back, payload_back}
-use Rattle.packet.specs.Packet.{header_of, payload_at, fields_of, packet_of, survivors_in, survivors_size, written}
+use Rattle.packet.specs.Packet.{header_of, payload_at, fields_of, packet_of, survivors_in, survivors_size}
 use Rattle.packet.specs.declared.Header.{Header}
 use Rattle.packet.specs.declared.Packet.{Packet}
 use Rattle.sequencer.proofs.Invariant.{reaches}
@@ -48,12 +45,11 @@ use Rattle.recovery.proofs.Keeping.{Sound, sound_of_lem}
 use Rattle.recovery.specs.Begin.{cut_of, chosen_of}
 use Rattle.recovery.specs.Calls as terminal
 use Rattle.recovery.specs.State.{Reset, Terminal, serves, reply_number}
-use Rattle.reset.specs.Claim.{Begins, Survived, SurvivesFirst, Unmade}
+use Rattle.reset.specs.Claim.{Begins, Survived, SurvivesFirst}
 use Rattle.reset.specs.Course.{Course, opened, made, is_sent, bytes_in, course_of, course_in, taken}
 use Rattle.reset.specs.Closing.{sequencer_of}
-use Rattle.reset.specs.World.{Event, make, Entry, Group, Happened, happen, missing, terminal_at, at_terminal, World, step}
+use Rattle.reset.specs.World.{make, Happened, happen, terminal_at, World, step}
 use Rattle.reset.proofs.Before.{serves0, reply_fits}
-use Rattle.reset.proofs.First.{Rel, Replied}
 use Rattle.reset.proofs.Unmade.{course_snoc, Begun, unmade_begun, submitted_in}
 
 -- three that exclude each other are at most all

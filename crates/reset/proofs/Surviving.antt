@@ -1,6 +1,6 @@
 -- Survival at any making: where as many as have to confirm have all that is accepted, and at most r survivors are lost, the order ends behind every accepted
 -- message. Assumes nothing.
-use mathlib.Core.Path.{◌≡◌, refl, sym, ap, ◌∙◌, subst}
+use mathlib.Core.Path.{◌≡◌, refl, sym, ◌∙◌, subst}
 use mathlib.Core.Logic.{◌≢◌}
 use mathlib.Core.Bool.{Bool, true, false, false≢true}
 use Prim.Native.Nat.{ℕ, zero, suc, ◌+◌, ◌^◌, ◌≤◌, ◌<◌}
@@ -9,10 +9,9 @@ use native.Mathlib.Omega.{arith}
 use borrow.Author.Tests.{leb-true}
 use lib.Count.{ones}
 use Rattle.group.proofs.Choice.{both_first, both_then}
-use Rattle.group.proofs.Counting.{one, count, one_false, one_true, one_mono, count_within, count_more, ones_count}
-use Rattle.group.proofs.Lists.{if_elim}
+use Rattle.group.proofs.Counting.{one, count, count_within, count_more, ones_count}
 use Rattle.group.proofs.Members.{Standing, survivor_lt, survivors_lt, in_others, others_in}
-use Rattle.group.specs.Choice.{if◌then◌else◌, ◌and◌, ◌≤?◌}
+use Rattle.group.specs.Choice.{if◌then◌else◌}
 use Rattle.group.specs.Limits.{members_most}
 use Rattle.group.specs.Members.{is_in, elected_of, others_of, needed_of}
 use Rattle.group.specs.declared.Group.{Group}

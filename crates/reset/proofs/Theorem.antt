@@ -1,12 +1,11 @@
 -- Demand 3 of the survivors, wherever it is claimed; and survival at the first making, and at one with a closing round since the one before. Assumes nothing.
 use mathlib.Core.Path.{◌≡◌, refl, sym, ap, ap₂, ◌∙◌, subst}
-use mathlib.Core.Logic.{◌≢◌}
 use mathlib.Core.Bool.{Bool, true, false, false≢true}
 use mathlib.Core.List.{List, [], ◌∷◌, ◌++◌}
 use Prim.Native.Nat.{ℕ, zero, suc, ◌+◌, ◌-◌, ◌*◌, ◌^◌, ◌≤◌, ◌<◌}
-use native.Mathlib.Nat.{le_refl, le_trans, suc-mul, zero-mul, zero-add}
+use native.Mathlib.Nat.{suc-mul, zero-mul, zero-add}
 use native.Mathlib.Omega.{arith}
-use lib.Bits.{bit_and, mask_lt}
+use lib.Bits.{mask_lt}
 use lib.Count.{ones}
 use lib.ListN.{length, get_or, length-append}
 use lib.ListN as list
@@ -16,25 +15,22 @@ use Rattle.group.proofs.Counting.{one, count, one_true, one_false, ones_count}
 use Rattle.group.proofs.Lists.{if_elim}
 use Rattle.group.proofs.Members.{all_in}
 use Rattle.group.specs.Choice.{if◌then◌else◌}
-use Rattle.group.specs.Limits.{places_most, waiting_most}
-use Rattle.group.specs.Members.{is_in, all_of}
+use Rattle.group.specs.Limits.{places_most}
+use Rattle.group.specs.Members.{is_in}
 use Rattle.group.specs.declared.Group as description
-use Rattle.history.proofs.Soundness.{taken_in}
-use Rattle.message.specs.Order.{Ordered, own_of}
 use Rattle.member.proofs.Acknowledged.{acknowledged_near, reach_least}
 use Rattle.member.specs.State.{Member, reach_of, acknowledged_of}
 use Rattle.model.proofs.Sums.{sum_first}
 use Rattle.model.proofs.Whole.{whole_of, owns_of, history_is}
-use Rattle.model.specs.Claim.{Opens, sum, without_last}
+use Rattle.model.specs.Claim.{Opens, sum}
 use Rattle.model.specs.Closing.{closing_most}
-use Rattle.model.specs.Log.{history_of}
 use Rattle.sequencer.proofs.Ordering.{floor_survivors}
 use Rattle.sequencer.proofs.Soundness.{sound_of_lem}
 use Rattle.sequencer.specs.State.{Sequencer}
 use Rattle.recovery.specs.State.{Terminal}
-use Rattle.reset.specs.Claim.{accepted_order, offered_order, owed, Claimed, Claim, Demand3Reset, MakesNone, Firm, first, closed, on, Survives}
+use Rattle.reset.specs.Claim.{accepted_order, owed, Claimed, Claim, Demand3Reset, MakesNone, Firm, first, closed, on, Survives}
 use Rattle.reset.specs.Closing.{take_row, close_member, close_from, sequencer_of, closing}
-use Rattle.reset.specs.Course.{Course, opened, is_sent, course_of, course_from, course_in, taken, accepted, Allowed, Orderly}
+use Rattle.reset.specs.Course.{Course, opened, is_sent, course_of, course_from, course_in, taken, Allowed}
 use Rattle.reset.specs.World.{Event, submit, repeat, take, status, poll, copy, hand_member, hand_sequencer, invite, make, Entry, happen, terminal_at, no_terminal, World, step, run, fresh}
 use Rattle.reset.proofs.Ending.{Closes, closes_all}
 use Rattle.reset.proofs.Invariant.{group_in, Inv}

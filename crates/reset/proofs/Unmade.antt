@@ -1,27 +1,25 @@
 -- A world in which no group was made is a group of `model`, from a fresh one on. Assumes nothing.
 use mathlib.Core.Path.{◌≡◌, refl, sym, ap, ◌∙◌, subst}
-use mathlib.Core.Logic.{◌≢◌, ◌⊎◌, inl, inr}
 use mathlib.Core.Bool.{Bool, true, false, false≢true}
 use mathlib.Core.Option.{Option, none, some}
 use mathlib.Core.List.{List, [], ◌∷◌, ◌++◌, append-nil}
-use Prim.Native.Nat.{ℕ, zero, suc, ◌+◌, ◌-◌, ◌^◌, ◌≤◌, ◌<◌}
+use Prim.Native.Nat.{ℕ, ◌+◌, ◌≤◌, ◌<◌}
 use native.Mathlib.Omega.{arith}
-use borrow.Author.Tests.{lt-ltb, le-ltb, eq-eqb, ne_eqb, eqb-true}
-use lib.ListN.{length, get_or, set, replicate, get_elem?, length-replicate, get_or-replicate, get_or-eq_default}
+use borrow.Author.Tests.{le-ltb, eq-eqb}
+use lib.ListN.{length, get_or, replicate, get_elem?, length-replicate, get_or-replicate, get_or-eq_default}
 use lib.Pow.{pow_pos}
 use Rattle.group.proofs.Choice.{if_true, if_false, both_hold, first_fails}
 use Rattle.group.proofs.Fold.{at_all}
-use Rattle.group.proofs.Lists.{if_elim, eq_or, le_or, All}
+use Rattle.group.proofs.Lists.{if_elim, le_or}
 use Rattle.group.proofs.Members.{in_all, in_zero}
 use Rattle.group.specs.Choice.{if◌then◌else◌, ◌and◌, ◌<?◌, ◌=?◌}
-use Rattle.group.specs.Fold.{all}
-use Rattle.group.specs.Limits.{members_most, places_most, longest_packet, largest_number}
+use Rattle.group.specs.Limits.{members_most, places_most}
 use Rattle.group.specs.Members.{is_in, all_of}
 use Rattle.group.specs.Opening.{description_of}
 use Rattle.group.specs.declared.Group as description
 use Rattle.history.specs.State.{Acknowledgement, no_acknowledgement}
 use Rattle.message.proofs.Kept.{empty_zero}
-use Rattle.message.specs.Message.{Message, empty_message, blank, is_empty}
+use Rattle.message.specs.Message.{empty_message, blank, is_empty}
 use Rattle.message.specs.Order.{Ordered}
 use Rattle.member.proofs.Soundness as memberSoundness
 use Rattle.member.specs.State.{Member}
@@ -34,16 +32,16 @@ use Rattle.model.specs.World.{Answer, absent}
 use Rattle.sequencer.specs.Calls as sequencer
 use Rattle.sequencer.specs.Laws as sequencerLaws
 use Rattle.sequencer.specs.Sound as sequencerCalls
-use Rattle.sequencer.specs.State.{Sequencer, fresh_sequencer}
+use Rattle.sequencer.specs.State.{fresh_sequencer}
 use Rattle.recovery.proofs.Holding.{no_mark}
-use Rattle.recovery.proofs.Keeping.{Sound, of_sound}
+use Rattle.recovery.proofs.Keeping.{of_sound}
 use Rattle.recovery.specs.Calls.{fresh_terminal}
-use Rattle.recovery.specs.Sound.{zero_sequencer, sequencer_sound, terminal_sound}
+use Rattle.recovery.specs.Sound.{zero_sequencer, sequencer_sound}
 use Rattle.recovery.specs.State.{Terminal, no_sequencer}
 use Rattle.reset.specs.Claim.{Unmade, begun, next, MakesNone}
-use Rattle.reset.specs.Course.{Course, opened, numbering, invited, made, is_sent, bytes_in, course_of, course_from, course_in, took_at, submitted_at, taken, Allowed}
-use Rattle.reset.specs.World.{Event, submit, repeat, take, status, poll, copy, hand_member, hand_sequencer, invite, make, Entry, Group, Happened, happen, missing, terminal_at, hand_to_sequencer, World, step, run, no_terminal, fresh_terminals, fresh}
-use Rattle.reset.proofs.Before.{if_either, ordered_by, Next, Asked, step_next, inv_ext}
+use Rattle.reset.specs.Course.{Course, opened, is_sent, course_of, course_from, course_in, submitted_at, taken, Allowed}
+use Rattle.reset.specs.World.{Event, submit, repeat, take, status, poll, copy, hand_member, hand_sequencer, invite, make, Entry, Group, Happened, happen, missing, terminal_at, hand_to_sequencer, World, step, no_terminal, fresh_terminals, fresh}
+use Rattle.reset.proofs.Before.{if_either, ordered_by, Asked, step_next, inv_ext}
 use Rattle.reset.proofs.First.{Stands, Rel}
 use Rattle.reset.proofs.Same.{Quiet, no_reset_lem, fresh_quiet, terminals_length, members_length, terminals_at}
 

@@ -1,17 +1,16 @@
 -- A survivor's member's call: what it owes the group made last keeps the world's invariant. Assumes nothing.
 use mathlib.Core.Path.{◌≡◌, refl, sym, ap, ◌∙◌, subst}
-use mathlib.Core.Logic.{◌≢◌, ◌⊎◌, inl, inr}
+use mathlib.Core.Logic.{◌≢◌}
 use mathlib.Core.Bool.{Bool, true, false, false≢true}
-use mathlib.Core.List.{List, [], ◌∷◌, ◌++◌, append-nil}
-use Prim.Native.Nat.{ℕ, zero, suc, ◌+◌, ◌-◌, ◌≤◌, ◌<◌}
-use native.Mathlib.Nat.{le_refl, le_trans}
+use mathlib.Core.List.{List, [], ◌++◌, append-nil}
+use Prim.Native.Nat.{ℕ, ◌≤◌, ◌<◌}
+use native.Mathlib.Nat.{le_refl}
 use native.Mathlib.Omega.{arith}
 use borrow.Author.Tests.{eqb-true}
-use lib.ListN.{length, get_or, take, get_elem?}
-use lib.Seq.{length-take-le}
-use Rattle.group.proofs.Choice.{if_true, if_false, both_first, both_then}
+use lib.ListN.{length}
+use Rattle.group.proofs.Choice.{if_true, both_first, both_then}
 use Rattle.group.proofs.Lists.{if_elim, eq_or, All, all_map}
-use Rattle.group.specs.Choice.{if◌then◌else◌, ◌and◌, ◌=?◌}
+use Rattle.group.specs.Choice.{◌and◌, ◌=?◌}
 use Rattle.group.specs.Limits.{places_most, members_most}
 use Rattle.group.specs.Members.{is_in}
 use Rattle.group.specs.declared.Group as description
@@ -19,26 +18,21 @@ use Rattle.group.specs.declared.MemberNumber.{MemberNumber}
 use Rattle.history.proofs.Soundness.{taken_in}
 use Rattle.message.specs.Order.{Ordered}
 use Rattle.member.proofs.Acknowledged.{reach_most}
-use Rattle.member.proofs.Invariant as memberInvariant
 use Rattle.member.proofs.Invariant.{MemberGood}
-use Rattle.member.specs.Calls as member
 use Rattle.member.specs.Laws as memberLaws
 use Rattle.member.specs.State.{Member, reach_of}
 use Rattle.member.specs.declared.Answer.{Answer}
-use Rattle.sequencer.proofs.Invariant.{SequencerInv}
 use Rattle.sequencer.specs.State.{Sequencer}
-use Rattle.recovery.proofs.Laws.{Frame}
 use Rattle.recovery.specs.Calls as terminal
-use Rattle.recovery.specs.Laws as terminalLaws
 use Rattle.recovery.specs.Sound.{terminal_sound}
-use Rattle.recovery.specs.State.{Kept, Reset, Terminal, serves, reply_number}
+use Rattle.recovery.specs.State.{Kept, Terminal, serves, reply_number}
 use Rattle.reset.specs.Course.{Course}
-use Rattle.reset.proofs.First.{Steady, same_steady}
-use Rattle.reset.proofs.Invariant.{Has, Busy, Foreign, group_in, Low, Survivor, Sits, Answered, Open, Covered, ours, elsewhere, resets, FloorLow, Inv, with_order, Goes}
-use Rattle.reset.proofs.Keep.{keep, low_goes, top_le}
+use Rattle.reset.proofs.First.{same_steady}
+use Rattle.reset.proofs.Invariant.{Foreign, group_in, Low, Survivor, Sits, Open, Covered, FloorLow, Inv, Goes}
+use Rattle.reset.proofs.Keep.{keep, low_goes}
 use Rattle.reset.proofs.Remembering.{Remembers}
 use Rattle.reset.proofs.Seen.{Seen, member_seen}
-use Rattle.reset.proofs.View.{has_result, member_of, sequencer_of, member_here, sequencer_here}
+use Rattle.reset.proofs.View.{member_of, sequencer_of, member_here, sequencer_here}
 
 -- the group's description stays, and who it is
 pub record Kin (m m' : Member) : Type 0 where

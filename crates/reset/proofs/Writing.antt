@@ -2,18 +2,17 @@
 -- each of its own. Assumes nothing.
 use mathlib.Core.Path.{◌≡◌, refl, sym, ap, ◌∙◌, subst}
 use mathlib.Core.Bool.{Bool, true, false, false≢true}
-use mathlib.Core.List.{List, [], ◌∷◌, ◌++◌}
-use Prim.Native.Nat.{ℕ, ◌+◌, ◌-◌, ◌≤◌, ◌<◌}
-use native.Mathlib.Nat.{le_refl, le_trans}
+use mathlib.Core.List.{List, [], ◌∷◌}
+use Prim.Native.Nat.{ℕ, ◌+◌, ◌-◌, ◌≤◌}
+use native.Mathlib.Nat.{le_refl}
 use native.Mathlib.Omega.{arith}
 use lib.ListN.{length}
 use Rattle.big_endian.proofs.Number.{number_behind, number_of_bytes}
-use Rattle.big_endian.specs.Number.{number_at, bytes_of}
+use Rattle.big_endian.specs.Number.{bytes_of}
 use Rattle.group.proofs.Lists.{if_elim, judged_elim, All}
 use Rattle.group.specs.Choice.{if◌then◌else◌, ◌and◌, ◌<?◌, ◌≤?◌, ◌=?◌}
-use Rattle.group.specs.Limits.{held_most, places_most, largest_number, longest_packet}
+use Rattle.group.specs.Limits.{held_most, places_most, largest_number}
 use Rattle.group.specs.Members.{is_in, expected_of}
-use Rattle.group.specs.Question.{judged}
 use Rattle.group.specs.declared.Group.{Group}
 use Rattle.group.specs.declared.MemberNumber.{MemberNumber}
 use Rattle.group.specs.declared.Refusal.{Refusal}
@@ -39,7 +38,7 @@ use Rattle.sequencer.specs.State.{Sequencer, last_count}
 use Rattle.window.specs.Places as window
 use Rattle.recovery.proofs.Laws.{content_frame}
 use Rattle.recovery.specs.Calls as terminal
-use Rattle.recovery.specs.State.{Kept, Terminal}
+use Rattle.recovery.specs.State.{Terminal}
 
 -- a choice made twice alike
 if_both : {A : Type 0} (R : A → A → Type 0) (b : Bool) {x x' y y' : A} → R x x' → R y y' → R (if b then x else y) (if b then x' else y')

@@ -1,5 +1,5 @@
 -- Demand 3 of the survivors, wherever it is claimed; and what a making keeps.
-use Rattle.std.specs.Prelude.{◌≡◌, true, List, [], ◌∷◌, ◌++◌, ℕ, zero, suc, ◌+◌, ◌*◌, ◌≤◌, ◌<◌, length}
+use Rattle.std.specs.Prelude.{◌≡◌, true, List, ◌++◌, ℕ, ◌+◌, ◌*◌, ◌≤◌, length}
 use Rattle.std.specs.Int.Count.{ones}
 use Rattle.std.proofs.Math.ListN as list
 use Rattle.group.specs.Choice.{if◌then◌else◌}
@@ -9,9 +9,8 @@ use Rattle.message.specs.Order.{Ordered, own_of}
 use Rattle.model.specs.Claim.{sum, without_last, Opens}
 use Rattle.model.specs.Closing.{closing_most}
 use Rattle.model.specs.Log.{row_of, owed_after, history_of, accepted_history}
-use Rattle.model.specs.World.{Answer}
 use Rattle.reset.specs.Closing.{sequencer_of, closing}
-use Rattle.reset.specs.Course.{Course, course_in, course_of, taken, accepted, Allowed, Orderly, is_sent, bytes_in}
+use Rattle.reset.specs.Course.{Course, course_in, taken, accepted, Allowed, Orderly, is_sent}
 use Rattle.reset.specs.World.{Event, submit, repeat, take, status, poll, copy, hand_member, hand_sequencer, invite, make, World, happen, step, run, fresh, terminal_at}
 
 -- the accepted messages of the order, and the others

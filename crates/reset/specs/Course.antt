@@ -12,8 +12,6 @@ use Rattle.member.specs.declared.Answer as memberAnswer
 use Rattle.model.specs.Log.{gather, numbered_in, took_in, accepted_in}
 use Rattle.model.specs.World.{Answer, absent, by_sequencer, by_member}
 use Rattle.packet.specs.Packet.{header_of, payload_at, read_of, content_of, survivors_in}
-use Rattle.packet.specs.declared.Header.{Header}
-use Rattle.packet.specs.declared.Packet.{Packet}
 use Rattle.packet.specs.declared.Reading.{Reading}
 use Rattle.recovery.specs.Calls.{of_reset}
 use Rattle.reset.specs.World.{Event, submit, repeat, take, status, poll, copy, hand_member, hand_sequencer, invite, make, Entry, World, step}

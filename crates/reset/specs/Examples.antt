@@ -1,5 +1,5 @@
 -- Lists of events, played: a sequencer's terminal that burns out, and the four lists that break the claim once their limit is dropped.
-use Rattle.std.specs.Prelude.{◌≡◌, true, false, List, [], ◌∷◌, ◌++◌, ℕ, drop}
+use Rattle.std.specs.Prelude.{◌≡◌, List, [], ◌∷◌, ◌++◌, ℕ, drop}
 use Rattle.group.specs.declared.Refusal.{Refusal}
 use Rattle.member.specs.declared.Answer as memberAnswer
 use Rattle.message.specs.Order.{Ordered}
@@ -8,7 +8,7 @@ use Rattle.sequencer.specs.declared.Answer as sequencerAnswer
 use Rattle.reset.specs.Claim.{accepted_order, owed}
 use Rattle.reset.specs.Closing.{sequencer_of, closing}
 use Rattle.reset.specs.Course.{Course, course_in, taken}
-use Rattle.reset.specs.World.{Event, submit, repeat, take, status, poll, copy, hand_member, hand_sequencer, invite, make, Entry, World, run, fresh, terminal_at}
+use Rattle.reset.specs.World.{Event, submit, take, copy, hand_member, hand_sequencer, invite, make, Entry, World, run, fresh}
 
 -- an order of the first message of i alone, and a second one of j
 abbrev pub first_of : ℕ → List Ordered

@@ -1,12 +1,12 @@
 -- The world is n terminals and the list of all packets written so far, first at index 0. Each event gets the states and packets as the one
 -- before left them, and nothing else writes them in between.
-use Rattle.std.specs.Prelude.{Bool, true, false, List, [], ◌∷◌, ◌++◌, ℕ, zero, suc, ◌+◌, length, get_or, set}
+use Rattle.std.specs.Prelude.{false, List, [], ◌∷◌, ◌++◌, ℕ, zero, suc, ◌+◌, length, get_or, set}
 use Rattle.std.proofs.Math.Option.{Option, none, some}
 use Rattle.std.proofs.Math.ListN.{get_elem?}
 use Rattle.group.specs.Choice.{if◌then◌else◌, ◌and◌, ◌<?◌}
 use Rattle.group.specs.Limits.{longest_packet}
 use Rattle.group.specs.Opening.{description_of}
-use Rattle.member.specs.State.{Member, fresh_member}
+use Rattle.member.specs.State.{fresh_member}
 use Rattle.packet.specs.Packet.{written}
 use Rattle.model.specs.World.{Answer, absent, by_sequencer, by_member}
 use Rattle.recovery.specs.Calls as terminal

@@ -4,7 +4,7 @@ use mathlib.Core.Path.{◌≡◌, refl, sym, ap, ◌∙◌}
 use mathlib.Core.List.{List, [], ◌∷◌}
 use mathlib.Core.Option.{Option, none, some}
 use Prim.Native.Char.{code}
-use Prim.Native.Nat.{ℕ, ◌+◌, ◌/◌, ◌≤◌, zero-le}
+use Prim.Native.Nat.{ℕ, ◌/◌, ◌≤◌, zero-le}
 use native.Mathlib.Omega.{arith}
 use lib.ListN.{length, drop}
 use lib.Seq.{take_at}
@@ -14,7 +14,7 @@ use borrow.Author.Tests.{leb-true}
 use Rattle.reset.specs.World.{Event, submit, repeat, take, status, poll, copy, hand_member, hand_sequencer, invite, make}
 use Rattle.schedule.specs.Line.{line_most, payload_room}
 use Rattle.schedule.proofs.Laws.{total, fields_total, hex_half}
-use Rattle.text.specs.Field.{fields_of, letter_of, number_in, is_hex, hex_bytes, hex_in}
+use Rattle.text.specs.Field.{fields_of, letter_of, number_in, is_hex, hex_in}
 use Rattle.reset_schedule.specs.Line.{submitted, with_two, form_of, event_of, command_of, payload_of}
 use Rattle.reset_schedule.specs.Laws.{meant_by, CommandMeans, SubmitFits}
 use Rattle.reset_schedule.specs.declared.Command.{Command}

@@ -5,7 +5,7 @@ use std::path::Path;
 fn main() {
     let folder = Path::new(env!("CARGO_MANIFEST_DIR")).join("../../target/staticlib");
     println!("cargo:rustc-link-search=native={}", folder.display());
-    for library in ["boundary", "ends", "rounds", "terminal_ends"] {
+    for library in ["boundary", "ends_c", "rounds", "terminal_ends"] {
         let archive = folder.join(format!("lib{library}.a"));
         println!("cargo:rerun-if-changed={}", archive.display());
         assert!(

@@ -2,4 +2,3 @@ pub mod Codes
 pub mod Answers
 pub mod Founds
 pub mod Writing
-pub mod Passing

@@ -164,13 +164,7 @@ pub fn opening_tells(verdict: Verdict) -> Told
 }
 
 // The sequencer of n members in the group with that number and resilience degree, fresh. A refusal leaves it closed.
-#[unsafe(no_mangle)]
-pub extern "C" fn warghytes_sequencer_open(
-    s: &mut Sequencer,
-    n: u8,
-    group: u32,
-    resilience: u8,
-) -> Told
+pub fn warghytes_sequencer_open(s: &mut Sequencer, n: u8, group: u32, resilience: u8) -> Told
     ensures { SequencerOpens s.old n group resilience result s.new }
 {
     let verdict = s.open(n, group, resilience);
@@ -178,12 +172,7 @@ pub extern "C" fn warghytes_sequencer_open(
 }
 
 // A packet that came.
-#[unsafe(no_mangle)]
-pub extern "C" fn warghytes_sequencer_receive(
-    s: &mut Sequencer,
-    packet: &[u8],
-    out: &mut [u8],
-) -> Told
+pub fn warghytes_sequencer_receive(s: &mut Sequencer, packet: &[u8], out: &mut [u8]) -> Told
     ensures { SequencerReceives s.old packet.now out.old result s.new out.new }
 {
     let reply = s.receive(packet, out);
@@ -191,8 +180,7 @@ pub extern "C" fn warghytes_sequencer_receive(
 }
 
 // A poll.
-#[unsafe(no_mangle)]
-pub extern "C" fn warghytes_sequencer_poll(s: &Sequencer, out: &mut [u8]) -> Told
+pub fn warghytes_sequencer_poll(s: &Sequencer, out: &mut [u8]) -> Told
     ensures { SequencerPolls s.now out.old result out.new }
 {
     let reply = s.poll(out);
@@ -200,8 +188,7 @@ pub extern "C" fn warghytes_sequencer_poll(s: &Sequencer, out: &mut [u8]) -> Tol
 }
 
 // The broadcast of a number again, or its offer if it is not accepted.
-#[unsafe(no_mangle)]
-pub extern "C" fn warghytes_sequencer_copy(s: &Sequencer, number: u32, out: &mut [u8]) -> Told
+pub fn warghytes_sequencer_copy(s: &Sequencer, number: u32, out: &mut [u8]) -> Told
     ensures { SequencerCopies s.now number out.old result out.new }
 {
     let reply = s.copy(SequenceNumber(number), out);
@@ -209,14 +196,7 @@ pub extern "C" fn warghytes_sequencer_copy(s: &Sequencer, number: u32, out: &mut
 }
 
 // Member `number` of n in the group with that number and resilience degree, fresh. A refusal leaves it closed.
-#[unsafe(no_mangle)]
-pub extern "C" fn warghytes_member_open(
-    s: &mut Member,
-    n: u8,
-    number: u8,
-    group: u32,
-    resilience: u8,
-) -> Told
+pub fn warghytes_member_open(s: &mut Member, n: u8, number: u8, group: u32, resilience: u8) -> Told
     ensures { MemberOpens s.old n number group resilience result s.new }
 {
     let verdict = s.open(n, MemberNumber(number), group, resilience);
@@ -224,8 +204,7 @@ pub extern "C" fn warghytes_member_open(
 }
 
 // A message to be sent to all.
-#[unsafe(no_mangle)]
-pub extern "C" fn warghytes_member_submit(s: &mut Member, payload: &[u8], out: &mut [u8]) -> Told
+pub fn warghytes_member_submit(s: &mut Member, payload: &[u8], out: &mut [u8]) -> Told
     ensures { MemberSubmits s.old payload.now out.old result s.new out.new }
 {
     let reply = s.submit(payload, out);
@@ -233,8 +212,7 @@ pub extern "C" fn warghytes_member_submit(s: &mut Member, payload: &[u8], out: &
 }
 
 // A packet that came.
-#[unsafe(no_mangle)]
-pub extern "C" fn warghytes_member_receive(s: &mut Member, packet: &[u8], out: &mut [u8]) -> Told
+pub fn warghytes_member_receive(s: &mut Member, packet: &[u8], out: &mut [u8]) -> Told
     ensures { MemberReceives s.old packet.now out.old result s.new out.new }
 {
     let reply = s.receive(packet, out);
@@ -242,8 +220,7 @@ pub extern "C" fn warghytes_member_receive(s: &mut Member, packet: &[u8], out: &
 }
 
 // The next message in order.
-#[unsafe(no_mangle)]
-pub extern "C" fn warghytes_member_take(s: &mut Member, out: &mut [u8]) -> Told
+pub fn warghytes_member_take(s: &mut Member, out: &mut [u8]) -> Told
     ensures { MemberTakes s.old out.old result s.new out.new }
 {
     let reply = s.take(out);
@@ -251,8 +228,7 @@ pub extern "C" fn warghytes_member_take(s: &mut Member, out: &mut [u8]) -> Told
 }
 
 // The request of the first message that waits, again.
-#[unsafe(no_mangle)]
-pub extern "C" fn warghytes_member_repeat(s: &Member, out: &mut [u8]) -> Told
+pub fn warghytes_member_repeat(s: &Member, out: &mut [u8]) -> Told
     ensures { MemberRepeats s.now out.old result out.new }
 {
     let reply = s.repeat(out);
@@ -260,8 +236,7 @@ pub extern "C" fn warghytes_member_repeat(s: &Member, out: &mut [u8]) -> Told
 }
 
 // What it has, acknowledged.
-#[unsafe(no_mangle)]
-pub extern "C" fn warghytes_member_status(s: &Member, out: &mut [u8]) -> Told
+pub fn warghytes_member_status(s: &Member, out: &mut [u8]) -> Told
     ensures { MemberReports s.now out.old result out.new }
 {
     let reply = s.status(out);

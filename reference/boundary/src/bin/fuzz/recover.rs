@@ -1,5 +1,5 @@
 //! Random schedules with resets through the proved program `recover`, which
-//! stands in the folder of the repository's programs, and through the reference.
+//! stands in its crate's folder `out`, and through the reference.
 
 use crate::differing;
 use schedules::random::Random;
@@ -9,7 +9,7 @@ use std::process::{Command, Stdio};
 use std::thread;
 
 /// Seen from the folder that the fuzz runs in.
-const PROGRAM: &str = "../target/bin/recover";
+const PROGRAM: &str = "../crates/recover/out/recover";
 
 /// A schedule of any number of terminals, one of four with a byte changed.
 pub fn recovering(seed: u64) -> Option<String> {
@@ -29,7 +29,7 @@ fn proved(text: &[u8]) -> Vec<u8> {
         .stdin(Stdio::piped())
         .stdout(Stdio::piped())
         .spawn()
-        .expect("the proved program, by `rt check recover`");
+        .expect("the proved program, by `rt run` in its crate");
     let mut stdin = child.stdin.take().expect("a pipe");
     thread::scope(|scope| {
         // A program that ended early is told by what it printed.

@@ -20,7 +20,7 @@ RULESET = re.compile(r"\s*(?:pub\s+)?ruleset\s+(" + IDENT + r")\s*=")
 FIELDS = set("kept-size queued-originators queued-lengths queued-payloads held-originators held-lengths held-payloads past-originators past-lengths past-payloads".split())
 # Lemmas that have the name which a definition gets, by the crates (or the file) that cite them.
 LEMMAS = {
-    "entry_in": ["history/", "sequencer/", "sequencer_calls/"],
+    "entry_in": ["history/", "sequencer/", "sequencer_calls/", "inspection/"],
     "length_before": ["plan/"],
     "counts_of": ["reset/proofs/Able.antt"],
     "fresh_kept": ["reset/"],

@@ -1,23 +1,22 @@
 -- The expected are members 1 to r: their mask is that of all others in a group of r + 1, by computation for each n and r. Assumes nothing.
-use mathlib.Core.Path.{◌≡◌, refl, sym, ap, ◌∙◌}
+use mathlib.Core.Path.{◌≡◌, refl, sym, ◌∙◌}
 use mathlib.Core.Bool.{Bool, true, false}
 use Prim.Native.Nat.{ℕ, suc, ◌+◌, ◌-◌, ◌*◌, ◌/◌, ◌%◌, ◌^◌, ◌≤◌, ◌<◌}
 use native.Mathlib.Nat.{pow-suc}
 use native.Mathlib.Numerals.{add-one}
 use native.Mathlib.Omega.{arith}
-use borrow.Author.Tests.{eqb-true, leb-true, le-leb, lt-leb}
+use borrow.Author.Tests.{eqb-true, leb-true, le-leb}
 use lib.Count.{count_trailing_zeros, ones, ones_step, ones-ones}
 use lib.Pow.{pow_pos}
-use Rattle.group.specs.Choice.{if◌then◌else◌, ◌and◌, ◌<?◌, ◌≤?◌, ◌=?◌}
+use Rattle.group.specs.Choice.{if◌then◌else◌, ◌and◌, ◌≤?◌, ◌=?◌}
 use Rattle.group.specs.Fold.{all_above}
 use Rattle.group.specs.Laws.{ExpectedAre, NeededAre}
 use Rattle.group.specs.Limits.{members_most}
-use Rattle.group.specs.Members.{is_in, lowest_of, elected_of, others_of, expected_of, needed_of}
+use Rattle.group.specs.Members.{is_in, lowest_of, others_of, expected_of, needed_of}
 use Rattle.group.specs.Opening.{description_of}
 use Rattle.group.specs.declared.Group.{Group}
 use Rattle.group.proofs.Choice.{if_true, both_hold, both_first, both_then}
 use Rattle.group.proofs.Fold.{above_each}
-use Rattle.group.proofs.Lists.{if_elim, le_or}
 use Rattle.group.proofs.Members.{in_all, all_in, Standing, fresh_standing, in_others, others_in}
 
 -- of n members, where r is k - 1: it is not below n, or the r lowest others are all others of r + 1 members

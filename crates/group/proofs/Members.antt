@@ -1,9 +1,9 @@
 -- Which members are in a mask that was made of others, and in the group's own. Assumes nothing.
-use mathlib.Core.Path.{◌≡◌, refl, sym, ap, ap₂, ◌∙◌, subst}
+use mathlib.Core.Path.{◌≡◌, refl, sym, ap, ap₂, ◌∙◌}
 use mathlib.Core.Logic.{◌≢◌, ◌⊎◌, inl, inr}
 use mathlib.Core.Bool.{Bool, true, false, false≢true}
 use Prim.Native.Nat.{ℕ, zero, suc, ◌+◌, ◌-◌, ◌*◌, ◌/◌, ◌%◌, ◌^◌, ◌≤◌, ◌<◌, min, max}
-use native.Mathlib.Nat.{le_refl, mod-lt, zero-lt-suc, pow-suc, div-one, zero-div, zero-min, lt_of_lt_of_le, lt_of_le_of_lt, lt_of_not-le, div-eq_of_lt, one-mul}
+use native.Mathlib.Nat.{mod-lt, zero-lt-suc, pow-suc, div-one, zero-div, zero-min, lt_of_lt_of_le, lt_of_le_of_lt, lt_of_not-le, div-eq_of_lt, one-mul}
 use native.Mathlib.Omega.{arith}
 use borrow.Author.Tests.{eqb-true, eq-eqb, eqb-false, le-leb, lt-ltb}
 use lib.Arith.{bin_ind, lt-one}

@@ -1,5 +1,5 @@
 -- Going through a table entry by entry, and through the numbers above a number one by one.
-use Rattle.std.specs.Prelude.{Bool, true, false, List, [], ◌∷◌, ℕ, zero, suc, ◌+◌}
+use Rattle.std.specs.Prelude.{Bool, true, List, [], ◌∷◌, ℕ, zero, suc, ◌+◌}
 use Rattle.group.specs.Choice.{if◌then◌else◌, ◌and◌, ◌<?◌}
 
 -- whether `test` holds of each entry, where the first stands at index i

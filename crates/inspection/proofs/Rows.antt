@@ -8,7 +8,7 @@ use native.Mathlib.Omega.{arith}
 use lib.ListN.{length, get_or, drop}
 use Rattle.group.specs.Lent.{front}
 use Rattle.group.specs.declared.Group as group
-use Rattle.history.proofs.View.{entry_in}
+use Rattle.history.proofs.View.{entry_in_lem}
 use Rattle.history.specs.State.{Acknowledgement, no_acknowledgement}
 use Rattle.history.specs.View.{table_in}
 use Rattle.member.specs.State.{Member, reach_of}
@@ -61,7 +61,7 @@ repeats_any taken counts repeats i = any taken counts [] repeats i
     any (t ∷ taken) counts others repeats (suc i) = any taken (drop 1 counts) (drop 1 others) (drop 1 repeats) i
 
 pub repeats_there : (taken repeats : List ℕ) (i : ℕ) → i < length taken → get_or repeats i 0 ≡ repeats_at taken repeats i
-repeats_there taken repeats i h = ap (λ (a : Acknowledgement). a.repeats) (sym (entry_in taken [] repeats i h))
+repeats_there taken repeats i h = ap (λ (a : Acknowledgement). a.repeats) (sym (entry_in_lem taken [] repeats i h))
 
 pub repeats_none : (taken repeats : List ℕ) (i : ℕ) → length taken ≤ i → 0 ≡ repeats_at taken repeats i
 unfolding table_in

@@ -1,10 +1,10 @@
 -- What is known of a kept message and of the empty one: the payload comes back, and zeros stand behind it. Assumes nothing.
-use mathlib.Core.Path.{◌≡◌, refl, sym, ap, ◌∙◌}
-use mathlib.Core.Bool.{Bool, true}
-use mathlib.Core.List.{List, [], ◌∷◌, ◌++◌}
+use mathlib.Core.Path.{◌≡◌, refl, ap, ◌∙◌}
+use mathlib.Core.Bool.{true}
+use mathlib.Core.List.{List}
 use Prim.Native.Nat.{ℕ, zero, suc, ◌-◌, ◌≤◌}
 use native.Mathlib.Omega.{arith}
-use lib.ListN.{length, take, drop, replicate, length-take}
+use lib.ListN.{length, replicate, length-take}
 use lib.Seq.{drop_at, take_at}
 use Rattle.group.specs.Choice.{if◌then◌else◌}
 use Rattle.group.specs.Limits.{payload_most}

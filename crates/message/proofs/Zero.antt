@@ -5,13 +5,13 @@ use mathlib.Core.List.{List}
 use Prim.Native.Nat.{ℕ, ◌+◌, ◌-◌, ◌≤◌, ◌<◌}
 use native.Mathlib.Numerals.{add-one}
 use native.Mathlib.Omega.{arith}
-use borrow.Author.Tests.{eq-eqb, ne_eqb, eqb-true, eqb-false, ltb-true, ltb-false}
+use borrow.Author.Tests.{eq-eqb, ne_eqb, eqb-true, eqb-false}
 use lib.Bits.{bit_and, bit_or, or_add_and, and_le_l, and_le_r}
 use lib.ListN.{length, get_or, drop, drop_of_length-le}
 use lib.Seq.{drop-cons}
-use Rattle.group.specs.Choice.{if◌then◌else◌, ◌and◌, ◌<?◌, ◌=?◌}
-use Rattle.group.proofs.Choice.{if_true, if_false, both_hold, first_fails, then_fails}
-use Rattle.group.proofs.Lists.{if_elim, le_or}
+use Rattle.group.specs.Choice.{if◌then◌else◌, ◌and◌, ◌=?◌}
+use Rattle.group.proofs.Choice.{both_hold, first_fails, then_fails}
+use Rattle.group.proofs.Lists.{le_or}
 use Rattle.message.specs.Message.{all_zero}
 
 and_assoc : (a b c : Bool) → (a and b) and c ≡ a and (b and c)

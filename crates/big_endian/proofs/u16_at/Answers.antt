@@ -1,7 +1,6 @@
 -- The two bytes from the index on are those of the definition.
 use mathlib.Core.Path.{◌∙◌}
 use Rattle.big_endian.proofs.Number.{number_two}
-use borrow.Author.Rules.{rules}
 use Rattle.big_endian.proofs.u16_at.Goals as goal
 
 pub returns : goal.returns

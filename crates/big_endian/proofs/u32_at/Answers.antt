@@ -1,7 +1,6 @@
 -- The four bytes from the index on are those of the definition.
 use mathlib.Core.Path.{◌∙◌}
 use Rattle.big_endian.proofs.Number.{number_four}
-use borrow.Author.Rules.{rules}
 use Rattle.big_endian.proofs.u32_at.Goals as goal
 
 pub returns : goal.returns

@@ -1,7 +1,6 @@
 -- The bytes are the remainders, the highest first, by computation.
 use mathlib.Core.Path.{refl}
 use Rattle.big_endian.specs.Number.{bytes_of}
-use borrow.Author.Rules.{rules}
 use Rattle.big_endian.proofs.u32_bytes.Goals as goal
 
 pub returns : goal.returns

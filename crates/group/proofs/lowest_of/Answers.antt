@@ -1,11 +1,10 @@
 -- The loop's invariant: what was found and the lowest of the rest are the lowest of the mask.
-use mathlib.Core.Path.{◌≡◌, refl, sym, ◌∙◌}
-use Prim.Native.Nat.{suc, ◌-◌, ◌^◌, ◌<◌}
+use mathlib.Core.Path.{◌≡◌, sym, ◌∙◌}
+use Prim.Native.Nat.{suc, ◌-◌}
 use native.Mathlib.Omega.{arith}
-use lib.Bits.{bit_or, or_zero_l, or_zero_r}
+use lib.Bits.{or_zero_l, or_zero_r}
 use lib.Count.{trailing_le}
 use borrow.Author.Rules.{rules}
-use Rattle.group.specs.Limits.{members_most}
 use Rattle.group.specs.Members.{lowest, lowest_of}
 use Rattle.group.proofs.Members.{without_lt, lowest_lt, lowest_turn, lowest_none, one_shifted}
 use Rattle.group.proofs.lowest_of.Goals as goal

@@ -1,6 +1,5 @@
 -- Nothing is shifted out.
 use Rattle.group.proofs.Members.{one_shifted}
-use borrow.Author.Rules.{rules}
 use Rattle.group.proofs.only.Goals as goal
 
 pub returns : goal.returns

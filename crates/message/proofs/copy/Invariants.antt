@@ -1,11 +1,8 @@
 -- The loop's invariant: the first i bytes lie over the part as it was, and what lies behind them keeps its value.
-use mathlib.Core.Path.{◌≡◌, refl, ap, ◌∙◌}
-use mathlib.Core.List.{List}
-use Prim.Native.Nat.{ℕ, ◌-◌, ◌≤◌}
-use native.Mathlib.Omega.{arith}
-use lib.ListN.{length, set, get_or, length-set}
-use Rattle.message.proofs.Laying.{over, over_next, over_all}
-use borrow.Author.Rules.{rules}
+use mathlib.Core.Path.{◌≡◌}
+use Prim.Native.Nat.{◌-◌, ◌≤◌}
+use lib.ListN.{length}
+use Rattle.message.proofs.Laying.{over}
 use Rattle.message.proofs.copy.Given as goal
 
 abbrev pub invariant-loop-i : goal.invariant-loop-i

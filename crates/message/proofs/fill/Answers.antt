@@ -1,12 +1,11 @@
 -- The loop's invariant: the part with zeros from the index on is laid over the part as it was, up to i.
-use mathlib.Core.Path.{◌≡◌, refl, sym, ap, ◌∙◌}
+use mathlib.Core.Path.{refl, sym, ap, ◌∙◌}
 use mathlib.Core.List.{List}
-use Prim.Native.Nat.{ℕ, ◌-◌, ◌≤◌}
+use Prim.Native.Nat.{ℕ}
 use native.Mathlib.Omega.{arith}
-use lib.ListN.{length, set, length-set}
+use lib.ListN.{set, length-set}
 use Rattle.message.specs.Message.{zeroed_from}
-use Rattle.message.proofs.Laying.{over, over_next, zeroed_length, zeroed_start, zeroed_end, zeroed_zero}
-use borrow.Author.Rules.{rules}
+use Rattle.message.proofs.Laying.{over_next, zeroed_length, zeroed_start, zeroed_end, zeroed_zero}
 use Rattle.message.proofs.fill.Goals as goal
 
 pub loop-i-init : goal.loop-i-init
@@ -21,7 +20,6 @@ loop-i-smaller c = omega arith
 pub loop-i-preserved : goal.loop-i-preserved
 loop-i-preserved c =
     let l = c.loop-i in
-    
     let p = c.args.part.now in
     let n = zeroed_length c.args.from p c.requires in (
       omega arith,
@@ -36,5 +34,4 @@ shape_of-part c = c.loop-i.invariant.2
 pub returns : goal.returns
 returns c =
     let l = c.loop-i in
-    
     l.invariant.3 ∙ zeroed_end c.args.from c.args.part.now c.requires l.i (omega arith)

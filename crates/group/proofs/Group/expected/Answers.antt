@@ -1,7 +1,6 @@
 -- The r lowest of the others.
 use mathlib.Core.Path.{ap, ◌∙◌}
 use Prim.Native.Nat.{ℕ}
-use borrow.Author.Rules.{rules}
 use Rattle.group.specs.Members.{lowest_of, expected_of}
 use Rattle.group.proofs.Group.expected.Goals as goal
 

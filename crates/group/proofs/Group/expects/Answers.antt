@@ -1,7 +1,6 @@
 -- The mask is the expected members'.
 use mathlib.Core.Path.{ap, ◌∙◌}
 use Prim.Native.Nat.{ℕ}
-use borrow.Author.Rules.{rules}
 use Rattle.group.specs.Members.{is_in}
 use Rattle.group.proofs.Group.expects.Goals as goal
 

@@ -2,7 +2,6 @@
 use borrow.Author.Rules.{rules}
 use Rattle.group.proofs.Choice.{choices}
 use Rattle.group.specs.Opening.{open_of}
-use Rattle.group.proofs.Wording.{worded}
 use Rattle.group.specs.Wording.{opened_wording}
 use Rattle.group.proofs.Choice.{tests}
 use mathlib.Core.Path.{ap}

@@ -1,7 +1,6 @@
 -- The ones of the expected.
 use mathlib.Core.Path.{ap}
 use lib.Count.{ones}
-use borrow.Author.Rules.{rules}
 use Rattle.group.specs.Members.{needed_of}
 use Rattle.group.proofs.Group.needed.Goals as goal
 

@@ -1,7 +1,6 @@
 -- The elected one is taken off where it is there; from member 16 on, and above the mask, nothing is left.
 use native.Mathlib.Omega.{arith}
 use lib.Pow.{pow_mono}
-use borrow.Author.Rules.{rules}
 use Rattle.group.specs.Limits.{members_most}
 use Rattle.group.proofs.Members.{one_shifted}
 use Rattle.group.specs.Members.{others_of}

@@ -1,5 +1,4 @@
 -- The heading, and the rows behind it, which are those of every such group.
--- Assumes nothing.
 use mathlib.Core.Path.{◌≡◌, refl, sym, ap, ◌∙◌}
 use mathlib.Core.List.{List, ◌++◌}
 use Prim.Native.Nat.{ℕ}
@@ -11,43 +10,16 @@ use Rattle.text.specs.Written.{spaced, line}
 use Rattle.inspection.specs.Table.{columns, row_at, row_lines}
 use Rattle.inspection.proofs.Rows.{rows_of_lem, laid_whole}
 use borrow.Author.Rules.{rules}
-use Rattle.inspection.proofs.put_table.Statement.{statement}
-use Rattle.inspection.proofs.put_table.Tie as tie
+use Rattle.inspection.proofs.put_table.Goals as goal
 
-cast-n : tie.Need-overflow-cast-n
-cast-n c = search rules
-
-slice-aggregate-put-text : tie.Need-slice-aggregate-put-text
-slice-aggregate-put-text c = search rules
-
-put-text-requires : tie.Need-put-text-requires
-put-text-requires c κs = search rules
-
-put-rows-requires : tie.Need-put-rows-requires
-put-rows-requires c κs = search rules
-
-same_length : tie.Need-same-length
-same_length c = search rules
-
-returns : tie.Need-returns
+pub returns : goal.returns
 unfolding spaced
 returns c =
-    let a = c.before.before.before.before.before.before.before.before.before.before.before.args in
+    let a = c.args in
     let t = (terminals_of a.group a.numbers.now (rows_of a.queued.now a.held.now a.queued_originators.now a.queued_lengths.now a.held_originators.now a.held_lengths.now a.queued_payloads.now a.held_payloads.now)) in
     let lent = a.out.now in
     let rest = row_lines (row_at t a.taken.now a.repeats.now) a.group.n in
-    let l = laid_whole (line columns ++ rest) lent _ _ (laid_then (line columns) rest c.before.before.before.before.before.before.put-text.ensures c.before.before.put-rows.ensures) in
+    let l = laid_whole (line columns ++ rest) lent _ _ (laid_then (line columns) rest c.put_text-next.ensures c.put_rows.ensures) in
     λ g s.
     let e = ap (λ (l : List ℕ). line columns ++ l) (rows_of_lem t a.taken.now a.repeats.now g s) in
     record { size = l.0 ∙ ap length e; lent = l.1 ∙ ap (λ (bytes : List ℕ). front bytes lent) e }
-
-pub put-table-spec : {M : Type 1} → statement M
-put-table-spec =
-    tie.close
-    (tie.spec
-    cast-n
-    slice-aggregate-put-text
-    put-text-requires
-    put-rows-requires
-    same_length
-    returns)

@@ -1,0 +1,13 @@
+-- A packet, and then a member, from the state behind it.
+use Rattle.group.specs.Choice.{if◌then◌else◌}
+use Rattle.workload.specs.Choice.{chosen}
+use Rattle.workload.specs.Steps.{event_in}
+use borrow.Author.Rules.{rules}
+use Rattle.workload.proofs.choose_hand.Goals as goal
+
+pub returns : goal.returns
+unfolding chosen event_in if◌then◌else◌
+returns c =
+    let d = c.draw-packet.ensures in
+    let e = c.draw-member.ensures in
+    rw (e.value, e.state, d.value, d.state)

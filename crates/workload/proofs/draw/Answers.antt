@@ -1,0 +1,9 @@
+-- A remainder of the output behind one step.
+use native.Mathlib.Nat.{mod-lt}
+use Rattle.workload.specs.Choice.{drawn}
+use borrow.Author.Rules.{rules}
+use Rattle.workload.proofs.draw.Goals as goal
+
+pub returns : goal.returns
+unfolding drawn
+returns c = record { value = rw (c.output.ensures, c.step-next.ensures); state = c.step-next.ensures; below = mod-lt _ c.requires }

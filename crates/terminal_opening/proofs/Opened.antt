@@ -1,7 +1,6 @@
 -- What opening leaves is what its member's opening and its sequencer's left, with nothing kept and no part in a reset. Assumes nothing.
-use mathlib.Core.Path.{◌≡◌, refl, sym, ap, subst, ◌∙◌}
+use mathlib.Core.Path.{◌≡◌, refl, sym, ap, ◌∙◌}
 use mathlib.Core.Bool.{Bool, true, false}
-use mathlib.Core.List.{List}
 use Prim.Native.Nat.{ℕ, ◌*◌}
 use native.Mathlib.Omega.{arith}
 use lib.ListN.{replicate}
@@ -18,16 +17,13 @@ use Rattle.group.specs.declared.Verdict.{Verdict}
 use Rattle.store.proofs.Places.{messages_none}
 use Rattle.member.specs.Calls as member
 use Rattle.member.specs.Promise as memberPromise
-use Rattle.member.specs.State.{Member, fresh_member}
+use Rattle.member.specs.State.{fresh_member}
 use Rattle.member.specs.View as memberView
-use Rattle.member.specs.declared.Head as memberHead
 use Rattle.sequencer.specs.Calls as sequencer
-use Rattle.sequencer.specs.State.{Sequencer}
 use Rattle.sequencer.specs.View as sequencerView
-use Rattle.sequencer.specs.declared.Head as sequencerHead
 use Rattle.recovery.specs.Calls.{fresh_terminal}
-use Rattle.recovery.specs.State.{Terminal, fresh_kept, no_reset, no_sequencer}
-use Rattle.recovery.specs.View.{Stored, View, seen, whole, terminal_of, flags_sound, view_of}
+use Rattle.recovery.specs.State.{fresh_kept, no_reset, no_sequencer}
+use Rattle.recovery.specs.View.{Stored, seen, whole, terminal_of, flags_sound, view_of}
 use Rattle.recovery.specs.declared.Head.{Head}
 use Rattle.terminal_opening.specs.Opening.{closed_terminal, Opening, not_opened, fresh_of, Opens, RefusedCloses}
 use Rattle.terminal_opening.specs.Steps.{sequencing_of, fresh_head}

@@ -2,18 +2,13 @@
 -- Assumes nothing.
 use mathlib.Core.Path.{◌≡◌, refl, sym, ap, ◌∙◌}
 use mathlib.Core.Bool.{Bool, true, false, false≢true}
-use mathlib.Core.Logic.{inl, inr}
-use mathlib.Core.List.{List, [], ◌∷◌}
-use Prim.Native.Nat.{ℕ, ◌<◌}
-use native.Mathlib.Omega.{arith}
-use types.Run.{OneOf}
+use mathlib.Core.List.{List}
+use Prim.Native.Nat.{ℕ}
 use Rattle.group.specs.Choice.{if◌then◌else◌, ask◌or◌then◌, ◌and◌, ◌=?◌}
 use Rattle.group.specs.Question.{judged}
 use Rattle.group.specs.declared.Refusal.{Refusal}
-use Rattle.group.specs.declared.SequenceNumber.{SequenceNumber}
 use Rattle.group.specs.declared.Verdict.{Verdict}
 use Rattle.packet.specs.Packet.{content_of, from_elected, payload_at, read_of}
-use Rattle.packet.specs.declared.Header.{Header}
 use Rattle.packet.specs.declared.Reading.{Reading}
 use Rattle.window.specs.Places.{larger_of}
 use Rattle.member.specs.Calls as member
@@ -95,23 +90,7 @@ module _ (t : Terminal) where
         go Verdict.Accepted = closed_step p (read_of packet) (payload_at packet) none
         go (Verdict.Refused r) = refl
 
--- an answer that is no refusal: Refused is the first
-unfoldable above : ℕ → List ℕ → Type 0
-above x [] = Unit {0}
-above x (k ∷ ks) = (x < k) × above x ks
-
-no_key : (x k : ℕ) (ks : List ℕ) → above x (k ∷ ks) → OneOf (k ∷ ks) x → ⊥
-unfolding above
-no_key x k [] p e = let z = p.0 in omega arith
-no_key x k (j ∷ ks) p (inl e) = let z = p.0 in omega arith
-no_key x k (j ∷ ks) p (inr o) = no_key x j ks p.1 o
-
-pub refused_key : OneOf (1 ∷ 2 ∷ 3 ∷ 4 ∷ 5 ∷ 6 ∷ 7 ∷ 8 ∷ 9 ∷ 10 ∷ 11 ∷ 12 ∷ []) 0 → ⊥
-unfolding above
-refused_key =
-    no_key 0 1 (2 ∷ 3 ∷ 4 ∷ 5 ∷ 6 ∷ 7 ∷ 8 ∷ 9 ∷ 10 ∷ 11 ∷ 12 ∷ [])
-    (omega arith, (omega arith, (omega arith, (omega arith, (omega arith, (omega arith, (omega arith, (omega arith, (omega arith, (omega arith, (omega arith, (omega arith, tt))))))))))))
-
+-- an answer that is no refusal
 pub not_refused : (answer : Answer) → ((refusal : Refusal) → answer ≡ Answer.Refused refusal → ⊥) → is_refusal answer ≡ false
 unfolding is_refusal
 not_refused (Answer.Refused refusal) n = absurd (n refusal refl)

@@ -1,16 +1,13 @@
 -- A take at a terminal: what the member hands out is kept as it was held, since a sound place has zeros behind its payload. Assumes nothing.
 use mathlib.Core.Path.{◌≡◌, refl, sym, ap, ◌∙◌}
 use mathlib.Core.Bool.{Bool, true, false}
-use mathlib.Core.Logic.{inl, inr}
 use mathlib.Core.List.{List, [], ◌∷◌, ◌++◌}
-use Prim.Native.Nat.{ℕ, ◌+◌, ◌-◌, ◌*◌, ◌≤◌, ◌<◌}
+use Prim.Native.Nat.{ℕ, ◌+◌, ◌-◌, ◌*◌, ◌≤◌}
 use native.Mathlib.Omega.{arith}
 use borrow.Author.Tests.{leb-true, eqb-true}
 use lib.ListN.{length, take, drop, get_or, set, replicate, length-append, length-take, length-drop, take-append-drop}
 use lib.Seq.{take_at, length-take-le}
-use types.Run.{OneOf}
-use Rattle.group.specs.Choice.{if◌then◌else◌, ◌and◌, ◌<?◌, ◌≤?◌, ◌=?◌}
-use Rattle.group.specs.Fold.{all_above}
+use Rattle.group.specs.Choice.{if◌then◌else◌, ◌≤?◌, ◌=?◌}
 use Rattle.group.specs.Lent.{front}
 use Rattle.group.specs.Limits.{held_most, payload_most, longest_packet}
 use Rattle.group.specs.Question.{judged}
@@ -18,7 +15,7 @@ use Rattle.group.specs.declared.MemberNumber.{MemberNumber}
 use Rattle.group.specs.declared.Refusal.{Refusal}
 use Rattle.group.specs.declared.SequenceNumber.{SequenceNumber}
 use Rattle.group.specs.declared.Verdict.{Verdict}
-use Rattle.group.proofs.Choice.{if_true, if_false, both_first, both_then}
+use Rattle.group.proofs.Choice.{if_true, both_first, both_then}
 use Rattle.group.proofs.Fold.{above_each}
 use Rattle.group.proofs.Lists.{if_elim, judged_elim}
 use Rattle.message.specs.Message.{Message, all_zero, message_of, payload_of, zero_behind}
@@ -34,7 +31,7 @@ use Rattle.member.specs.Sound.{sound_of}
 use Rattle.member.specs.State.{Member}
 use Rattle.member.specs.declared.Answer.{Answer}
 use Rattle.member.specs.declared.Reply.{Reply}
-use Rattle.recovery.specs.Calls.{Outcome, refused, carried, call_verdict, kept_took, take_of}
+use Rattle.recovery.specs.Calls.{refused, carried, call_verdict, kept_took, take_of}
 use Rattle.recovery.specs.State.{Kept, Terminal, counted}
 use Rattle.terminals.specs.Steps.{kept_told}
 
@@ -150,24 +147,7 @@ module _ (o : member.Outcome) (before : List ℕ) {reply : Reply} {after : List 
 pub take_fits : (m : Member) → Full m.held → (room : ℕ) {reply : Reply} → reply ≡ memberPromise.reply_of (member.take_of m room) → reply.written ≤ payload_most
 take_fits m full room {reply} e = let w : reply.written ≡ length (member.take_of m room).bytes = ap (λ (r : Reply). r.written) e in let s = take_short m full room in rw w s
 
--- a tag is not among those below it
-unfoldable below : ℕ → List ℕ → Type 0
-below x [] = Unit {0}
-below x (k ∷ ks) = (k < x) × below x ks
-
-no_key : (x k : ℕ) (ks : List ℕ) → below x (k ∷ ks) → OneOf (k ∷ ks) x → ⊥
-unfolding below
-no_key x k [] p e = let z = p.0 in omega arith
-no_key x k (j ∷ ks) p (inl e) = let z = p.0 in omega arith
-no_key x k (j ∷ ks) p (inr o) = no_key x j ks p.1 o
-
--- Took is the last of the answers
-pub took_key : OneOf (0 ∷ 1 ∷ 2 ∷ 3 ∷ 4 ∷ 5 ∷ 6 ∷ 7 ∷ 8 ∷ 9 ∷ 10 ∷ 11 ∷ []) 12 → ⊥
-unfolding below
-took_key =
-    no_key 12 0 (1 ∷ 2 ∷ 3 ∷ 4 ∷ 5 ∷ 6 ∷ 7 ∷ 8 ∷ 9 ∷ 10 ∷ 11 ∷ [])
-    (omega arith, (omega arith, (omega arith, (omega arith, (omega arith, (omega arith, (omega arith, (omega arith, (omega arith, (omega arith, (omega arith, (omega arith, tt))))))))))))
-
+-- an answer that took nothing leaves what is kept
 pub not_took : (kept : Kept) (answer : Answer) (bytes : List ℕ)
     → ((number : SequenceNumber) (originator : MemberNumber) (count : ℕ) (more : Bool) → answer ≡ Answer.Took number originator count more → ⊥) → kept_told kept answer bytes ≡ kept
 unfolding kept_told

@@ -5,7 +5,7 @@ use Rattle.group.specs.declared.Verdict.{Verdict}
 use Rattle.member.specs.declared.Reply as member
 use Rattle.sequencer.specs.declared.Reply as sequencer
 use Rattle.recovery.specs.Promise as promise
-use Rattle.recovery.specs.View.{Stored, whole, view_of}
+use Rattle.recovery.specs.View.{whole, view_of}
 use Rattle.recovery.specs.declared.Head.{Head}
 use Rattle.terminals.specs.Steps.{end_verdict}
 

@@ -1,6 +1,5 @@
 -- What the schedules print, computed. Assumes nothing.
 use mathlib.Core.Path.{refl}
-use lib.Bits.{bit_and, bit_or}
 use lib.Count.{count_trailing_zeros, ones, ones_in}
 use Rattle.group.specs.Choice.{if◌then◌else◌}
 use Rattle.group.specs.Fold.{all, all_above, least_of}

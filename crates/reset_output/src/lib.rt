@@ -1,3 +1,2 @@
 // What a schedule with resets prints: specs and proofs alone.
 #![tactic(auto)]
-

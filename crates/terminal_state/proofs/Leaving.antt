@@ -14,7 +14,7 @@ use Rattle.sequencer.specs.declared.Answer as sequencerAnswer
 use Rattle.sequencer.specs.declared.Reply as sequencer
 use Rattle.recovery.specs.Calls.{Outcome, SequencerOutcome, refused, submit_of, receive_of, take_of, invite_of, make_of, order_of}
 use Rattle.recovery.specs.Laws.{FirstNo, OrderFirst, call_questions, whole_questions, make_questions, submit_questions, receive_questions, order_questions}
-use Rattle.recovery.specs.Promise.{called, ordered, Changed, Ordered}
+use Rattle.recovery.specs.Promise.{called, ordered, Changed}
 use Rattle.recovery.specs.State as state
 use Rattle.recovery.specs.View.{Stored, View, seen, odd}
 use Rattle.recovery.proofs.Asking.{submit_first_no, receive_first_no, take_first_no, invite_first_no, make_first_no}

@@ -1,25 +1,26 @@
 -- The arrays of a `Terminal` are what its methods lend: `Whole.antt`'s `Lendable` at it.
--- Assumes nothing.
-use mathlib.Core.Path.{◌≡◌, ap, subst, ◌∙◌}
-use mathlib.Core.List.{List, [], ◌∷◌, map-id}
+-- Assumes `Logic`.
+use mathlib.Core.Path.{◌≡◌}
+use mathlib.Core.List.{List, [], ◌∷◌}
 use Prim.Native.Nat.{ℕ}
-use mir.Syntax.{w8, w16, w32, ty_int, ty_array}
-use mir.Val.{Val}
+use seplogic.Ra.Ura.{Ura}
+use mir.Syntax.{Width, w8, w16, w32, ty_int, ty_array}
 use base.Fml.{Share}
+use types.Logic.{Logic}
 use denote.RattleType.{Denots}
-use denote.Laws.{Is}
-use denote.Memory.{part_at}
-use denote.Plain.{uint_Lawful}
+use denote.Copied.{uint_Copied, Array-Copied}
+use denote.Lends.{Lent}
+use denote.Memory.{part_at, shared_of}
+use denote.Plain.{UInt, uint_Lawful}
 use denote.Builtin.{u8, u16, u32}
 use denote.Array.{Array, Array-Lawful}
 use denote.Struct.Struct.{Struct}
 use denote.Struct.Declared.{shape}
-use denote.Struct.Laws as LL
 use denote.Struct.Members.{Member as Part, rows_of}
 use denote.Struct.Recorded.{Recorded-part}
-use Rattle.lending.proofs.Whole.{Lendable, Values}
+use Rattle.lending.proofs.Lending.{Frees}
+use Rattle.lending.proofs.Whole.{Lendable}
 use Rattle.terminal_state.specs.declared.Terminal.{Terminal}
-use Rattle.recovery.specs.declared.Head.{Head}
 use Rattle.terminal_state.specs.contracts.Terminal as T
 use Rattle.terminal_state.proofs.Terminal.TheLaws as T'
 use Rattle.recovery.specs.contracts.Head as B
@@ -56,11 +57,8 @@ arrays = record { row = Array u32 5; ty = ty_array (ty_int w32) 5 }
 abbrev all : Terminal → Denots (rows_of (first ∷ arrays))
 all h = ((B.the_type).to h.head, (h.queued, (h.held, (h.queued_originators, (h.queued_lengths, (h.held_originators, (h.held_lengths, (h.queued_payloads, (h.held_payloads, (h.past, (h.past_originators, (h.past_lengths, (h.past_payloads, (h.highest, (h.replies, (h.taken, (h.counts, (h.repeats, (h.kept, (h.marks, (h.originators, (h.lengths, (h.payloads, tt)))))))))))))))))))))))
 
-all_is : (h : Terminal) → (T.the_type).to h ≡ all h
-all_is h = λ i. ((B.the_type).to h.head, (map-id h.queued i, (map-id h.held i, (map-id h.queued_originators i, (map-id h.queued_lengths i, (map-id h.held_originators i, (map-id h.held_lengths i, (map-id h.queued_payloads i, (map-id h.held_payloads i, (map-id h.past i, (map-id h.past_originators i, (map-id h.past_lengths i, (map-id h.past_payloads i, (map-id h.highest i, (map-id h.replies i, (map-id h.taken i, (map-id h.counts i, (map-id h.repeats i, (map-id h.kept i, (map-id h.marks i, (map-id h.originators i, (map-id h.lengths i, (map-id h.payloads i, tt)))))))))))))))))))))))
-
 pub same : (q : Share) (h : Terminal) (b o : ℕ) → part_at T.the_row q h b o ≡ part_at (Struct (shape T.the_type)) q (all h) b o
-same q h b o = Recorded-part (Struct (shape T.the_type)) Terminal (T.the_type).to (T.the_type).to_one q h b o ∙ ap (λ (a : Denots (rows_of (first ∷ arrays))). part_at (Struct (shape T.the_type)) q a b o) (all_is h)
+same q h b o = Recorded-part (Struct (shape T.the_type)) Terminal (T.the_type).to (T.the_type).to_one q h b o
 
 abbrev pub lendable : Lendable
 lendable = record {
@@ -73,17 +71,9 @@ lendable = record {
   lawful = λ 𝓛. ((T'.the_laws).0.lawful 𝓛, (Array-Lawful 𝓛 u32 (uint_Lawful 𝓛 w32) 5, (Array-Lawful 𝓛 u32 (uint_Lawful 𝓛 w32) 8, (Array-Lawful 𝓛 u8 (uint_Lawful 𝓛 w8) 5, (Array-Lawful 𝓛 u8 (uint_Lawful 𝓛 w8) 5, (Array-Lawful 𝓛 u8 (uint_Lawful 𝓛 w8) 8, (Array-Lawful 𝓛 u8 (uint_Lawful 𝓛 w8) 8, (Array-Lawful 𝓛 u8 (uint_Lawful 𝓛 w8) 1200, (Array-Lawful 𝓛 u8 (uint_Lawful 𝓛 w8) 1920, (Array-Lawful 𝓛 u32 (uint_Lawful 𝓛 w32) 32, (Array-Lawful 𝓛 u8 (uint_Lawful 𝓛 w8) 32, (Array-Lawful 𝓛 u8 (uint_Lawful 𝓛 w8) 32, (Array-Lawful 𝓛 u8 (uint_Lawful 𝓛 w8) 7680, (Array-Lawful 𝓛 u32 (uint_Lawful 𝓛 w32) 16, (Array-Lawful 𝓛 u32 (uint_Lawful 𝓛 w32) 16, (Array-Lawful 𝓛 u32 (uint_Lawful 𝓛 w32) 16, (Array-Lawful 𝓛 u32 (uint_Lawful 𝓛 w32) 16, (Array-Lawful 𝓛 u32 (uint_Lawful 𝓛 w32) 16, (Array-Lawful 𝓛 u32 (uint_Lawful 𝓛 w32) 32, (Array-Lawful 𝓛 u16 (uint_Lawful 𝓛 w16) 32, (Array-Lawful 𝓛 u8 (uint_Lawful 𝓛 w8) 32, (Array-Lawful 𝓛 u8 (uint_Lawful 𝓛 w8) 32, (Array-Lawful 𝓛 u8 (uint_Lawful 𝓛 w8) 7680, tt)))))))))))))))))))))));
 }
 
--- with other arrays, and with another head
-abbrev pub with : Terminal → Values lendable → Terminal
-with h a = record { head = h.head; queued = a.0; held = a.1.0; queued_originators = a.1.1.0; queued_lengths = a.1.1.1.0; held_originators = a.1.1.1.1.0; held_lengths = a.1.1.1.1.1.0; queued_payloads = a.1.1.1.1.1.1.0; held_payloads = a.1.1.1.1.1.1.1.0; past = a.1.1.1.1.1.1.1.1.0; past_originators = a.1.1.1.1.1.1.1.1.1.0; past_lengths = a.1.1.1.1.1.1.1.1.1.1.0; past_payloads = a.1.1.1.1.1.1.1.1.1.1.1.0; highest = a.1.1.1.1.1.1.1.1.1.1.1.1.0; replies = a.1.1.1.1.1.1.1.1.1.1.1.1.1.0; taken = a.1.1.1.1.1.1.1.1.1.1.1.1.1.1.0; counts = a.1.1.1.1.1.1.1.1.1.1.1.1.1.1.1.0; repeats = a.1.1.1.1.1.1.1.1.1.1.1.1.1.1.1.1.0; kept = a.1.1.1.1.1.1.1.1.1.1.1.1.1.1.1.1.1.0; marks = a.1.1.1.1.1.1.1.1.1.1.1.1.1.1.1.1.1.1.0; originators = a.1.1.1.1.1.1.1.1.1.1.1.1.1.1.1.1.1.1.1.0; lengths = a.1.1.1.1.1.1.1.1.1.1.1.1.1.1.1.1.1.1.1.1.0; payloads = a.1.1.1.1.1.1.1.1.1.1.1.1.1.1.1.1.1.1.1.1.1.0 }
+-- a `&` to each array is made with no token
+lent : {M : Type 1} {𝓤 : Ura M} (𝓛 : Logic 𝓤) (w : Width) (n : ℕ) (t : Share) (x : List ℕ) (b o : ℕ) → Lent 𝓛 (part_at (Array (UInt w) n) t x b o) (shared_of (Array (UInt w) n) x b o)
+lent 𝓛 w n = (Array-Copied 𝓛 (UInt w) (uint_Copied 𝓛 w) tt n).lends
 
-abbrev pub headed : Head → Terminal → Terminal
-headed t h = record { head = t; queued = h.queued; held = h.held; queued_originators = h.queued_originators; queued_lengths = h.queued_lengths; held_originators = h.held_originators; held_lengths = h.held_lengths; queued_payloads = h.queued_payloads; held_payloads = h.held_payloads; past = h.past; past_originators = h.past_originators; past_lengths = h.past_lengths; past_payloads = h.past_payloads; highest = h.highest; replies = h.replies; taken = h.taken; counts = h.counts; repeats = h.repeats; kept = h.kept; marks = h.marks; originators = h.originators; lengths = h.lengths; payloads = h.payloads }
-
--- the machine value of a state
-abbrev pub hval : Terminal → Val
-hval h = LL.val T.the_type T'.the_laws h
-
--- a state with another head is one of the type
-pub made : (t : Head) → Is B.the_row t (LL.vals B.the_type B'.the_laws t) → (h : Terminal) (v : Val) → Is T.the_row h (v ∷ []) → Is T.the_row (headed t h) (hval (headed t h) ∷ [])
-made t is h v was = LL.owes T.the_type T'.the_laws (headed t h) (is, (LL.owed T.the_type T'.the_laws h (LL.vals T.the_type T'.the_laws h) (subst (Is T.the_row h) (LL.tells T.the_type T'.the_laws h (v ∷ []) was) was)).1)
+pub free : {M : Type 1} {𝓤 : Ura M} (𝓛 : Logic 𝓤) → Frees 𝓛 lendable.rest
+free 𝓛 = (lent 𝓛 w32 5, (lent 𝓛 w32 8, (lent 𝓛 w8 5, (lent 𝓛 w8 5, (lent 𝓛 w8 8, (lent 𝓛 w8 8, (lent 𝓛 w8 1200, (lent 𝓛 w8 1920, (lent 𝓛 w32 32, (lent 𝓛 w8 32, (lent 𝓛 w8 32, (lent 𝓛 w8 7680, (lent 𝓛 w32 16, (lent 𝓛 w32 16, (lent 𝓛 w32 16, (lent 𝓛 w32 16, (lent 𝓛 w32 16, (lent 𝓛 w32 32, (lent 𝓛 w16 32, (lent 𝓛 w8 32, (lent 𝓛 w8 32, (lent 𝓛 w8 7680, tt))))))))))))))))))))))

@@ -1,7 +1,7 @@
 // Lists journals, appends to one, prints the plan of one, and rewrites one: `journal_tool list FILE..`, `append FILE`, `plan FILE`,
 // `rewrite FILE NEW`; commands are parted by `then`. A message is a line, `number originator count payload`, the payload in hex or
-// `-`, and the last line is `blocks B messages M`; of a plan each line is `unit description`. Input and output are C's, so nothing
-// is promised here; what is read and written is worked out by `journal`, `plan` and `text`.
+// `-`, and the last line is `blocks B messages M`; of a plan each line is `unit description`. Input and output are the system's, so
+// nothing is promised here; what is read and written is worked out by `journal`, `plan` and `text`.
 #![tactic(auto)]
 
 ghost use Rattle.std.specs.Prelude.{◌≡◌, ◌+◌, ◌*◌, ◌<◌, ◌≤◌, length};
@@ -10,7 +10,13 @@ ghost use Rattle.journal.specs.Laws.{StandsIn};
 
 use group::{Group, MemberNumber, Refusal, SequenceNumber};
 use journal::{Answer, Block, Cursor, Reading, Record, Spot, Tail, Walk, Writer};
-use libc::{STDIN_FILENO, STDOUT_FILENO};
+use std::env::FillError;
+use std::fs::{File, OpenOptions, Permissions};
+use std::io::{Error, ErrorKind, Read, Seek, SeekFrom, Stdin, Write};
+use std::os::unix::fs::{FileExt, OpenOptionsExt, PermissionsExt};
+use std::random::RandomSource;
+use std::rt::Env;
+use std::{fs, io, str};
 use text::{Found, Numeral};
 
 // A line of more characters is of another form; the longest that is printed has 514.
@@ -25,37 +31,80 @@ const FILE_MOST: usize = 1048576;
 // The bytes of a rewritten journal at most: a block for each of 512 records. A plan has less than half of that.
 const OUTPUT_MOST: usize = 512 * Block::SIZE;
 
+// The bytes of a path that an argument names, at most.
+const NAME_MOST: usize = 4096;
+
+// The last bytes of a new file's name, and how many such names are tried.
+const COMPLETED: usize = 6;
+
+const NAMES_TRIED: u32 = 1000;
+
+// Whoever reads the output may have gone: there is nobody to tell.
+fn print(rt: &HostRuntime, text: &[u8]) {
+    let _ = rt.write_all(text);
+}
+
 // Prints a line whose fields, each behind a space, end at an index.
-fn print_line(line: &mut [u8], end: usize)
+fn print_line(rt: &HostRuntime, line: &mut [u8], end: usize)
     requires { end < length line.old }
 {
     let next = text::put(b'\n', line, end);
-    io::write_all(STDOUT_FILENO, &line[1..next]);
+    print(rt, &line[1..next]);
 }
 
-fn print_text(text: &[u8]) {
-    io::write_all(STDOUT_FILENO, text);
-    io::write_all(STDOUT_FILENO, b"\n");
+fn print_text(rt: &HostRuntime, text: &[u8]) {
+    print(rt, text);
+    print(rt, b"\n");
 }
 
-fn print_refused(refusal: Refusal) {
+// Says on standard error what failed, in the system's words, without its number.
+fn fail(rt: &HostRuntime, error: Error) {
+    let Ok(told) = error.to_string(rt.alloc()) else {
+        return;
+    };
+    let words = match told.split_once(" (os error ") {
+        Some((words, _)) => words,
+        None => told.as_str(),
+    };
+    let _ = eprintln!(rt; "journal_tool: {words}");
+}
+
+// Reads until the bytes are full, the input ends or a read fails, and returns how many bytes it put at their front.
+fn read_full<R: Read>(reader: &mut R, bytes: &mut [u8]) -> usize
+    ensures { result ≤ length bytes.new }
+{
+    let mut done: usize = 0;
+    while done < bytes.len() {
+        let size = match reader.read(&mut bytes[done..]) {
+            Ok(size) => size,
+            Err(_) => 0,
+        };
+        if size == 0 {
+            break;
+        }
+        done += size;
+    }
+    done
+}
+
+fn print_refused(rt: &HostRuntime, refusal: Refusal) {
     let mut line = [0u8; LINE_MOST];
     let next = text::put_word(b"refused", &mut line, 0);
     let number = refusal.number();
     let next = text::put_number(number as u32, &mut line, next);
-    print_line(&mut line, next);
+    print_line(rt, &mut line, next);
 }
 
-fn print_totals(blocks: usize, messages: usize) {
+fn print_totals(rt: &HostRuntime, blocks: usize, messages: usize) {
     let mut line = [0u8; LINE_MOST];
     let next = text::put_word(b"blocks", &mut line, 0);
     let next = text::put_index(blocks, &mut line, next);
     let next = text::put_word(b"messages", &mut line, next);
     let next = text::put_index(messages, &mut line, next);
-    print_line(&mut line, next);
+    print_line(rt, &mut line, next);
 }
 
-fn print_message(number: u32, originator: u8, count: u32, payload: &[u8])
+fn print_message(rt: &HostRuntime, number: u32, originator: u8, count: u32, payload: &[u8])
     requires { length payload.now ≤ payload_most }
 {
     let mut line = [0u8; LINE_MOST];
@@ -63,22 +112,22 @@ fn print_message(number: u32, originator: u8, count: u32, payload: &[u8])
     let next = text::put_number(originator as u32, &mut line, next);
     let next = text::put_number(count, &mut line, next);
     let next = text::put_payload(payload, &mut line, next);
-    print_line(&mut line, next);
+    print_line(rt, &mut line, next);
 }
 
 // Prints the message of a record that stands in a block.
-fn print_record(block: &[u8], spot: Spot)
+fn print_record(rt: &HostRuntime, block: &[u8], spot: Spot)
     requires { StandsIn block.now spot }
 {
     let at = spot.start;
     let start = at + Record::HEAD;
     let end = spot.end;
     let count = big_endian::u32_at(block, at + 1);
-    print_message(spot.number.0, block[at], count, &block[start..end]);
+    print_message(rt, spot.number.0, block[at], count, &block[start..end]);
 }
 
 // Prints the messages of a right block.
-fn print_records(block: &[u8], records: usize) {
+fn print_records(rt: &HostRuntime, block: &[u8], records: usize) {
     if block.len() < Block::SIZE {
         return;
     }
@@ -88,7 +137,7 @@ fn print_records(block: &[u8], records: usize) {
         let walk = cursor.next(block);
         match walk {
             Walk::Next(spot, next) => {
-                print_record(block, spot);
+                print_record(rt, block, spot);
                 cursor = next;
                 left -= 1;
             }
@@ -129,13 +178,13 @@ fn stopped(known: Known) -> Known {
 }
 
 // Reads a block, and prints its messages where that is asked.
-fn read_block(known: Known, block: &[u8], prints: bool) -> Known {
+fn read_block(rt: &HostRuntime, known: Known, block: &[u8], prints: bool) -> Known {
     let tail = known.tail;
     let next = tail.next(block);
     match next {
         Block::Right(one) => {
             if prints {
-                print_records(block, one.messages);
+                print_records(rt, block, one.messages);
             }
             let tail = one.tail;
             Known {
@@ -149,22 +198,28 @@ fn read_block(known: Known, block: &[u8], prints: bool) -> Known {
     }
 }
 
-fn read_whole(known: Known, block: [u8; Block::SIZE], size: usize, prints: bool) -> Known {
+fn read_whole(
+    rt: &HostRuntime,
+    known: Known,
+    block: [u8; Block::SIZE],
+    size: usize,
+    prints: bool,
+) -> Known {
     if size < Block::SIZE {
         return stopped(known);
     }
-    read_block(known, &block, prints)
+    read_block(rt, known, &block, prints)
 }
 
 // Reads so many blocks of a file, up to the first that is wrong.
-fn read_blocks(file: i32, total: u64, prints: bool) -> Known {
+fn read_blocks(rt: &HostRuntime, mut file: &File, total: u64, prints: bool) -> Known {
     let mut known = nothing();
     let mut left = total;
     while 0 < left {
         if known.goes_on {
             let mut block = [0u8; Block::SIZE];
-            let size = io::read_full(file, &mut block);
-            known = read_whole(known, block, size, prints);
+            let size = read_full(&mut file, &mut block);
+            known = read_whole(rt, known, block, size, prints);
             left -= 1;
         } else {
             return known;
@@ -173,67 +228,54 @@ fn read_blocks(file: i32, total: u64, prints: bool) -> Known {
     known
 }
 
-// How many blocks a file has. Its length may be no multiple of a block's, with so many before the rest, or not to be had.
+// How many blocks a file has. Its length may be no multiple of a block's, with so many before the rest.
 #[derive(Clone, Copy)]
 enum Size {
     Blocks(u64),
     Uneven(u64),
-    Unknown,
 }
 
-fn positive(n: i64) -> u64 {
-    if n > 0 { n as u64 } else { 0 }
-}
-
-fn size_of(file: i32) -> Size {
-    let end = libc::lseek(file, 0, libc::SEEK_END);
-    if end < 0 {
-        return Size::Unknown;
-    }
-    if libc::lseek(file, 0, libc::SEEK_SET) < 0 {
-        return Size::Unknown;
-    }
-    let size = positive(end);
+fn size_of(mut file: &File) -> io::Result<Size> {
+    let size = file.seek(SeekFrom::End(0))?;
+    file.seek(SeekFrom::Start(0))?;
     if size % 512 == 0 {
-        Size::Blocks(size / 512)
+        Ok(Size::Blocks(size / 512))
     } else {
-        Size::Uneven(size / 512)
+        Ok(Size::Uneven(size / 512))
     }
 }
 
-fn list(file: i32) {
+fn list(rt: &HostRuntime, file: &File) {
     let size = size_of(file);
     match size {
-        Size::Blocks(total) => {
-            let known = read_blocks(file, total, true);
-            print_totals(known.blocks, known.messages);
+        Ok(Size::Blocks(total)) => {
+            let known = read_blocks(rt, file, total, true);
+            print_totals(rt, known.blocks, known.messages);
         }
-        Size::Uneven(_) => print_refused(Refusal::WrongJournal),
-        Size::Unknown => os::fail(b"journal_tool"),
+        Ok(Size::Uneven(_)) => print_refused(rt, Refusal::WrongJournal),
+        Err(error) => fail(rt, error),
     }
 }
 
-// Where a block begins in a file; -1, which C refuses, for one that no file has.
-fn offset_of(blocks: usize) -> i64 {
+// Where a block begins in a file; for one that no file has an offset that the system refuses.
+fn offset_of(blocks: usize) -> u64 {
     if blocks < 1000000000000 {
-        (blocks * Block::SIZE) as i64
+        (blocks * Block::SIZE) as u64
     } else {
-        -1
+        u64::MAX
     }
 }
 
 // Puts a block behind those of a file. The file grows first, so that wherever this is ended its length is a multiple of a
 // block's; and the next block waits until this one has reached the card.
-fn put_block(file: i32, blocks: usize, block: [u8; Block::SIZE]) -> bool {
+fn put_block(file: &File, blocks: usize, block: [u8; Block::SIZE]) -> io::Result<()> {
     let at = offset_of(blocks);
     let next = offset_of(std::num::wrapping_add_usize(blocks, 1));
-    if libc::ftruncate(file, next) != 0 {
-        return false;
+    file.set_len(next)?;
+    if file.write_at(&block, at)? != 512 {
+        return Err(Error::from(ErrorKind::WriteZero));
     }
-    if libc::pwrite(file, &block, at) != 512 {
-        return false;
-    }
-    libc::fsync(file) == 0
+    file.sync_all()
 }
 
 // A writer with its block in hand, and the blocks and messages of its file. It is stopped by a line of another form, and by a
@@ -249,26 +291,31 @@ struct Session {
 
 // The session after a block was put on the card, if there was one.
 fn handed_out(
+    rt: &HostRuntime,
     mut session: Session,
-    file: i32,
+    file: &File,
     written: usize,
     block: [u8; Block::SIZE],
 ) -> Session {
     if written == 0 {
         return session;
     }
-    if put_block(file, session.blocks, block) {
-        session.blocks = std::num::wrapping_add_usize(session.blocks, 1);
-        return session;
+    match put_block(file, session.blocks, block) {
+        Ok(()) => {
+            session.blocks = std::num::wrapping_add_usize(session.blocks, 1);
+        }
+        Err(error) => {
+            fail(rt, error);
+            session.stopped = true;
+        }
     }
-    os::fail(b"journal_tool");
-    session.stopped = true;
     session
 }
 
 fn write_message(
+    rt: &HostRuntime,
     mut session: Session,
-    file: i32,
+    file: &File,
     number: u32,
     originator: u8,
     count: u32,
@@ -291,12 +338,12 @@ fn write_message(
             session.messages = std::num::wrapping_add_usize(session.messages, 1);
         }
         Answer::Closed => {}
-        Answer::Refused(refusal) => print_refused(refusal),
+        Answer::Refused(refusal) => print_refused(rt, refusal),
     }
     let next = step.writer;
     session.writer = next;
     session.hand = hand;
-    handed_out(session, file, step.written, out)
+    handed_out(rt, session, file, step.written, out)
 }
 
 // Where a field ends that begins at an index: at the next space, or with the line.
@@ -380,8 +427,9 @@ fn member(number: u32) -> u8 {
 
 // The same of a payload that lies at the front of an array.
 fn write_laid(
+    rt: &HostRuntime,
     session: Session,
-    file: i32,
+    file: &File,
     number: u32,
     originator: u8,
     count: u32,
@@ -389,12 +437,20 @@ fn write_laid(
     length: usize,
 ) -> Session {
     if length < PAYLOAD_ROOM {
-        return write_message(session, file, number, originator, count, &payload[..length]);
+        return write_message(
+            rt,
+            session,
+            file,
+            number,
+            originator,
+            count,
+            &payload[..length],
+        );
     }
-    write_message(session, file, number, originator, count, &payload)
+    write_message(rt, session, file, number, originator, count, &payload)
 }
 
-fn write_line(mut session: Session, file: i32, line: &[u8]) -> Session
+fn write_line(rt: &HostRuntime, mut session: Session, file: &File, line: &[u8]) -> Session
     requires { length line.now ≤ 1000 }
 {
     let mut payload = [0u8; PAYLOAD_ROOM];
@@ -406,6 +462,7 @@ fn write_line(mut session: Session, file: i32, line: &[u8]) -> Session
             count,
             length,
         } => write_laid(
+            rt,
             session,
             file,
             number,
@@ -415,7 +472,7 @@ fn write_line(mut session: Session, file: i32, line: &[u8]) -> Session
             length,
         ),
         Line::Other => {
-            print_text(b"bad line");
+            print_text(rt, b"bad line");
             session.stopped = true;
             session
         }
@@ -430,9 +487,9 @@ struct Typed {
 }
 
 // Reads one byte. Each block waits for the card, so a call for each byte of the input is no loss.
-fn type_byte() -> Typed {
+fn type_byte(input: &mut Stdin) -> Typed {
     let mut byte = [0u8; 1];
-    let size = io::read_full(STDIN_FILENO, &mut byte);
+    let size = read_full(input, &mut byte);
     Typed {
         got: size == 1,
         byte: byte[0],
@@ -463,12 +520,12 @@ fn longer(length: usize) -> usize {
 
 // Reads a line, up to its line feed or the end of the input. A proved loop has to end, and nothing says that an input does: so
 // the loop counts its turns down, from a number that no run uses up.
-fn type_line() -> Input {
+fn type_line(input: &mut Stdin) -> Input {
     let mut line = [0u8; LINE_MOST];
     let mut length: usize = 0;
     let mut turns = u64::MAX;
     while 0 < turns {
-        let typed = type_byte();
+        let typed = type_byte(input);
         if typed.got {
             if typed.byte == b'\n' {
                 return Input {
@@ -495,28 +552,35 @@ fn type_line() -> Input {
     }
 }
 
-fn write_input(session: Session, file: i32, line: [u8; LINE_MOST], length: usize) -> Session {
+fn write_input(
+    rt: &HostRuntime,
+    session: Session,
+    file: &File,
+    line: [u8; LINE_MOST],
+    length: usize,
+) -> Session {
     if length < LINE_MOST {
-        return write_line(session, file, &line[..length]);
+        return write_line(rt, session, file, &line[..length]);
     }
-    write_line(session, file, &line)
+    write_line(rt, session, file, &line)
 }
 
 // Writes each line of the input. What stands behind the last line feed is a line too, unless it is empty.
-fn write_lines(mut session: Session, file: i32) -> Session {
+fn write_lines(rt: &HostRuntime, mut session: Session, file: &File) -> Session {
+    let mut typist = rt.stdin();
     let mut turns = u64::MAX;
     while 0 < turns {
         if session.stopped {
             return session;
         }
-        let input = type_line();
+        let input = type_line(&mut typist);
         let line = input.line;
         let length = input.length;
         if input.goes_on {
-            session = write_input(session, file, line, length);
+            session = write_input(rt, session, file, line, length);
         } else {
             if 0 < length {
-                return write_input(session, file, line, length);
+                return write_input(rt, session, file, line, length);
             }
             return session;
         }
@@ -526,16 +590,16 @@ fn write_lines(mut session: Session, file: i32) -> Session {
 }
 
 // Shuts down: what is in hand goes on the card.
-fn close(session: Session, file: i32) -> Session {
+fn close(rt: &HostRuntime, session: Session, file: &File) -> Session {
     let hand = session.hand;
     let mut out = [0u8; Block::SIZE];
     let writer = session.writer;
     let step = writer.finish(&hand, &mut out);
-    handed_out(session, file, step.written, out)
+    handed_out(rt, session, file, step.written, out)
 }
 
 // Cuts off what stands behind the blocks found, and writes on there.
-fn write_on(file: i32, known: Known) {
+fn write_on(rt: &HostRuntime, file: &File, known: Known) {
     let tail = known.tail;
     let writer = Writer::after(tail);
     let hand = [0u8; Block::SIZE];
@@ -546,75 +610,91 @@ fn write_on(file: i32, known: Known) {
         messages: known.messages,
         stopped: false,
     };
-    if libc::ftruncate(file, offset_of(known.blocks)) == 0 {
-        let written = write_lines(session, file);
-        let closed = close(written, file);
-        print_totals(closed.blocks, closed.messages);
-        return;
+    match file.set_len(offset_of(known.blocks)) {
+        Ok(()) => {
+            let written = write_lines(rt, session, file);
+            let closed = close(rt, written, file);
+            print_totals(rt, closed.blocks, closed.messages);
+        }
+        Err(error) => fail(rt, error),
     }
-    os::fail(b"journal_tool");
 }
 
 // Reads the blocks of a file, and writes on behind them.
-fn append_behind(file: i32, total: u64) {
-    let known = read_blocks(file, total, false);
-    write_on(file, known);
+fn append_behind(rt: &HostRuntime, file: &File, total: u64) {
+    let known = read_blocks(rt, file, total, false);
+    write_on(rt, file, known);
 }
 
 // A rest that is no block is cut off too, as what stands behind the blocks found is.
-fn append(file: i32) {
+fn append(rt: &HostRuntime, file: &File) {
     let size = size_of(file);
     match size {
-        Size::Blocks(total) => append_behind(file, total),
-        Size::Uneven(total) => append_behind(file, total),
-        Size::Unknown => os::fail(b"journal_tool"),
+        Ok(Size::Blocks(total)) => append_behind(rt, file, total),
+        Ok(Size::Uneven(total)) => append_behind(rt, file, total),
+        Err(error) => fail(rt, error),
     }
+}
+
+// The path that a name is. One that is no text names no file.
+fn path(name: &[u8]) -> io::Result<&str> {
+    match str::from_utf8(name) {
+        Ok(path) => Ok(path),
+        Err(_) => Err(Error::from(ErrorKind::InvalidFilename)),
+    }
+}
+
+fn open_read(rt: &HostRuntime, name: &[u8]) -> io::Result<File> {
+    File::open(rt, path(name)?)
+}
+
+fn open_update(rt: &HostRuntime, name: &[u8]) -> io::Result<File> {
+    let mut options = OpenOptions::new();
+    options.read(true).write(true);
+    options.open(rt, path(name)?)
+}
+
+fn create(rt: &HostRuntime, name: &[u8]) -> io::Result<File> {
+    let mut options = OpenOptions::new();
+    options.write(true).create_new(true);
+    options.open(rt, path(name)?)
 }
 
 // Opens a file for reading and writing; one that is not there is made.
-fn open_or_make(name: &[u8]) -> i32 {
-    let file = os::open_update(name);
-    if 0 <= file {
+fn open_or_make(rt: &HostRuntime, name: &[u8]) -> io::Result<File> {
+    let file = open_update(rt, name);
+    if file.is_ok() {
         return file;
     }
-    let made = os::create(name);
-    if 0 <= made {
-        libc::close(made);
-    }
-    os::open_update(name)
+    let _ = create(rt, name);
+    open_update(rt, name)
 }
 
-fn list_named(name: &[u8]) {
-    let file = os::open_read(name);
-    if file < 0 {
-        os::fail(b"journal_tool");
-        return;
+fn list_named(rt: &HostRuntime, name: &[u8]) {
+    match open_read(rt, name) {
+        Ok(file) => list(rt, &file),
+        Err(error) => fail(rt, error),
     }
-    list(file);
-    libc::close(file);
 }
 
-fn append_named(name: &[u8]) {
-    let file = open_or_make(name);
-    if file < 0 {
-        os::fail(b"journal_tool");
-        return;
+fn append_named(rt: &HostRuntime, name: &[u8]) {
+    match open_or_make(rt, name) {
+        Ok(file) => append(rt, &file),
+        Err(error) => fail(rt, error),
     }
-    append(file);
-    libc::close(file);
 }
 
-fn print_unit(unit: u16, description: &[u8])
+fn print_unit(rt: &HostRuntime, unit: u16, description: &[u8])
     requires { length description.now ≤ payload_most }
 {
     let mut line = [0u8; LINE_MOST];
     let next = text::put_number(unit as u32, &mut line, 0);
     let next = text::put_payload(description, &mut line, next);
-    print_line(&mut line, next);
+    print_line(rt, &mut line, next);
 }
 
 // Prints the rows of a plan: each is a unit's number, a length, and a description of that length.
-fn print_rows(rows: &[u8]) {
+fn print_rows(rt: &HostRuntime, rows: &[u8]) {
     let mut at: usize = 0;
     while 4 <= rows.len() - at {
         let start = at + 4;
@@ -626,78 +706,133 @@ fn print_rows(rows: &[u8]) {
             return;
         }
         let end = start + size;
-        print_unit(big_endian::u16_at(rows, at), &rows[start..end]);
+        print_unit(rt, big_endian::u16_at(rows, at), &rows[start..end]);
         at = end;
     }
 }
 
-fn print_plan(journal: &[u8], out: &mut [u8]) {
+fn print_plan(rt: &HostRuntime, journal: &[u8], out: &mut [u8]) {
     let answer = plan::plan(journal, out);
     match answer {
-        plan::Answer::Bytes(size) => print_rows(&out[..size]),
-        plan::Answer::Refused(refusal) => print_refused(refusal),
+        plan::Answer::Bytes(size) => print_rows(rt, &out[..size]),
+        plan::Answer::Refused(refusal) => print_refused(rt, refusal),
     }
 }
 
 // Puts bytes in a file, and waits until they have reached the card.
-fn store(file: i32, bytes: &[u8]) -> bool {
-    if libc::fchmod(file, 0o644) != 0 {
-        return false;
+fn store(mut file: &File, bytes: &[u8]) -> io::Result<()> {
+    file.set_permissions(Permissions::from_mode(0o644))?;
+    file.write_all(bytes)?;
+    file.sync_all()
+}
+
+// A digit or a letter.
+fn letter(random: u8) -> u8 {
+    let n = random % 36;
+    if n < 10 { b'0' + n } else { b'a' + (n - 10) }
+}
+
+// Completes a name: its last bytes are digits and letters, as chance has it.
+fn complete(rt: &HostRuntime, name: &mut [u8]) -> io::Result<()>
+    requires { 6 ≤ length name.old }
+{
+    let mut random = [0u8; COMPLETED];
+    rt.fill_bytes(&mut random)?;
+    let start = name.len() - COMPLETED;
+    let mut i: usize = 0;
+    while i < COMPLETED {
+        name[start + i] = letter(random[i]);
+        i += 1;
     }
-    if io::write_all(file, bytes) {
-        return libc::fsync(file) == 0;
+    Ok(())
+}
+
+// Makes a file that was not there, and completes its name.
+fn create_temp(rt: &HostRuntime, name: &mut [u8]) -> io::Result<File>
+    requires { 6 ≤ length name.old }
+{
+    let mut options = OpenOptions::new();
+    options.write(true).create_new(true).mode(0o600);
+    for _ in 0..NAMES_TRIED {
+        complete(rt, name)?;
+        match options.open(rt, path(name)?) {
+            Ok(file) => return Ok(file),
+            Err(error) => {
+                if error.kind() != ErrorKind::AlreadyExists {
+                    return Err(error);
+                }
+            }
+        }
     }
-    false
+    Err(Error::from(ErrorKind::AlreadyExists))
+}
+
+fn rename(rt: &HostRuntime, from: &[u8], to: &[u8]) -> io::Result<()> {
+    fs::rename(rt, path(from)?, path(to)?)
+}
+
+fn remove(rt: &HostRuntime, name: &[u8]) -> io::Result<()> {
+    fs::remove_file(rt, path(name)?)
+}
+
+// Stores bytes in a new file, and then gives it the other name.
+fn place(rt: &HostRuntime, file: File, beside: &[u8], name: &[u8], bytes: &[u8]) -> io::Result<()> {
+    let stored = store(&file, bytes);
+    drop(file);
+    stored?;
+    rename(rt, beside, name)
 }
 
 // Puts bytes in a new file, whose name is completed, and then gives it the other name: a failure leaves what has that name.
-fn put_beside(beside: &mut [u8], name: &[u8], bytes: &[u8]) -> bool {
-    let file = os::create_temp(beside);
-    if file < 0 {
-        os::fail(b"journal_tool");
-        return false;
-    }
-    let stored = store(file, bytes);
-    libc::close(file);
-    if stored {
-        if os::rename(beside, name) == 0 {
-            return true;
+fn put_beside(rt: &HostRuntime, beside: &mut [u8], name: &[u8], bytes: &[u8]) -> bool
+    requires { 6 ≤ length beside.old }
+{
+    let file = match create_temp(rt, beside) {
+        Ok(file) => file,
+        Err(error) => {
+            fail(rt, error);
+            return false;
+        }
+    };
+    match place(rt, file, beside, name, bytes) {
+        Ok(()) => true,
+        Err(error) => {
+            fail(rt, error);
+            let _ = remove(rt, beside);
+            false
         }
     }
-    os::fail(b"journal_tool");
-    os::unlink(beside);
-    false
 }
 
 // Puts bytes in a file of that name, by way of another beside it.
-fn replace(name: &[u8], bytes: &[u8]) -> bool {
+fn replace(rt: &HostRuntime, name: &[u8], bytes: &[u8]) -> bool {
     let suffix = *b".XXXXXX";
-    let mut beside = io::buffer();
+    let mut beside = [0u8; NAME_MOST];
     if beside.len() - suffix.len() < name.len() {
-        print_text(b"too long a name");
+        print_text(rt, b"too long a name");
         return false;
     }
     let next = text::put_text(name, &mut beside, 0);
     let size = text::put_text(&suffix, &mut beside, next);
-    put_beside(&mut beside[..size], name, bytes)
+    put_beside(rt, &mut beside[..size], name, bytes)
 }
 
 // Writes a rewritten journal to a file, and prints what is there then.
-fn write_blocks(blocks: &[u8], name: &[u8]) {
-    if replace(name, blocks) {
+fn write_blocks(rt: &HostRuntime, blocks: &[u8], name: &[u8]) {
+    if replace(rt, name, blocks) {
         let reading = journal::read(blocks);
         match reading {
-            Reading::Read(found) => print_totals(found.blocks, found.messages),
-            Reading::Refused(refusal) => print_refused(refusal),
+            Reading::Read(found) => print_totals(rt, found.blocks, found.messages),
+            Reading::Refused(refusal) => print_refused(rt, refusal),
         }
     }
 }
 
-fn rewrite(journal: &[u8], name: &[u8], out: &mut [u8]) {
+fn rewrite(rt: &HostRuntime, journal: &[u8], name: &[u8], out: &mut [u8]) {
     let answer = plan::rewrite(journal, out);
     match answer {
-        plan::Answer::Bytes(size) => write_blocks(&out[..size], name),
-        plan::Answer::Refused(refusal) => print_refused(refusal),
+        plan::Answer::Bytes(size) => write_blocks(rt, &out[..size], name),
+        plan::Answer::Refused(refusal) => print_refused(rt, refusal),
     }
 }
 
@@ -713,60 +848,90 @@ enum Command {
 
 // Plans the journal in a file, or rewrites it to another. What is lent for it has a byte more than may be used, by which a longer
 // file is told.
-fn work(command: Command, file: i32, new: &[u8], journal: &mut [u8], out: &mut [u8]) {
-    let size = io::read_full(file, journal);
+fn work(
+    rt: &HostRuntime,
+    command: Command,
+    mut file: &File,
+    new: &[u8],
+    journal: &mut [u8],
+    out: &mut [u8],
+) {
+    let size = read_full(&mut file, journal);
     if FILE_MOST < size {
-        print_text(b"longer than 1048576 bytes");
+        print_text(rt, b"longer than 1048576 bytes");
         return;
     }
     match command {
-        Command::Plan => print_plan(&journal[..size], out),
-        _ => rewrite(&journal[..size], new, out),
+        Command::Plan => print_plan(rt, &journal[..size], out),
+        _ => rewrite(rt, &journal[..size], new, out),
     }
 }
 
 // The same, of arrays, whose lengths are those of their types.
 fn work_lent(
+    rt: &HostRuntime,
     command: Command,
-    file: i32,
+    file: &File,
     new: &[u8],
     journal: &mut [u8; FILE_MOST + 1],
     out: &mut [u8; OUTPUT_MOST],
 ) {
-    work(command, file, new, journal, out);
+    work(rt, command, file, new, journal, out);
 }
 
-fn work_named(command: Command, name: &[u8], new: &[u8]) {
-    let file = os::open_read(name);
-    if file < 0 {
-        os::fail(b"journal_tool");
-        return;
-    }
+fn work_named(rt: &HostRuntime, command: Command, name: &[u8], new: &[u8]) {
+    let file = match open_read(rt, name) {
+        Ok(file) => file,
+        Err(error) => {
+            fail(rt, error);
+            return;
+        }
+    };
     let mut journal = [0u8; FILE_MOST + 1];
     let mut out = [0u8; OUTPUT_MOST];
-    work_lent(command, file, new, &mut journal, &mut out);
-    libc::close(file);
+    work_lent(rt, command, &file, new, &mut journal, &mut out);
 }
 
-fn work_arguments(command: Command, i: usize, k: usize) {
-    let mut name = io::buffer();
-    let size = os::arg(i, &mut name);
-    let mut new = io::buffer();
-    let new_size = os::arg(k, &mut new);
-    work_named(command, &name[..size], &new[..new_size]);
+// Puts an argument at the front of a word, and answers its length: 0 where it is missing, or longer than the word.
+fn argument(rt: &HostRuntime, i: usize, word: &mut [u8]) -> usize
+    ensures { result ≤ length word.new }
+{
+    match rt.arg(i, word) {
+        Ok(size) => size,
+        Err(_) => 0,
+    }
+}
+
+// How many arguments there are; the program's own name is counted too.
+fn argument_count(rt: &HostRuntime) -> usize {
+    let mut word = [0u8; NAME_MOST];
+    for i in 0..usize::MAX {
+        if let Err(FillError::NotPresent) = rt.arg(i, &mut word) {
+            return i;
+        }
+    }
+    usize::MAX
+}
+
+fn work_arguments(rt: &HostRuntime, command: Command, i: usize, k: usize) {
+    let mut name = [0u8; NAME_MOST];
+    let size = argument(rt, i, &mut name);
+    let mut new = [0u8; NAME_MOST];
+    let new_size = argument(rt, k, &mut new);
+    work_named(rt, command, &name[..size], &new[..new_size]);
 }
 
 // Lists the file that an argument names.
-fn list_argument(i: usize) {
-    let mut name = io::buffer();
-    let size = os::arg(i, &mut name);
-    list_named(&name[..size]);
+fn list_argument(rt: &HostRuntime, i: usize) {
+    let mut name = [0u8; NAME_MOST];
+    let size = argument(rt, i, &mut name);
+    list_named(rt, &name[..size]);
 }
 
-fn append_argument(i: usize) {
-    let mut name = io::buffer();
-    let size = os::arg(i, &mut name);
-    append_named(&name[..size]);
+fn append_argument(rt: &HostRuntime, i: usize) {
+    let mut name = [0u8; NAME_MOST];
+    let size = argument(rt, i, &mut name);
+    append_named(rt, &name[..size]);
 }
 
 // Whether a word is that one.
@@ -785,77 +950,78 @@ fn is_word(word: &[u8], other: &[u8]) -> bool {
     true
 }
 
-fn is_argument(i: usize, other: &[u8]) -> bool {
-    let mut word = io::buffer();
-    let size = os::arg(i, &mut word);
+fn is_argument(rt: &HostRuntime, i: usize, other: &[u8]) -> bool {
+    let mut word = [0u8; NAME_MOST];
+    let size = argument(rt, i, &mut word);
     is_word(&word[..size], other)
 }
 
 // The command that an argument is, with so many behind it.
-fn asked(i: usize, files: usize) -> Command {
-    if is_argument(i, b"list") {
+fn asked(rt: &HostRuntime, i: usize, files: usize) -> Command {
+    if is_argument(rt, i, b"list") {
         return Command::List;
     }
     if files == 1 {
-        if is_argument(i, b"append") {
+        if is_argument(rt, i, b"append") {
             return Command::Append;
         }
-        if is_argument(i, b"plan") {
+        if is_argument(rt, i, b"plan") {
             return Command::Plan;
         }
         return Command::Other;
     }
     if files == 2 {
-        if is_argument(i, b"rewrite") {
+        if is_argument(rt, i, b"rewrite") {
             return Command::Rewrite;
         }
     }
     Command::Other
 }
 
-fn list_arguments(first: usize, end: usize) {
+fn list_arguments(rt: &HostRuntime, first: usize, end: usize) {
     let mut i = first;
     while i < end {
-        list_argument(i);
+        list_argument(rt, i);
         i += 1;
     }
 }
 
-fn usage() {
+fn usage(rt: &HostRuntime) {
     print_text(
+        rt,
         b"usage: journal_tool list FILE.. | append FILE | plan FILE | rewrite FILE NEW [then ..]",
     );
 }
 
 // Runs the command that begins at an argument and ends before another.
-fn run(from: usize, end: usize) {
+fn run(rt: &HostRuntime, from: usize, end: usize) {
     if end <= from {
-        usage();
+        usage(rt);
         return;
     }
     let first = from + 1;
-    let command = asked(from, end - first);
+    let command = asked(rt, from, end - first);
     match command {
-        Command::List => list_arguments(first, end),
-        Command::Append => append_argument(first),
-        Command::Plan => work_arguments(command, first, first),
-        Command::Rewrite => work_arguments(command, first, end - 1),
-        Command::Other => usage(),
+        Command::List => list_arguments(rt, first, end),
+        Command::Append => append_argument(rt, first),
+        Command::Plan => work_arguments(rt, command, first, first),
+        Command::Rewrite => work_arguments(rt, command, first, end - 1),
+        Command::Other => usage(rt),
     }
 }
 
-fn parts(i: usize) -> bool {
-    is_argument(i, b"then")
+fn parts(rt: &HostRuntime, i: usize) -> bool {
+    is_argument(rt, i, b"then")
 }
 
 // Where the command that begins at an argument ends.
-fn command_end(from: usize, count: usize) -> usize
+fn command_end(rt: &HostRuntime, from: usize, count: usize) -> usize
     requires { from ≤ count }
     ensures { (from ≤ result) × (result ≤ count) }
 {
     let mut i = from;
     while i < count {
-        if parts(i) {
+        if parts(rt, i) {
             return i;
         }
         i += 1;
@@ -863,12 +1029,12 @@ fn command_end(from: usize, count: usize) -> usize
     i
 }
 
-fn main() {
-    let count = os::arg_count();
+fn main(rt: HostRuntime) {
+    let count = argument_count(&rt);
     let mut from: usize = 1;
     while from <= count {
-        let end = command_end(from, count);
-        run(from, end);
+        let end = command_end(&rt, from, count);
+        run(&rt, from, end);
         if count <= end {
             return;
         }

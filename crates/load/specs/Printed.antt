@@ -1,5 +1,6 @@
 -- What printing a load comes to.
 use Rattle.std.specs.Prelude.{◌≡◌, List, [], ℕ}
+use Rattle.std.specs.declared.option.Option.{Option}
 use Rattle.descriptor.specs.Descriptor.{Takes}
 use Rattle.descriptor.specs.declared.Sink.{Sink}
 use Rattle.group.specs.Opening as group
@@ -14,6 +15,6 @@ printed_of seed events (Opened.Open g) = load_of seed g.n g.number events
 printed_of seed events (Opened.Refused refusal) = []
 
 -- the sink took that, and the answer is the opening's
-pub record Prints (seed n number events : ℕ) (sink : Sink) (r : Printed) : Type 0 where
+pub record Prints {W : Type 0} (contents : W → Option (List ℕ)) (seed n number events : ℕ) (sink : Sink W) (r : Printed W) : Type 0 where
   pub answer : r.answer ≡ (open_of seed n number).answer
-  pub takes : Takes sink (printed_of seed events (group.open_of n number 0)) r.sink
+  pub takes : Takes contents sink (printed_of seed events (group.open_of n number 0)) r.sink

@@ -11,12 +11,17 @@ ghost use Rattle.load.specs.Steps.{lines_from, Gathers};
 
 use descriptor::Sink;
 use group::Refusal;
-use libc::STDERR_FILENO;
+use std::env::FillError;
+use std::io;
+use std::rt::Env;
 use text::{Numeral, number, put_text};
 use workload::{Answer, Load};
 
 // How many bytes of lines are gathered before they are written.
 const GATHERED: usize = 4096;
+
+// The bytes of an argument that is looked at, at most.
+const WORD_MOST: usize = 4096;
 
 // A load, and the index behind the line that was laid.
 #[derive(Clone, Copy)]
@@ -34,10 +39,10 @@ struct Part {
 }
 
 // What opening the load answered, and the sink behind the load.
-#[derive(Clone, Copy)]
-struct Printed {
+#[derive(Drop)]
+struct Printed<'a, W> {
     answer: Answer,
-    sink: Sink,
+    sink: Sink<'a, W>,
 }
 
 // Lays a line behind others.
@@ -81,8 +86,8 @@ fn gather(mut load: Load, events: u32, out: &mut [u8]) -> Part
 }
 
 // Hands on the lines of events, some of them at a time.
-fn put_events(mut load: Load, events: u32, mut sink: Sink) -> Sink
-    ensures { Takes sink (lines_from load events) result }
+fn put_events<'a, W: io::Write>(mut load: Load, events: u32, mut sink: Sink<'a, W>) -> Sink<'a, W>
+    ensures { Takes W.contents sink.entry (lines_from load events) result }
 {
     let mut left = events;
     while left > 0 {
@@ -100,16 +105,26 @@ fn put_events(mut load: Load, events: u32, mut sink: Sink) -> Sink
 }
 
 // Hands on a first line.
-fn put_first(line: [u8; Load::LINE], size: usize, sink: Sink) -> Sink
+fn put_first<'a, W: io::Write>(
+    line: [u8; Load::LINE],
+    size: usize,
+    sink: Sink<'a, W>,
+) -> Sink<'a, W>
     requires { size ≤ line_room }
-    ensures { Takes sink (take size line) result }
+    ensures { Takes W.contents sink.entry (take size line) result }
 {
     sink.write(&line[..size])
 }
 
 // Prints a whole load; nothing, where it is refused.
-fn put_load(seed: u32, n: u32, group: u32, events: u32, sink: Sink) -> Printed
-    ensures { Prints seed n group events sink result }
+fn put_load<'a, W: io::Write>(
+    seed: u32,
+    n: u32,
+    group: u32,
+    events: u32,
+    sink: Sink<'a, W>,
+) -> Printed<'a, W>
+    ensures { Prints W.contents seed n group events sink.entry result }
 {
     let mut line = [0u8; Load::LINE];
     let step = Load::open(seed, n, group, &mut line);
@@ -125,52 +140,65 @@ fn put_load(seed: u32, n: u32, group: u32, events: u32, sink: Sink) -> Printed
     }
 }
 
+// Whether there is such an argument.
+fn is_there(rt: &HostRuntime, index: usize) -> bool {
+    let mut word = [0u8; WORD_MOST];
+    match rt.arg(index, &mut word) {
+        Err(FillError::NotPresent) => false,
+        _ => true,
+    }
+}
+
 // The number that an argument is.
-fn argument(index: usize) -> Numeral {
-    let mut word = io::buffer();
-    let size = os::arg(index, &mut word);
+fn argument(rt: &HostRuntime, index: usize) -> Numeral {
+    let mut word = [0u8; WORD_MOST];
+    let size = match rt.arg(index, &mut word) {
+        Ok(size) => size,
+        Err(_) => 0,
+    };
     number(&word[..size])
 }
 
-fn usage() {
-    io::write_all(STDERR_FILENO, b"usage: load seed n group events\n");
+// Whoever reads what is said may have gone: there is nobody to tell.
+fn usage(rt: &HostRuntime) {
+    let _ = eprintln!(rt; "usage: load seed n group events");
 }
 
-fn say_refused(refusal: Refusal) {
-    io::write_all(STDERR_FILENO, b"refused ");
-    io::print_decimal(STDERR_FILENO, refusal.number() as u64);
-    io::write_all(STDERR_FILENO, b"\n");
+fn say_refused(rt: &HostRuntime, refusal: Refusal) {
+    let number = refusal.number();
+    let _ = eprintln!(rt; "refused {number}");
 }
 
-fn print(seed: u32, n: u32, group: u32, events: u32) {
-    let sink = Sink::to(libc::STDOUT_FILENO);
+fn print(rt: &HostRuntime, seed: u32, n: u32, group: u32, events: u32) {
+    let mut output = rt.stdout();
+    let sink = Sink::to(&mut output);
     let printed = put_load(seed, n, group, events, sink);
     let answer = printed.answer;
     if let Answer::Refused(refusal) = answer {
-        say_refused(refusal);
+        say_refused(rt, refusal);
     }
 }
 
-fn main() {
+fn main(rt: HostRuntime) {
     // The program's own name is counted too.
-    if os::arg_count() != 5 {
-        return usage();
+    if !is_there(&rt, 4) || is_there(&rt, 5) {
+        return usage(&rt);
     }
-    let seed = argument(1);
-    let n = argument(2);
-    let group = argument(3);
-    let events = argument(4);
+    let seed = argument(&rt, 1);
+    let n = argument(&rt, 2);
+    let group = argument(&rt, 3);
+    let events = argument(&rt, 4);
     let Numeral::Of(seed) = seed else {
-        return usage();
+        return usage(&rt);
     };
     let Numeral::Of(n) = n else {
-        return usage();
+        return usage(&rt);
     };
     let Numeral::Of(group) = group else {
-        return usage();
+        return usage(&rt);
     };
     let Numeral::Of(events) = events else {
-        return usage();
+        return usage(&rt);
     };
-    print(seed, n, group, events)
+    print(&rt, seed, n, group, events)
 }

@@ -3,8 +3,10 @@
 
 use descriptor::{Sink, Source};
 
-fn main() {
-    let source = Source::of(libc::STDIN_FILENO);
-    let sink = Sink::to(libc::STDOUT_FILENO);
+fn main(rt: HostRuntime) {
+    let mut input = rt.stdin();
+    let mut output = rt.stdout();
+    let source = Source::of(&mut input);
+    let sink = Sink::to(&mut output);
     reset_stream::recover(source, sink);
 }

@@ -1,5 +1,6 @@
 -- What playing a schedule with resets from a source to a sink comes to.
 use Rattle.std.specs.Prelude.{List, ℕ}
+use Rattle.std.specs.declared.option.Option.{Option}
 use Rattle.descriptor.specs.Descriptor.{Gives, Takes}
 use Rattle.descriptor.specs.declared.Source.{Source}
 use Rattle.descriptor.specs.declared.Sink.{Sink}
@@ -7,7 +8,7 @@ use Rattle.reset_output.specs.Recover.{recover_of}
 use Rattle.stream.specs.declared.Played.{Played}
 
 -- the source gave an input, and the sink took what `recover` prints of the whole input
-pub record Recovers (source : Source) (sink : Sink) (r : Played) : Type 0 where
+pub record Recovers {R W : Type 0} (remaining : R → Option (List ℕ)) (contents : W → Option (List ℕ)) (source : Source R) (sink : Sink W) (r : Played R W) : Type 0 where
   pub input : List ℕ
-  pub gives : Gives source input r.source
-  pub takes : Takes sink (recover_of input) r.sink
+  pub gives : Gives remaining source input r.source
+  pub takes : Takes contents sink (recover_of input) r.sink

@@ -20,27 +20,28 @@ use player::{LINE, OUTPUT, Phase, phase_of};
 use report::write_bad_opening;
 use reset_player::{Player, end, feed, last_member, last_sequencer};
 use simulator::PACKETS;
+use std::io::{Read, Write};
 use stream::{Played, put_text};
 use terminal_rows::{MASKS, NUMBERS, SMALL};
 
 // The player and the sink after a part of the input.
-#[derive(Clone, Copy)]
-struct Step {
+#[derive(Drop)]
+struct Step<'w, W> {
     player: Player,
-    sink: Sink,
+    sink: Sink<'w, W>,
 }
 
 // The same with the source, and whether to go on: the input has not ended, and the sink takes what it is handed.
-#[derive(Clone, Copy)]
-struct Turn {
+#[derive(Drop)]
+struct Turn<'r, 'w, R, W> {
     player: Player,
-    source: Source,
-    sink: Sink,
+    source: Source<'r, R>,
+    sink: Sink<'w, W>,
     goes_on: bool,
 }
 
 // Plays what was read, a line at a time.
-fn play_part(
+fn play_part<'w, W: Write>(
     mut player: Player,
     small: &mut [[u8; SMALL]; Group::MEMBERS],
     masks: &mut [[u16; MASKS]; Group::MEMBERS],
@@ -71,9 +72,9 @@ fn play_part(
     packets: &mut [[u8; Group::PACKET]; PACKETS],
     line: &mut [u8; LINE],
     part: &[u8],
-    mut sink: Sink,
-) -> Step
-    ensures { Puts (state_of player (whole_of player.world small.old masks.old numbers.old queued.old held.old queued_originators.old queued_lengths.old held_originators.old held_lengths.old queued_payloads.old held_payloads.old past.old past_originators.old past_lengths.old past_payloads.old highest.old replies.old taken.old counts.old repeats.old kept.old marks.old originators.old lengths.old payloads.old sizes.old packets.old) line.old) part.now (state_of result.player (whole_of result.player.world small.new masks.new numbers.new queued.new held.new queued_originators.new queued_lengths.new held_originators.new held_lengths.new queued_payloads.new held_payloads.new past.new past_originators.new past_lengths.new past_payloads.new highest.new replies.new taken.new counts.new repeats.new kept.new marks.new originators.new lengths.new payloads.new sizes.new packets.new) line.new) [] sink result.sink }
+    mut sink: Sink<'w, W>,
+) -> Step<'w, W>
+    ensures { Puts W.contents (state_of player (whole_of player.world small.old masks.old numbers.old queued.old held.old queued_originators.old queued_lengths.old held_originators.old held_lengths.old queued_payloads.old held_payloads.old past.old past_originators.old past_lengths.old past_payloads.old highest.old replies.old taken.old counts.old repeats.old kept.old marks.old originators.old lengths.old payloads.old sizes.old packets.old) line.old) part.now (state_of result.player (whole_of result.player.world small.new masks.new numbers.new queued.new held.new queued_originators.new queued_lengths.new held_originators.new held_lengths.new queued_payloads.new held_payloads.new past.new past_originators.new past_lengths.new past_payloads.new highest.new replies.new taken.new counts.new repeats.new kept.new marks.new originators.new lengths.new payloads.new sizes.new packets.new) line.new) [] sink.entry result.sink }
 {
     let mut from: usize = 0;
     while from < part.len() {
@@ -119,7 +120,7 @@ fn play_part(
 }
 
 // Reads once, and plays what came.
-fn play_some(
+fn play_some<'r, 'w, R: Read, W: Write>(
     player: Player,
     small: &mut [[u8; SMALL]; Group::MEMBERS],
     masks: &mut [[u16; MASKS]; Group::MEMBERS],
@@ -149,10 +150,10 @@ fn play_some(
     sizes: &mut [usize; PACKETS],
     packets: &mut [[u8; Group::PACKET]; PACKETS],
     line: &mut [u8; LINE],
-    source: Source,
-    sink: Sink,
-) -> Turn
-    ensures { Turns (state_of player (whole_of player.world small.old masks.old numbers.old queued.old held.old queued_originators.old queued_lengths.old held_originators.old held_lengths.old queued_payloads.old held_payloads.old past.old past_originators.old past_lengths.old past_payloads.old highest.old replies.old taken.old counts.old repeats.old kept.old marks.old originators.old lengths.old payloads.old sizes.old packets.old) line.old) (state_of result.player (whole_of result.player.world small.new masks.new numbers.new queued.new held.new queued_originators.new queued_lengths.new held_originators.new held_lengths.new queued_payloads.new held_payloads.new past.new past_originators.new past_lengths.new past_payloads.new highest.new replies.new taken.new counts.new repeats.new kept.new marks.new originators.new lengths.new payloads.new sizes.new packets.new) line.new) source sink result }
+    source: Source<'r, R>,
+    sink: Sink<'w, W>,
+) -> Turn<'r, 'w, R, W>
+    ensures { Turns R.remaining W.contents (state_of player (whole_of player.world small.old masks.old numbers.old queued.old held.old queued_originators.old queued_lengths.old held_originators.old held_lengths.old queued_payloads.old held_payloads.old past.old past_originators.old past_lengths.old past_payloads.old highest.old replies.old taken.old counts.old repeats.old kept.old marks.old originators.old lengths.old payloads.old sizes.old packets.old) line.old) (state_of result.player (whole_of result.player.world small.new masks.new numbers.new queued.new held.new queued_originators.new queued_lengths.new held_originators.new held_lengths.new queued_payloads.new held_payloads.new past.new past_originators.new past_lengths.new past_payloads.new highest.new replies.new taken.new counts.new repeats.new kept.new marks.new originators.new lengths.new payloads.new sizes.new packets.new) line.new) source.entry sink.entry result }
 {
     let mut chunk = [0u8; 4096];
     let read = source.read(&mut chunk);
@@ -204,7 +205,7 @@ fn play_some(
 
 // Plays to the end of the input. A proved loop has to end, and nothing says that an input does: so the loop counts its turns
 // down, from a number that no run uses up.
-fn play_all(
+fn play_all<'r, 'w, R: Read, W: Write>(
     player: Player,
     small: &mut [[u8; SMALL]; Group::MEMBERS],
     masks: &mut [[u16; MASKS]; Group::MEMBERS],
@@ -234,10 +235,10 @@ fn play_all(
     sizes: &mut [usize; PACKETS],
     packets: &mut [[u8; Group::PACKET]; PACKETS],
     line: &mut [u8; LINE],
-    source: Source,
-    sink: Sink,
-) -> Turn
-    ensures { Turns (state_of player (whole_of player.world small.old masks.old numbers.old queued.old held.old queued_originators.old queued_lengths.old held_originators.old held_lengths.old queued_payloads.old held_payloads.old past.old past_originators.old past_lengths.old past_payloads.old highest.old replies.old taken.old counts.old repeats.old kept.old marks.old originators.old lengths.old payloads.old sizes.old packets.old) line.old) (state_of result.player (whole_of result.player.world small.new masks.new numbers.new queued.new held.new queued_originators.new queued_lengths.new held_originators.new held_lengths.new queued_payloads.new held_payloads.new past.new past_originators.new past_lengths.new past_payloads.new highest.new replies.new taken.new counts.new repeats.new kept.new marks.new originators.new lengths.new payloads.new sizes.new packets.new) line.new) source sink result }
+    source: Source<'r, R>,
+    sink: Sink<'w, W>,
+) -> Turn<'r, 'w, R, W>
+    ensures { Turns R.remaining W.contents (state_of player (whole_of player.world small.old masks.old numbers.old queued.old held.old queued_originators.old queued_lengths.old held_originators.old held_lengths.old queued_payloads.old held_payloads.old past.old past_originators.old past_lengths.old past_payloads.old highest.old replies.old taken.old counts.old repeats.old kept.old marks.old originators.old lengths.old payloads.old sizes.old packets.old) line.old) (state_of result.player (whole_of result.player.world small.new masks.new numbers.new queued.new held.new queued_originators.new queued_lengths.new held_originators.new held_lengths.new queued_payloads.new held_payloads.new past.new past_originators.new past_lengths.new past_payloads.new highest.new replies.new taken.new counts.new repeats.new kept.new marks.new originators.new lengths.new payloads.new sizes.new packets.new) line.new) source.entry sink.entry result }
 {
     let mut turn = play_some(
         player,
@@ -320,15 +321,15 @@ fn play_all(
 }
 
 // The lines of the first n terminals.
-fn put_terminals(
+fn put_terminals<'w, W: Write>(
     small: &[[u8; SMALL]; Group::MEMBERS],
     masks: &[[u16; MASKS]; Group::MEMBERS],
     numbers: &[[u32; NUMBERS]; Group::MEMBERS],
     n: usize,
-    mut sink: Sink,
-) -> Sink
+    mut sink: Sink<'w, W>,
+) -> Sink<'w, W>
     requires { n ≤ members_most }
-    ensures { HandsTerminals small.now masks.now numbers.now n sink result }
+    ensures { HandsTerminals W.contents small.now masks.now numbers.now n sink.entry result }
 {
     let mut i: usize = 0;
     while i < n {
@@ -351,14 +352,14 @@ fn write_unopened(out: &mut [u8; OUTPUT]) -> usize
 }
 
 // What is printed at the end.
-fn put_last(
+fn put_last<'w, W: Write>(
     player: Player,
     small: &[[u8; SMALL]; Group::MEMBERS],
     masks: &[[u16; MASKS]; Group::MEMBERS],
     numbers: &[[u32; NUMBERS]; Group::MEMBERS],
-    sink: Sink,
-) -> Sink
-    ensures { HandsLast player small.now masks.now numbers.now sink result }
+    sink: Sink<'w, W>,
+) -> Sink<'w, W>
+    ensures { HandsLast W.contents player small.now masks.now numbers.now sink.entry result }
 {
     let phase = player.phase;
     let n = player.world.n;
@@ -376,7 +377,7 @@ fn put_last(
 }
 
 // The end of the input.
-fn finish(
+fn finish<'w, W: Write>(
     player: Player,
     small: &mut [[u8; SMALL]; Group::MEMBERS],
     masks: &mut [[u16; MASKS]; Group::MEMBERS],
@@ -406,9 +407,9 @@ fn finish(
     sizes: &mut [usize; PACKETS],
     packets: &mut [[u8; Group::PACKET]; PACKETS],
     line: &[u8; LINE],
-    sink: Sink,
-) -> Sink
-    ensures { Takes sink ((end_of (state_of player (whole_of player.world small.old masks.old numbers.old queued.old held.old queued_originators.old queued_lengths.old held_originators.old held_lengths.old queued_payloads.old held_payloads.old past.old past_originators.old past_lengths.old past_payloads.old highest.old replies.old taken.old counts.old repeats.old kept.old marks.old originators.old lengths.old payloads.old sizes.old packets.old) line.now)).text ++ last_of (end_of (state_of player (whole_of player.world small.old masks.old numbers.old queued.old held.old queued_originators.old queued_lengths.old held_originators.old held_lengths.old queued_payloads.old held_payloads.old past.old past_originators.old past_lengths.old past_payloads.old highest.old replies.old taken.old counts.old repeats.old kept.old marks.old originators.old lengths.old payloads.old sizes.old packets.old) line.now)).state.stage) result }
+    sink: Sink<'w, W>,
+) -> Sink<'w, W>
+    ensures { Takes W.contents sink.entry ((end_of (state_of player (whole_of player.world small.old masks.old numbers.old queued.old held.old queued_originators.old queued_lengths.old held_originators.old held_lengths.old queued_payloads.old held_payloads.old past.old past_originators.old past_lengths.old past_payloads.old highest.old replies.old taken.old counts.old repeats.old kept.old marks.old originators.old lengths.old payloads.old sizes.old packets.old) line.now)).text ++ last_of (end_of (state_of player (whole_of player.world small.old masks.old numbers.old queued.old held.old queued_originators.old queued_lengths.old held_originators.old held_lengths.old queued_payloads.old held_payloads.old past.old past_originators.old past_lengths.old past_payloads.old highest.old replies.old taken.old counts.old repeats.old kept.old marks.old originators.old lengths.old payloads.old sizes.old packets.old) line.now)).state.stage) result }
 {
     let mut text = [0u8; OUTPUT];
     let fed = end(
@@ -449,7 +450,7 @@ fn finish(
 }
 
 // Plays the whole input.
-fn play_whole(
+fn play_whole<'r, 'w, R: Read, W: Write>(
     player: Player,
     small: &mut [[u8; SMALL]; Group::MEMBERS],
     masks: &mut [[u16; MASKS]; Group::MEMBERS],
@@ -479,10 +480,10 @@ fn play_whole(
     sizes: &mut [usize; PACKETS],
     packets: &mut [[u8; Group::PACKET]; PACKETS],
     line: &mut [u8; LINE],
-    source: Source,
-    sink: Sink,
-) -> Played
-    ensures { Runs player source sink result }
+    source: Source<'r, R>,
+    sink: Sink<'w, W>,
+) -> Played<'r, 'w, R, W>
+    ensures { Runs R.remaining W.contents player source.entry sink.entry result }
 {
     let turn = play_all(
         player,
@@ -559,8 +560,11 @@ fn play_whole(
 }
 
 // Plays the schedule that the source has, to the sink. The terminals' arrays and the line's are its own.
-pub fn recover(source: Source, sink: Sink) -> Played
-    ensures { Recovers source sink result }
+pub fn recover<'r, 'w, R: Read, W: Write>(
+    source: Source<'r, R>,
+    sink: Sink<'w, W>,
+) -> Played<'r, 'w, R, W>
+    ensures { Recovers R.remaining W.contents source.entry sink.entry result }
 {
     let none = [0u8; SMALL];
     let mut small = [none; Group::MEMBERS];

@@ -4,7 +4,8 @@
 ghost use Rattle.std.specs.Prelude.{◌<◌};
 
 use descriptor::{Sink, Source};
-use libc::STDOUT_FILENO;
+use std::fs::File;
+use std::str;
 
 fn digit(n: u32) -> u8
     requires { n < 10 }
@@ -13,7 +14,7 @@ fn digit(n: u32) -> u8
 }
 
 // Plays the schedule of a number, and tells whether it is there.
-fn play_stored(number: u32) -> bool
+fn play_stored(rt: &HostRuntime, number: u32) -> bool
     requires { number < 1000 }
 {
     let name = [
@@ -21,21 +22,23 @@ fn play_stored(number: u32) -> bool
         digit(number / 10 % 10),
         digit(number % 10),
     ];
-    let input = os::open_read(&name);
-    if input < 0 {
+    let Ok(path) = str::from_utf8(&name) else {
+        unreachable!()
+    };
+    let Ok(mut input) = File::open(rt, path) else {
         return false;
-    }
-    let source = Source::of(input);
-    let sink = Sink::to(STDOUT_FILENO);
+    };
+    let mut output = rt.stdout();
+    let source = Source::of(&mut input);
+    let sink = Sink::to(&mut output);
     stream::play(source, sink);
-    libc::close(input);
     true
 }
 
-fn main() {
+fn main(rt: HostRuntime) {
     let mut number: u32 = 0;
     while number < 1000 {
-        if play_stored(number) {
+        if play_stored(&rt, number) {
             number += 1;
         } else {
             return;

@@ -1,5 +1,6 @@
 -- What playing from a source to a sink comes to.
 use Rattle.std.specs.Prelude.{List, ℕ}
+use Rattle.std.specs.declared.option.Option.{Option}
 use Rattle.descriptor.specs.Descriptor.{Gives, Takes}
 use Rattle.descriptor.specs.declared.Source.{Source}
 use Rattle.descriptor.specs.declared.Sink.{Sink}
@@ -7,7 +8,7 @@ use Rattle.player.specs.Play.{Program, output_of}
 use Rattle.stream.specs.declared.Played.{Played}
 
 -- the source gave an input, and the sink took what the program prints of the whole input
-pub record Plays (program : Program) (source : Source) (sink : Sink) (r : Played) : Type 0 where
+pub record Plays {R W : Type 0} (remaining : R → Option (List ℕ)) (contents : W → Option (List ℕ)) (program : Program) (source : Source R) (sink : Sink W) (r : Played R W) : Type 0 where
   pub input : List ℕ
-  pub gives : Gives source input r.source
-  pub takes : Takes sink (output_of program input) r.sink
+  pub gives : Gives remaining source input r.source
+  pub takes : Takes contents sink (output_of program input) r.sink

@@ -1,5 +1,6 @@
 -- What the private functions promise on the way. No public promise speaks of it.
 use Rattle.std.specs.Prelude.{Bool, true, false, List, ℕ}
+use Rattle.std.specs.declared.option.Option.{Option}
 use Rattle.descriptor.specs.Descriptor.{Takes}
 use Rattle.descriptor.specs.declared.Source.{Source}
 use Rattle.descriptor.specs.declared.Sink.{Sink}
@@ -31,24 +32,24 @@ said_size true Ended size = 0
 said_size true Closed size = size
 
 -- an input was played but for what is left of it, and the sink took what was printed
-abbrev pub Puts : Program → State → List ℕ → State → List ℕ → Sink → Sink → Type 0
-Puts program from input to left before after = PutsBy line_told program from input to left before after
+abbrev pub Puts : {W : Type 0} → (W → Option (List ℕ)) → Program → State → List ℕ → State → List ℕ → Sink W → Sink W → Type 0
+Puts contents program from input to left before after = PutsBy line_told program contents from input to left before after
 
 -- the source gave an input, which was played
-abbrev pub Turns : Program → State → State → Source → Sink → Turn → Type 0
-Turns program from to source sink r = TurnsBy line_told program from to source sink r.source r.sink
+abbrev pub Turns : {R W : Type 0} → (R → Option (List ℕ)) → (W → Option (List ℕ)) → Program → State → State → Source R → Sink W → Turn R W → Type 0
+Turns remaining contents program from to source sink r = TurnsBy line_told program contents remaining from to source sink r.source r.sink
 
 -- the sink took what `text` says of every group that is shown by these numbers and packets
-abbrev pub HandsLists : (Group → List ℕ) → Head → List (List ℕ) → Packets → Sink → Sink → Type 0
-HandsLists text head numbers p before after = (g : Group) → Listed head numbers (packets_in p) g → Takes before (text g) after
+abbrev pub HandsLists : {W : Type 0} → (W → Option (List ℕ)) → (Group → List ℕ) → Head → List (List ℕ) → Packets → Sink W → Sink W → Type 0
+HandsLists contents text head numbers p before after = (g : Group) → Listed head numbers (packets_in p) g → Takes contents before (text g) after
 
 -- the lists of such a group, where there is one at the end
-abbrev pub HandsLeft : Player → List (List ℕ) → Packets → Sink → Sink → Type 0
-HandsLeft player numbers p before after =
-    HandsLists (λ g. lists_left (stage_in (phase_of player.head player.phase) g player.number)) player.head numbers p before after
+abbrev pub HandsLeft : {W : Type 0} → (W → Option (List ℕ)) → Player → List (List ℕ) → Packets → Sink W → Sink W → Type 0
+HandsLeft contents player numbers p before after =
+    HandsLists contents (λ g. lists_left (stage_in (phase_of player.head player.phase) g player.number)) player.head numbers p before after
 
 -- all that the program prints at the end, of every group that has these members, repeat counts and packets too
-abbrev pub HandsLast : Bool → Player → List ℕ → List ℕ → Terminals → Packets → Sink → Sink → Type 0
-HandsLast quiet player taken repeats t p before after =
+abbrev pub HandsLast : {W : Type 0} → (W → Option (List ℕ)) → Bool → Player → List ℕ → List ℕ → Terminals → Packets → Sink W → Sink W → Type 0
+HandsLast contents quiet player taken repeats t p before after =
     (g : Group) → Tabled t taken repeats g → Listed player.head t.numbers (packets_in p) g
-    → Takes before ((program_of quiet).last (stage_in (phase_of player.head player.phase) g player.number)) after
+    → Takes contents before ((program_of quiet).last (stage_in (phase_of player.head player.phase) g player.number)) after

@@ -21,33 +21,34 @@ use inspection::{JOB_ROOM, TABLE_ROOM, list_left, write_job, write_left};
 use jobs::Job;
 use player::{LINE, OUTPUT, Phase, Player, end, feed, last, phase_of};
 use simulator::{Head, NUMBERS, PACKETS};
+use std::io::{Read, Write};
 
 // The player and the sink after a part of the input.
-#[derive(Clone, Copy)]
-struct Step {
+#[derive(Drop)]
+struct Step<'w, W> {
     player: Player,
-    sink: Sink,
+    sink: Sink<'w, W>,
 }
 
 // The same with the source, and whether to go on: the input has not ended, and the sink takes what it is handed.
-#[derive(Clone, Copy)]
-struct Turn {
+#[derive(Drop)]
+struct Turn<'r, 'w, R, W> {
     player: Player,
-    source: Source,
-    sink: Sink,
+    source: Source<'r, R>,
+    sink: Sink<'w, W>,
     goes_on: bool,
 }
 
 // The source and the sink after a schedule.
-#[derive(Clone, Copy)]
-pub struct Played {
-    pub source: Source,
-    pub sink: Sink,
+#[derive(Drop)]
+pub struct Played<'r, 'w, R, W> {
+    pub source: Source<'r, R>,
+    pub sink: Sink<'w, W>,
 }
 
 // Hands on the first `size` bytes.
-fn put(sink: Sink, text: &[u8], size: usize) -> Sink
-    ensures { Takes sink (take size text.now) result }
+fn put<'w, W: Write>(sink: Sink<'w, W>, text: &[u8], size: usize) -> Sink<'w, W>
+    ensures { Takes W.contents sink.entry (take size text.now) result }
 {
     if size < text.len() {
         return sink.write(&text[..size]);
@@ -56,20 +57,20 @@ fn put(sink: Sink, text: &[u8], size: usize) -> Sink
 }
 
 // The same of a text, of a table and of a job's line.
-pub fn put_text(sink: Sink, text: [u8; OUTPUT], size: usize) -> Sink
-    ensures { Takes sink (take size text) result }
+pub fn put_text<'w, W: Write>(sink: Sink<'w, W>, text: [u8; OUTPUT], size: usize) -> Sink<'w, W>
+    ensures { Takes W.contents sink.entry (take size text) result }
 {
     put(sink, &text, size)
 }
 
-fn put_table(sink: Sink, table: [u8; TABLE_ROOM], size: usize) -> Sink
-    ensures { Takes sink (take size table) result }
+fn put_table<'w, W: Write>(sink: Sink<'w, W>, table: [u8; TABLE_ROOM], size: usize) -> Sink<'w, W>
+    ensures { Takes W.contents sink.entry (take size table) result }
 {
     put(sink, &table, size)
 }
 
-fn put_job(sink: Sink, line: [u8; JOB_ROOM], size: usize) -> Sink
-    ensures { Takes sink (take size line) result }
+fn put_job<'w, W: Write>(sink: Sink<'w, W>, line: [u8; JOB_ROOM], size: usize) -> Sink<'w, W>
+    ensures { Takes W.contents sink.entry (take size line) result }
 {
     put(sink, &line, size)
 }
@@ -92,7 +93,7 @@ fn said(quiet: bool, n: u8, count: usize, phase: Phase, size: usize) -> usize
 }
 
 // Plays what was read, a line at a time.
-fn play_part(
+fn play_part<'w, W: Write>(
     quiet: bool,
     mut player: Player,
     taken: &mut [u32; Group::MEMBERS],
@@ -116,9 +117,9 @@ fn play_part(
     packets: &mut [[u8; Group::PACKET]; PACKETS],
     line: &mut [u8; LINE],
     part: &[u8],
-    mut sink: Sink,
-) -> Step
-    ensures { Puts (program_of quiet) (state_of player (whole_of player.head taken.old counts.old repeats.old kept.old marks.old originators.old lengths.old payloads.old numbers.old queued.old held.old queued_originators.old queued_lengths.old held_originators.old held_lengths.old queued_payloads.old held_payloads.old sizes.old packets.old) line.old) part.now (state_of result.player (whole_of result.player.head taken.new counts.new repeats.new kept.new marks.new originators.new lengths.new payloads.new numbers.new queued.new held.new queued_originators.new queued_lengths.new held_originators.new held_lengths.new queued_payloads.new held_payloads.new sizes.new packets.new) line.new) [] sink result.sink }
+    mut sink: Sink<'w, W>,
+) -> Step<'w, W>
+    ensures { Puts W.contents (program_of quiet) (state_of player (whole_of player.head taken.old counts.old repeats.old kept.old marks.old originators.old lengths.old payloads.old numbers.old queued.old held.old queued_originators.old queued_lengths.old held_originators.old held_lengths.old queued_payloads.old held_payloads.old sizes.old packets.old) line.old) part.now (state_of result.player (whole_of result.player.head taken.new counts.new repeats.new kept.new marks.new originators.new lengths.new payloads.new numbers.new queued.new held.new queued_originators.new queued_lengths.new held_originators.new held_lengths.new queued_payloads.new held_payloads.new sizes.new packets.new) line.new) [] sink.entry result.sink }
 {
     let mut from: usize = 0;
     while from < part.len() {
@@ -159,7 +160,7 @@ fn play_part(
 }
 
 // Reads once, and plays what came.
-fn play_some(
+fn play_some<'r, 'w, R: Read, W: Write>(
     quiet: bool,
     player: Player,
     taken: &mut [u32; Group::MEMBERS],
@@ -182,10 +183,10 @@ fn play_some(
     sizes: &mut [usize; PACKETS],
     packets: &mut [[u8; Group::PACKET]; PACKETS],
     line: &mut [u8; LINE],
-    source: Source,
-    sink: Sink,
-) -> Turn
-    ensures { Turns (program_of quiet) (state_of player (whole_of player.head taken.old counts.old repeats.old kept.old marks.old originators.old lengths.old payloads.old numbers.old queued.old held.old queued_originators.old queued_lengths.old held_originators.old held_lengths.old queued_payloads.old held_payloads.old sizes.old packets.old) line.old) (state_of result.player (whole_of result.player.head taken.new counts.new repeats.new kept.new marks.new originators.new lengths.new payloads.new numbers.new queued.new held.new queued_originators.new queued_lengths.new held_originators.new held_lengths.new queued_payloads.new held_payloads.new sizes.new packets.new) line.new) source sink result }
+    source: Source<'r, R>,
+    sink: Sink<'w, W>,
+) -> Turn<'r, 'w, R, W>
+    ensures { Turns R.remaining W.contents (program_of quiet) (state_of player (whole_of player.head taken.old counts.old repeats.old kept.old marks.old originators.old lengths.old payloads.old numbers.old queued.old held.old queued_originators.old queued_lengths.old held_originators.old held_lengths.old queued_payloads.old held_payloads.old sizes.old packets.old) line.old) (state_of result.player (whole_of result.player.head taken.new counts.new repeats.new kept.new marks.new originators.new lengths.new payloads.new numbers.new queued.new held.new queued_originators.new queued_lengths.new held_originators.new held_lengths.new queued_payloads.new held_payloads.new sizes.new packets.new) line.new) source.entry sink.entry result }
 {
     let mut chunk = [0u8; 4096];
     let read = source.read(&mut chunk);
@@ -230,7 +231,7 @@ fn play_some(
 
 // Plays to the end of the input. A proved loop has to end, and nothing says that an input does: so the loop counts its turns
 // down, from a number that no run uses up.
-fn play_all(
+fn play_all<'r, 'w, R: Read, W: Write>(
     quiet: bool,
     player: Player,
     taken: &mut [u32; Group::MEMBERS],
@@ -253,10 +254,10 @@ fn play_all(
     sizes: &mut [usize; PACKETS],
     packets: &mut [[u8; Group::PACKET]; PACKETS],
     line: &mut [u8; LINE],
-    source: Source,
-    sink: Sink,
-) -> Turn
-    ensures { Turns (program_of quiet) (state_of player (whole_of player.head taken.old counts.old repeats.old kept.old marks.old originators.old lengths.old payloads.old numbers.old queued.old held.old queued_originators.old queued_lengths.old held_originators.old held_lengths.old queued_payloads.old held_payloads.old sizes.old packets.old) line.old) (state_of result.player (whole_of result.player.head taken.new counts.new repeats.new kept.new marks.new originators.new lengths.new payloads.new numbers.new queued.new held.new queued_originators.new queued_lengths.new held_originators.new held_lengths.new queued_payloads.new held_payloads.new sizes.new packets.new) line.new) source sink result }
+    source: Source<'r, R>,
+    sink: Sink<'w, W>,
+) -> Turn<'r, 'w, R, W>
+    ensures { Turns R.remaining W.contents (program_of quiet) (state_of player (whole_of player.head taken.old counts.old repeats.old kept.old marks.old originators.old lengths.old payloads.old numbers.old queued.old held.old queued_originators.old queued_lengths.old held_originators.old held_lengths.old queued_payloads.old held_payloads.old sizes.old packets.old) line.old) (state_of result.player (whole_of result.player.head taken.new counts.new repeats.new kept.new marks.new originators.new lengths.new payloads.new numbers.new queued.new held.new queued_originators.new queued_lengths.new held_originators.new held_lengths.new queued_payloads.new held_payloads.new sizes.new packets.new) line.new) source.entry sink.entry result }
 {
     let mut turn = play_some(
         quiet,
@@ -325,8 +326,8 @@ fn play_all(
 }
 
 // The lines of terminal i's work list.
-fn put_jobs(i: u32, jobs: [Job; Group::JOBS], mut sink: Sink) -> Sink
-    ensures { Takes sink (job_lines i jobs (length jobs)) result }
+fn put_jobs<'w, W: Write>(i: u32, jobs: [Job; Group::JOBS], mut sink: Sink<'w, W>) -> Sink<'w, W>
+    ensures { Takes W.contents sink.entry (job_lines i jobs (length jobs)) result }
 {
     let mut place: usize = 0;
     while place < Group::JOBS {
@@ -340,16 +341,16 @@ fn put_jobs(i: u32, jobs: [Job; Group::JOBS], mut sink: Sink) -> Sink
 }
 
 // Those of the first n terminals.
-fn put_lists(
+fn put_lists<'w, W: Write>(
     numbers: &[[u32; NUMBERS]],
     sizes: &[usize; PACKETS],
     packets: &[[u8; Group::PACKET]; PACKETS],
     count: usize,
     n: usize,
-    mut sink: Sink,
-) -> Sink
+    mut sink: Sink<'w, W>,
+) -> Sink<'w, W>
     requires { (n ≤ members_most) × (count ≤ packets_most) × (length numbers.now ≡ members_most) }
-    ensures { Takes sink (list_lines (list_on numbers.now (packets_in (packets_of sizes.now packets.now count))) n) result }
+    ensures { Takes W.contents sink.entry (list_lines (list_on numbers.now (packets_in (packets_of sizes.now packets.now count))) n) result }
 {
     let mut i: usize = 0;
     while i < n {
@@ -362,15 +363,15 @@ fn put_lists(
 }
 
 // The heading and the lists of a group.
-fn put_group(
+fn put_group<'w, W: Write>(
     head: Head,
     numbers: &[[u32; NUMBERS]; Group::MEMBERS],
     sizes: &[usize; PACKETS],
     packets: &[[u8; Group::PACKET]; PACKETS],
-    sink: Sink,
-) -> Sink
+    sink: Sink<'w, W>,
+) -> Sink<'w, W>
     requires { Fits head }
-    ensures { HandsLists lists_of head numbers.now (packets_of sizes.now packets.now head.count) sink result }
+    ensures { HandsLists W.contents lists_of head numbers.now (packets_of sizes.now packets.now head.count) sink.entry result }
 {
     let n = head.sequencer.group.n as usize;
     let next = sink.write(b"terminal place holder job\n");
@@ -378,14 +379,14 @@ fn put_group(
 }
 
 // Where there is a group at the end of the input, its lists.
-fn put_left(
+fn put_left<'w, W: Write>(
     player: Player,
     numbers: &[[u32; NUMBERS]; Group::MEMBERS],
     sizes: &[usize; PACKETS],
     packets: &[[u8; Group::PACKET]; PACKETS],
-    sink: Sink,
-) -> Sink
-    ensures { HandsLeft player numbers.now (packets_of sizes.now packets.now player.head.count) sink result }
+    sink: Sink<'w, W>,
+) -> Sink<'w, W>
+    ensures { HandsLeft W.contents player numbers.now (packets_of sizes.now packets.now player.head.count) sink.entry result }
 {
     let head = player.head;
     let phase = player.phase;
@@ -399,7 +400,7 @@ fn put_left(
 }
 
 // What is printed at the end: a table and lists where the program is quiet, else the last line.
-fn put_last(
+fn put_last<'w, W: Write>(
     quiet: bool,
     player: Player,
     taken: &[u32; Group::MEMBERS],
@@ -415,9 +416,9 @@ fn put_last(
     held_payloads: &[[u8; Group::HELD_BYTES]; Group::MEMBERS],
     sizes: &[usize; PACKETS],
     packets: &[[u8; Group::PACKET]; PACKETS],
-    sink: Sink,
-) -> Sink
-    ensures { HandsLast quiet player taken.now repeats.now (terminals_of player.head.sequencer.group numbers.now (rows_of queued.now held.now queued_originators.now queued_lengths.now held_originators.now held_lengths.now queued_payloads.now held_payloads.now)) (packets_of sizes.now packets.now player.head.count) sink result }
+    sink: Sink<'w, W>,
+) -> Sink<'w, W>
+    ensures { HandsLast W.contents quiet player taken.now repeats.now (terminals_of player.head.sequencer.group numbers.now (rows_of queued.now held.now queued_originators.now queued_lengths.now held_originators.now held_lengths.now queued_payloads.now held_payloads.now)) (packets_of sizes.now packets.now player.head.count) sink.entry result }
 {
     if quiet {
         let mut table = [0u8; TABLE_ROOM];
@@ -445,7 +446,7 @@ fn put_last(
 }
 
 // The end of the input.
-fn finish(
+fn finish<'w, W: Write>(
     quiet: bool,
     player: Player,
     taken: &mut [u32; Group::MEMBERS],
@@ -468,9 +469,9 @@ fn finish(
     sizes: &mut [usize; PACKETS],
     packets: &mut [[u8; Group::PACKET]; PACKETS],
     line: &[u8; LINE],
-    sink: Sink,
-) -> Sink
-    ensures { Takes sink (said_of (program_of quiet) (end_of (state_of player (whole_of player.head taken.old counts.old repeats.old kept.old marks.old originators.old lengths.old payloads.old numbers.old queued.old held.old queued_originators.old queued_lengths.old held_originators.old held_lengths.old queued_payloads.old held_payloads.old sizes.old packets.old) line.now)) ++ (program_of quiet).last (end_of (state_of player (whole_of player.head taken.old counts.old repeats.old kept.old marks.old originators.old lengths.old payloads.old numbers.old queued.old held.old queued_originators.old queued_lengths.old held_originators.old held_lengths.old queued_payloads.old held_payloads.old sizes.old packets.old) line.now)).state.stage) result }
+    sink: Sink<'w, W>,
+) -> Sink<'w, W>
+    ensures { Takes W.contents sink.entry (said_of (program_of quiet) (end_of (state_of player (whole_of player.head taken.old counts.old repeats.old kept.old marks.old originators.old lengths.old payloads.old numbers.old queued.old held.old queued_originators.old queued_lengths.old held_originators.old held_lengths.old queued_payloads.old held_payloads.old sizes.old packets.old) line.now)) ++ (program_of quiet).last (end_of (state_of player (whole_of player.head taken.old counts.old repeats.old kept.old marks.old originators.old lengths.old payloads.old numbers.old queued.old held.old queued_originators.old queued_lengths.old held_originators.old held_lengths.old queued_payloads.old held_payloads.old sizes.old packets.old) line.now)).state.stage) result }
 {
     let mut text = [0u8; OUTPUT];
     let fed = end(
@@ -523,8 +524,12 @@ fn finish(
 }
 
 // Plays the schedule that the source has, to the sink. The group's arrays and the line's are its own.
-fn run(quiet: bool, source: Source, sink: Sink) -> Played
-    ensures { Plays (program_of quiet) source sink result }
+fn run<'r, 'w, R: Read, W: Write>(
+    quiet: bool,
+    source: Source<'r, R>,
+    sink: Sink<'w, W>,
+) -> Played<'r, 'w, R, W>
+    ensures { Plays R.remaining W.contents (program_of quiet) source.entry sink.entry result }
 {
     let mut taken = [0u32; Group::MEMBERS];
     let mut counts = [0u32; Group::MEMBERS];
@@ -618,15 +623,21 @@ fn run(quiet: bool, source: Source, sink: Sink) -> Played
 }
 
 // Prints what each event answers.
-pub fn play(source: Source, sink: Sink) -> Played
-    ensures { Plays play_program source sink result }
+pub fn play<'r, 'w, R: Read, W: Write>(
+    source: Source<'r, R>,
+    sink: Sink<'w, W>,
+) -> Played<'r, 'w, R, W>
+    ensures { Plays R.remaining W.contents play_program source.entry sink.entry result }
 {
     run(false, source, sink)
 }
 
 // Prints what is left at the end.
-pub fn inspect(source: Source, sink: Sink) -> Played
-    ensures { Plays inspect_program source sink result }
+pub fn inspect<'r, 'w, R: Read, W: Write>(
+    source: Source<'r, R>,
+    sink: Sink<'w, W>,
+) -> Played<'r, 'w, R, W>
+    ensures { Plays R.remaining W.contents inspect_program source.entry sink.entry result }
 {
     run(true, source, sink)
 }

@@ -1,6 +1,5 @@
 -- Each kind of packet as the definition has it.
 use Rattle.history.specs.Ask.{content_verdict}
-use borrow.Author.Rules.{rules}
 use Rattle.history.proofs.ask_content.Goals as goal
 
 pub ask_request-requires : goal.ask_request-requires

@@ -2,7 +2,6 @@
 use mathlib.Core.Path.{sym, ◌∙◌}
 use Rattle.history.specs.Ask.{gap_verdict}
 use Rattle.history.proofs.Asking.{judged_yes, judged_no}
-use borrow.Author.Rules.{rules}
 use Rattle.history.proofs.ask_gap.Goals as goal
 
 pub returns-in-Accepted : goal.returns-in-Accepted

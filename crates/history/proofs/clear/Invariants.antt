@@ -1,14 +1,9 @@
 -- The loop's invariant: the history is cleared of the numbers from the old floor up to `passed`.
 use mathlib.Core.Path.{◌≡◌}
-use Prim.Native.Nat.{ℕ, ◌-◌, ◌≤◌, ◌<◌}
-use lib.ListN.{length-replicate, replicate}
-use native.Mathlib.Omega.{arith}
-use Rattle.group.specs.Limits.{places_most, payload_most}
+use Prim.Native.Nat.{◌-◌, ◌≤◌}
 use Rattle.store.specs.Places.{messages_in}
 use Rattle.history.specs.Note.{cleared_of}
 use Rattle.history.specs.View.{Places}
-use Rattle.history.proofs.Laying.{laid_sizes, clear_on}
-use borrow.Author.Rules.{rules}
 use Rattle.history.proofs.clear.Given as goal
 
 abbrev pub invariant-loop-passed : goal.invariant-loop-passed

@@ -1,10 +1,7 @@
 -- The loop's invariant: the search from the last number finds what the search from `last` finds.
-use mathlib.Core.Path.{◌≡◌, refl}
-use Prim.Native.Nat.{◌-◌, ◌≤◌}
-use lib.ListN.{length}
+use mathlib.Core.Path.{refl}
+use Prim.Native.Nat.{◌-◌}
 use native.Mathlib.Omega.{arith}
-use Rattle.group.specs.Limits.{places_most}
-use Rattle.history.specs.Marks.{enough_of}
 use Rattle.history.proofs.Marking.{enough_asked, enough_found, enough_on, enough_end}
 use borrow.Author.Rules.{rules}
 use Rattle.history.proofs.enough.Goals as goal

@@ -1,12 +1,9 @@
 -- The loop's invariant: the search from the last number finds what the search from `last` finds.
-use mathlib.Core.Path.{◌≡◌, refl}
+use mathlib.Core.Path.{◌≡◌}
 use Prim.Native.Nat.{◌-◌, ◌≤◌}
 use lib.ListN.{length}
-use native.Mathlib.Omega.{arith}
 use Rattle.group.specs.Limits.{places_most}
 use Rattle.history.specs.Marks.{enough_of}
-use Rattle.history.proofs.Marking.{enough_asked, enough_found, enough_on, enough_end}
-use borrow.Author.Rules.{rules}
 use Rattle.history.proofs.enough.Given as goal
 
 abbrev pub invariant-loop-last : goal.invariant-loop-last

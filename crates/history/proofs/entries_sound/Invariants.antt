@@ -1,15 +1,11 @@
 -- The loop's invariant: the entries are sound exactly if those after the first `i` are.
-use mathlib.Core.Path.{◌≡◌, refl}
+use mathlib.Core.Path.{◌≡◌}
 use Prim.Native.Nat.{◌-◌}
 use lib.ListN.{drop}
-use native.Mathlib.Omega.{arith}
 use Rattle.group.specs.Fold.{all}
 use Rattle.group.specs.Limits.{members_most}
-use Rattle.group.proofs.Fold.{all_on, all_off, all_done}
 use Rattle.history.specs.Sound.{entry_sound}
 use Rattle.history.specs.View.{Entries, table_in}
-use Rattle.history.proofs.View.{entry_asked, length_table}
-use borrow.Author.Rules.{rules}
 use Rattle.history.proofs.entries_sound.Given as goal
 
 abbrev pub invariant-loop-i : goal.invariant-loop-i

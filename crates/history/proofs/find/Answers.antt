@@ -1,11 +1,7 @@
 -- The loop's invariant: the search from top finds what the search from `number` finds.
-use mathlib.Core.Path.{◌≡◌, refl}
-use Prim.Native.Nat.{◌-◌, ◌≤◌}
-use lib.ListN.{length}
+use mathlib.Core.Path.{refl}
+use Prim.Native.Nat.{◌-◌}
 use native.Mathlib.Omega.{arith}
-use Rattle.group.specs.Limits.{places_most}
-use Rattle.history.specs.Repeat.{find_of}
-use Rattle.history.specs.View.{listed}
 use Rattle.history.proofs.Finding.{find_found, find_on, find_end}
 use Rattle.history.proofs.View.{of_asked}
 use borrow.Author.Rules.{rules}

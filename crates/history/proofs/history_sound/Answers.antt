@@ -1,16 +1,10 @@
 -- The loop's invariant: the places are sound exactly if those of the numbers after the first `i` are.
 use mathlib.Core.Path.{◌≡◌}
 use Prim.Native.Nat.{◌+◌, ◌-◌}
-use lib.ListN.{length}
 use native.Mathlib.Omega.{arith}
-use Rattle.group.specs.Fold.{all_above}
-use Rattle.group.specs.Limits.{members_most, places_most}
 use Rattle.group.proofs.Fold.{above_on, above_off, above_done}
-use Rattle.store.specs.Places.{messages_in, mask_of}
 use Rattle.history.specs.Sound.{place_sound}
-use Rattle.history.specs.View.{Places, counts_only}
 use Rattle.history.proofs.View.{place_asked}
-use borrow.Author.Rules.{rules}
 use Rattle.history.proofs.history_sound.Goals as goal
 
 pub loop-i-init : goal.loop-i-init

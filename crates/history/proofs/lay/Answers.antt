@@ -1,7 +1,6 @@
 -- A number up to top has its own message; one above it gets the message that is laid.
 use native.Mathlib.Omega.{arith}
 use Rattle.history.proofs.Laying.{lay_own, lay_new}
-use borrow.Author.Rules.{rules}
 use Rattle.history.proofs.lay.Goals as goal
 
 pub returns-then-number-top : goal.returns-then-number-top

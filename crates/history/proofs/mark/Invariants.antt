@@ -1,13 +1,9 @@
 -- The loop's invariant: the member is marked for the numbers up to `confirmed`.
-use mathlib.Core.Path.{◌≡◌, sym, ◌∙◌}
+use mathlib.Core.Path.{◌≡◌}
 use Prim.Native.Nat.{◌-◌, ◌≤◌, ◌<◌}
-use lib.Bits.{bit_or}
-use lib.ListN.{length, get_or, length-set}
-use native.Mathlib.Omega.{arith}
+use lib.ListN.{length}
 use Rattle.group.specs.Limits.{members_most, places_most}
 use Rattle.history.specs.Marks.{marked_of}
-use Rattle.history.proofs.Marking.{mark_on}
-use borrow.Author.Rules.{rules}
 use Rattle.history.proofs.mark.Given as goal
 
 abbrev pub invariant-loop-confirmed : goal.invariant-loop-confirmed

@@ -2,13 +2,9 @@
 use mathlib.Core.Path.{◌≡◌}
 use Prim.Native.Nat.{◌+◌, ◌-◌}
 use lib.ListN.{length}
-use native.Mathlib.Omega.{arith}
 use Rattle.group.specs.Fold.{all_above}
 use Rattle.group.specs.Limits.{places_most}
-use Rattle.group.proofs.Fold.{above_on, above_off, above_done}
 use Rattle.history.specs.Marks.{mark_sound}
-use Rattle.history.proofs.Marking.{mark_asked}
-use borrow.Author.Rules.{rules}
 use Rattle.history.proofs.marks_sound.Given as goal
 
 abbrev pub invariant-loop-i : goal.invariant-loop-i

@@ -1,5 +1,4 @@
 -- One store into the numbers taken, and then the smallest of them.
-use borrow.Author.Rules.{rules}
 use Rattle.history.proofs.note.Goals as goal
 
 pub returns : goal.returns

@@ -1,10 +1,8 @@
 -- The loop's invariant: what was added up and the sum of the rest are the sum, which no number of 64 bits is too small for.
 use mathlib.Core.Path.{◌≡◌, sym, ◌∙◌}
 use mathlib.Core.List.{[]}
-use Prim.Native.Nat.{◌+◌, ◌-◌, ◌*◌, ◌≤◌}
-use lib.ListN.{length, drop}
+use Prim.Native.Nat.{◌-◌}
 use native.Mathlib.Omega.{arith}
-use Rattle.group.specs.Limits.{members_most, largest_number}
 use Rattle.history.specs.Repeat.{repeats_sum}
 use Rattle.history.specs.View.{repeats_only}
 use Rattle.history.proofs.Repeating.{sum_step, sum_end, held_low, held_high}

@@ -1,15 +1,10 @@
 -- The loop's invariant: what was added up and the sum of the rest are the sum, which no number of 64 bits is too small for.
-use mathlib.Core.Path.{◌≡◌, sym, ◌∙◌}
-use mathlib.Core.List.{[]}
+use mathlib.Core.Path.{◌≡◌}
 use Prim.Native.Nat.{◌+◌, ◌-◌, ◌*◌, ◌≤◌}
 use lib.ListN.{length, drop}
-use native.Mathlib.Omega.{arith}
 use Rattle.group.specs.Limits.{members_most, largest_number}
 use Rattle.history.specs.Repeat.{repeats_sum}
 use Rattle.history.specs.View.{repeats_only}
-use Rattle.history.proofs.Repeating.{sum_step, sum_end, held_low, held_high}
-use Rattle.history.proofs.View.{length_table, repeat_in}
-use borrow.Author.Rules.{rules}
 use Rattle.history.proofs.repeats.Given as goal
 
 abbrev pub invariant-loop-i : goal.invariant-loop-i

@@ -1,6 +1,5 @@
 -- Each kind of packet as the definition has it.
 use Rattle.history.specs.Ask.{sender_of}
-use borrow.Author.Rules.{rules}
 use Rattle.history.proofs.sender_of.Goals as goal
 
 pub returns-in-Request : goal.returns-in-Request

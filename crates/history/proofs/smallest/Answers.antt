@@ -1,13 +1,8 @@
 -- The loop's invariant: the smaller of `low` and the smallest of the rest is floor.
-use mathlib.Core.Path.{◌≡◌, refl, sym, ◌∙◌}
-use Prim.Native.Nat.{◌-◌, ◌≤◌}
-use lib.ListN.{length, drop}
+use mathlib.Core.Path.{refl, sym, ◌∙◌}
+use Prim.Native.Nat.{◌-◌}
 use native.Mathlib.Omega.{arith}
-use Rattle.group.specs.Fold.{least_of}
-use Rattle.group.specs.Limits.{members_most}
-use Rattle.group.specs.Members.{is_in}
-use Rattle.history.specs.State.{Acknowledgement, floor_of}
-use Rattle.history.specs.View.{taken_only}
+use Rattle.history.specs.State.{floor_of}
 use Rattle.history.proofs.View.{smallest_on, smallest_end}
 use borrow.Author.Rules.{rules}
 use Rattle.history.proofs.smallest.Goals as goal

@@ -1,15 +1,12 @@
 -- The loop's invariant: the smaller of `low` and the smallest of the rest is floor.
-use mathlib.Core.Path.{◌≡◌, refl, sym, ◌∙◌}
+use mathlib.Core.Path.{◌≡◌}
 use Prim.Native.Nat.{◌-◌, ◌≤◌}
 use lib.ListN.{length, drop}
-use native.Mathlib.Omega.{arith}
 use Rattle.group.specs.Fold.{least_of}
 use Rattle.group.specs.Limits.{members_most}
 use Rattle.group.specs.Members.{is_in}
 use Rattle.history.specs.State.{Acknowledgement, floor_of}
 use Rattle.history.specs.View.{taken_only}
-use Rattle.history.proofs.View.{smallest_on, smallest_end}
-use borrow.Author.Rules.{rules}
 use Rattle.history.proofs.smallest.Given as goal
 
 abbrev pub invariant-loop-i : goal.invariant-loop-i

@@ -1,9 +1,8 @@
 -- The loop's invariant: the marks of the numbers up to `passed` are cleared.
 use mathlib.Core.Path.{◌≡◌, sym, ◌∙◌}
-use Prim.Native.Nat.{◌-◌, ◌≤◌}
-use lib.ListN.{length, length-set}
+use Prim.Native.Nat.{◌-◌}
+use lib.ListN.{length-set}
 use native.Mathlib.Omega.{arith}
-use Rattle.group.specs.Limits.{places_most}
 use Rattle.history.specs.Marks.{unmarked_of}
 use Rattle.history.proofs.Marking.{unmark_on}
 use borrow.Author.Rules.{rules}

@@ -1,12 +1,9 @@
 -- The loop's invariant: the marks of the numbers up to `passed` are cleared.
-use mathlib.Core.Path.{◌≡◌, sym, ◌∙◌}
+use mathlib.Core.Path.{◌≡◌}
 use Prim.Native.Nat.{◌-◌, ◌≤◌}
-use lib.ListN.{length, length-set}
-use native.Mathlib.Omega.{arith}
+use lib.ListN.{length}
 use Rattle.group.specs.Limits.{places_most}
 use Rattle.history.specs.Marks.{unmarked_of}
-use Rattle.history.proofs.Marking.{unmark_on}
-use borrow.Author.Rules.{rules}
 use Rattle.history.proofs.unmark.Given as goal
 
 abbrev pub invariant-loop-passed : goal.invariant-loop-passed

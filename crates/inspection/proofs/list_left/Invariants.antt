@@ -1,12 +1,8 @@
 -- The loop's invariant: what the packets that are left make of the list so far, all make of the empty one.
-use mathlib.Core.Path.{◌≡◌, refl, sym, ap, ◌∙◌}
-use Prim.Native.Nat.{ℕ, ◌+◌, ◌-◌, ◌≤◌}
-use native.Mathlib.Omega.{arith}
+use mathlib.Core.Path.{◌≡◌}
+use Prim.Native.Nat.{◌-◌, ◌≤◌}
 use Rattle.simulator.specs.Whole.{list_of, packets_of, packet_at}
 use Rattle.terminal.specs.Left.{heard_all, fresh_left}
-use Rattle.terminal.specs.declared.Left.{Left}
-use Rattle.inspection.proofs.Lists.{heard_on, heard_end}
-use borrow.Author.Rules.{rules}
 use Rattle.inspection.proofs.list_left.Given as goal
 
 abbrev pub invariant-loop-k : goal.invariant-loop-k

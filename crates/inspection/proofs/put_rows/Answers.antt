@@ -1,14 +1,12 @@
 -- The loop's invariant: the rows passed are laid.
-use mathlib.Core.Path.{◌≡◌, refl, sym, ap, ◌∙◌}
+use mathlib.Core.Path.{◌≡◌}
 use mathlib.Core.List.{◌∷◌, map}
-use Prim.Native.Nat.{◌+◌, ◌*◌, ◌-◌, ◌≤◌}
+use Prim.Native.Nat.{◌-◌}
 use native.Mathlib.Omega.{arith}
-use lib.ListN.{length}
 use Rattle.simulator.specs.Whole.{rows_of, terminals_of}
 use Rattle.text.proofs.Pieces.{laid_none, laid_then}
-use Rattle.text.specs.LaidAt.{LaidAt}
 use Rattle.text.specs.Written.{decimal_of, line}
-use Rattle.inspection.specs.Table.{row_at, row_lines, row_room}
+use Rattle.inspection.specs.Table.{row_at, row_lines}
 use Rattle.inspection.proofs.Rows.{rows_on}
 use borrow.Author.Rules.{rules}
 use Rattle.inspection.proofs.put_rows.Goals as goal

@@ -1,5 +1,5 @@
 -- The heading, and the rows behind it, which are those of every such group.
-use mathlib.Core.Path.{◌≡◌, refl, sym, ap, ◌∙◌}
+use mathlib.Core.Path.{ap, ◌∙◌}
 use mathlib.Core.List.{List, ◌++◌}
 use Prim.Native.Nat.{ℕ}
 use lib.ListN.{length}
@@ -9,7 +9,6 @@ use Rattle.text.proofs.Pieces.{laid_then}
 use Rattle.text.specs.Written.{spaced, line}
 use Rattle.inspection.specs.Table.{columns, row_at, row_lines}
 use Rattle.inspection.proofs.Rows.{rows_of_lem, laid_whole}
-use borrow.Author.Rules.{rules}
 use Rattle.inspection.proofs.put_table.Goals as goal
 
 pub returns : goal.returns

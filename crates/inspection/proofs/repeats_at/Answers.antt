@@ -1,6 +1,4 @@
 -- An entry of the table, or none.
-use mathlib.Core.Path.{◌≡◌, refl, sym, ap, ◌∙◌}
-use native.Mathlib.Omega.{arith}
 use Rattle.inspection.proofs.Rows.{repeats_there, repeats_none}
 use borrow.Author.Rules.{rules}
 use Rattle.inspection.proofs.repeats_at.Goals as goal

@@ -1,8 +1,6 @@
 -- The numbers are the definition's.
-use mathlib.Core.Path.{◌≡◌, refl, sym, ap, ◌∙◌}
 use Rattle.simulator.specs.Whole.{rows_of}
 use Rattle.inspection.proofs.Rows.{row_is}
-use borrow.Author.Rules.{rules}
 use Rattle.inspection.proofs.row.Goals as goal
 
 pub head_of-head-requires : goal.head_of-head-requires

@@ -7,7 +7,6 @@ use Rattle.group.specs.Lent.{front}
 use Rattle.inspection.specs.Lists.{used_line}
 use Rattle.inspection.proofs.Lists.{unused_line, used_line_lem}
 use Rattle.inspection.proofs.Rows.{laid_whole}
-use borrow.Author.Rules.{rules}
 use Rattle.inspection.proofs.write_job.Goals as goal
 
 pub returns-then-job-eq-UNUSED : goal.returns-then-job-eq-UNUSED

@@ -1,6 +1,5 @@
 -- The fields of the block, read from where they stand.
 use Rattle.journal.specs.Walk.{alone_in}
-use borrow.Author.Rules.{rules}
 use Rattle.journal.proofs.alone.Goals as goal
 
 pub returns : goal.returns

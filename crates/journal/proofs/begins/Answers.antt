@@ -1,9 +1,7 @@
 -- The loop's invariant: the block begins with the mark exactly if it has the rest of it from here on.
-use mathlib.Core.Path.{◌≡◌, refl}
-use Prim.Native.Nat.{◌-◌, ◌≤◌}
-use lib.ListN.{length, get_or, drop}
-use Rattle.group.specs.Choice.{◌=?◌}
-use Rattle.group.specs.Fold.{all}
+use mathlib.Core.Path.{refl}
+use Prim.Native.Nat.{◌-◌}
+use lib.ListN.{get_or}
 use Rattle.group.proofs.Fold.{all_on, all_off, all_done}
 use native.Mathlib.Omega.{arith}
 use borrow.Author.Tests.{eq-eqb, ne_eqb}

@@ -1,13 +1,9 @@
 -- The loop's invariant: the block begins with the mark exactly if it has the rest of it from here on.
-use mathlib.Core.Path.{◌≡◌, refl}
+use mathlib.Core.Path.{◌≡◌}
 use Prim.Native.Nat.{◌-◌, ◌≤◌}
 use lib.ListN.{length, get_or, drop}
 use Rattle.group.specs.Choice.{◌=?◌}
 use Rattle.group.specs.Fold.{all}
-use Rattle.group.proofs.Fold.{all_on, all_off, all_done}
-use native.Mathlib.Omega.{arith}
-use borrow.Author.Tests.{eq-eqb, ne_eqb}
-use borrow.Author.Rules.{rules}
 use Rattle.journal.proofs.begins.Given as goal
 
 abbrev pub invariant-loop-i : goal.invariant-loop-i

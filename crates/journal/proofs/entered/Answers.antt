@@ -1,7 +1,5 @@
 -- The fields of the block, read from where they stand.
-use mathlib.Core.Path.{◌≡◌, refl, sym, ap, ◌∙◌}
 use Rattle.journal.specs.Walk.{entered_in}
-use borrow.Author.Rules.{rules}
 use Rattle.journal.proofs.entered.Goals as goal
 
 pub returns : goal.returns

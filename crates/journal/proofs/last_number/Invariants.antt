@@ -1,12 +1,8 @@
 -- The loop's invariant: the last number, of all records, is that of those that are left, from here on.
-use mathlib.Core.Path.{◌≡◌, refl, sym, ap, ◌∙◌}
+use mathlib.Core.Path.{◌≡◌}
 use Prim.Native.Nat.{◌≤◌}
-use native.Mathlib.Omega.{arith}
 use Rattle.journal.specs.Limits.{records_at, records_end}
 use Rattle.journal.specs.Walk.{last_or}
-use Rattle.group.proofs.Choice.{if_true, if_false}
-use Rattle.journal.proofs.Walking.{passed_off, passed_on, passed_done}
-use borrow.Author.Rules.{rules}
 use Rattle.journal.proofs.last_number.Given as goal
 
 abbrev pub invariant-loop-left : goal.invariant-loop-left

@@ -1,7 +1,5 @@
 -- Each way to pass a record, by its law.
-use mathlib.Core.Path.{◌≡◌, refl, sym, ap, ◌∙◌}
 use Rattle.journal.proofs.Walking.{passes_above, passes_log, passes_short, passes_low, passes_compact}
-use borrow.Author.Rules.{rules}
 use Rattle.journal.proofs.pass.Goals as goal
 
 pub returns-then-before-ge-LARGEST : goal.returns-then-before-ge-LARGEST

@@ -1,6 +1,5 @@
 -- Each piece is laid behind the one before it (`frame-laid`).
 use Rattle.journal.proofs.Laying.{frame_laid}
-use borrow.Author.Rules.{rules}
 use Rattle.journal.proofs.put_frame.Goals as goal
 
 pub returns : goal.returns

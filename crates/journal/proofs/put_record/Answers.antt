@@ -1,7 +1,6 @@
 -- The fields of fixed size in one array, then the payload behind them.
 use Rattle.big_endian.specs.Number.{bytes_of}
 use Rattle.text.proofs.Pieces.{laid_then}
-use borrow.Author.Rules.{rules}
 use Rattle.journal.proofs.put_record.Goals as goal
 
 pub returns : goal.returns

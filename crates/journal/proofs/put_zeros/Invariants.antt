@@ -1,15 +1,9 @@
 -- The loop's invariant: zeros are laid from the index up to here.
-use native.Mathlib.Nat.{sub_self}
-use mathlib.Core.Path.{◌≡◌, refl, sym, ap, ◌∙◌}
-use mathlib.Core.List.{List, [], ◌∷◌}
-use Prim.Native.Nat.{ℕ, ◌+◌, ◌-◌, ◌≤◌}
-use native.Mathlib.Omega.{arith}
-use lib.ListN.{length, replicate, length-set}
+use mathlib.Core.Path.{◌≡◌}
+use Prim.Native.Nat.{◌-◌, ◌≤◌}
+use lib.ListN.{length, replicate}
 use Rattle.text.specs.LaidAt.{LaidAt}
-use Rattle.text.proofs.Pieces.{laid_none, laid_byte, laid_then}
 use Rattle.journal.specs.Limits.{block_size, records_end}
-use Rattle.journal.proofs.Lists.{zeros_on}
-use borrow.Author.Rules.{rules}
 use Rattle.journal.proofs.put_zeros.Given as goal
 
 abbrev pub invariant-loop-i : goal.invariant-loop-i

@@ -1,10 +1,8 @@
 -- The length is asked first; then the blocks are read.
 use mathlib.Core.Path.{ap}
 use Rattle.group.proofs.Choice.{choices}
-use Rattle.group.proofs.Wording.{worded}
 use Rattle.journal.specs.Read.{read_of}
 use Rattle.journal.specs.Wording.{reading_wording}
-use Rattle.journal.specs.declared.Reading.{Reading}
 use borrow.Author.Rules.{rules}
 use Rattle.journal.proofs.read.Goals as goal
 

@@ -1,13 +1,10 @@
 -- The loop's invariant: what the journal gives is what was found and what the rest gives behind it.
-use mathlib.Core.Path.{◌≡◌, refl, sym, ap, ◌∙◌}
+use mathlib.Core.Path.{◌≡◌}
 use Prim.Native.Nat.{◌*◌, ◌-◌, ◌/◌, ◌≤◌}
-use native.Mathlib.Nat.{add-sub_cancel_left}
-use native.Mathlib.Omega.{arith}
 use lib.ListN.{length, drop}
 use Rattle.journal.specs.Limits.{block_size}
 use Rattle.journal.specs.Read.{found_from, found_in, counted}
-use Rattle.journal.proofs.Walking.{onto, blocks_start, blocks_on, blocks_off, blocks_done}
-use borrow.Author.Rules.{rules}
+use Rattle.journal.proofs.Walking.{onto}
 use Rattle.journal.proofs.read_blocks.Given as goal
 
 abbrev pub invariant-loop-blocks : goal.invariant-loop-blocks

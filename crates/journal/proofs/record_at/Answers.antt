@@ -1,8 +1,7 @@
 -- Each test of the code is the next of `record_right`, and where one fails the record is wrong.
-use mathlib.Core.Path.{◌∙◌, refl}
 use Rattle.journal.proofs.Records.{entry_right}
 use native.Mathlib.Omega.{arith}
-use Prim.Native.Nat.{◌+◌, ◌≤◌, ◌<◌}
+use Prim.Native.Nat.{◌+◌, ◌<◌}
 use Rattle.big_endian.specs.Number.{number_at}
 use Rattle.group.specs.Limits.{payload_most}
 use Rattle.journal.specs.Limits.{records_end, record_head}

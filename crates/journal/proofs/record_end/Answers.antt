@@ -1,5 +1,5 @@
 -- The record's end, if its entry is right.
-use mathlib.Core.Path.{◌≡◌, refl, sym, ap, ◌∙◌}
+use mathlib.Core.Path.{sym, ◌∙◌}
 use Rattle.journal.proofs.Walking.{end_right, end_within, end_wrong}
 use borrow.Author.Rules.{rules}
 use Rattle.journal.proofs.record_end.Goals as goal

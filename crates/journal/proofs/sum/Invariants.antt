@@ -1,13 +1,9 @@
 -- The loop's invariant: the sum so far and those of the rest of each half are what they were for the halves.
-use mathlib.Core.Path.{◌≡◌, refl}
+use mathlib.Core.Path.{◌≡◌}
 use Prim.Native.Nat.{◌+◌, ◌*◌, ◌-◌, ◌≤◌}
-use native.Mathlib.Nat.{zero-add}
-use native.Mathlib.Omega.{arith}
-use lib.ListN.{length, take, drop}
-use Rattle.journal.specs.Limits.{block_size, records_end}
+use lib.ListN.{take, drop}
+use Rattle.journal.specs.Limits.{records_end}
 use Rattle.journal.specs.Block.{sum_from}
-use Rattle.journal.proofs.Summing.{turn, halves_done}
-use borrow.Author.Rules.{rules}
 use Rattle.journal.proofs.sum.Given as goal
 
 abbrev pub invariant-loop-i : goal.invariant-loop-i

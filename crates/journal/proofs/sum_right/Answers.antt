@@ -1,6 +1,5 @@
 -- The number in the last bytes is compared with the sum of the others.
 use Rattle.journal.specs.Block.{sum_right}
-use borrow.Author.Rules.{rules}
 use Rattle.journal.proofs.sum_right.Goals as goal
 
 pub returns : goal.returns

@@ -2,11 +2,9 @@
 use lib.ListN.{get_or}
 use native.Mathlib.Omega.{arith}
 use Rattle.journal.proofs.Lists.{zero_byte}
-use mathlib.Core.Path.{◌≡◌, refl}
-use Prim.Native.Nat.{◌+◌, ◌-◌, ◌≤◌}
-use lib.ListN.{length, drop}
-use Rattle.group.specs.Choice.{if◌then◌else◌, ◌and◌, ◌=?◌}
-use Rattle.message.specs.Message.{all_zero}
+use mathlib.Core.Path.{refl}
+use Prim.Native.Nat.{◌-◌}
+use Rattle.group.specs.Choice.{if◌then◌else◌}
 use Rattle.message.proofs.Zero.{zero_on, zero_done}
 use borrow.Author.Rules.{rules}
 use Rattle.journal.proofs.zeros.Goals as goal

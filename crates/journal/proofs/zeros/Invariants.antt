@@ -1,14 +1,9 @@
 -- The loop's invariant: what was seen is zero and the rest is, exactly if all are.
-use lib.ListN.{get_or}
-use native.Mathlib.Omega.{arith}
-use Rattle.journal.proofs.Lists.{zero_byte}
-use mathlib.Core.Path.{◌≡◌, refl}
+use mathlib.Core.Path.{◌≡◌}
 use Prim.Native.Nat.{◌+◌, ◌-◌, ◌≤◌}
 use lib.ListN.{length, drop}
-use Rattle.group.specs.Choice.{if◌then◌else◌, ◌and◌, ◌=?◌}
+use Rattle.group.specs.Choice.{◌and◌, ◌=?◌}
 use Rattle.message.specs.Message.{all_zero}
-use Rattle.message.proofs.Zero.{zero_on, zero_done}
-use borrow.Author.Rules.{rules}
 use Rattle.journal.proofs.zeros.Given as goal
 
 abbrev pub invariant-loop-i : goal.invariant-loop-i

@@ -1,5 +1,4 @@
 -- The larger of the two is accepted.
-use borrow.Author.Rules.{rules}
 use Rattle.member.proofs.accept_up_to.Goals as goal
 
 pub returns : goal.returns

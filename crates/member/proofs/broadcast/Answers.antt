@@ -5,7 +5,6 @@ use Rattle.member.specs.Calls.{with_accepted, message_step, broadcast_of}
 use Rattle.member.specs.Steps.{member_of}
 use Rattle.member.specs.declared.Head.{Head}
 use Rattle.member.proofs.Outcomes.{replied_as}
-use borrow.Author.Rules.{rules}
 use Rattle.member.proofs.broadcast.Goals as goal
 
 pub returns : goal.returns

@@ -1,6 +1,5 @@
 -- The answers are told apart as in the definition.
 use Rattle.member.specs.Calls.{confirms}
-use borrow.Author.Rules.{rules}
 use Rattle.member.proofs.has.Goals as goal
 
 pub returns-in-Refused : goal.returns-in-Refused

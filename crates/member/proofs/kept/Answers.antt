@@ -1,10 +1,9 @@
 -- The message lies in the place of its number, and what is below it is looked at.
-use mathlib.Core.Path.{◌≡◌, ap, ◌∙◌}
+use mathlib.Core.Path.{◌≡◌, ap}
 use mathlib.Core.List.{List}
 use Prim.Native.Nat.{◌+◌, ◌-◌}
 use native.Mathlib.Omega.{arith}
 use Rattle.message.specs.Message.{Message}
-use Rattle.window.specs.Places.{place_of}
 use Rattle.window.proofs.Places.{counted_in_lem}
 use Rattle.member.specs.Calls.{answered, gap_up_to, with_held, kept_of}
 use Rattle.member.specs.Steps.{member_of}

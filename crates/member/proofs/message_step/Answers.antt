@@ -1,5 +1,5 @@
 -- Each test is one of the definition's; the place of the number is the one that the code looks at.
-use mathlib.Core.Path.{◌≡◌, refl, ◌∙◌}
+use mathlib.Core.Path.{◌≡◌, refl}
 use Prim.Native.Nat.{◌+◌, ◌≤◌, ◌<◌}
 use native.Mathlib.Omega.{arith}
 use Rattle.group.proofs.Choice.{choices}

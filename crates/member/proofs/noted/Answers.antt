@@ -1,5 +1,4 @@
 -- All up to the number are accepted.
-use borrow.Author.Rules.{rules}
 use Rattle.member.proofs.noted.Goals as goal
 
 pub returns : goal.returns

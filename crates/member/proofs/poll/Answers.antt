@@ -1,5 +1,4 @@
 -- The row's end decides between a gap and the status.
-use mathlib.Core.Path.{◌≡◌}
 use Prim.Native.Nat.{◌+◌, ◌≤◌}
 use native.Mathlib.Omega.{arith}
 use Rattle.group.specs.Limits.{held_most}

@@ -2,7 +2,6 @@
 use mathlib.Core.List.{[]}
 use native.Mathlib.Omega.{arith}
 use Rattle.packet.proofs.Permitted.{laid_whole}
-use borrow.Author.Rules.{rules}
 use Rattle.member.proofs.put_bare.Goals as goal
 
 pub returns : goal.returns

@@ -1,6 +1,5 @@
 -- The fields of a confirmation may be written.
 use Rattle.packet.proofs.Permitted.{confirm_fields}
-use borrow.Author.Rules.{rules}
 use Rattle.member.proofs.put_confirm.Goals as goal
 
 pub put_bare-requires : goal.put_bare-requires

@@ -1,9 +1,7 @@
 -- The part of the place that is lent is the payload of the first message that waits.
-use mathlib.Core.Path.{◌≡◌}
-use lib.ListN.{length, length-take, length-drop}
+use lib.ListN.{length-take, length-drop}
 use Rattle.window.proofs.Places.{front_part}
 use native.Mathlib.Omega.{arith}
-use borrow.Author.Rules.{rules}
 use Rattle.member.proofs.put_first.Goals as goal
 
 pub bounds-lengths-at : goal.bounds-lengths-at

@@ -3,7 +3,6 @@ use Rattle.packet.proofs.Permitted.{gap_fields}
 use Rattle.window.proofs.Row.{smaller_le}
 use Rattle.member.proofs.View.{gap_laid}
 use native.Mathlib.Omega.{arith}
-use borrow.Author.Rules.{rules}
 use Rattle.member.proofs.put_gap.Goals as goal
 
 pub put_bare-requires : goal.put_bare-requires

@@ -1,10 +1,9 @@
 -- The fields of a request may be written; the accepted of the row are acknowledged.
-use mathlib.Core.Path.{◌≡◌, ap, ◌∙◌}
+use mathlib.Core.Path.{ap, ◌∙◌}
 use Prim.Native.Nat.{ℕ}
 use Rattle.packet.proofs.Permitted.{request_fields, laid_whole}
 use Rattle.window.specs.Places.{smaller_of}
 use Rattle.member.proofs.View.{requested}
-use borrow.Author.Rules.{rules}
 use Rattle.member.proofs.put_request.Goals as goal
 
 pub returns : goal.returns

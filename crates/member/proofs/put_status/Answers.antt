@@ -1,7 +1,6 @@
 -- The fields of a status may be written; the accepted of the row are acknowledged.
 use Rattle.packet.proofs.Permitted.{status_fields}
 use Rattle.member.proofs.View.{status_laid}
-use borrow.Author.Rules.{rules}
 use Rattle.member.proofs.put_status.Goals as goal
 
 pub put_bare-requires : goal.put_bare-requires

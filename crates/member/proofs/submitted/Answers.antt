@@ -1,5 +1,4 @@
 -- The message lies in the place of its count; its request is written where none waits before it.
-use mathlib.Core.Path.{◌≡◌}
 use Prim.Native.Nat.{◌+◌, ◌<◌}
 use native.Mathlib.Omega.{arith}
 use lib.ListN.{length}

@@ -1,5 +1,4 @@
 -- What is said is the no.
-use borrow.Author.Rules.{rules}
 use Rattle.member_calls.proofs.declined.Goals as goal
 
 pub returns : goal.returns

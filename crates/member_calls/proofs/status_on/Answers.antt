@@ -1,5 +1,5 @@
 -- Questions 1 and 2, then the status with the row's end.
-use mathlib.Core.Path.{◌≡◌, sym, ◌∙◌}
+use mathlib.Core.Path.{sym, ◌∙◌}
 use native.Mathlib.Omega.{arith}
 use Rattle.store.specs.Places.{messages_in}
 use Rattle.window.proofs.Places.{counted_in_lem}

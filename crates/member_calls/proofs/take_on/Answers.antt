@@ -1,5 +1,5 @@
 -- Questions 1 and 2; then the following number, if it is held and accepted.
-use mathlib.Core.Path.{◌≡◌, refl, sym, ◌∙◌}
+use mathlib.Core.Path.{refl, sym, ◌∙◌}
 use Prim.Native.Nat.{◌+◌}
 use native.Mathlib.Omega.{arith}
 use Rattle.group.proofs.Choice.{if_true, if_false}

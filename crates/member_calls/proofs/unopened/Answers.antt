@@ -1,5 +1,4 @@
 -- The head is that of no group.
-use borrow.Author.Rules.{rules}
 use Rattle.member_calls.proofs.unopened.Goals as goal
 
 pub returns : goal.returns

@@ -1,6 +1,5 @@
 -- The fields are put together from what stands at their offsets.
 use Rattle.packet.specs.Packet.{header_of}
-use borrow.Author.Rules.{rules}
 use Rattle.packet.proofs.header_at.Goals as goal
 
 pub returns : goal.returns

@@ -1,7 +1,6 @@
 -- The bytes of each field, one after the other, by computation.
 use Rattle.big_endian.specs.Number.{bytes_of}
 use Rattle.packet.specs.Packet.{header_bytes}
-use borrow.Author.Rules.{rules}
 use Rattle.packet.proofs.header_bytes.Goals as goal
 
 pub returns : goal.returns

@@ -14,7 +14,6 @@ use Rattle.packet.proofs.lay.Goals as goal
 pub returns : goal.returns
 unfolding packet_of
 returns c =
-    
     let a = c.args in
     let h = header_bytes a.h (length a.payload.now) in
     behind header_size h a.payload.now a.out.now c.copy.new.part c.copy-2.new.part

@@ -7,7 +7,6 @@ use lib.ListN.{length}
 use Rattle.group.specs.Lent.{front}
 use Rattle.packet.proofs.Verdicts.{writable, written, written_not}
 use Rattle.packet.specs.Wording.{writing_wording}
-use borrow.Author.Rules.{rules}
 use Rattle.packet.proofs.write.Goals as goal
 
 pub lay-requires : goal.lay-requires

@@ -1,11 +1,9 @@
 -- The loop's invariant: up to i the table is the one with room made, behind i as it was, and what is carried comes next.
 use mathlib.Core.Path.{◌≡◌, refl, sym, ap, ◌∙◌}
-use mathlib.Core.List.{List, ◌++◌}
+use mathlib.Core.List.{List}
 use Prim.Native.Nat.{ℕ, ◌+◌, ◌-◌, ◌≤◌}
 use native.Mathlib.Omega.{arith}
-use lib.ListN.{length, set, get_or, take, length-set}
-use Rattle.message.proofs.Laying.{over}
-use Rattle.plan.specs.Table.{inserted}
+use lib.ListN.{set, get_or, take, length-set}
 use Rattle.plan.proofs.Tables.{grown_start, grown_at, grown_behind, over_behind, over_on, over_done}
 use borrow.Author.Rules.{rules}
 use Rattle.plan.proofs.insert.Goals as goal

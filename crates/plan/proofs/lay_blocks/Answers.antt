@@ -1,7 +1,6 @@
 -- The blocks are counted, the room is asked, and they are laid.
 use native.Mathlib.Omega.{arith}
 use Rattle.plan.proofs.Planning.{lays_short, lays_all}
-use borrow.Author.Rules.{rules}
 use Rattle.plan.proofs.lay_blocks.Goals as goal
 
 pub returns-then-out-needed : goal.returns-then-out-needed

@@ -1,7 +1,5 @@
 -- The room is asked, and the plan is laid.
-use mathlib.Core.Path.{◌≡◌, refl, sym, ap, ◌∙◌}
 use Rattle.plan.proofs.Planning.{lays_short, lays_all}
-use borrow.Author.Rules.{rules}
 use Rattle.plan.proofs.lay_plan.Goals as goal
 
 pub returns-then-out-size : goal.returns-then-out-size

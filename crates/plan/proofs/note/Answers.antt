@@ -1,9 +1,8 @@
 -- The three ways to note a message, each by its law.
-use mathlib.Core.Path.{◌≡◌, refl, sym, ap, ◌∙◌}
-use Prim.Native.Nat.{◌<◌, ◌≤◌}
+use mathlib.Core.Path.{sym, ◌∙◌}
+use Prim.Native.Nat.{◌<◌}
 use native.Mathlib.Omega.{arith}
 use borrow.Author.Tests.{ltb-true}
-use lib.ListN.{length, take}
 use lib.Seq.{length-take-le}
 use Rattle.group.specs.Choice.{◌<?◌}
 use Rattle.group.proofs.Choice.{both_first}

@@ -2,9 +2,8 @@
 use mathlib.Core.Path.{sym, ◌∙◌}
 use Prim.Native.Nat.{◌-◌, ◌<◌}
 use native.Mathlib.Omega.{arith}
-use lib.ListN.{length, take}
-use Rattle.plan.specs.Pack.{messages_at, packs, fresh_packer, packed_by}
-use Rattle.plan.proofs.Stepping.{Stepping, stepping_start, stepping_spotted, stepping_on, stepping_done}
+use Rattle.plan.specs.Pack.{packs}
+use Rattle.plan.proofs.Stepping.{stepping_start, stepping_spotted, stepping_on, stepping_done}
 use borrow.Author.Rules.{rules}
 use Rattle.plan.proofs.pack_all.Goals as goal
 

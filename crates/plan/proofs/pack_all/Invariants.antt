@@ -1,11 +1,8 @@
 -- The loop's invariant: what was packed and what is left come to the whole.
-use mathlib.Core.Path.{sym, ◌∙◌}
-use Prim.Native.Nat.{◌-◌, ◌<◌}
-use native.Mathlib.Omega.{arith}
+use Prim.Native.Nat.{◌-◌}
 use lib.ListN.{length, take}
 use Rattle.plan.specs.Pack.{messages_at, packs, fresh_packer, packed_by}
-use Rattle.plan.proofs.Stepping.{Stepping, stepping_start, stepping_spotted, stepping_on, stepping_done}
-use borrow.Author.Rules.{rules}
+use Rattle.plan.proofs.Stepping.{Stepping}
 use Rattle.plan.proofs.pack_all.Given as goal
 
 abbrev pub invariant-loop-i : goal.invariant-loop-i

@@ -1,12 +1,8 @@
 -- The loop's invariant: what stands before `low` lies below the number, what stands from `high` on does not.
-use mathlib.Core.Path.{◌≡◌, refl, sym, ap, ◌∙◌}
-use Prim.Native.Nat.{ℕ, ◌+◌, ◌-◌, ◌/◌, ◌≤◌, ◌<◌}
-use native.Mathlib.Omega.{arith}
-use lib.ListN.{length, get_or, take}
-use lib.Seq.{length-take-le, get_or-take}
+use Prim.Native.Nat.{◌-◌, ◌≤◌}
+use lib.ListN.{take}
 use Rattle.plan.specs.Table.{Rising}
-use Rattle.plan.proofs.Tables.{Bounds, bounds_all, bounds_up, bounds_down, place_is}
-use borrow.Author.Rules.{rules}
+use Rattle.plan.proofs.Tables.{Bounds}
 use Rattle.plan.proofs.place.Given as goal
 
 abbrev pub invariant-loop-low : goal.invariant-loop-low

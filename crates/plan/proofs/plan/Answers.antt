@@ -2,7 +2,6 @@
 use mathlib.Core.Path.{sym, ◌∙◌}
 use Rattle.plan.specs.Calls.{plan_of}
 use Rattle.plan.proofs.Planning.{lays_says, read_found, asked_refused}
-use borrow.Author.Rules.{rules}
 use Rattle.plan.proofs.plan.Goals as goal
 
 pub plan_found-requires : goal.plan_found-requires

@@ -1,8 +1,8 @@
 -- The loop's invariant: the size so far is that of the rows passed.
-use mathlib.Core.Path.{◌≡◌, refl, sym, ap, ◌∙◌}
-use Prim.Native.Nat.{ℕ, ◌+◌, ◌*◌, ◌-◌, ◌≤◌, ◌<◌}
+use mathlib.Core.Path.{refl, ap, ◌∙◌}
+use Prim.Native.Nat.{◌-◌, ◌<◌}
 use native.Mathlib.Omega.{arith}
-use lib.ListN.{length, take}
+use lib.ListN.{length}
 use Rattle.plan.specs.Table.{plan_at}
 use Rattle.plan.proofs.Printing.{stands_at, table_size, table_all}
 use borrow.Author.Rules.{rules}

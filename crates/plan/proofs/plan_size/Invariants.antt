@@ -1,11 +1,8 @@
 -- The loop's invariant: the size so far is that of the rows passed.
-use mathlib.Core.Path.{◌≡◌, refl, sym, ap, ◌∙◌}
-use Prim.Native.Nat.{ℕ, ◌+◌, ◌*◌, ◌-◌, ◌≤◌, ◌<◌}
-use native.Mathlib.Omega.{arith}
+use mathlib.Core.Path.{◌≡◌}
+use Prim.Native.Nat.{◌*◌, ◌-◌, ◌≤◌}
 use lib.ListN.{length, take}
 use Rattle.plan.specs.Table.{plan_at}
-use Rattle.plan.proofs.Printing.{stands_at, table_size, table_all}
-use borrow.Author.Rules.{rules}
 use Rattle.plan.proofs.plan_size.Given as goal
 
 abbrev pub invariant-loop-i : goal.invariant-loop-i

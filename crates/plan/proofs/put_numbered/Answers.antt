@@ -1,6 +1,5 @@
 -- The number, and the record behind it.
 use Rattle.plan.proofs.Stepping.{numbered_laid}
-use borrow.Author.Rules.{rules}
 use Rattle.plan.proofs.put_numbered.Goals as goal
 
 pub returns : goal.returns

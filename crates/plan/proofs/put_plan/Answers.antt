@@ -1,10 +1,8 @@
 -- The loop's invariant: the rows passed are laid at the front.
-use mathlib.Core.Path.{◌≡◌, refl, sym, ap, ◌∙◌}
-use Prim.Native.Nat.{ℕ, ◌+◌, ◌*◌, ◌-◌, ◌≤◌, ◌<◌}
-use native.Mathlib.Omega.{arith}
-use lib.ListN.{length, get_or, take}
+use mathlib.Core.Path.{refl, ◌∙◌}
+use Prim.Native.Nat.{◌-◌, ◌<◌}
+use lib.ListN.{get_or, take}
 use native.Mathlib.Nat.{zero-add}
-use Rattle.text.specs.LaidAt.{LaidAt}
 use Rattle.text.proofs.Pieces.{laid_none, laid_then}
 use Rattle.plan.specs.Table.{row_at, plan_at}
 use Rattle.plan.proofs.Printing.{stands_at, table_on, table_room_lem, table_all}

@@ -1,14 +1,12 @@
 -- The three parts of a row, laid one behind the other.
-use mathlib.Core.Path.{◌≡◌, refl, sym, ap, ◌∙◌}
-use mathlib.Core.List.{List, ◌++◌}
+use mathlib.Core.Path.{◌≡◌, ap, ◌∙◌}
+use mathlib.Core.List.{◌++◌}
 use Prim.Native.Nat.{ℕ, ◌+◌, ◌-◌}
 use native.Mathlib.Omega.{arith}
-use lib.ListN.{length, take, drop}
+use lib.ListN.{take, drop}
 use Rattle.big_endian.specs.Number.{number_at, bytes_of}
-use Rattle.text.specs.LaidAt.{LaidAt}
 use Rattle.text.proofs.Pieces.{laid_then}
 use Rattle.plan.specs.Table.{length_before, row_at}
-use borrow.Author.Rules.{rules}
 use Rattle.plan.proofs.put_row.Goals as goal
 
 pub returns : goal.returns

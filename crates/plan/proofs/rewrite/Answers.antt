@@ -2,7 +2,6 @@
 use mathlib.Core.Path.{sym, ◌∙◌}
 use Rattle.plan.specs.Calls.{rewrite_of}
 use Rattle.plan.proofs.Planning.{lays_says, read_found, asked_refused}
-use borrow.Author.Rules.{rules}
 use Rattle.plan.proofs.rewrite.Goals as goal
 
 pub rewrite_found-requires : goal.rewrite_found-requires

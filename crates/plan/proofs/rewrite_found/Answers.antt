@@ -5,7 +5,6 @@ use lib.ListN.{length-replicate}
 use Rattle.plan.specs.Calls.{rewrite_of}
 use Rattle.plan.proofs.Planning.{found_within, asked_many}
 use Rattle.plan.proofs.Latest.{rewrite_apart, rewrite_spotted, rewrite_laid}
-use borrow.Author.Rules.{rules}
 use Rattle.plan.proofs.rewrite_found.Goals as goal
 
 pub gather-count-requires : goal.gather-count-requires

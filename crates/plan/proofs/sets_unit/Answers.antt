@@ -1,6 +1,5 @@
 -- The definition's two tests, on the record's bytes in the journal.
 use Rattle.plan.proofs.Gathering.{spot_short, spot_begins}
-use borrow.Author.Rules.{rules}
 use Rattle.plan.proofs.sets_unit.Goals as goal
 
 pub returns-then-spot-start-lt3 : goal.returns-then-spot-start-lt3

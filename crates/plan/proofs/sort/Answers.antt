@@ -1,9 +1,9 @@
 -- The loop's invariant: what was passed stands in order.
 use mathlib.Core.Path.{◌≡◌, refl, sym, ap, ◌∙◌}
 use mathlib.Core.List.{[]}
-use Prim.Native.Nat.{ℕ, ◌-◌, ◌≤◌}
+use Prim.Native.Nat.{ℕ, ◌-◌}
 use native.Mathlib.Omega.{arith}
-use lib.ListN.{length, take}
+use lib.ListN.{take}
 use lib.Seq.{length-take-le, get_or-take, take_all}
 use Rattle.plan.specs.Pack.{sorted}
 use Rattle.plan.proofs.Sorting.{order_on_lem}

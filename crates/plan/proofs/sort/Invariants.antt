@@ -1,13 +1,9 @@
 -- The loop's invariant: what was passed stands in order.
-use mathlib.Core.Path.{◌≡◌, refl, sym, ap, ◌∙◌}
+use mathlib.Core.Path.{◌≡◌}
 use mathlib.Core.List.{[]}
-use Prim.Native.Nat.{ℕ, ◌-◌, ◌≤◌}
-use native.Mathlib.Omega.{arith}
+use Prim.Native.Nat.{◌-◌, ◌≤◌}
 use lib.ListN.{length, take}
-use lib.Seq.{length-take-le, get_or-take, take_all}
 use Rattle.plan.specs.Pack.{sorted}
-use Rattle.plan.proofs.Sorting.{order_on_lem}
-use borrow.Author.Rules.{rules}
 use Rattle.plan.proofs.sort.Given as goal
 
 abbrev pub invariant-loop-i : goal.invariant-loop-i

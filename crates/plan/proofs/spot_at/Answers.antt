@@ -1,6 +1,6 @@
 -- The loop's invariant: the record sought is among those that are left of its block.
 use mathlib.Core.Path.{refl, sym, ◌∙◌}
-use Rattle.plan.proofs.Stepping.{Seeking, seeking_start, seeking_stands, seeking_found, seeking_on, seeking_end, seeking_none}
+use Rattle.plan.proofs.Stepping.{seeking_start, seeking_stands, seeking_found, seeking_on, seeking_end, seeking_none}
 use borrow.Author.Rules.{rules}
 use Rattle.plan.proofs.spot_at.Goals as goal
 

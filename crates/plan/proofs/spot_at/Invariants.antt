@@ -1,7 +1,5 @@
 -- The loop's invariant: the record sought is among those that are left of its block.
-use mathlib.Core.Path.{refl, sym, ◌∙◌}
-use Rattle.plan.proofs.Stepping.{Seeking, seeking_start, seeking_stands, seeking_found, seeking_on, seeking_end, seeking_none}
-use borrow.Author.Rules.{rules}
+use Rattle.plan.proofs.Stepping.{Seeking}
 use Rattle.plan.proofs.spot_at.Given as goal
 
 abbrev pub invariant-loop-left : goal.invariant-loop-left

@@ -9,7 +9,6 @@ use Rattle.player.specs.Play.{last_of}
 use Rattle.player.specs.Player.{state_of}
 use Rattle.simulator.specs.Whole.{whole_of}
 use Rattle.playback.proofs.Showing.{as_shown}
-use borrow.Author.Rules.{rules}
 use Rattle.playback.proofs.finish.Goals as goal
 
 pub put-next-requires : goal.put-next-requires

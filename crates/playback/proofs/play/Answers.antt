@@ -3,14 +3,10 @@ use mathlib.Core.Path.{◌≡◌, refl, ap}
 use mathlib.Core.List.{List, [], ◌++◌}
 use Prim.Native.Nat.{ℕ, ◌+◌, ◌-◌, ◌≤◌, ◌<◌}
 use native.Mathlib.Omega.{arith}
-use lib.ListN.{length, take, drop, drop_of_length-le}
+use lib.ListN.{length, drop, drop_of_length-le}
 use Rattle.player.proofs.Laws.{reads_within, laid_front, continues_none, continues_fed, continues_end}
 use Rattle.player.specs.Feed.{start}
-use Rattle.player.specs.Laws.{Continues}
 use Rattle.player.specs.Play.{play_program}
-use Rattle.player.specs.Player.{state_of}
-use Rattle.simulator.specs.Whole.{whole_of}
-use Rattle.playback.specs.Shown.{Shows}
 use Rattle.playback.proofs.Showing.{shows_none, shows_length, as_shown}
 use borrow.Author.Rules.{rules}
 use Rattle.playback.proofs.play.Goals as goal

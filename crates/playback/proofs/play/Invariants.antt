@@ -1,18 +1,14 @@
 -- What the rest of the input prints goes behind what is shown.
-use mathlib.Core.Path.{◌≡◌, refl, ap}
-use mathlib.Core.List.{List, [], ◌++◌}
-use Prim.Native.Nat.{ℕ, ◌+◌, ◌-◌, ◌≤◌, ◌<◌}
-use native.Mathlib.Omega.{arith}
-use lib.ListN.{length, take, drop, drop_of_length-le}
-use Rattle.player.proofs.Laws.{reads_within, laid_front, continues_none, continues_fed, continues_end}
+use mathlib.Core.Path.{◌≡◌}
+use mathlib.Core.List.{List}
+use Prim.Native.Nat.{ℕ, ◌-◌, ◌≤◌}
+use lib.ListN.{length, drop}
 use Rattle.player.specs.Feed.{start}
 use Rattle.player.specs.Laws.{Continues}
 use Rattle.player.specs.Play.{play_program}
 use Rattle.player.specs.Player.{state_of}
 use Rattle.simulator.specs.Whole.{whole_of}
 use Rattle.playback.specs.Shown.{Shows}
-use Rattle.playback.proofs.Showing.{shows_none, shows_length, as_shown}
-use borrow.Author.Rules.{rules}
 use Rattle.playback.proofs.play.Given as goal
 
 abbrev pub invariant-loop-from : goal.invariant-loop-from

@@ -1,7 +1,7 @@
 -- The text is cut to its length, and then to the room that is left.
-use mathlib.Core.Path.{◌≡◌, refl, sym, ap, ◌∙◌}
+use mathlib.Core.Path.{◌≡◌, sym, ap, ◌∙◌}
 use mathlib.Core.List.{List, ◌++◌}
-use Prim.Native.Nat.{ℕ, ◌+◌, ◌-◌, ◌≤◌, ◌<◌}
+use Prim.Native.Nat.{ℕ, ◌+◌, ◌-◌, ◌≤◌}
 use native.Mathlib.Omega.{arith}
 use lib.ListN.{length, take, drop, length-drop}
 use lib.Seq.{length-take-le}
@@ -92,6 +92,9 @@ returns c =
     let l₀ = l.0 in
     let l₁ = l.1 in
     let p = c.requires in
-    let fit : n ≤ length text = omega arith in record { adds = λ printed lent s.
+    let fit : n ≤ length text = omega arith in record {
+      adds = λ printed lent s.
           as_shown (ap (λ (x : ℕ). printed ++ take x text) c.smaller-most.ensures ∙ ap (λ (t : List ℕ). printed ++ t) (whole_text text a.size output_room room))
-          (put_shows printed lent out text _ most a.at _ s (omega arith) c.smaller-n.ensures c.copy.ensures); within = put_within out text _ a.at _ fit p c.copy.ensures }
+          (put_shows printed lent out text _ most a.at _ s (omega arith) c.smaller-n.ensures c.copy.ensures);
+      within = put_within out text _ a.at _ fit p c.copy.ensures;
+    }

@@ -1,7 +1,6 @@
 -- Each command asks what the definition says.
 use mathlib.Core.Path.{refl}
 use Rattle.player.specs.Steps.{action_of}
-use borrow.Author.Rules.{rules}
 use Rattle.player.proofs.action_of.Goals as goal
 
 pub returns-in-Other : goal.returns-in-Other

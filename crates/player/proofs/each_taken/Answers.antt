@@ -1,8 +1,8 @@
 -- The loop's invariant: the members passed have their number in the list.
 use mathlib.Core.Path.{◌≡◌, refl, sym, ap, ◌∙◌}
-use Prim.Native.Nat.{◌-◌, ◌≤◌}
+use Prim.Native.Nat.{◌-◌}
 use native.Mathlib.Omega.{arith}
-use lib.ListN.{length, take, length-set}
+use lib.ListN.{length-set}
 use lib.Seq.{take_all}
 use Rattle.group.specs.Limits.{members_most}
 use Rattle.simulator.specs.Whole.{list_of}

@@ -1,14 +1,10 @@
 -- The loop's invariant: the members passed have their number in the list.
-use mathlib.Core.Path.{◌≡◌, refl, sym, ap, ◌∙◌}
+use mathlib.Core.Path.{◌≡◌}
 use Prim.Native.Nat.{◌-◌, ◌≤◌}
-use native.Mathlib.Omega.{arith}
-use lib.ListN.{length, take, length-set}
-use lib.Seq.{take_all}
+use lib.ListN.{length, take}
 use Rattle.group.specs.Limits.{members_most}
 use Rattle.simulator.specs.Whole.{list_of}
 use Rattle.player.specs.Player.{taken_at}
-use Rattle.player.proofs.Telling.{taken_on}
-use borrow.Author.Rules.{rules}
 use Rattle.player.proofs.each_taken.Given as goal
 
 abbrev pub invariant-loop-i : goal.invariant-loop-i

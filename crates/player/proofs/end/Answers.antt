@@ -1,14 +1,12 @@
 -- A line is kept, or none.
-use mathlib.Core.Path.{◌≡◌, refl, sym, ap, ◌∙◌, subst}
-use mathlib.Core.List.{List}
-use Prim.Native.Nat.{ℕ, ◌≤◌}
+use mathlib.Core.Path.{◌≡◌, refl, sym, ap, ◌∙◌}
+use Prim.Native.Nat.{ℕ}
 use native.Mathlib.Omega.{arith}
 use lib.ListN.{length, take}
 use lib.Seq.{length-take-le}
 use Rattle.simulator.specs.Whole.{whole_of}
-use Rattle.player.specs.Feed.{kept_most, told_as}
-use Rattle.player.specs.Play.{line_told}
-use Rattle.player.specs.Player.{state_of, Does}
+use Rattle.player.specs.Feed.{kept_most}
+use Rattle.player.specs.Player.{state_of}
 use Rattle.player.proofs.Keeping.{smaller_fits, smaller_zero, whole_text}
 use Rattle.player.proofs.Opening.{ends_none, ends_told}
 use borrow.Author.Rules.{rules}

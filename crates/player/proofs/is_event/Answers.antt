@@ -2,8 +2,6 @@
 use mathlib.Core.Path.{◌≡◌}
 use Prim.Native.Nat.{ℕ}
 use native.Mathlib.Omega.{arith}
-use Rattle.player.proofs.Telling.{event_key}
-use borrow.Author.Rules.{rules}
 use Rattle.player.proofs.is_event.Goals as goal
 
 pub returns-in-Other : goal.returns-in-Other

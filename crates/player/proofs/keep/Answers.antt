@@ -123,5 +123,8 @@ returns c =
     let h = smaller_fits (length part) (kept_most - f) size c.smaller-size.ensures in
     let h₀ = h.0 in
     let h₁ = h.1 in
-    let z : f + size ≤ kept_most = omega arith in record { kept = rw c.copy.ensures (rw append_assoc (kept_with line part _ f size (omega arith) k c.smaller-size.ensures))
-          ∙ ap (λ (x : List ℕ). kept_of (x ++ part)) (ap (λ (x : ℕ). take x line) c.smaller-from.ensures ∙ whole_text line a.kept kept_most n); most = z }
+    let z : f + size ≤ kept_most = omega arith in record {
+      kept = rw c.copy.ensures (rw append_assoc (kept_with line part _ f size (omega arith) k c.smaller-size.ensures))
+          ∙ ap (λ (x : List ℕ). kept_of (x ++ part)) (ap (λ (x : ℕ). take x line) c.smaller-from.ensures ∙ whole_text line a.kept kept_most n);
+      most = z;
+    }

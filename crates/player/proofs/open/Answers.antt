@@ -21,13 +21,11 @@ returns-in-Other c =
 pub returns-in-Accepted : goal.returns-in-Accepted
 returns-in-Accepted c =
     let o = sym c.in-Group.is ∙ c.read_opening-opening.ensures in
-    
     let d = told_degree c.in-Group.n c.in-Group.number c.in-Group.resilience c.degree-degree.result (let l = c.if-n.false in search rules) c.degree-degree.ensures in
     as_told (d ∙ ap open_told o) (opened_group_lem _ _ _ _ _ _ _ _ c.open-opened.ensures c.in-Accepted.is refl refl refl refl)
 
 pub returns-in-Refused : goal.returns-in-Refused
 returns-in-Refused c =
     let o = sym c.in-Group.is ∙ c.read_opening-opening.ensures in
-    
     let d = told_degree c.in-Group.n c.in-Group.number c.in-Group.resilience c.degree-degree.result (let l = c.if-n.false in search rules) c.degree-degree.ensures in
     as_told (d ∙ ap open_told o) (as_told (opened_refused _ _ _ _ _ _ _ c.open-opened.ensures c.in-Refused.is) (c.refuse-in-Refused.ensures _))

@@ -1,5 +1,5 @@
 -- What a command asks is its event.
-use mathlib.Core.Path.{◌≡◌, refl, sym, ap, ◌∙◌, subst}
+use mathlib.Core.Path.{refl, sym, ◌∙◌}
 use lib.Seq.{length-take-le}
 use Rattle.sequencer.specs.View as sequencerView
 use Rattle.simulator.proofs.Playing.{plays_member, plays_sequencer}
@@ -7,7 +7,6 @@ use Rattle.simulator.specs.Whole.{rows_of, packets_of}
 use Rattle.player.specs.Steps.{Performed}
 use Rattle.player.proofs.Asking.{Meant, asked_is}
 use Rattle.player.proofs.Telling.{as_performed}
-use borrow.Author.Rules.{rules}
 use Rattle.player.proofs.perform.Goals as goal
 
 pub slice_bounds-act-end : goal.slice_bounds-act-end

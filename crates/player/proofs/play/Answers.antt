@@ -7,7 +7,6 @@ use Rattle.player.specs.Player.{stage_in, phase_of}
 use Rattle.player.specs.declared.Phase.{Phase}
 use Rattle.player.specs.declared.Phase.TheVariants.{Running, Ended}
 use Rattle.player.proofs.Telling.{as_told, phase_is, phase_was, phase_closed, running≢, ended≢, tells_nothing}
-use borrow.Author.Rules.{rules}
 use Rattle.player.proofs.play.Goals as goal
 
 pub tell-requires : goal.tell-requires

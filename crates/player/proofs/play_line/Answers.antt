@@ -2,7 +2,6 @@
 use mathlib.Core.Path.{refl, sym}
 use mathlib.Core.List.{[]}
 use lib.Seq.{length-take-le}
-use borrow.Author.Rules.{rules}
 use Rattle.player.proofs.play_line.Goals as goal
 
 pub slice_bounds-play-end : goal.slice_bounds-play-end

@@ -1,5 +1,5 @@
 -- The line fits the output: there are at most 16 members.
-use mathlib.Core.Path.{◌≡◌, refl, sym, ap, ◌∙◌}
+use mathlib.Core.Path.{◌≡◌, sym, ap, ◌∙◌}
 use mathlib.Core.List.{List}
 use mathlib.Core.List.{map}
 use Prim.Native.Nat.{ℕ, ◌≤◌}

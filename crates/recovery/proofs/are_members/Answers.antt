@@ -1,8 +1,7 @@
 -- The mask is held to all members.
-use mathlib.Core.Path.{◌≡◌, refl, sym, ap, ◌∙◌}
+use mathlib.Core.Path.{ap, ◌∙◌}
 use Prim.Native.Nat.{ℕ}
 use Rattle.group.specs.Members.{is_within}
-use borrow.Author.Rules.{rules}
 use Rattle.recovery.proofs.are_members.Goals as goal
 
 pub members-all-requires : goal.members-all-requires

@@ -1,10 +1,9 @@
 -- The loop's invariant: the acknowledgements of the first `i` members start.
 use mathlib.Core.Path.{◌≡◌, sym, ◌∙◌}
-use Prim.Native.Nat.{◌-◌, ◌≤◌}
-use lib.ListN.{length, length-set}
+use Prim.Native.Nat.{◌-◌}
+use lib.ListN.{length-set}
 use native.Mathlib.Omega.{arith}
-use Rattle.group.specs.Limits.{members_most, places_most, held_most, payload_most}
-use Rattle.recovery.specs.Steps.{starts_of}
+use Rattle.group.specs.Limits.{members_most}
 use Rattle.recovery.proofs.Turning.{starts_on, starts_begun}
 use borrow.Author.Rules.{rules}
 use Rattle.recovery.proofs.begin_taken.Goals as goal

@@ -1,12 +1,9 @@
 -- The loop's invariant: the acknowledgements of the first `i` members start.
-use mathlib.Core.Path.{◌≡◌, sym, ◌∙◌}
+use mathlib.Core.Path.{◌≡◌}
 use Prim.Native.Nat.{◌-◌, ◌≤◌}
-use lib.ListN.{length, length-set}
-use native.Mathlib.Omega.{arith}
-use Rattle.group.specs.Limits.{members_most, places_most, held_most, payload_most}
+use lib.ListN.{length}
+use Rattle.group.specs.Limits.{members_most}
 use Rattle.recovery.specs.Steps.{starts_of}
-use Rattle.recovery.proofs.Turning.{starts_on, starts_begun}
-use borrow.Author.Rules.{rules}
 use Rattle.recovery.proofs.begin_taken.Given as goal
 
 abbrev pub invariant-loop-i : goal.invariant-loop-i

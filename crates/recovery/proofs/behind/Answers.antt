@@ -1,7 +1,5 @@
 -- What is left where it does not pass zero.
-use Rattle.group.proofs.Choice.{choices}
 use native.Mathlib.Omega.{arith}
-use borrow.Author.Rules.{rules}
 use Rattle.recovery.proofs.behind.Goals as goal
 
 pub returns-then-number-most : goal.returns-then-number-most

@@ -1,7 +1,6 @@
 -- Each part is one of the definition's.
 use Rattle.group.proofs.Choice.{choices}
 use Rattle.recovery.specs.Steps.{beside_sound}
-use native.Mathlib.Omega.{arith}
 use borrow.Author.Rules.{rules}
 use Rattle.recovery.proofs.beside_sound.Goals as goal
 

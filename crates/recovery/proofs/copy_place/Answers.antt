@@ -1,8 +1,6 @@
 -- Three numbers and all bytes of the payload are laid into a place.
 use native.Mathlib.Omega.{arith}
-use Rattle.store.proofs.Places.{part_size}
 use Rattle.recovery.proofs.Turning.{copied_place, part_short}
-use borrow.Author.Rules.{rules}
 use Rattle.recovery.proofs.copy_place.Goals as goal
 
 pub keep-requires : goal.keep-requires

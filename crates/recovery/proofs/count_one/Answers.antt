@@ -1,11 +1,10 @@
 -- A member past the end counts nothing.
-use mathlib.Core.Path.{◌≡◌, refl, sym, ap, ◌∙◌}
+use mathlib.Core.Path.{sym, ap, ◌∙◌}
 use Prim.Native.Nat.{ℕ}
 use native.Mathlib.Omega.{arith}
-use lib.ListN.{length, set}
+use lib.ListN.{set}
 use lib.Seq.{set_out}
 use Rattle.recovery.proofs.Turning.{larger_same}
-use borrow.Author.Rules.{rules}
 use Rattle.recovery.proofs.count_one.Goals as goal
 
 pub returns-then-at-lt-MEMBERS : goal.returns-then-at-lt-MEMBERS

@@ -1,13 +1,10 @@
 -- The loop's invariant: the messages up to `number` count.
-use mathlib.Core.Path.{◌≡◌, sym, ◌∙◌}
+use mathlib.Core.Path.{◌≡◌}
 use Prim.Native.Nat.{◌-◌, ◌≤◌}
 use lib.ListN.{length}
-use native.Mathlib.Omega.{arith}
-use Rattle.group.specs.Limits.{members_most, places_most, held_most, payload_most}
+use Rattle.group.specs.Limits.{members_most, held_most}
 use Rattle.history.specs.View.{listed}
 use Rattle.recovery.specs.State.{counted_row}
-use Rattle.recovery.proofs.Turning.{count_on, counts_begun}
-use borrow.Author.Rules.{rules}
 use Rattle.recovery.proofs.count_row.Given as goal
 
 abbrev pub invariant-loop-number : goal.invariant-loop-number

@@ -1,11 +1,8 @@
 -- The loop's invariant: of the first `k` numbers above the last taken those above the number are dropped.
 use mathlib.Core.Path.{◌≡◌, sym, ◌∙◌}
-use Prim.Native.Nat.{◌-◌, ◌≤◌}
+use Prim.Native.Nat.{◌-◌}
 use native.Mathlib.Omega.{arith}
-use Rattle.group.specs.Limits.{members_most, places_most, held_most, payload_most}
-use Rattle.store.specs.Places.{messages_in}
-use Rattle.recovery.specs.Begin.{dropped_of}
-use Rattle.recovery.specs.Steps.{Held}
+use Rattle.group.specs.Limits.{held_most}
 use Rattle.recovery.proofs.Turning.{drop_on, drop_off, drop_begun}
 use borrow.Author.Rules.{rules}
 use Rattle.recovery.proofs.drop_above.Goals as goal

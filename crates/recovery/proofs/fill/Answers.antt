@@ -1,10 +1,7 @@
 -- The loop's invariant: the history has the numbers above floor up to `number`.
 use mathlib.Core.Path.{◌≡◌, sym, ◌∙◌}
-use Prim.Native.Nat.{◌-◌, ◌≤◌}
+use Prim.Native.Nat.{◌-◌}
 use native.Mathlib.Omega.{arith}
-use Rattle.store.specs.Places.{messages_in}
-use Rattle.history.specs.View.{Places}
-use Rattle.recovery.specs.Steps.{filled_of, Held}
 use Rattle.recovery.proofs.Turning.{filled_on, filled_begun}
 use borrow.Author.Rules.{rules}
 use Rattle.recovery.proofs.fill.Goals as goal

@@ -1,9 +1,8 @@
 -- Nothing is shifted out.
-use mathlib.Core.Path.{◌≡◌, refl, sym, ap, ◌∙◌}
+use mathlib.Core.Path.{refl, sym, ◌∙◌}
 use borrow.Author.Tests.{eq-eqb, ne_eqb}
 use Rattle.group.proofs.Members.{one_shifted}
 use Rattle.group.proofs.Choice.{if_true, if_false, both_hold, first_fails, then_fails}
-use borrow.Author.Rules.{rules}
 use Rattle.recovery.proofs.holder.Goals as goal
 
 pub returns-then-number-highest : goal.returns-then-number-highest

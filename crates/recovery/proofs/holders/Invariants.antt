@@ -1,12 +1,9 @@
 -- The loop's invariant: what was found is that of the members from `i` on.
-use mathlib.Core.Path.{◌≡◌, ◌∙◌}
+use mathlib.Core.Path.{◌≡◌}
 use Prim.Native.Nat.{◌≤◌}
 use lib.ListN.{length, drop}
-use native.Mathlib.Omega.{arith}
-use Rattle.group.specs.Limits.{members_most, places_most, held_most, payload_most}
-use Rattle.recovery.specs.Begin.{highest_of, holders_of}
-use Rattle.recovery.proofs.Turning.{holders_turn, holders_end, larger_same}
-use borrow.Author.Rules.{rules}
+use Rattle.group.specs.Limits.{members_most}
+use Rattle.recovery.specs.Begin.{holders_of}
 use Rattle.recovery.proofs.holders.Given as goal
 
 abbrev pub invariant-loop-i : goal.invariant-loop-i

@@ -1,7 +1,6 @@
 -- What each choice gave is the definition's.
 use Rattle.recovery.specs.Steps.{kept_floor_in}
 use Rattle.recovery.proofs.Turning.{floor_is}
-use borrow.Author.Rules.{rules}
 use Rattle.recovery.proofs.kept_floor.Goals as goal
 
 pub row_end-reach-requires : goal.row_end-reach-requires

@@ -1,7 +1,7 @@
 -- Each part is one of the definition's; the last taken are asked as a history is.
-use mathlib.Core.Path.{◌≡◌, refl, sym, ap, ◌∙◌}
+use mathlib.Core.Path.{◌∙◌}
 use Rattle.group.specs.Fold.{all_above}
-use Rattle.group.specs.Limits.{members_most, places_most, held_most, payload_most}
+use Rattle.group.specs.Limits.{places_most}
 use Rattle.group.proofs.Choice.{choices, if_true_of}
 use Rattle.recovery.specs.Sound.{kept_sound}
 use Rattle.recovery.specs.View.{kept_in}

@@ -1,10 +1,9 @@
 -- A mask of 16 bits has at most 16 zeros below its lowest.
-use mathlib.Core.Path.{◌≡◌, refl, sym, ap, ◌∙◌}
+use mathlib.Core.Path.{ap}
 use Prim.Native.Nat.{ℕ}
 use native.Mathlib.Omega.{arith}
 use lib.Count.{trailing_le}
 use Rattle.group.specs.Members.{lowest}
-use borrow.Author.Rules.{rules}
 use Rattle.recovery.proofs.lowest_holder.Goals as goal
 
 pub holders-found-requires : goal.holders-found-requires

@@ -3,9 +3,8 @@ use mathlib.Core.Path.{◌≡◌}
 use Prim.Native.Nat.{ℕ, ◌*◌, ◌%◌, ◌^◌, ◌≤◌}
 use native.Mathlib.Omega.{arith}
 use lib.Pow.{pow_pos, pow_mono}
-use Rattle.group.specs.Limits.{members_most, places_most, held_most, payload_most}
+use Rattle.group.specs.Limits.{members_most}
 use Rattle.group.proofs.Members.{one_shifted}
-use borrow.Author.Rules.{rules}
 use Rattle.recovery.proofs.members.Goals as goal
 
 shifted : (n : ℕ) → n ≤ members_most → (1 * 2 ^ n) % 4294967296 ≡ 2 ^ n

@@ -1,5 +1,5 @@
 -- Each test is one of the definition's; nothing is asked of a group without members but zeros.
-use mathlib.Core.Path.{◌≡◌, refl, sym, ap, ◌∙◌}
+use mathlib.Core.Path.{◌≡◌, ◌∙◌}
 use Rattle.group.proofs.Choice.{choices}
 use Rattle.recovery.proofs.Reading.{zero_as, zero_entries, zero_history, zero_marks}
 use borrow.Author.Rules.{rules}

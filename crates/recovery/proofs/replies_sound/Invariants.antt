@@ -1,15 +1,12 @@
 -- The loop's invariant: the entries are sound exactly if those after the first `i` are.
-use mathlib.Core.Path.{◌≡◌, refl}
-use Prim.Native.Nat.{◌-◌, ◌<◌}
+use mathlib.Core.Path.{◌≡◌}
+use Prim.Native.Nat.{◌-◌}
 use lib.ListN.{length, drop}
-use native.Mathlib.Omega.{arith}
-use Rattle.group.specs.Choice.{if◌then◌else◌, ◌<?◌, ◌=?◌}
+use Rattle.group.specs.Choice.{if◌then◌else◌, ◌=?◌}
 use Rattle.group.specs.Fold.{all}
 use Rattle.group.specs.Limits.{members_most}
-use Rattle.group.proofs.Fold.{all_on, all_off, all_done}
 use mathlib.Core.Bool.{true}
 use Rattle.group.specs.Members.{is_in}
-use borrow.Author.Rules.{rules}
 use Rattle.recovery.proofs.replies_sound.Given as goal
 
 abbrev pub invariant-loop-i : goal.invariant-loop-i

@@ -1,9 +1,7 @@
 -- A number past the end is none.
-use Rattle.group.proofs.Choice.{choices}
 use mathlib.Core.Path.{sym}
 use lib.ListN.{get_or-eq_default}
 use native.Mathlib.Omega.{arith}
-use borrow.Author.Rules.{rules}
 use Rattle.recovery.proofs.reply_of.Goals as goal
 
 pub returns : goal.returns

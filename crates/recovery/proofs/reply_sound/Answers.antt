@@ -1,5 +1,5 @@
 -- Each test is one of the definition's.
-use mathlib.Core.Path.{◌≡◌, refl, sym, ap, ◌∙◌}
+use mathlib.Core.Path.{◌≡◌, refl, sym, ◌∙◌}
 use Rattle.group.proofs.Choice.{choices, if_eq, if_ne, if_true_of, if_false_of}
 use Rattle.recovery.specs.Steps.{reply_sound_in}
 use borrow.Author.Rules.{rules}

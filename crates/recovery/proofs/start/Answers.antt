@@ -1,5 +1,4 @@
 -- The test is the definition's.
-use borrow.Author.Rules.{rules}
 use Rattle.recovery.proofs.start.Goals as goal
 
 pub reply_counted-requires : goal.reply_counted-requires

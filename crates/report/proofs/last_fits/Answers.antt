@@ -6,7 +6,6 @@ use Rattle.text.specs.Written.{number_digits}
 use Rattle.report.specs.Print.{line_room}
 use Rattle.report.proofs.Pieces.{same_test}
 use borrow.Author.Tests.{lt-leb}
-use borrow.Author.Rules.{rules}
 use Rattle.report.proofs.last_fits.Goals as goal
 
 pub returns-then-room-lt-LINE_ROOM : goal.returns-then-room-lt-LINE_ROOM

@@ -1,12 +1,10 @@
 -- The loop's invariant: the numbers passed are laid.
-use mathlib.Core.Path.{◌≡◌}
 use mathlib.Core.List.{[], ◌∷◌, map}
-use Prim.Native.Nat.{◌+◌, ◌*◌, ◌-◌, ◌≤◌}
-use lib.ListN.{length, take, get_or}
+use Prim.Native.Nat.{◌-◌}
+use lib.ListN.{take, get_or}
 use Rattle.text.proofs.Pieces.{laid_fields, laid_none}
 use Rattle.report.proofs.Pieces.{each_on}
 use Rattle.text.specs.Written.{decimal_of, spaced}
-use Rattle.text.specs.LaidAt.{LaidAt}
 use lib.Seq.{take_all}
 use borrow.Author.Rules.{rules}
 use Rattle.report.proofs.put_each.Goals as goal

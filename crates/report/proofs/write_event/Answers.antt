@@ -9,7 +9,6 @@ use Rattle.report.specs.Print.{event_room, answer_fields, line_of}
 use Rattle.text.proofs.Pieces.{laid_line}
 use Rattle.report.proofs.Pieces.{written, unwritten}
 use borrow.Author.Tests.{leb-true, leb-false}
-use borrow.Author.Rules.{rules}
 use Rattle.report.proofs.write_event.Goals as goal
 
 pub put_decimal-next-requires : goal.put_decimal-next-requires

@@ -8,7 +8,6 @@ use Rattle.report.specs.Print.{last_room, last_line}
 use Rattle.text.specs.Text.{text_of}
 use Rattle.report.proofs.Pieces.{laid_longer, written, unwritten}
 use borrow.Author.Tests.{leb-true, leb-false}
-use borrow.Author.Rules.{rules}
 use Rattle.report.proofs.write_last.Goals as goal
 
 pub put_tops-next-requires : goal.put_tops-next-requires

@@ -1,6 +1,5 @@
 -- All numbers are there, or one is not.
 use Rattle.schedule.specs.Line.{opened}
-use borrow.Author.Rules.{rules}
 use Rattle.schedule.proofs.all_numbers.Goals as goal
 
 pub returns-in-Of-resilience : goal.returns-in-Of-resilience

@@ -51,6 +51,5 @@ pub returns-in-More : goal.returns-in-More
 unfolding command_of payload_of
 returns-in-More c =
     let a = c.args in
-    
     let e = event_by a.line.now (More c.in-More.field-0 c.in-More.field-1 c.in-More.field-2) (search rules) (c.fields-parts.ensures.parts ∙ ap (λ (p : Parts). parts_at p a.line.now) c.in-More.is) ∙ more_event a.line.now c.in-More.field-0 c.in-More.field-1 c.in-More.field-2 in
     record { command = rw e; lent = rw e }

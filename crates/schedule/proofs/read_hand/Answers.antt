@@ -2,7 +2,6 @@
 use Rattle.text.specs.Field.{number_in}
 use Rattle.text.proofs.Split.{number_was, number_none}
 use Rattle.schedule.specs.Line.{handed, command_of}
-use borrow.Author.Rules.{rules}
 use Rattle.schedule.proofs.read_hand.Goals as goal
 
 pub returns-in-Of-m : goal.returns-in-Of-m

@@ -2,7 +2,6 @@
 use Rattle.text.specs.Field.{number_in}
 use Rattle.text.proofs.Split.{number_was, number_none}
 use Rattle.schedule.specs.Line.{with_number, command_of}
-use borrow.Author.Rules.{rules}
 use Rattle.schedule.proofs.read_number.Goals as goal
 
 pub returns-in-Of : goal.returns-in-Of

@@ -41,5 +41,4 @@ returns-in-Three c =
 pub returns-in-More : goal.returns-in-More
 returns-in-More c =
     let a = c.args in
-    
     c.read_more.ensures ∙ sym (opening_by a.line.now (More c.in-More.a c.in-More.b c.in-More.c) (search rules) (c.fields-parts.ensures.parts ∙ ap (λ (p : Parts). parts_at p a.line.now) c.in-More.is))

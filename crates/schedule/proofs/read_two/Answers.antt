@@ -2,7 +2,6 @@
 use mathlib.Core.Path.{sym, ◌∙◌}
 use Rattle.schedule.proofs.Commands.{hand_payload, two_submit, two_hand, two_other}
 use Rattle.schedule.specs.Line.{command_of, payload_of}
-use borrow.Author.Rules.{rules}
 use Rattle.schedule.proofs.read_two.Goals as goal
 
 pub returns-then-l-eq83 : goal.returns-then-l-eq83

@@ -2,7 +2,6 @@
 use mathlib.Core.Path.{◌∙◌}
 use native.Mathlib.Omega.{arith}
 use Rattle.sequencer.proofs.Confirmed.{confirm_old, confirm_marked, confirm_accepted}
-use borrow.Author.Rules.{rules}
 use Rattle.sequencer.proofs.confirm.Goals as goal
 
 pub returns-then-number-accepted : goal.returns-then-number-accepted

@@ -1,6 +1,5 @@
 -- Each kind of packet as the definition has it.
 use Rattle.sequencer.specs.Steps.{confirmation_of}
-use borrow.Author.Rules.{rules}
 use Rattle.sequencer.proofs.confirmed_by.Goals as goal
 
 pub returns-in-Request : goal.returns-in-Request

@@ -5,7 +5,6 @@ use mathlib.Core.Path.{sym, ◌∙◌}
 use native.Mathlib.Omega.{arith}
 use Rattle.big_endian.specs.Laws.{Bytes}
 use Rattle.packet.proofs.Verdicts.{read_named}
-use borrow.Author.Rules.{rules}
 use Rattle.sequencer.proofs.decide.Goals as goal
 
 pub of-content-requires : goal.of-content-requires

@@ -1,6 +1,5 @@
 -- Each kind of packet as the definition has it.
 use Rattle.sequencer.specs.Steps.{change_of}
-use borrow.Author.Rules.{rules}
 use Rattle.sequencer.proofs.packet_change.Goals as goal
 
 pub request_change-requires : goal.request_change-requires

@@ -1,6 +1,5 @@
 -- The first bytes of the place are what is lent.
 use Rattle.sequencer.proofs.View.{place_laid}
-use borrow.Author.Rules.{rules}
 use Rattle.sequencer.proofs.put_place.Goals as goal
 
 pub returns : goal.returns

@@ -1,7 +1,6 @@
 -- The packet's fields, laid with the message's payload.
 use native.Mathlib.Omega.{arith}
 use Rattle.sequencer.proofs.View.{may_send, announced_laid}
-use borrow.Author.Rules.{rules}
 use Rattle.sequencer.proofs.send.Goals as goal
 
 pub put_place-requires : goal.put_place-requires

@@ -2,7 +2,6 @@
 use mathlib.Core.List.{[]}
 use native.Mathlib.Omega.{arith}
 use Rattle.packet.proofs.Permitted.{accept_fields, laid_whole}
-use borrow.Author.Rules.{rules}
 use Rattle.sequencer.proofs.send_accept.Goals as goal
 
 pub returns : goal.returns

@@ -1,7 +1,6 @@
 -- Each answer as the definition has it.
 use mathlib.Core.Path.{refl}
 use Rattle.sequencer.specs.Steps.{sent_of}
-use borrow.Author.Rules.{rules}
 use Rattle.sequencer.proofs.send_answer.Goals as goal
 
 pub send-requires : goal.send-requires

@@ -1,7 +1,6 @@
 -- The questions of every call, then those of a packet.
 use mathlib.Core.Path.{sym, ◌∙◌}
 use Rattle.sequencer.proofs.Deciding.{refused_is, decided_is}
-use borrow.Author.Rules.{rules}
 use Rattle.sequencer_calls.proofs.judge.Goals as goal
 
 pub ask-v-requires : goal.ask-v-requires

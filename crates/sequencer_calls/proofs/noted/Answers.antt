@@ -1,10 +1,7 @@
 -- A is noted, what the floor passes is cleared, and the change is laid in: by the law of `View` this is the step.
 use mathlib.Core.Path.{◌∙◌}
 use native.Mathlib.Omega.{arith}
-use Rattle.sequencer.specs.View.{view_of}
-use Rattle.sequencer.proofs.Soundness.{sound_of_lem}
 use Rattle.sequencer.proofs.View.{sender_inside, found_left, found_sends, found_changed}
-use borrow.Author.Rules.{rules}
 use Rattle.sequencer_calls.proofs.noted.Goals as goal
 
 pub note-floor-requires : goal.note-floor-requires

@@ -2,7 +2,6 @@
 use mathlib.Core.Path.{refl, sym, ◌∙◌}
 use Rattle.sequencer.specs.Calls.{opened_of, fresh_of}
 use Rattle.sequencer.proofs.View.{fresh_view}
-use borrow.Author.Rules.{rules}
 use Rattle.sequencer_calls.proofs.open_on.Goals as goal
 
 pub returns-in-Open : goal.returns-in-Open

@@ -1,6 +1,5 @@
 -- The head is as it was.
 use mathlib.Core.Path.{refl}
-use borrow.Author.Rules.{rules}
 use Rattle.sequencer_calls.proofs.unchanged.Goals as goal
 
 pub returns : goal.returns

@@ -1,7 +1,5 @@
 -- The call of a member that is there, and the packet that it wrote; nothing of one that is not.
-use mathlib.Core.Path.{◌≡◌, refl, sym, ap, ◌∙◌}
-use lib.ListN.{length}
-use native.Mathlib.Omega.{arith}
+use mathlib.Core.Path.{refl}
 use Rattle.simulator.specs.Steps.{happened_at}
 use Rattle.simulator.specs.Whole.{rows_of, terminals_of, packets_of}
 use Rattle.simulator.proofs.Acting.{acts, acts_not, no_member_lem}

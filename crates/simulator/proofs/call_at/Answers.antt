@@ -1,5 +1,4 @@
 -- The row of numbers that is stored is the head that the call left, since group and number stay.
-use mathlib.Core.Path.{◌≡◌, refl, sym, ap, ◌∙◌}
 use native.Mathlib.Omega.{arith}
 use Rattle.simulator.specs.Whole.{rows_of}
 use Rattle.simulator.proofs.Acting.{calls_at}

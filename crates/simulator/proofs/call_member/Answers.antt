@@ -1,12 +1,9 @@
 -- Each call is that of its kind; the arrays of one member are lent, and the others keep theirs.
-use mathlib.Core.Path.{◌≡◌, refl, sym, ap, ◌∙◌}
-use lib.ListN.{length}
 use Rattle.simulator.specs.Steps.{outcome_of}
 use Rattle.simulator.specs.Whole.{rows_of}
 use Rattle.simulator.specs.declared.MemberCall.TheVariants as call
 use Rattle.simulator.proofs.Acting.{calls_member, calls_told}
 use Rattle.member.proofs.Leaving.{repeat_leaves, status_leaves}
-use borrow.Author.Rules.{rules}
 use Rattle.simulator.proofs.call_member.Goals as goal
 
 pub returns-in-Submit : goal.returns-in-Submit

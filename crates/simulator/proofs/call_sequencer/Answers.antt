@@ -1,12 +1,10 @@
 -- Each call is that of its kind; one that only reads the state leaves it.
-use mathlib.Core.Path.{◌≡◌, refl, sym, ap, ◌∙◌}
 use lib.ListN.{length}
 use Rattle.sequencer.proofs.Leaving.{poll_leaves, copy_leaves}
 use Rattle.sequencer.specs.View as sequencerView
 use Rattle.simulator.specs.Steps.{outcome_here}
 use Rattle.simulator.specs.declared.SequencerCall.TheVariants as call
 use Rattle.simulator.proofs.Acting.{sequencer_told_lem}
-use borrow.Author.Rules.{rules}
 use Rattle.simulator.proofs.call_sequencer.Goals as goal
 
 pub returns-in-Receive : goal.returns-in-Receive

@@ -1,5 +1,5 @@
 -- The packet that is read is the group's, and its receiver's call is the event.
-use mathlib.Core.Path.{◌≡◌, refl, sym, ap, ◌∙◌}
+use mathlib.Core.Path.{sym, ap, ◌∙◌}
 use Rattle.model.specs.World.{Group, hand_to_member}
 use Rattle.sequencer.specs.State.{Sequencer}
 use Rattle.simulator.specs.Steps.{happened_at, handed_to}
@@ -9,7 +9,6 @@ use Rattle.simulator.proofs.Acting.{acts_not}
 use Rattle.simulator.proofs.Lists.{lists_there, lists_absent}
 use Rattle.simulator.proofs.Playing.{receive_is, acts_as}
 use Rattle.simulator.proofs.Rooms.{there_yes, there_no}
-use native.Mathlib.Omega.{arith}
 use borrow.Author.Rules.{rules}
 use Rattle.simulator.proofs.hand_member.Goals as goal
 

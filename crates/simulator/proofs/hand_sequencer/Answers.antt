@@ -1,5 +1,5 @@
 -- The packet that is read is the group's, and the sequencer's call is the event.
-use mathlib.Core.Path.{◌≡◌, refl, sym, ap, ◌∙◌}
+use mathlib.Core.Path.{sym, ap}
 use mathlib.Core.List.{List}
 use Rattle.member.specs.State.{Member}
 use Rattle.model.specs.World.{Group, hand_to_sequencer}

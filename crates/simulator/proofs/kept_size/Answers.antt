@@ -1,7 +1,6 @@
 -- A take writes no packet.
-use mathlib.Core.Path.{◌≡◌, refl, sym, ap, ◌∙◌}
+use mathlib.Core.Path.{refl}
 use Rattle.simulator.specs.Steps.{kept_size}
-use borrow.Author.Rules.{rules}
 use Rattle.simulator.proofs.kept_size.Goals as goal
 
 pub returns-in-Submit : goal.returns-in-Submit

@@ -1,7 +1,5 @@
 -- The sequencer and every member are opened alike.
-use mathlib.Core.Path.{◌≡◌, refl, sym, ap, ◌∙◌}
 use Rattle.simulator.proofs.Opening.{opens}
-use borrow.Author.Rules.{rules}
 use Rattle.simulator.proofs.open.Goals as goal
 
 pub returns : goal.returns

@@ -1,9 +1,7 @@
 -- The row of numbers that is stored is the head of the fresh member.
-use mathlib.Core.Path.{◌≡◌, refl, sym, ap, ◌∙◌}
 use native.Mathlib.Omega.{arith}
 use Rattle.simulator.specs.Whole.{rows_of}
 use Rattle.simulator.proofs.Opening.{begun_set}
-use borrow.Author.Rules.{rules}
 use Rattle.simulator.proofs.open_member.Goals as goal
 
 pub returns : goal.returns

@@ -1,12 +1,8 @@
 -- One member after the other.
-use mathlib.Core.Path.{◌≡◌, refl, sym, ap, ◌∙◌}
-use native.Mathlib.Omega.{arith}
 use Prim.Native.Nat.{◌-◌, ◌≤◌}
 use Rattle.group.specs.Limits.{members_most}
 use Rattle.simulator.specs.Whole.{rows_of, terminals_of}
 use Rattle.simulator.specs.Steps.{Begun}
-use Rattle.simulator.proofs.Opening.{begun_none, begun_on}
-use borrow.Author.Rules.{rules}
 use Rattle.simulator.proofs.open_members.Given as goal
 
 abbrev pub invariant-loop-i : goal.invariant-loop-i

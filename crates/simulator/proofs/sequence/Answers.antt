@@ -1,6 +1,5 @@
 -- The call of the sequencer, and the packet that it wrote; nothing without room.
-use mathlib.Core.Path.{◌≡◌, refl, sym, ap, ◌∙◌}
-use lib.ListN.{length}
+use mathlib.Core.Path.{refl}
 use Rattle.sequencer.specs.View as sequencerView
 use Rattle.simulator.specs.Steps.{happened_here}
 use Rattle.simulator.specs.Whole.{packets_of}

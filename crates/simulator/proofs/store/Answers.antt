@@ -1,5 +1,4 @@
 -- A packet of no bytes is none.
-use mathlib.Core.Path.{◌≡◌, refl, sym, ap, ◌∙◌}
 use native.Mathlib.Omega.{arith}
 use Rattle.simulator.proofs.Acting.{stores_none, stores_one}
 use borrow.Author.Rules.{rules}

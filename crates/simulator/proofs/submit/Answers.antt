@@ -1,11 +1,10 @@
 -- As many bytes are read as the packet has.
-use mathlib.Core.Path.{◌≡◌, refl, sym, ap, ◌∙◌}
+use mathlib.Core.Path.{◌≡◌, sym}
 use lib.ListN.{length}
 use lib.Seq.{length-take-le}
 use native.Mathlib.Omega.{arith}
 use Rattle.group.specs.Limits.{longest_packet}
 use Rattle.simulator.proofs.Acting.{packet_read, packet_fits}
-use borrow.Author.Rules.{rules}
 use Rattle.simulator.proofs.submit.Goals as goal
 
 pub slice_bounds-packet-end : goal.slice_bounds-packet-end

@@ -8,7 +8,6 @@ use Rattle.group.specs.Limits.{payload_most}
 use Rattle.message.specs.Message.{zeroed_from}
 use Rattle.store.specs.Places.{part_of, laid_at}
 use Rattle.store.proofs.Places.{part_size, part_length}
-use borrow.Author.Rules.{rules}
 use Rattle.store.proofs.clear.Goals as goal
 
 -- src/lib.rt:50:1
@@ -17,7 +16,6 @@ cleared part e = let z : length part - 0 ≡ payload_most = omega arith in ap {B
 
 pub returns : goal.returns
 returns c =
-    
     let b = c.args.bytes.now in
     let f = rw part_size at c.fill.ensures in
     rw (part_size c.args.at) (ap (laid_at b c.args.at) (f ∙ cleared (part_of b c.args.at) (part_length b c.args.at c.requires)))

@@ -1,12 +1,11 @@
 -- The loop's invariant: the zeros lie over the ones, up to i.
-use mathlib.Core.Path.{◌≡◌, refl, ap, ◌∙◌}
+use mathlib.Core.Path.{refl, ap, ◌∙◌}
 use mathlib.Core.List.{List}
-use Prim.Native.Nat.{ℕ, ◌+◌, ◌-◌, ◌≤◌}
+use Prim.Native.Nat.{ℕ, ◌-◌}
 use native.Mathlib.Omega.{arith}
-use lib.ListN.{length, set, replicate, length-set, length-replicate, get_or-replicate}
-use Rattle.message.proofs.Laying.{over, over_next, over_all}
+use lib.ListN.{set, length-set, get_or-replicate}
+use Rattle.message.proofs.Laying.{over_next, over_all}
 use Rattle.store.specs.Places.{block_size, mask_of}
-use borrow.Author.Rules.{rules}
 use Rattle.store.proofs.mask.Invariants.{zeros, ones}
 use Rattle.store.proofs.mask.Goals as goal
 

@@ -1,12 +1,10 @@
 -- The loop's invariant: the zeros lie over the ones, up to i.
-use mathlib.Core.Path.{◌≡◌, refl, ap, ◌∙◌}
+use mathlib.Core.Path.{◌≡◌}
 use mathlib.Core.List.{List}
 use Prim.Native.Nat.{ℕ, ◌+◌, ◌-◌, ◌≤◌}
-use native.Mathlib.Omega.{arith}
-use lib.ListN.{length, set, replicate, length-set, length-replicate, get_or-replicate}
-use Rattle.message.proofs.Laying.{over, over_next, over_all}
-use Rattle.store.specs.Places.{block_size, mask_of}
-use borrow.Author.Rules.{rules}
+use lib.ListN.{length, replicate}
+use Rattle.message.proofs.Laying.{over}
+use Rattle.store.specs.Places.{block_size}
 use Rattle.store.proofs.mask.Given as goal
 
 abbrev pub zeros : List ℕ

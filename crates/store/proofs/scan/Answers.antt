@@ -1,17 +1,15 @@
 -- The loop's invariant: what was seen of the bytes that count is zero and the rest is, exactly if all from the index on are.
-use mathlib.Core.Path.{◌≡◌, refl, ap, ◌∙◌}
+use mathlib.Core.Path.{◌≡◌, ap, ◌∙◌}
 use mathlib.Core.Bool.{true}
 use mathlib.Core.List.{List}
-use Prim.Native.Nat.{ℕ, ◌+◌, ◌-◌, ◌≤◌}
+use Prim.Native.Nat.{ℕ, ◌+◌, ◌-◌}
 use native.Mathlib.Omega.{arith}
 use lib.Bits.{bit_and}
-use lib.ListN.{length, drop, get_or}
+use lib.ListN.{length, get_or}
 use Rattle.group.specs.Choice.{if◌then◌else◌, ◌and◌, ◌=?◌}
-use Rattle.message.specs.Message.{all_zero}
 use Rattle.message.proofs.Zero.{zero_on, zero_done}
-use Rattle.store.specs.Places.{block_size, mask_of}
+use Rattle.store.specs.Places.{block_size}
 use Rattle.store.proofs.Scanning.{mask_length, masked_zero}
-use borrow.Author.Rules.{rules}
 use Rattle.store.proofs.scan.Goals as goal
 
 pub loop-i-init : goal.loop-i-init

@@ -2,9 +2,7 @@
 use mathlib.Core.Path.{◌∙◌}
 use Prim.Native.Nat.{◌-◌}
 use native.Mathlib.Omega.{arith}
-use Rattle.message.specs.Message.{all_zero}
 use Rattle.store.proofs.Scanning.{block_fails, block_passes, last_block}
-use borrow.Author.Rules.{rules}
 use Rattle.store.proofs.unused.Goals as goal
 
 pub returns-then-from-eq0 : goal.returns-then-from-eq0

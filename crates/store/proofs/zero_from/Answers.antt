@@ -1,6 +1,5 @@
 -- What is unusedned is the place's part.
 use Rattle.store.proofs.Places.{part_size}
-use borrow.Author.Rules.{rules}
 use Rattle.store.proofs.zero_from.Goals as goal
 
 pub returns : goal.returns

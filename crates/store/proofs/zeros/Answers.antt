@@ -1,10 +1,9 @@
 -- The loop's invariant: what was seen is zero and the rest is, exactly if all bytes are.
-use mathlib.Core.Path.{◌≡◌, refl}
-use Prim.Native.Nat.{◌+◌, ◌-◌}
+use mathlib.Core.Path.{refl}
+use Prim.Native.Nat.{◌-◌}
 use native.Mathlib.Omega.{arith}
-use lib.ListN.{length, drop, get_or}
-use Rattle.group.specs.Choice.{if◌then◌else◌, ◌and◌, ◌=?◌}
-use Rattle.message.specs.Message.{all_zero}
+use lib.ListN.{get_or}
+use Rattle.group.specs.Choice.{if◌then◌else◌}
 use Rattle.message.proofs.Zero.{zero_on, zero_done}
 use Rattle.store.proofs.Scanning.{byte_zero}
 use borrow.Author.Rules.{rules}

@@ -1,13 +1,9 @@
 -- The loop's invariant: what was seen is zero and the rest is, exactly if all bytes are.
-use mathlib.Core.Path.{◌≡◌, refl}
+use mathlib.Core.Path.{◌≡◌}
 use Prim.Native.Nat.{◌+◌, ◌-◌}
-use native.Mathlib.Omega.{arith}
-use lib.ListN.{length, drop, get_or}
-use Rattle.group.specs.Choice.{if◌then◌else◌, ◌and◌, ◌=?◌}
+use lib.ListN.{length, drop}
+use Rattle.group.specs.Choice.{◌and◌, ◌=?◌}
 use Rattle.message.specs.Message.{all_zero}
-use Rattle.message.proofs.Zero.{zero_on, zero_done}
-use Rattle.store.proofs.Scanning.{byte_zero}
-use borrow.Author.Rules.{rules}
 use Rattle.store.proofs.zeros.Given as goal
 
 abbrev pub invariant-loop-i : goal.invariant-loop-i

@@ -5,8 +5,7 @@ use Rattle.jobs.specs.declared.Outcome.{Outcome}
 use Rattle.terminal.specs.Take.{feeding_of, fed_by, answered_by}
 use Rattle.terminal.specs.Wording.{fed_wording}
 use Rattle.terminal.specs.declared.Fed.TheVariants.{Answered}
-use Rattle.terminal.proofs.Telling.{took_key, not_took}
-use borrow.Author.Rules.{rules}
+use Rattle.terminal.proofs.Telling.{not_took}
 use Rattle.terminal.proofs.feed.Goals as goal
 
 pub returns-in-Took : goal.returns-in-Took

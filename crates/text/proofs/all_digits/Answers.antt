@@ -1,12 +1,9 @@
 -- The loop asks each character: its invariant is that the rest decides.
-use mathlib.Core.Path.{◌≡◌, refl, ap}
-use Prim.Native.Nat.{ℕ, ◌-◌, ◌≤◌}
-use lib.ListN.{length, drop}
+use mathlib.Core.Path.{refl, ap}
+use Prim.Native.Nat.{ℕ, ◌-◌}
 use borrow.Author.Tests.{lt-ltb, le-ltb}
 use Rattle.group.specs.Choice.{◌<?◌}
-use Rattle.group.specs.Fold.{all}
 use Rattle.group.proofs.Fold.{all_on, all_off, all_done}
-use Rattle.text.specs.Text.{digit_of}
 use borrow.Author.Rules.{rules}
 use Rattle.text.proofs.all_digits.Goals as goal
 

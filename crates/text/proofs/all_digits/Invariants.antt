@@ -1,13 +1,10 @@
 -- The loop asks each character: its invariant is that the rest decides.
-use mathlib.Core.Path.{◌≡◌, refl, ap}
-use Prim.Native.Nat.{ℕ, ◌-◌, ◌≤◌}
+use mathlib.Core.Path.{◌≡◌}
+use Prim.Native.Nat.{◌-◌, ◌≤◌}
 use lib.ListN.{length, drop}
-use borrow.Author.Tests.{lt-ltb, le-ltb}
 use Rattle.group.specs.Choice.{◌<?◌}
 use Rattle.group.specs.Fold.{all}
-use Rattle.group.proofs.Fold.{all_on, all_off, all_done}
 use Rattle.text.specs.Text.{digit_of}
-use borrow.Author.Rules.{rules}
 use Rattle.text.proofs.all_digits.Given as goal
 
 abbrev pub invariant-loop-i : goal.invariant-loop-i

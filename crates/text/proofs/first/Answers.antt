@@ -1,8 +1,6 @@
 -- The loop's invariant: from here on the character is found where it is found in the whole.
-use mathlib.Core.Path.{◌≡◌, refl}
-use Prim.Native.Nat.{◌-◌, ◌≤◌}
-use lib.ListN.{length, drop}
-use Rattle.text.specs.Field.{first_from}
+use mathlib.Core.Path.{refl}
+use Prim.Native.Nat.{◌-◌}
 use Rattle.text.proofs.Split.{first_here, first_on, first_done}
 use borrow.Author.Rules.{rules}
 use Rattle.text.proofs.first.Goals as goal

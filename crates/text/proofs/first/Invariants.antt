@@ -1,10 +1,8 @@
 -- The loop's invariant: from here on the character is found where it is found in the whole.
-use mathlib.Core.Path.{◌≡◌, refl}
+use mathlib.Core.Path.{◌≡◌}
 use Prim.Native.Nat.{◌-◌, ◌≤◌}
 use lib.ListN.{length, drop}
 use Rattle.text.specs.Field.{first_from}
-use Rattle.text.proofs.Split.{first_here, first_on, first_done}
-use borrow.Author.Rules.{rules}
 use Rattle.text.proofs.first.Given as goal
 
 abbrev pub invariant-loop-i : goal.invariant-loop-i

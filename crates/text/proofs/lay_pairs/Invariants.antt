@@ -1,11 +1,9 @@
 -- The loop's invariant: the bytes laid, then those of the rest, are those of the whole, and the rest keeps its value.
-use mathlib.Core.Path.{◌≡◌, refl}
+use mathlib.Core.Path.{◌≡◌}
 use mathlib.Core.List.{◌++◌}
 use Prim.Native.Nat.{◌+◌, ◌*◌, ◌-◌, ◌≤◌}
 use lib.ListN.{length, take, drop}
 use Rattle.text.specs.Field.{pairs_of}
-use Rattle.text.proofs.Digits.{digit_at, pairs_laid, pairs_rest, pairs_done}
-use borrow.Author.Rules.{rules}
 use Rattle.text.proofs.lay_pairs.Given as goal
 
 abbrev pub invariant-loop-i : goal.invariant-loop-i

@@ -7,7 +7,6 @@ use Rattle.text.specs.Text.{glyph_of}
 use Rattle.text.specs.Written.{count_digits}
 use Rattle.group.specs.Choice.{if◌then◌else◌}
 use lib.Seq.{take_all}
-use borrow.Author.Rules.{rules}
 use Rattle.text.proofs.put_decimal.Goals as goal
 
 pub put-requires : goal.put-requires

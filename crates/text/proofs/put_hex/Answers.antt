@@ -1,10 +1,8 @@
 -- The loop's invariant: the digits of the bytes passed are laid.
-use mathlib.Core.Path.{◌≡◌}
 use mathlib.Core.List.{[], ◌∷◌}
-use Prim.Native.Nat.{◌+◌, ◌*◌, ◌-◌, ◌≤◌}
-use lib.ListN.{length, take, get_or}
+use Prim.Native.Nat.{◌-◌}
+use lib.ListN.{take, get_or}
 use Rattle.text.specs.Written.{hex_of}
-use Rattle.text.specs.LaidAt.{LaidAt}
 use Rattle.text.proofs.Pieces.{laid_none, laid_then}
 use lib.Seq.{take_all}
 use Rattle.text.proofs.Hex.{hex_on}

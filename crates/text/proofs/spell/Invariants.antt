@@ -1,12 +1,9 @@
 -- The loop's invariant: the digits of what is left, then those written, are those of the number, and have room.
 use mathlib.Core.Path.{◌≡◌}
-use mathlib.Core.List.{◌++◌, append-nil}
+use mathlib.Core.List.{◌++◌}
 use Prim.Native.Nat.{◌≤◌}
-use native.Mathlib.Omega.{arith}
 use lib.ListN.{length, drop}
 use Rattle.text.specs.Written.{decimal_digits, count_digits}
-use Rattle.text.proofs.Decimal.{digits_most, spell_room, spell_fewer, spell_on, spell_done}
-use borrow.Author.Rules.{rules}
 use Rattle.text.proofs.spell.Given as goal
 
 abbrev pub invariant-loop-rest : goal.invariant-loop-rest

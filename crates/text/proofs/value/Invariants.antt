@@ -1,11 +1,9 @@
 -- The loop's invariant: the value so far is within the largest, and the rest of the digits bring it to the whole value.
-use mathlib.Core.Path.{◌≡◌, refl}
+use mathlib.Core.Path.{◌≡◌}
 use Prim.Native.Nat.{◌-◌, ◌≤◌}
 use lib.ListN.{length, drop}
 use Rattle.group.specs.Limits.{largest_number}
 use Rattle.text.specs.Field.{value_from}
-use Rattle.text.proofs.Digits.{value_on, value_past, value_end}
-use borrow.Author.Rules.{rules}
 use Rattle.text.proofs.value.Given as goal
 
 abbrev pub invariant-loop-i : goal.invariant-loop-i

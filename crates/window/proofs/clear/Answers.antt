@@ -4,7 +4,6 @@ use lib.ListN.{length-replicate}
 use Rattle.group.specs.Limits.{payload_most}
 use Rattle.message.specs.Message.{empty_message}
 use Rattle.store.proofs.Places.{messages_laid}
-use borrow.Author.Rules.{rules}
 use Rattle.window.proofs.clear.Goals as goal
 
 pub returns : goal.returns

@@ -1,7 +1,6 @@
 -- Each test is one of the definition's.
 use Rattle.group.proofs.Choice.{choices}
 use Rattle.message.specs.Message.{is_empty, zero_behind}
-use native.Mathlib.Omega.{arith}
 use borrow.Author.Rules.{rules}
 use Rattle.window.proofs.empty_sound.Goals as goal
 

@@ -1,16 +1,10 @@
 -- The loop's invariant: the places are sound exactly if those of the numbers after the first `i` are.
 use mathlib.Core.Path.{◌≡◌}
-use Prim.Native.Nat.{◌+◌, ◌-◌, ◌*◌, ◌≤◌}
-use lib.ListN.{length}
-use Rattle.group.specs.Fold.{all_above}
-use Rattle.group.specs.Limits.{held_most, payload_most}
+use Prim.Native.Nat.{◌+◌, ◌-◌}
 use Rattle.group.proofs.Fold.{above_on, above_off, above_done}
-use Rattle.store.specs.Places.{messages_in, mask_of}
 use Rattle.window.specs.Places.{place_of}
-use Rattle.window.specs.Sound.{place_sound}
 use Rattle.window.proofs.Places.{place_in}
 use native.Mathlib.Omega.{arith}
-use borrow.Author.Rules.{rules}
 use Rattle.window.proofs.held_sound.Goals as goal
 
 pub loop-i-init : goal.loop-i-init

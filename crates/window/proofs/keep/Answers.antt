@@ -2,8 +2,6 @@
 use Rattle.message.specs.Message.{message_of}
 use Rattle.store.proofs.Places.{messages_laid}
 use Rattle.window.proofs.Places.{padded_length}
-use native.Mathlib.Omega.{arith}
-use borrow.Author.Rules.{rules}
 use Rattle.window.proofs.keep.Goals as goal
 
 pub returns : goal.returns

@@ -1,12 +1,9 @@
 -- The loop's invariant: what is looked for is the lowest missing above the numbers passed.
-use mathlib.Core.Path.{◌≡◌, refl}
+use mathlib.Core.Path.{◌≡◌}
 use Prim.Native.Nat.{◌-◌}
-use native.Mathlib.Omega.{arith}
 use lib.ListN.{length}
 use Rattle.group.specs.Limits.{held_most}
 use Rattle.window.specs.Steps.{lowest_uncounted}
-use Rattle.window.proofs.Scan.{missing_on, missing_found, missing_none}
-use borrow.Author.Rules.{rules}
 use Rattle.window.proofs.lowest_missing.Given as goal
 
 abbrev pub invariant-loop-number : goal.invariant-loop-number

@@ -1,9 +1,7 @@
 -- What is laid is the front of the place, as long as it says.
-use mathlib.Core.Path.{◌≡◌}
-use lib.ListN.{length, take, drop, length-take, length-drop}
+use lib.ListN.{length-take, length-drop}
 use Rattle.window.proofs.Places.{front_part}
 use native.Mathlib.Omega.{arith}
-use borrow.Author.Rules.{rules}
 use Rattle.window.proofs.put_payload.Goals as goal
 
 pub copy-requires : goal.copy-requires

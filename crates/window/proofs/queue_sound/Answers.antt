@@ -1,15 +1,9 @@
 -- The loop's invariant: the places are sound exactly if those of the counts after the first `i` are.
 use mathlib.Core.Path.{◌≡◌}
-use Prim.Native.Nat.{◌+◌, ◌-◌, ◌*◌, ◌≤◌}
-use lib.ListN.{length}
-use Rattle.group.specs.Fold.{all_above}
-use Rattle.group.specs.Limits.{waiting_most, payload_most}
+use Prim.Native.Nat.{◌+◌, ◌-◌}
 use Rattle.group.proofs.Fold.{above_on, above_off, above_done}
-use Rattle.store.specs.Places.{messages_in, mask_of}
-use Rattle.window.specs.Sound.{queue_sound}
 use Rattle.window.proofs.Places.{queue_in}
 use native.Mathlib.Omega.{arith}
-use borrow.Author.Rules.{rules}
 use Rattle.window.proofs.queue_sound.Goals as goal
 
 pub loop-i-init : goal.loop-i-init

@@ -1,6 +1,5 @@
 -- The row ends below the lowest missing number that the scan finds, or where the scan ends.
 use Rattle.window.proofs.Row.{row_whole, row_broken}
-use borrow.Author.Rules.{rules}
 use Rattle.window.proofs.row_end.Goals as goal
 
 pub returns-then-first-eq0 : goal.returns-then-first-eq0

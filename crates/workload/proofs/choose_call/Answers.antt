@@ -4,7 +4,6 @@ use native.Mathlib.Omega.{arith}
 use Rattle.group.specs.Choice.{if◌then◌else◌}
 use Rattle.workload.specs.Choice.{chosen}
 use Rattle.workload.specs.Steps.{event_in}
-use borrow.Author.Rules.{rules}
 use Rattle.workload.proofs.choose_call.Goals as goal
 
 pub returns-in-1 : goal.returns-in-1

@@ -2,7 +2,6 @@
 use Rattle.group.specs.Choice.{if◌then◌else◌}
 use Rattle.workload.specs.Choice.{chosen}
 use Rattle.workload.specs.Steps.{event_in}
-use borrow.Author.Rules.{rules}
 use Rattle.workload.proofs.choose_submit.Goals as goal
 
 pub returns : goal.returns

@@ -1,7 +1,6 @@
 -- A remainder of the output behind one step.
 use native.Mathlib.Nat.{mod-lt}
 use Rattle.workload.specs.Choice.{drawn}
-use borrow.Author.Rules.{rules}
 use Rattle.workload.proofs.draw.Goals as goal
 
 pub returns : goal.returns

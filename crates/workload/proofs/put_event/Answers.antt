@@ -1,7 +1,6 @@
 -- Each event as the definition has it.
 use Rattle.workload.specs.Line.{event_fields}
 use Rattle.workload.specs.Steps.{event_in}
-use borrow.Author.Rules.{rules}
 use Rattle.workload.proofs.put_event.Goals as goal
 
 pub returns-in-Submit : goal.returns-in-Submit

@@ -3,7 +3,6 @@ use mathlib.Core.List.{[], ◌∷◌}
 use Rattle.text.specs.Text.{text_of, line_feed}
 use Rattle.text.specs.Written.{spaced}
 use Rattle.text.proofs.Pieces.{laid_then}
-use borrow.Author.Rules.{rules}
 use Rattle.workload.proofs.put_poll.Goals as goal
 
 pub returns : goal.returns

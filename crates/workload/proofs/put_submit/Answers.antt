@@ -3,7 +3,6 @@ use mathlib.Core.List.{[], ◌∷◌}
 use Rattle.text.specs.Text.{text_of}
 use Rattle.text.specs.Written.{decimal_of, payload_text}
 use Rattle.text.proofs.Pieces.{laid_fields, laid_line}
-use borrow.Author.Rules.{rules}
 use Rattle.workload.proofs.put_submit.Goals as goal
 
 pub returns : goal.returns

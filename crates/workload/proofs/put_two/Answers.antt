@@ -2,7 +2,6 @@
 use mathlib.Core.List.{[], ◌∷◌}
 use Rattle.text.specs.Written.{decimal_of}
 use Rattle.text.proofs.Pieces.{laid_fields, laid_line}
-use borrow.Author.Rules.{rules}
 use Rattle.workload.proofs.put_two.Goals as goal
 
 pub returns : goal.returns

@@ -5,7 +5,6 @@ use native.Mathlib.Omega.{arith}
 use lib.ListN.{take, drop}
 use Rattle.journal.specs.Limits.{block_size}
 use Rattle.journal.specs.Walk.{alone_in}
-use borrow.Author.Rules.{rules}
 use Rattle.journal.proofs.Cursor.at.Goals as goal
 
 pub returns : goal.returns

@@ -1,5 +1,5 @@
 -- The record is passed, and the cursor moves behind it.
-use mathlib.Core.Path.{◌≡◌, refl, sym, ap, ◌∙◌}
+use mathlib.Core.Path.{refl}
 use Rattle.journal.specs.Block.{record_start}
 use Rattle.journal.proofs.Cursors.{given_end, given_bounds, given_next}
 use borrow.Author.Rules.{rules}

@@ -1,7 +1,7 @@
 -- Each test of the code is the next of `walk_of`.
-use mathlib.Core.Path.{◌≡◌, refl, sym, ap, ◌∙◌}
+use mathlib.Core.Path.{◌≡◌, ◌∙◌}
 use native.Mathlib.Omega.{arith}
-use Prim.Native.Nat.{ℕ, ◌+◌, ◌-◌}
+use Prim.Native.Nat.{◌+◌, ◌-◌}
 use Rattle.journal.specs.Limits.{block_size}
 use Rattle.journal.specs.Walk.{entered_in}
 use Rattle.journal.proofs.Cursors.{walk_none, walk_here, walk_last, walk_on}

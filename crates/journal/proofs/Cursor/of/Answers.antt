@@ -1,7 +1,6 @@
 -- No block, or the first one.
-use mathlib.Core.Path.{◌≡◌, refl, sym, ap, ◌∙◌}
+use mathlib.Core.Path.{◌∙◌}
 use Rattle.journal.proofs.Cursors.{cursor_none, cursor_first}
-use borrow.Author.Rules.{rules}
 use Rattle.journal.proofs.Cursor.of.Goals as goal
 
 pub returns-then-blocks-eq0 : goal.returns-then-blocks-eq0

@@ -1,8 +1,7 @@
 -- The definition's two cases, and the tests of the second.
-use mathlib.Core.Path.{◌≡◌, refl, sym, ap, ◌∙◌}
+use mathlib.Core.Path.{refl}
 use Rattle.group.proofs.Choice.{if_true, if_false}
 use Rattle.journal.specs.Block.{form_right}
-use borrow.Author.Rules.{rules}
 use Rattle.journal.proofs.Tail.form_right.Goals as goal
 
 pub returns-then-self : goal.returns-then-self

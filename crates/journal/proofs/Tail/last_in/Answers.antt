@@ -1,5 +1,5 @@
 -- The tests of the code are those of `content_right`; a number that may follow is at least 1.
-use mathlib.Core.Path.{◌≡◌, refl, sym, ap, ◌∙◌}
+use mathlib.Core.Path.{sym, ◌∙◌}
 use Rattle.journal.proofs.Sound.{follows_positive}
 use Rattle.journal.proofs.Walking.{content_none, content_apart, content_is}
 use borrow.Author.Rules.{rules}

@@ -1,5 +1,5 @@
 -- Each test of the code is the next of `block_right`.
-use mathlib.Core.Path.{◌≡◌, refl, sym, ap, ◌∙◌}
+use mathlib.Core.Path.{sym, ◌∙◌}
 use Rattle.group.proofs.Wording.{worded}
 use Rattle.journal.specs.Wording.{block_wording}
 use Rattle.journal.proofs.Walking.{next_right, next_short, next_unmarked, next_summed, next_other}

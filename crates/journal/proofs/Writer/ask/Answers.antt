@@ -1,5 +1,5 @@
 -- The questions in their order; the second is two tests.
-use mathlib.Core.Path.{◌≡◌, sym, ◌∙◌}
+use mathlib.Core.Path.{sym, ◌∙◌}
 use Rattle.group.proofs.Choice.{choices, tests}
 use Rattle.journal.specs.Write.{allowed, write_verdict}
 use borrow.Author.Rules.{rules}

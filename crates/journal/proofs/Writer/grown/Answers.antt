@@ -1,7 +1,6 @@
 -- The first number is that of the record, if none was in hand.
 use Rattle.group.specs.Choice.{if◌then◌else◌}
 use borrow.Author.Tests.{eq-eqb, ne_eqb}
-use borrow.Author.Rules.{rules}
 use Rattle.journal.proofs.Writer.grown.Goals as goal
 
 pub returns-then-self-eq0 : goal.returns-then-self-eq0

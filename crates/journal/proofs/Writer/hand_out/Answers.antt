@@ -1,11 +1,8 @@
 -- The part of the block in hand that is used is the body of the block.
 use mathlib.Core.Path.{sym, ap, ◌∙◌}
-use mathlib.Core.List.{List}
-use Prim.Native.Nat.{ℕ}
 use Rattle.journal.specs.Limits.{records_at}
 use Rattle.journal.specs.Block.{framed, block_of}
 use Rattle.journal.proofs.Lists.{drop_take}
-use borrow.Author.Rules.{rules}
 use Rattle.journal.proofs.Writer.hand_out.Goals as goal
 
 pub returns : goal.returns

@@ -1,5 +1,4 @@
 -- The record is laid in the block in hand (`kept-fits`), or in the next one after that block was handed out (`kept-over`).
-use mathlib.Core.Path.{◌∙◌, ap}
 use Rattle.journal.specs.Write.{message_with}
 use Rattle.journal.specs.Block.{record_of}
 use Rattle.journal.proofs.Keeping.{kept_fits, kept_over}

@@ -1,6 +1,5 @@
 -- The verdict decides: the message is kept, or nothing changes.
 use mathlib.Core.Path.{sym, ◌∙◌}
-use native.Mathlib.Omega.{arith}
 use Rattle.journal.specs.Write.{message_with}
 use Rattle.journal.proofs.Keeping.{done_says, write_accepted, write_refused}
 use Rattle.journal.proofs.Records.{may}

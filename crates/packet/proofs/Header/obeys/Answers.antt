@@ -55,7 +55,6 @@ returns-then-self-eq-ACCEPT c = search (choices, rules) depth 12
 
 pub reset_obeys-requires : goal.reset_obeys-requires
 reset_obeys-requires c =
-    
     (kind_above c.args.self.kind (kind_low c.args.self.kind c.requires.0) c.if-self-eq-REQUEST.false c.if-self-eq-BROADCAST.false c.if-self-eq-GAP.false c.if-self-eq-STATUS.false c.if-self-eq-POLL.false c.if-self-eq-OFFER.false c.if-self-eq-CONFIRM.false c.if-self-eq-ACCEPT.false, c.requires.0, c.requires.1)
 
 pub returns : goal.returns

@@ -17,7 +17,6 @@ returns-then-self-eq-REPLY c = search (choices, rules) depth 9
 
 pub among-requires : goal.among-requires
 among-requires c =
-    
     let above = c.requires.0 in
     result_size c.args.self.kind (length c.args.payload.now) c.requires.1 c.requires.2 (omega arith)
 

@@ -1,6 +1,5 @@
 -- Each kind's fields, by computation.
 use Rattle.packet.specs.Packet.{fields_of}
-use borrow.Author.Rules.{rules}
 use Rattle.packet.proofs.Packet.fields.Goals as goal
 
 pub returns-in-Request : goal.returns-in-Request

@@ -1,6 +1,5 @@
 -- Each kind by computation.
 use Rattle.packet.specs.Packet.{from_elected}
-use borrow.Author.Rules.{rules}
 use Rattle.packet.proofs.Packet.from_elected.Goals as goal
 
 pub returns-in-Request : goal.returns-in-Request

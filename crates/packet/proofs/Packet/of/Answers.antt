@@ -39,7 +39,6 @@ returns-then-h-eq-ACCEPT c = search (choices, rules) depth 9
 
 pub of_reset-requires : goal.of_reset-requires
 of_reset-requires c =
-    
     (kind_above c.args.h.kind c.requires.0 c.if-h-eq-REQUEST.false c.if-h-eq-BROADCAST.false c.if-h-eq-GAP.false c.if-h-eq-STATUS.false c.if-h-eq-POLL.false c.if-h-eq-OFFER.false c.if-h-eq-CONFIRM.false c.if-h-eq-ACCEPT.false, c.requires)
 
 pub returns : goal.returns

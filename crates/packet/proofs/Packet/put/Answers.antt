@@ -2,7 +2,6 @@
 use mathlib.Core.Path.{sym, ◌∙◌}
 use lib.ListN.{length}
 use Rattle.packet.proofs.Permitted.{written_size, written_none}
-use borrow.Author.Rules.{rules}
 use Rattle.packet.proofs.Packet.put.Goals as goal
 
 pub returns-in-Bytes : goal.returns-in-Bytes

@@ -2,7 +2,6 @@
 use Rattle.group.specs.Choice.{if◌then◌else◌}
 use borrow.Author.Tests.{eq-eqb, ne_eqb}
 use Rattle.plan.specs.Pack.{grown_to}
-use borrow.Author.Rules.{rules}
 use Rattle.plan.proofs.Packer.grown.Goals as goal
 
 pub returns-then-self-eq0 : goal.returns-then-self-eq0

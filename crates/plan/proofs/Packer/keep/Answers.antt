@@ -5,7 +5,6 @@ use Rattle.journal.specs.Block.{message_at}
 use Rattle.journal.specs.Walk.{message_on}
 use Rattle.plan.specs.Kept.{record_size, records_room}
 use Rattle.plan.proofs.Filling.{message_size, kept_fits, kept_over}
-use borrow.Author.Rules.{rules}
 use Rattle.plan.proofs.Packer.keep.Goals as goal
 
 pub returns-then-used-spot : goal.returns-then-used-spot

@@ -1,5 +1,5 @@
 -- Nothing was read.
-use mathlib.Core.Path.{refl, ap}
+use mathlib.Core.Path.{ap}
 use mathlib.Core.List.{[]}
 use native.Mathlib.Omega.{arith}
 use Rattle.player.specs.Player.{stage_in}
@@ -8,7 +8,6 @@ use Rattle.player.specs.declared.Phase.TheVariants.{Opening}
 use Rattle.simulator.specs.Whole.{group_of}
 use Rattle.simulator.specs.declared.Head.{Head}
 use Rattle.player.proofs.Telling.{phase_is}
-use borrow.Author.Rules.{rules}
 use Rattle.player.proofs.Player.fresh.Goals as goal
 
 pub returns : goal.returns

@@ -1,5 +1,4 @@
 -- The empty list, by computation.
-use borrow.Author.Rules.{rules}
 use Rattle.terminal.proofs.Left.fresh.Goals as goal
 
 pub returns : goal.returns

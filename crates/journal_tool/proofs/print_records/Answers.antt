@@ -1,6 +1,5 @@
 -- The loop counts the records that are left down; the cursor stays within the block.
-use Rattle.std.proofs.Common.{◌+◌, ◌*◌, ◌≤◌, length, sym, ◌∙◌, rules}
-use Rattle.journal.specs.Limits.{block_size}
+use Rattle.std.proofs.Common.{sym, ◌∙◌, rules}
 use Rattle.journal.proofs.Given.{gives_standing}
 use Rattle.plan.proofs.Gathering.{cursor_within}
 use Rattle.journal_tool.proofs.print_records.Goals as goal

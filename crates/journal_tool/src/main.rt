@@ -57,16 +57,20 @@ fn print_text(rt: &HostRuntime, text: &[u8]) {
     print(rt, b"\n");
 }
 
-// Says on standard error what failed, in the system's words, without its number.
-fn fail(rt: &HostRuntime, error: Error) {
-    let Ok(told) = error.to_string(rt.alloc()) else {
-        return;
-    };
-    let words = match told.split_once(" (os error ") {
+// The system's words of an error, without its number.
+fn words_of(told: &str) -> &str {
+    match told.split_once(" (os error ") {
         Some((words, _)) => words,
-        None => told.as_str(),
-    };
-    let _ = eprintln!(rt; "journal_tool: {words}");
+        None => told,
+    }
+}
+
+// Says on standard error what failed.
+fn fail(rt: &HostRuntime, error: Error) {
+    if let Ok(told) = error.to_string(rt.alloc()) {
+        let words = words_of(told.as_str());
+        let _ = eprintln!(rt; "journal_tool: {words}");
+    }
 }
 
 // Reads until the bytes are full, the input ends or a read fails, and returns how many bytes it put at their front.
@@ -739,10 +743,8 @@ fn complete(rt: &HostRuntime, name: &mut [u8]) -> io::Result<()>
     let mut random = [0u8; COMPLETED];
     rt.fill_bytes(&mut random)?;
     let start = name.len() - COMPLETED;
-    let mut i: usize = 0;
-    while i < COMPLETED {
-        name[start + i] = letter(random[i]);
-        i += 1;
+    for (byte, random) in name[start..].iter_mut().zip(&random) {
+        *byte = letter(*random);
     }
     Ok(())
 }

@@ -5,12 +5,12 @@ use mathlib.Core.Bool.{Bool, true, false}
 use mathlib.Core.List.{List}
 use Prim.Native.Nat.{ℕ, ◌≤◌, ◌<◌}
 use lib.ListN.{length}
-use Rattle.group.specs.Choice.{if◌then◌else◌, ◌and◌}
+use Rattle.group.specs.Choice.{when◌then◌else◌, ◌and◌}
 use Rattle.group.specs.Lent.{front}
 use Rattle.group.specs.Limits.{members_most, longest_packet}
 use Rattle.group.specs.declared.Refusal.{Refusal}
 use Rattle.group.specs.declared.Verdict.{Verdict}
-use Rattle.group.proofs.Choice.{if_true, if_false, if_le, if_nle, both_first, both_then}
+use Rattle.group.proofs.Choice.{when_true, when_false, when_le, when_nle, both_first, both_then}
 use Rattle.member.specs.View as memberView
 use Rattle.member.specs.Wording.{wording_of}
 use Rattle.member.specs.declared.Answer.{Answer}
@@ -28,11 +28,11 @@ use Rattle.attempt.specs.declared.Done.{Done}
 -- a terminal is seen where the flags are sound
 seen_as : (s : Stored) → flags_sound s.head ≡ true → view_of s ≡ seen (terminal_of s)
 unfolding view_of
-seen_as s f = sym (if_true (flags_sound s.head) _ _ _ f refl)
+seen_as s f = sym (when_true (flags_sound s.head) _ _ _ f refl)
 
 odd_as : (s : Stored) → flags_sound s.head ≡ false → view_of s ≡ odd s
 unfolding view_of
-odd_as s f = sym (if_false (flags_sound s.head) _ _ _ f refl)
+odd_as s f = sym (when_false (flags_sound s.head) _ _ _ f refl)
 
 -- what question 1 of the whole terminal leaves
 pub record Facts (s : Stored) : Type 0 where
@@ -71,7 +71,7 @@ module _ (s : Stored) (call : Terminal → Outcome) where
   pub unsound_as : {b : Bool} {reply : Reply} {before : List ℕ} → b ≡ (flags_sound s.head and terminal_sound (terminal_of s)) → b ≡ false
       → (terminal_sound (terminal_of s) ≡ false → call (terminal_of s) ≡ refused (terminal_of s) Refusal.UnsoundState) → reply ≡ no_of Refusal.UnsoundState
       → Changed (called call (view_of s)) reply s before before
-  unfolding called if◌then◌else◌
+  unfolding called when◌then◌else◌
   unsound_as {b} {reply} {before} is h u r = go (flags_sound s.head) refl
     where
       go : (f : Bool) → flags_sound s.head ≡ f → Changed (called call (view_of s)) reply s before before
@@ -96,15 +96,15 @@ call_as s call other {left} {reply} {before} {after} f e p =
 module _ (t : Terminal) (room : ℕ) where
   pub whole_sound : terminal_sound t ≡ true → longest_packet ≤ room → whole_verdict t room ≡ Verdict.Accepted
   unfolding whole_verdict
-  whole_sound e h = sym (if_true (terminal_sound t) _ _ _ e (if_le longest_packet room _ _ _ h refl))
+  whole_sound e h = sym (when_true (terminal_sound t) _ _ _ e (when_le longest_packet room _ _ _ h refl))
 
   pub whole_short : terminal_sound t ≡ true → room < longest_packet → whole_verdict t room ≡ Verdict.Refused Refusal.ShortOutput
   unfolding whole_verdict
-  whole_short e h = sym (if_true (terminal_sound t) _ _ _ e (if_nle longest_packet room _ _ _ h refl))
+  whole_short e h = sym (when_true (terminal_sound t) _ _ _ e (when_nle longest_packet room _ _ _ h refl))
 
   pub whole_unsound : terminal_sound t ≡ false → whole_verdict t room ≡ Verdict.Refused Refusal.UnsoundState
   unfolding whole_verdict
-  whole_unsound e = sym (if_false (terminal_sound t) _ _ _ e refl)
+  whole_unsound e = sym (when_false (terminal_sound t) _ _ _ e refl)
 
 -- the parts with another head and other replies
 abbrev pub with_parts : Stored → Head → List ℕ → Stored
@@ -143,8 +143,8 @@ pub record Matches (s : Stored) (x : Step) (o : Outcome) : Type 0 where
   pub bytes_are : x.bytes ≡ o.bytes
 
 module _ (s : Stored) where
-  pub match_if : (b : Bool) {x y : Step} {o p : Outcome} → Matches s x o → Matches s y p → Matches s (if b then x else y) (if b then o else p)
-  unfolding if◌then◌else◌
+  pub match_if : (b : Bool) {x y : Step} {o p : Outcome} → Matches s x o → Matches s y p → Matches s (when b then x else y) (when b then o else p)
+  unfolding when◌then◌else◌
   match_if true m n = m
   match_if false m n = n
 

@@ -7,7 +7,7 @@ use native.Mathlib.Omega.{arith}
 use borrow.Author.Tests.{leb-true}
 use lib.Count.{ones}
 use lib.ListN.{length}
-use Rattle.group.specs.Choice.{if◌then◌else◌, ◌and◌, ◌≤?◌, ◌=?◌}
+use Rattle.group.specs.Choice.{when◌then◌else◌, ◌and◌, ◌≤?◌, ◌=?◌}
 use Rattle.group.specs.Lent.{front, Laid}
 use Rattle.group.specs.Limits.{members_most, payload_most, longest_packet}
 use Rattle.group.specs.Members.{is_in, lowest}
@@ -16,7 +16,7 @@ use Rattle.group.specs.declared.MemberNumber.{MemberNumber}
 use Rattle.group.specs.declared.Refusal.{Refusal}
 use Rattle.group.specs.declared.SequenceNumber.{SequenceNumber}
 use Rattle.group.specs.declared.Verdict.{Verdict}
-use Rattle.group.proofs.Choice.{if_true, if_was, both_first, both_then}
+use Rattle.group.proofs.Choice.{when_true, when_was, both_first, both_then}
 use Rattle.group.proofs.Question.{accepted≢}
 use Rattle.big_endian.specs.Number.{bytes_of}
 use Rattle.big_endian.proofs.Number.{bytes_of-length, number_of_bytes}
@@ -67,20 +67,20 @@ result_laid head elected number room {survivors} {size} {x} {y} e m a b h l =
 
 -- three questions, the first of them before the others
 judged_three : (t : Terminal) (o : Outcome) (first second third : Refusal) (a b c : Bool)
-    → judged (if a then Verdict.Accepted else Verdict.Refused first) (refused t) (if b then (if c then o else refused t third) else refused t second)
-    ≡ judged (if a then (if b then (if c then Verdict.Accepted else Verdict.Refused third) else Verdict.Refused second) else Verdict.Refused first) (refused t) o
-unfolding if◌then◌else◌ judged
+    → judged (when a then Verdict.Accepted else Verdict.Refused first) (refused t) (when b then (when c then o else refused t third) else refused t second)
+    ≡ judged (when a then (when b then (when c then Verdict.Accepted else Verdict.Refused third) else Verdict.Refused second) else Verdict.Refused first) (refused t) o
+unfolding when◌then◌else◌ judged
 judged_three t o first second third true true true = refl
 judged_three t o first second third true true false = refl
 judged_three t o first second third true false c = refl
 judged_three t o first second third false b c = refl
 
-room_asked : (t : Terminal) (room : ℕ) → terminal_sound t ≡ true → whole_verdict t room ≡ (if longest_packet ≤? room then Verdict.Accepted else Verdict.Refused Refusal.ShortOutput)
+room_asked : (t : Terminal) (room : ℕ) → terminal_sound t ≡ true → whole_verdict t room ≡ (when longest_packet ≤? room then Verdict.Accepted else Verdict.Refused Refusal.ShortOutput)
 unfolding whole_verdict
-room_asked t room e = sym (if_true (terminal_sound t) _ _ _ e refl)
+room_asked t room e = sym (when_true (terminal_sound t) _ _ _ e refl)
 
-chosen : (b : Bool) (x y : Bool) → b ≡ true → if b then x else y ≡ true → x ≡ true
-unfolding if◌then◌else◌
+chosen : (b : Bool) (x y : Bool) → b ≡ true → when b then x else y ≡ true → x ≡ true
+unfolding when◌then◌else◌
 chosen true x y h e = e
 chosen false x y h e = absurd (false≢true h)
 
@@ -91,7 +91,7 @@ module _ (s : Stored) where
   make_asked : (demand room : ℕ) → terminal_sound t ≡ true → make_of t demand room ≡ judged (make_verdict s.head demand room) (refused t) (made_of t)
   unfolding make_of make_verdict made_of terminal_of memberView.view_of
   make_asked demand room e =
-      ap (λ (v : Verdict). judged v (refused t) (if s.head.inviting =? 1 then (if demand ≤? ones s.head.repliers then made_of t else refused t Refusal.FewSurvivors) else refused t Refusal.NotOfAttempt)) (room_asked t room e)
+      ap (λ (v : Verdict). judged v (refused t) (when s.head.inviting =? 1 then (when demand ≤? ones s.head.repliers then made_of t else refused t Refusal.FewSurvivors) else refused t Refusal.NotOfAttempt)) (room_asked t room e)
       ∙ judged_three t (made_of t) Refusal.ShortOutput Refusal.NotOfAttempt Refusal.FewSurvivors (longest_packet ≤? room) (s.head.inviting =? 1) (demand ≤? ones s.head.repliers)
 
   pub make_unsound : (demand : ℕ) {b : Bool} {done : Done} {before : List ℕ} → b ≡ (flags_sound s.head and terminal_sound (terminal_of s)) → b ≡ false → done ≡ record { head = s.head; reply = no_of Refusal.UnsoundState }
@@ -118,8 +118,8 @@ module _ (s : Stored) where
     pub make_asks : v ≡ Verdict.Accepted → (is_in s.head.repliers s.head.member.number.0 ≡ true) × (longest_packet ≤ length before)
     unfolding make_verdict
     make_asks e =
-        let a = if_was _ _ _ Verdict.Accepted (sym v-is ∙ e) (accepted≢ Refusal.ShortOutput) in
-        let b = if_was _ _ _ Verdict.Accepted a.1 (accepted≢ Refusal.NotOfAttempt) in
+        let a = when_was _ _ _ Verdict.Accepted (sym v-is ∙ e) (accepted≢ Refusal.ShortOutput) in
+        let b = when_was _ _ _ Verdict.Accepted a.1 (accepted≢ Refusal.NotOfAttempt) in
         (replied_own k b.0, leb-true longest_packet (length before) a.0)
 
   module _ (f : flags_sound s.head ≡ true) (number : SequenceNumber) (elected : MemberNumber) (number_is : number.0 ≡ highest_of s.head.repliers 0 s.replies)

@@ -5,7 +5,7 @@ use mathlib.Core.List.{List, []}
 use Prim.Native.Nat.{ℕ, ◌≤◌}
 use lib.Bits.{bit_or}
 use lib.ListN.{set, replicate}
-use Rattle.group.specs.Choice.{if◌then◌else◌, ◌and◌, ◌<?◌, ◌≤?◌, ◌=?◌}
+use Rattle.group.specs.Choice.{when◌then◌else◌, ◌and◌, ◌<?◌, ◌≤?◌, ◌=?◌}
 use Rattle.group.specs.Limits.{members_most, longest_packet, largest_number}
 use Rattle.group.specs.Members.{only_of, is_in}
 use Rattle.group.specs.declared.MemberNumber.{MemberNumber}
@@ -29,8 +29,8 @@ use Rattle.attempt.specs.Steps.{replied_head, invitation_head, invite_step, repl
 use Rattle.attempt.proofs.Changing.{Matches, match_if, match_as, match_no, with_parts, whole_sound}
 
 -- flags stay flags
-flag_or : (b : Bool) (n : ℕ) → (n ≤? 1) ≡ true → ((if b then 1 else n) ≤? 1) ≡ true
-unfolding if◌then◌else◌
+flag_or : (b : Bool) (n : ℕ) → (n ≤? 1) ≡ true → ((when b then 1 else n) ≤? 1) ≡ true
+unfolding when◌then◌else◌
 flag_or true n h = refl
 flag_or false n h = h
 
@@ -50,8 +50,8 @@ inviting_flag : (head : Head) → flags_sound head ≡ true → (head.inviting �
 unfolding flags_sound
 inviting_flag head f = both_first (head.inviting ≤? 1) _ (both_then (head.replied ≤? 1) _ f)
 
-frozen_or : (b : Bool) (n : ℕ) → ((if b then 1 else n) =? 1) ≡ (if b then true else n =? 1)
-unfolding if◌then◌else◌
+frozen_or : (b : Bool) (n : ℕ) → ((when b then 1 else n) =? 1) ≡ (when b then true else n =? 1)
+unfolding when◌then◌else◌
 frozen_or true n = refl
 frozen_or false n = refl
 
@@ -62,7 +62,7 @@ module _ (s : Stored) (most : s.head.member.taken.0 ≤ largest_number) (f : fla
   abbrev opened : ℕ → Head
   opened attempt = replied_head s.head attempt (record { 0 = reply_in s.head s.held })
 
-  frozen_as : ((if serves_in s.head then 1 else s.head.frozen) =? 1) ≡ freezes t
+  frozen_as : ((when serves_in s.head then 1 else s.head.frozen) =? 1) ≡ freezes t
   unfolding terminal_of memberView.view_of sequencerView.view_of
   frozen_as = frozen_or (serves_in s.head) s.head.frozen
 
@@ -157,11 +157,11 @@ module _ (s : Stored) (most : s.head.member.taken.0 ≤ largest_number) (f : fla
 
   answered : (own : Bool) (attempt : ℕ)
       → Matches s
-      (if own then record { head = opened attempt; replies = s.replies; answer = Answer.Noted; bytes = reply_packet s.head s.held attempt }
+      (when own then record { head = opened attempt; replies = s.replies; answer = Answer.Noted; bytes = reply_packet s.head s.held attempt }
       else record { head = invitation_head (opened attempt) 0 0 0; replies = replicate members_most 0; answer = Answer.Noted; bytes = reply_packet s.head s.held attempt })
-      (noted (with_reset t (if own then replied t attempt else uninvited (replied t attempt)) (freezes t))
+      (noted (with_reset t (when own then replied t attempt else uninvited (replied t attempt)) (freezes t))
       (packet_of (fields_of t.member.group.number (Packet.Reply t.member.number attempt (record { 0 = reply_number t }))) []))
-  unfolding if◌then◌else◌
+  unfolding when◌then◌else◌
   answered true attempt =
       record {
         flags_stay = replied_flags s.head attempt (record { 0 = reply_in s.head s.held }) f;
@@ -186,7 +186,7 @@ module _ (s : Stored) (most : s.head.member.taken.0 ≤ largest_number) (f : fla
   -- noting
   counted : (already : Bool) (sender : MemberNumber) (number : ℕ)
       → Matches s
-      (if already then record { head = s.head; replies = s.replies; answer = Answer.Noted; bytes = [] }
+      (when already then record { head = s.head; replies = s.replies; answer = Answer.Noted; bytes = [] }
       else record {
         head = invitation_head s.head s.head.inviting s.head.invited (bit_or s.head.repliers (only_of sender));
         replies = set s.replies sender.0 number;
@@ -195,7 +195,7 @@ module _ (s : Stored) (most : s.head.member.taken.0 ≤ largest_number) (f : fla
       })
       (noted
       (with_reset t
-      (if already then t.reset else
+      (when already then t.reset else
       record {
         replied = t.reset.replied;
         attempt = t.reset.attempt;
@@ -206,7 +206,7 @@ module _ (s : Stored) (most : s.head.member.taken.0 ≤ largest_number) (f : fla
         replies = set t.reset.replies sender.0 number;
       })
       t.frozen) [])
-  unfolding if◌then◌else◌ terminal_of memberView.view_of sequencerView.view_of
+  unfolding when◌then◌else◌ terminal_of memberView.view_of sequencerView.view_of
   counted true sender number = record { flags_stay = f; terminal_is = refl; answer_is = refl; bytes_are = refl }
   counted false sender number =
       record {

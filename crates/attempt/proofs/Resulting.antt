@@ -4,7 +4,7 @@ use mathlib.Core.Bool.{Bool, true, false}
 use mathlib.Core.List.{List, []}
 use Prim.Native.Nat.{ℕ}
 use lib.ListN.{length}
-use Rattle.group.specs.Choice.{if◌then◌else◌, ◌and◌, ◌<?◌}
+use Rattle.group.specs.Choice.{when◌then◌else◌, ◌and◌, ◌<?◌}
 use Rattle.group.specs.Lent.{front}
 use Rattle.group.specs.Members.{is_within, all_of}
 use Rattle.group.specs.Question.{judged}
@@ -30,9 +30,9 @@ use Rattle.attempt.proofs.Changing.{no_of, with_parts, changed, declined_done}
 
 -- two questions, asked one after the other
 judged_two : (t : Terminal) (o : Outcome) (first second : Refusal) (b c : Bool)
-    → (if b then (if c then o else refused t second) else refused t first)
-    ≡ judged (if b then (if c then Verdict.Accepted else Verdict.Refused second) else Verdict.Refused first) (refused t) o
-unfolding if◌then◌else◌ judged
+    → (when b then (when c then o else refused t second) else refused t first)
+    ≡ judged (when b then (when c then Verdict.Accepted else Verdict.Refused second) else Verdict.Refused first) (refused t) o
+unfolding when◌then◌else◌ judged
 judged_two t o first second true true = refl
 judged_two t o first second true false = refl
 judged_two t o first second false c = refl

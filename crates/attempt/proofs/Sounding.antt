@@ -2,7 +2,7 @@
 use mathlib.Core.Path.{◌≡◌, refl, sym, ap}
 use mathlib.Core.Bool.{Bool, true, false}
 use Prim.Native.Nat.{ℕ, ◌≤◌}
-use Rattle.group.specs.Choice.{if◌then◌else◌, ◌and◌, ◌≤?◌, ◌=?◌}
+use Rattle.group.specs.Choice.{when◌then◌else◌, ◌and◌, ◌≤?◌, ◌=?◌}
 use Rattle.group.specs.Limits.{members_most, largest_number}
 use Rattle.group.specs.Members.{group_sound}
 use Rattle.group.proofs.Choice.{both_first, both_then}
@@ -16,12 +16,12 @@ use Rattle.recovery.specs.View.{Stored, member_in, sequencer_in, kept_in, termin
 use Rattle.recovery.proofs.Begun.{reply_as}
 
 never : (b : Bool) → b and false ≡ false
-unfolding if◌then◌else◌
+unfolding when◌then◌else◌
 never true = refl
 never false = refl
 
 parts : (f n k r s q y : Bool) → (s ≡ true → n ≡ true) → f and ((s and (k and r)) and (q and y)) ≡ (f and (n and (k and r))) and (s and (q and y))
-unfolding if◌then◌else◌
+unfolding when◌then◌else◌
 parts false n k r s q y h = refl
 parts true n k r true q y h = let e = h refl in rw e
 parts true n k r false q y h = sym (never (n and (k and r)))
@@ -34,7 +34,7 @@ small s e = both_first _ _ (both_then _ _ (both_first _ _ (both_first _ _ e)))
 reply_sound_as : (s : Stored) → s.head.member.taken.0 ≤ largest_number → reply_sound_in s.head s.held ≡ reply_sound (terminal_of s)
 unfolding reply_sound_in reply_sound terminal_of memberView.view_of sequencerView.view_of
 reply_sound_as s most =
-    ap (λ (x : ℕ). if s.head.replied =? 1 then (s.head.number.0 =? x and (if serves_in s.head then s.head.frozen =? 1 else true)) else true) (reply_as s most)
+    ap (λ (x : ℕ). when s.head.replied =? 1 then (s.head.number.0 =? x and (when serves_in s.head then s.head.frozen =? 1 else true)) else true) (reply_as s most)
 
 pub sound_parts : (s : Stored) → s.head.member.taken.0 ≤ largest_number
     → (beside_sound s.head (kept_in s.head s.past s.past_originators s.past_lengths s.past_payloads s.highest) s.replies

@@ -11,7 +11,7 @@ use Rattle.group.specs.Members.{only_of, is_in}
 use Rattle.group.specs.declared.MemberNumber.{MemberNumber}
 use Rattle.group.specs.declared.Refusal.{Refusal}
 use Rattle.group.specs.declared.SequenceNumber.{SequenceNumber}
-use Rattle.group.proofs.Choice.{if_lt, if_nlt, if_eq, if_ne, if_true, if_false}
+use Rattle.group.proofs.Choice.{when_lt, when_nlt, when_eq, when_ne, when_true, when_false}
 use Rattle.packet.specs.Packet.{invitation_kind, fields_of, packet_of}
 use Rattle.packet.specs.declared.Header.{Header}
 use Rattle.packet.specs.declared.Packet.{Packet}
@@ -55,7 +55,7 @@ module _ (head : Head) (held : List ℕ) (attempt : ℕ) {number : SequenceNumbe
         → Takes (reply_step head held replies sender attempt) (record { head = opened; reply = record { answer = Answer.Noted; written = written } }) replies before after
     unfolding reply_step
     reply_takes e =
-        takes_as (if_lt _ _ _ _ _ below (if_eq _ _ _ _ _ e refl))
+        takes_as (when_lt _ _ _ _ _ below (when_eq _ _ _ _ _ e refl))
         (record {
           result = λ i. record { head = opened_as i; reply = record { answer = Answer.Noted; written = laid_as.size i } };
           replies_are = refl;
@@ -67,7 +67,7 @@ module _ (head : Head) (held : List ℕ) (attempt : ℕ) {number : SequenceNumbe
     unfolding reply_step
     reply_closes e n l =
         let next-as = n ∙ (λ i. invitation_head (opened_as i) 0 0 0) in
-        takes_as (if_lt _ _ _ _ _ below (if_ne _ _ _ _ _ e refl))
+        takes_as (when_lt _ _ _ _ _ below (when_ne _ _ _ _ _ e refl))
         (record {
           result = λ i. record { head = next-as i; reply = record { answer = Answer.Noted; written = laid_as.size i } };
           replies_are = l;
@@ -77,24 +77,24 @@ module _ (head : Head) (held : List ℕ) (attempt : ℕ) {number : SequenceNumbe
 pub reply_declines : (head : Head) (held replies : List ℕ) (sender : MemberNumber) (attempt : ℕ) {done : Done} {out : List ℕ} → head.member.group.n ≤ sender.0
     → done ≡ record { head = head; reply = record { answer = Answer.Refused Refusal.UnknownMember; written = 0 } } → Takes (reply_step head held replies sender attempt) done replies out out
 unfolding reply_step
-reply_declines head held replies sender attempt h e = takes_as (if_nlt _ _ _ _ _ h refl) (declines head replies Refusal.UnknownMember e)
+reply_declines head held replies sender attempt h e = takes_as (when_nlt _ _ _ _ _ h refl) (declines head replies Refusal.UnknownMember e)
 
 module _ (head : Head) (replies : List ℕ) (sender : MemberNumber) (attempt number : ℕ) {out : List ℕ} where
   pub note_unknown : {done : Done} → head.member.group.n ≤ sender.0
       → done ≡ record { head = head; reply = record { answer = Answer.Refused Refusal.UnknownMember; written = 0 } } → Takes (note_step head replies sender attempt number) done replies out out
   unfolding note_step
-  note_unknown h e = takes_as (if_nlt _ _ _ _ _ h refl) (declines head replies Refusal.UnknownMember e)
+  note_unknown h e = takes_as (when_nlt _ _ _ _ _ h refl) (declines head replies Refusal.UnknownMember e)
 
   pub note_other : {done : Done} → sender.0 < head.member.group.n → awaits_in head attempt ≡ false
       → done ≡ record { head = head; reply = record { answer = Answer.Refused Refusal.NotOfAttempt; written = 0 } } → Takes (note_step head replies sender attempt number) done replies out out
   unfolding note_step
-  note_other h a e = takes_as (if_lt _ _ _ _ _ h (if_false _ _ _ _ a refl)) (declines head replies Refusal.NotOfAttempt e)
+  note_other h a e = takes_as (when_lt _ _ _ _ _ h (when_false _ _ _ _ a refl)) (declines head replies Refusal.NotOfAttempt e)
 
   pub note_again : sender.0 < head.member.group.n → awaits_in head attempt ≡ true → is_in head.repliers sender.0 ≡ true
       → Takes (note_step head replies sender attempt number) (record { head = head; reply = record { answer = Answer.Noted; written = 0 } }) replies out out
   unfolding note_step
   note_again h a b =
-      takes_as (if_lt _ _ _ _ _ h (if_true _ _ _ _ a (if_true _ _ _ _ b refl))) (record { result = refl; replies_are = refl; lent = refl })
+      takes_as (when_lt _ _ _ _ _ h (when_true _ _ _ _ a (when_true _ _ _ _ b refl))) (record { result = refl; replies_are = refl; lent = refl })
 
   pub note_first : {next : Head} {own : ℕ} {left : List ℕ} → sender.0 < head.member.group.n → awaits_in head attempt ≡ true → is_in head.repliers sender.0 ≡ false
       → left ≡ set replies sender.0 number → own ≡ only_of sender → next ≡ invitation_head head head.inviting head.invited (bit_or head.repliers own)
@@ -102,15 +102,15 @@ module _ (head : Head) (replies : List ℕ) (sender : MemberNumber) (attempt num
   unfolding note_step
   note_first h a b l o n =
       let next-as = n ∙ (λ i. invitation_head head head.inviting head.invited (bit_or head.repliers (o i))) in
-      takes_as (if_lt _ _ _ _ _ h (if_true _ _ _ _ a (if_false _ _ _ _ b refl)))
+      takes_as (when_lt _ _ _ _ _ h (when_true _ _ _ _ a (when_false _ _ _ _ b refl)))
       (record { result = λ i. record { head = next-as i; reply = record { answer = Answer.Noted; written = 0 } }; replies_are = l; lent = refl })
 
 -- a packet of kind 9 or 10
 module _ (head : Head) (held replies : List ℕ) (h : Header) {done : Done} {left before after : List ℕ} where
   pub answer_invited : h.kind ≡ invitation_kind → Takes (reply_step head held replies h.member h.a) done left before after → Takes (answer_step head held replies h) done left before after
   unfolding answer_step
-  answer_invited e t = takes_as (if_eq _ _ _ _ _ e refl) t
+  answer_invited e t = takes_as (when_eq _ _ _ _ _ e refl) t
 
   pub answer_noted : (h.kind ≡ invitation_kind → ⊥) → Takes (note_step head replies h.member h.a h.b) done left before after → Takes (answer_step head held replies h) done left before after
   unfolding answer_step
-  answer_noted e t = takes_as (if_ne _ _ _ _ _ e refl) t
+  answer_noted e t = takes_as (when_ne _ _ _ _ _ e refl) t

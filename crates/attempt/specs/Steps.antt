@@ -2,7 +2,7 @@
 use Rattle.std.specs.Prelude.{◌≡◌, Bool, true, List, [], ℕ, length, set, replicate}
 use Rattle.std.specs.Int.Bits.{bit_or}
 use Rattle.std.specs.Int.Count.{ones}
-use Rattle.group.specs.Choice.{if◌then◌else◌, ask◌or◌then◌, ◌and◌, ◌<?◌, ◌≤?◌, ◌=?◌}
+use Rattle.group.specs.Choice.{when◌then◌else◌, ask◌or◌then◌, ◌and◌, ◌<?◌, ◌≤?◌, ◌=?◌}
 use Rattle.group.specs.Lent.{front}
 use Rattle.group.specs.Limits.{members_most, longest_packet}
 use Rattle.group.specs.Members.{only_of, is_in, is_within, all_of}
@@ -59,7 +59,7 @@ replied_head head attempt number =
       replied = 1;
       inviting = head.inviting;
       sequencing = head.sequencing;
-      frozen = if serves_in head then 1 else head.frozen;
+      frozen = when serves_in head then 1 else head.frozen;
     }
 
 -- whether its own invitation is open, with which number, and whose replies came
@@ -98,7 +98,7 @@ unfoldable pub reply_step : Head → List ℕ → List ℕ → MemberNumber → 
 reply_step head held replies sender attempt =
     let next : Head = replied_head head attempt (record { 0 = reply_in head held }) in
     ask sender.0 <? head.member.group.n or declined_step head replies Refusal.UnknownMember then
-    (if sender.0 =? head.member.number.0
+    (when sender.0 =? head.member.number.0
     then record { head = next; replies = replies; answer = Answer.Noted; bytes = reply_packet head held attempt }
     else record { head = invitation_head next 0 0 0; replies = replicate members_most 0; answer = Answer.Noted; bytes = reply_packet head held attempt })
 
@@ -111,7 +111,7 @@ unfoldable pub note_step : Head → List ℕ → MemberNumber → ℕ → ℕ �
 note_step head replies sender attempt number =
     ask sender.0 <? head.member.group.n or declined_step head replies Refusal.UnknownMember then
     ask awaits_in head attempt or declined_step head replies Refusal.NotOfAttempt then
-    (if is_in head.repliers sender.0
+    (when is_in head.repliers sender.0
     then record { head = head; replies = replies; answer = Answer.Noted; bytes = [] }
     else record {
       head = invitation_head head head.inviting head.invited (bit_or head.repliers (only_of sender));
@@ -123,7 +123,7 @@ note_step head replies sender attempt number =
 -- a packet of kind 9 or 10
 unfoldable pub answer_step : Head → List ℕ → List ℕ → Header → Step
 answer_step head held replies h =
-    if h.kind =? invitation_kind then reply_step head held replies h.member h.a else note_step head replies h.member h.a h.b
+    when h.kind =? invitation_kind then reply_step head held replies h.member h.a else note_step head replies h.member h.a h.b
 
 -- a result is of the last invitation replied to, with the terminal among its survivors, not below its reply, and, if it is elected, not above
 -- it
@@ -133,7 +133,7 @@ fits_in head attempt elected number survivors =
     and head.attempt =? attempt
     and is_in survivors head.member.number.0
     and head.number.0 ≤? number.0
-    and (if elected.0 =? head.member.number.0 then number.0 ≤? head.number.0 else true)
+    and (when elected.0 =? head.member.number.0 then number.0 ≤? head.number.0 else true)
 
 -- questions 9 and 27 of a result
 unfoldable pub result_verdict : Head → MemberNumber → ℕ → MemberNumber → SequenceNumber → ℕ → Verdict

@@ -3,7 +3,7 @@
 #![tactic(auto)]
 
 ghost use Rattle.std.specs.Prelude.{◌≡◌, true, [], ◌≤◌, ◌<◌, length, set, replicate};
-ghost use Rattle.group.specs.Choice.{if◌then◌else◌, ◌and◌, ◌<?◌};
+ghost use Rattle.group.specs.Choice.{when◌then◌else◌, ◌and◌, ◌<?◌};
 ghost use Rattle.group.specs.Lent.{Laid};
 ghost use Rattle.group.specs.Limits.{members_most, held_most, longest_packet};
 ghost use Rattle.group.specs.Members.{is_in, is_within, all_of};
@@ -169,7 +169,7 @@ pub fn terminal_sound(
 
 // Whether its sequencer is frozen with a reply: its group's is.
 fn frozen_with(head: Head) -> u8
-    ensures { result ≡ (if serves_in head then 1 else head.frozen) }
+    ensures { result ≡ (when serves_in head then 1 else head.frozen) }
 {
     if recovery::serves(head) {
         return 1;

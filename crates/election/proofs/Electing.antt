@@ -7,12 +7,12 @@ use native.Mathlib.Nat.{not-suc-le-zero}
 use native.Mathlib.Omega.{arith}
 use lib.ListN.{length, get_or, drop, replicate, length-set, length-replicate, get_or-replicate, get_or-eq_default}
 use lib.Seq.{get_or-set_same, get_or-set_other, get_or-drop}
-use Rattle.group.specs.Choice.{if◌then◌else◌}
+use Rattle.group.specs.Choice.{when◌then◌else◌}
 use Rattle.group.specs.Limits.{members_most, places_most, held_most, largest_number}
 use Rattle.group.specs.Members.{is_in}
 use Rattle.group.specs.declared.Group.{Group}
 use Rattle.group.specs.declared.SequenceNumber.{SequenceNumber}
-use Rattle.group.proofs.Choice.{if_true, if_false}
+use Rattle.group.proofs.Choice.{when_true, when_false}
 use Rattle.group.proofs.Lists.{eq_or, le_or}
 use Rattle.message.specs.Message.{empty_message}
 use Rattle.store.specs.Places.{messages_in}
@@ -35,19 +35,19 @@ unfolding starts_of
 starts_length taken survivors floor zero = refl
 starts_length taken survivors floor (suc k) = length-set (starts_of taken survivors floor k) k _ ∙ starts_length taken survivors floor k
 
-starts_at : (taken : List ℕ) (survivors floor k i : ℕ) → i < k → k ≤ length taken → get_or (starts_of taken survivors floor k) i 0 ≡ (if is_in survivors i then floor else 0)
+starts_at : (taken : List ℕ) (survivors floor k i : ℕ) → i < k → k ≤ length taken → get_or (starts_of taken survivors floor k) i 0 ≡ (when is_in survivors i then floor else 0)
 unfolding starts_of
 starts_at taken survivors floor zero i h r = absurd (not-suc-le-zero h)
 starts_at taken survivors floor (suc k) i h r =
     let size = starts_length taken survivors floor k in
     eq_or i k
-    (λ e. rw e (get_or-set_same (starts_of taken survivors floor k) k (if is_in survivors k then floor else 0) 0 (omega arith)))
-    (λ n. get_or-set_other (starts_of taken survivors floor k) k i (if is_in survivors k then floor else 0) 0 n ∙ starts_at taken survivors floor k i (omega arith) (omega arith))
+    (λ e. rw e (get_or-set_same (starts_of taken survivors floor k) k (when is_in survivors k then floor else 0) 0 (omega arith)))
+    (λ n. get_or-set_other (starts_of taken survivors floor k) k i (when is_in survivors k then floor else 0) 0 n ∙ starts_at taken survivors floor k i (omega arith) (omega arith))
 
 -- a table that begins has the last counts of the one before, whatever the arrays of both are
 module _ (survivors floor : ℕ) where
   table_from_lem : (j : ℕ) (taken before counts repeats zeros : List ℕ) → length taken ≡ length before
-      → ((i : ℕ) → i < length taken → get_or taken i 0 ≡ (if is_in survivors (j + i) then floor else 0)) → ((i : ℕ) → get_or zeros i 0 ≡ 0)
+      → ((i : ℕ) → i < length taken → get_or taken i 0 ≡ (when is_in survivors (j + i) then floor else 0)) → ((i : ℕ) → get_or zeros i 0 ≡ 0)
       → table_in taken counts zeros ≡ table_from survivors floor j (counts_in (table_in before counts repeats))
   unfolding table_in table_from counts_in
   table_from_lem j [] [] counts repeats zeros size t z = refl
@@ -55,9 +55,9 @@ module _ (survivors floor : ℕ) where
   table_from_lem j (x ∷ taken) [] counts repeats zeros size t z = absurd (let e : suc (length taken) ≡ 0 = size in omega arith)
   table_from_lem j (x ∷ taken) (y ∷ before) counts repeats zeros size t z =
       let w : j + 0 ≡ j = omega arith in
-      let here : x ≡ (if is_in survivors j then floor else 0) = t 0 (omega arith) ∙ ap (λ (k : ℕ). if is_in survivors k then floor else 0) w in
+      let here : x ≡ (when is_in survivors j then floor else 0) = t 0 (omega arith) ∙ ap (λ (k : ℕ). when is_in survivors k then floor else 0) w in
       let rest = table_from_lem (j + 1) taken before (drop 1 counts) (drop 1 repeats) (drop 1 zeros) (let e : suc (length taken) ≡ suc (length before) = size in omega arith)
-      (λ i h. let e : j + suc i ≡ j + 1 + i = omega arith in t (suc i) (omega arith) ∙ ap (λ (k : ℕ). if is_in survivors k then floor else 0) e)
+      (λ i h. let e : j + suc i ≡ j + 1 + i = omega arith in t (suc i) (omega arith) ∙ ap (λ (k : ℕ). when is_in survivors k then floor else 0) e)
       (λ i. get_or-drop 1 zeros i 0 ∙ z (1 + i)) in
       λ i. record { taken = record { 0 = here i }; count = get_or counts 0 0; repeats = z 0 i } ∷ rest i
 
@@ -69,7 +69,7 @@ table_started : (survivors floor : ℕ) (taken counts repeats : List ℕ) → le
 table_started survivors floor taken counts repeats size =
     let same = starts_length taken survivors floor members_most in
     table_from_lem survivors floor 0 (starts_of taken survivors floor members_most) taken counts repeats (replicate members_most 0) same
-    (λ i h. let z : 0 + i ≡ i = omega arith in starts_at taken survivors floor members_most i (omega arith) (omega arith) ∙ ap (λ (k : ℕ). if is_in survivors k then floor else 0) (sym z))
+    (λ i h. let z : 0 + i ≡ i = omega arith in starts_at taken survivors floor members_most i (omega arith) (omega arith) ∙ ap (λ (k : ℕ). when is_in survivors k then floor else 0) (sym z))
     (none members_most)
 
 -- the sequencer that begins, by what it begins with
@@ -114,7 +114,7 @@ module _ (s : Stored) (group : Group) (number : ℕ) where
   pub from_own : serves_in s.head ≡ true
       → elected_sequencer (terminal_of s) group number ≡ begun group number s.head.sequencer.floor.0 (counts_in (table_in s.taken s.counts s.repeats)) (messages_in s.kept s.originators s.lengths s.payloads)
   unfolding elected_sequencer terminal_of sequencerView.view_of memberView.view_of
-  from_own h = sym (if_true (serves_in s.head) _ _ _ h refl)
+  from_own h = sym (when_true (serves_in s.head) _ _ _ h refl)
 
   -- from its member
   module _ (most : s.head.member.taken.0 ≤ largest_number) {floor : SequenceNumber} {counts kept originators lengths payloads : List ℕ}
@@ -143,4 +143,4 @@ module _ (s : Stored) (group : Group) (number : ℕ) where
     unfolding elected_sequencer
     from_member alone size long =
         let same = counts_as size long in
-        sym (if_false (serves (terminal_of s)) _ _ _ (not_serving s alone) (λ i. begun group number (floored i) (same i) (history_as i)))
+        sym (when_false (serves (terminal_of s)) _ _ _ (not_serving s alone) (λ i. begun group number (floored i) (same i) (history_as i)))

@@ -10,7 +10,7 @@ use Rattle.group.specs.Limits.{held_most}
 use Rattle.group.specs.declared.Group.{Group}
 use Rattle.group.specs.declared.MemberNumber.{MemberNumber}
 use Rattle.group.specs.declared.SequenceNumber.{SequenceNumber}
-use Rattle.group.proofs.Choice.{if_eq, if_ne, both_hold, both_first, both_then}
+use Rattle.group.proofs.Choice.{when_eq, when_ne, both_hold, both_first, both_then}
 use Rattle.store.specs.Places.{messages_in}
 use Rattle.window.specs.Places.{larger_of}
 use Rattle.member.specs.View as memberView
@@ -46,10 +46,10 @@ module _ (head : Head) (held held_originators held_lengths held_payloads past pa
         flags = λ f. subst (λ (x : Head). flags_sound x ≡ true) (sym e) (seated_flags head begun' f);
         member_stays = ap (λ (x : Head). x.member) e;
         read_stays = ap (λ (x : Head). x.read) e;
-        sequencing_is = ap (λ (x : Head). x.sequencing =? 1) e ∙ if_eq group.elected.0 head.member.number.0 (1 =? 1) true _ h (eq-eqb 1 1 refl);
-        frozen_is = ap (λ (x : Head). x.frozen =? 1) e ∙ if_eq group.elected.0 head.member.number.0 (0 =? 1) false _ h (ne_eqb 0 1 (λ z. absurd (omega arith)));
+        sequencing_is = ap (λ (x : Head). x.sequencing =? 1) e ∙ when_eq group.elected.0 head.member.number.0 (1 =? 1) true _ h (eq-eqb 1 1 refl);
+        frozen_is = ap (λ (x : Head). x.frozen =? 1) e ∙ when_eq group.elected.0 head.member.number.0 (0 =? 1) false _ h (ne_eqb 0 1 (λ z. absurd (omega arith)));
         sequencer_is = λ queued queued_originators queued_lengths queued_payloads replies. ap (λ (x : Head). sequencerView.view_of (sequencerView.whole x.sequencer taken' counts' repeats' kept' marks' originators' lengths' payloads')) e
-            ∙ if_eq group.elected.0 head.member.number.0 _ _ _ h (b queued queued_originators queued_lengths queued_payloads replies);
+            ∙ when_eq group.elected.0 head.member.number.0 _ _ _ h (b queued queued_originators queued_lengths queued_payloads replies);
       }
 
   -- another stays
@@ -59,9 +59,9 @@ module _ (head : Head) (held held_originators held_lengths held_payloads past pa
         flags = λ f. f;
         member_stays = refl;
         read_stays = refl;
-        sequencing_is = if_ne group.elected.0 head.member.number.0 _ _ _ h refl;
-        frozen_is = if_ne group.elected.0 head.member.number.0 _ _ _ h refl;
-        sequencer_is = λ queued queued_originators queued_lengths queued_payloads replies. if_ne group.elected.0 head.member.number.0 _ _ _ h refl;
+        sequencing_is = when_ne group.elected.0 head.member.number.0 _ _ _ h refl;
+        frozen_is = when_ne group.elected.0 head.member.number.0 _ _ _ h refl;
+        sequencer_is = λ queued queued_originators queued_lengths queued_payloads replies. when_ne group.elected.0 head.member.number.0 _ _ _ h refl;
       }
 
 module _ (head : Head) (held held_originators held_lengths held_payloads past past_originators past_lengths past_payloads highest replies taken counts repeats kept marks originators lengths payloads : List ℕ) (attempt : ℕ) (elected : MemberNumber) (number : SequenceNumber) (survivors : ℕ) where

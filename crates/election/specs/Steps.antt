@@ -1,6 +1,6 @@
 -- What the steps inside the code promise, in terms of the meaning. No call's promise speaks of these.
 use Rattle.std.specs.Prelude.{◌≡◌, true, false, List, ℕ, ◌-◌, length, replicate}
-use Rattle.group.specs.Choice.{if◌then◌else◌, ◌=?◌}
+use Rattle.group.specs.Choice.{when◌then◌else◌, ◌=?◌}
 use Rattle.group.specs.Limits.{members_most, places_most, held_most}
 use Rattle.group.specs.declared.Group.{Group}
 use Rattle.group.specs.declared.SequenceNumber.{SequenceNumber}
@@ -59,11 +59,11 @@ pub record Seated (head : Head) (held held_originators held_lengths held_payload
   pub flags : flags_sound head ≡ true → flags_sound head' ≡ true
   pub member_stays : head'.member ≡ head.member
   pub read_stays : head'.read ≡ head.read
-  pub sequencing_is : (head'.sequencing =? 1) ≡ (if group.elected.0 =? head.member.number.0 then true else head.sequencing =? 1)
-  pub frozen_is : (head'.frozen =? 1) ≡ (if group.elected.0 =? head.member.number.0 then false else head.frozen =? 1)
+  pub sequencing_is : (head'.sequencing =? 1) ≡ (when group.elected.0 =? head.member.number.0 then true else head.sequencing =? 1)
+  pub frozen_is : (head'.frozen =? 1) ≡ (when group.elected.0 =? head.member.number.0 then false else head.frozen =? 1)
   pub sequencer_is : (queued queued_originators queued_lengths queued_payloads replies : List ℕ)
       → sequencer.view_of (sequencer.whole head'.sequencer taken' counts' repeats' kept' marks' originators' lengths' payloads')
-      ≡ (if group.elected.0 =? head.member.number.0 then elected_sequencer (terminal_of (whole head queued held queued_originators queued_lengths held_originators held_lengths queued_payloads held_payloads past past_originators past_lengths past_payloads highest replies taken counts repeats kept marks originators lengths payloads)) group number.0 else
+      ≡ (when group.elected.0 =? head.member.number.0 then elected_sequencer (terminal_of (whole head queued held queued_originators queued_lengths held_originators held_lengths queued_payloads held_payloads past past_originators past_lengths past_payloads highest replies taken counts repeats kept marks originators lengths payloads)) group number.0 else
       sequencer.view_of (sequencer.whole head.sequencer taken counts repeats kept marks originators lengths payloads))
 
 -- the head of a member in a made group; its reply and its own invitation end

@@ -7,9 +7,9 @@ use Prim.Native.Nat.{ℕ, ◌<◌, ◌≤◌}
 use native.Mathlib.Omega.{arith}
 use lib.ListN.{length, get_or}
 use Rattle.group.specs.Lent.{front}
-use Rattle.group.proofs.Choice.{if_le, if_nle}
-use Rattle.group.proofs.Lists.{if_elim}
-use Rattle.group.specs.Choice.{if◌then◌else◌}
+use Rattle.group.proofs.Choice.{when_le, when_nle}
+use Rattle.group.proofs.Lists.{when_elim}
+use Rattle.group.specs.Choice.{when◌then◌else◌}
 use Rattle.group.specs.Question.{judged}
 use Rattle.group.specs.Refusal.{number_of}
 use Rattle.group.specs.declared.Refusal.{Refusal}
@@ -39,7 +39,7 @@ after_small t = small_of (writer_after t) (after_sound t)
 
 -- an unsound writer is left
 write_leaves : (w : Writer) (m : Ordered) (hand : List ℕ) → writer_sound w ≡ false → (write_of w m hand).writer ≡ w
-unfolding write_of write_verdict judged if◌then◌else◌
+unfolding write_of write_verdict judged when◌then◌else◌
 write_leaves w m hand s = rw s
 
 pub write_small : (w : Writer) (m : Ordered) (hand : List ℕ) → Small w → Small (write_of w m hand).writer
@@ -51,7 +51,7 @@ write_small w m hand b = go (writer_sound w) refl
 
 pub finish_small : (w : Writer) (hand : List ℕ) → Small w → Small (finish_of w hand).writer
 unfolding finish_of
-finish_small w hand b = if_elim (λ (o : Outcome). Small o.writer) (writer_sound w) (λ t. after_small w.tail) (λ t. b)
+finish_small w hand b = when_elim (λ (o : Outcome). Small o.writer) (writer_sound w) (λ t. after_small w.tail) (λ t. b)
 
 abbrev answer : ℕ → ℕ → Answer
 answer k n = record { code = k; number = n }
@@ -75,13 +75,13 @@ pub writes_done : (writer hand : List ℕ) (o : Outcome) {r : Answer} {left held
     → r ≡ writer_told o.answer (length o.bytes) → left ≡ writer_numbers o.writer → held ≡ o.hand → after ≡ front o.bytes before
     → Writes (asked_of writer hand o) r left held before after
 unfolding asked_of
-writes_done writer hand o s a l h b = writes_as (if_le (get_or writer 1 0) 1 _ _ _ s refl) (record { answers = a; left = l; held = h; lays = b })
+writes_done writer hand o s a l h b = writes_as (when_le (get_or writer 1 0) 1 _ _ _ s refl) (record { answers = a; left = l; held = h; lays = b })
 
 pub writes_none : (writer hand : List ℕ) (o : Outcome) {before : List ℕ} → 1 < get_or writer 1 0
     → Writes (asked_of writer hand o) (answer 1 0) writer hand before before
 unfolding asked_of
 writes_none writer hand o s =
-    writes_as (if_nle (get_or writer 1 0) 1 _ _ _ s refl) (record { answers = refused_answer refl; left = refl; held = refl; lays = refl })
+    writes_as (when_nle (get_or writer 1 0) 1 _ _ _ s refl) (record { answers = refused_answer refl; left = refl; held = refl; lays = refl })
 
 -- the same of a step that a writer with those numbers took
 module _ (writer hand : List ℕ) (state : Writer) (step : Step) (is : state ≡ writer_in writer) (s : get_or writer 1 0 ≤ 1) {r : Answer} {left held before after : List ℕ} where
@@ -102,4 +102,4 @@ module _ (writer hand : List ℕ) (state : Writer) (step : Step) (is : state ≡
 -- shutdown leaves the block in hand
 pub finish_hand : (w : Writer) (hand : List ℕ) → hand ≡ (finish_of w hand).hand
 unfolding finish_of
-finish_hand w hand = if_elim (λ (o : Outcome). hand ≡ o.hand) (writer_sound w) (λ t. refl) (λ t. refl)
+finish_hand w hand = when_elim (λ (o : Outcome). hand ≡ o.hand) (writer_sound w) (λ t. refl) (λ t. refl)

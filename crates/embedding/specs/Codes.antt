@@ -3,7 +3,7 @@ use Rattle.std.specs.Prelude.{Bool, true, false, List, [], ◌∷◌, ℕ, get_o
 use Prim.Native.Char.{code}
 use Prim.Native.String as string
 use Prim.Native.String.{String}
-use Rattle.group.specs.Choice.{if◌then◌else◌, ◌=?◌}
+use Rattle.group.specs.Choice.{when◌then◌else◌, ◌=?◌}
 use Rattle.group.specs.Wording.{Value, Wording}
 use Rattle.embedding.specs.declared.Answer.{Answer}
 
@@ -12,21 +12,21 @@ unfoldable pub same : String → String → Bool
 same string.[] string.[] = true
 same string.[] (string.◌∷◌ d rest) = false
 same (string.◌∷◌ c rest) string.[] = false
-same (string.◌∷◌ c rest) (string.◌∷◌ d rest') = if code c =? code d then same rest rest' else false
+same (string.◌∷◌ c rest) (string.◌∷◌ d rest') = when code c =? code d then same rest rest' else false
 
 -- the code of each word; 0 for one that no call here answers
 unfoldable pub word_code : String → ℕ
 word_code w =
-    if same w "kept" then 48 else
-    if same w "none" then 54 else
-    if same w "closed" then 57 else
-    if same w "bytes" then 58 else
-    if same w "fields" then 59 else
-    if same w "read" then 60 else
-    if same w "right" then 61 else
-    if same w "wrong" then 62 else
-    if same w "added" then 64 else
-    if same w "given" then 65 else
+    when same w "kept" then 48 else
+    when same w "none" then 54 else
+    when same w "closed" then 57 else
+    when same w "bytes" then 58 else
+    when same w "fields" then 59 else
+    when same w "read" then 60 else
+    when same w "right" then 61 else
+    when same w "wrong" then 62 else
+    when same w "added" then 64 else
+    when same w "given" then 65 else
     0
 
 -- the code of a refusal is its number

@@ -1,6 +1,6 @@
 -- A journal's writer by its numbers, and what the calls of a journal tell.
 use Rattle.std.specs.Prelude.{◌≡◌, not, List, [], ◌∷◌, ℕ, length, get_or}
-use Rattle.group.specs.Choice.{if◌then◌else◌, ask◌or◌then◌, ◌≤?◌, ◌=?◌}
+use Rattle.group.specs.Choice.{when◌then◌else◌, ask◌or◌then◌, ◌≤?◌, ◌=?◌}
 use Rattle.group.specs.Lent.{front}
 use Rattle.group.specs.Wording.{Wording, refused_wording}
 use Rattle.group.specs.declared.Refusal.TheVariants.{UnsoundState}
@@ -30,7 +30,7 @@ writer_in numbers =
     }
 
 unfoldable pub writer_numbers : Writer → List ℕ
-writer_numbers w = w.tail.last.0 ∷ (if w.tail.free then 1 else 0) ∷ w.first.0 ∷ w.records ∷ w.used ∷ []
+writer_numbers w = w.tail.last.0 ∷ (when w.tail.free then 1 else 0) ∷ w.first.0 ∷ w.records ∷ w.used ∷ []
 
 -- an answer of two numbers
 unfoldable pub found_of : Wording → Found

@@ -8,21 +8,21 @@ use native.Mathlib.Omega.{arith}
 use borrow.Author.Tests.{eqb-true, leb-true, le-leb}
 use lib.Count.{count_trailing_zeros, ones, ones_step, ones-ones}
 use lib.Pow.{pow_pos}
-use Rattle.group.specs.Choice.{if◌then◌else◌, ◌and◌, ◌≤?◌, ◌=?◌}
+use Rattle.group.specs.Choice.{when◌then◌else◌, ◌and◌, ◌≤?◌, ◌=?◌}
 use Rattle.group.specs.Fold.{all_above}
 use Rattle.group.specs.Laws.{ExpectedAre, NeededAre}
 use Rattle.group.specs.Limits.{members_most}
 use Rattle.group.specs.Members.{is_in, lowest_of, others_of, expected_of, needed_of}
 use Rattle.group.specs.Opening.{description_of}
 use Rattle.group.specs.declared.Group.{Group}
-use Rattle.group.proofs.Choice.{if_true, both_hold, both_first, both_then}
+use Rattle.group.proofs.Choice.{when_true, both_hold, both_first, both_then}
 use Rattle.group.proofs.Fold.{above_each}
 use Rattle.group.proofs.Members.{in_all, all_in, Standing, fresh_standing, in_others, others_in}
 
 -- of n members, where r is k - 1: it is not below n, or the r lowest others are all others of r + 1 members
 unfoldable lowest_are : ℕ → ℕ → Bool
-unfolding if◌then◌else◌ lowest_of count_trailing_zeros
-lowest_are n k = if k ≤? n then lowest_of (k - 1) (2 ^ n - 1 - 1) =? 2 ^ k - 1 - 1 else true
+unfolding when◌then◌else◌ lowest_of count_trailing_zeros
+lowest_are n k = when k ≤? n then lowest_of (k - 1) (2 ^ n - 1 - 1) =? 2 ^ k - 1 - 1 else true
 
 abbrev all_are : ℕ → Bool
 all_are n = all_above (lowest_are n) 0 members_most
@@ -36,7 +36,7 @@ unfolding lowest_are
 lowest_are_lem n r most less =
     let e = above_each (lowest_are n) 0 members_most (above_each all_are 0 members_most computed n (omega arith) most) (r + 1) (omega arith) (omega arith) in
     let k : r + 1 - 1 ≡ r = omega arith in
-    rw k at (eqb-true (lowest_of (r + 1 - 1) (2 ^ n - 1 - 1)) _ (if_true (r + 1 ≤? n) _ _ _ (le-leb (r + 1) n (omega arith)) refl ∙ e))
+    rw k at (eqb-true (lowest_of (r + 1 - 1) (2 ^ n - 1 - 1)) _ (when_true (r + 1 ≤? n) _ _ _ (le-leb (r + 1) n (omega arith)) refl ∙ e))
 
 -- two tests that say the same
 same_test : (a b : Bool) → (a ≡ true → b ≡ true) → (b ≡ true → a ≡ true) → a ≡ b

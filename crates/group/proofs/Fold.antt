@@ -10,10 +10,10 @@ use native.Mathlib.Omega.{arith}
 use borrow.Author.Tests.{ltb-true, ltb-false}
 use lib.ListN.{length, get_or, drop, drop_of_length-le}
 use lib.Seq.{drop-cons}
-use Rattle.group.specs.Choice.{if◌then◌else◌, ◌and◌, ◌<?◌}
+use Rattle.group.specs.Choice.{when◌then◌else◌, ◌and◌, ◌<?◌}
 use Rattle.group.specs.Fold.{all, all_above, least_of}
-use Rattle.group.proofs.Choice.{if_true, if_false, both_hold, both_first, both_then}
-use Rattle.group.proofs.Lists.{if_elim, eq_or}
+use Rattle.group.proofs.Choice.{when_true, when_false, both_hold, both_first, both_then}
+use Rattle.group.proofs.Lists.{when_elim, eq_or}
 
 module _ {A : Type 0} (test : ℕ → A → Bool) (l : List A) where
   -- from an index on: the entry there, then the rest
@@ -28,10 +28,10 @@ module _ {A : Type 0} (test : ℕ → A → Bool) (l : List A) where
 module _ {A : Type 0} (test : ℕ → A → Bool) (l : List A) (i : ℕ) (inv : all test 0 l ≡ all test i (drop i l)) where
   -- a turn of the loop that asks `test` of each entry: on, off, and the end
   pub all_on : (d : A) (r : Bool) → i < length l → r ≡ test i (get_or l i d) → r ≡ true → all test 0 l ≡ all test (i + 1) (drop (i + 1) l)
-  all_on d r h e t = inv ∙ all_step test l d i h ∙ sym (if_true (test i (get_or l i d)) _ _ false (sym e ∙ t) refl)
+  all_on d r h e t = inv ∙ all_step test l d i h ∙ sym (when_true (test i (get_or l i d)) _ _ false (sym e ∙ t) refl)
 
   pub all_off : (d : A) (r : Bool) → i < length l → r ≡ test i (get_or l i d) → r ≡ false → false ≡ all test 0 l
-  all_off d r h e t = if_false (test i (get_or l i d)) false _ false (sym e ∙ t) refl ∙ sym (inv ∙ all_step test l d i h)
+  all_off d r h e t = when_false (test i (get_or l i d)) false _ false (sym e ∙ t) refl ∙ sym (inv ∙ all_step test l d i h)
 
   pub all_done : length l ≤ i → true ≡ all test 0 l
   all_done h = sym (inv ∙ all_end test l i h)
@@ -46,10 +46,10 @@ module _ (test : ℕ → Bool) (f k i : ℕ) (inv : all_above test f k ≡ all_a
   above_on r h e t =
       let a : f + i + 1 ≡ f + (i + 1) = omega arith in
       let b : k - i - 1 ≡ k - (i + 1) = omega arith in
-      above_step h ∙ sym (if_true (test (f + i + 1)) _ _ false (sym e ∙ t) refl) ∙ rw (a, b)
+      above_step h ∙ sym (when_true (test (f + i + 1)) _ _ false (sym e ∙ t) refl) ∙ rw (a, b)
 
   pub above_off : (r : Bool) → i < k → r ≡ test (f + i + 1) → r ≡ false → false ≡ all_above test f k
-  above_off r h e t = if_false (test (f + i + 1)) false _ false (sym e ∙ t) refl ∙ sym (above_step h)
+  above_off r h e t = when_false (test (f + i + 1)) false _ false (sym e ∙ t) refl ∙ sym (above_step h)
 
   pub above_done : k ≤ i → true ≡ all_above test f k
   unfolding all_above
@@ -59,11 +59,11 @@ module _ {A : Type 0} (test : ℕ → Bool) (value : A → ℕ) (m : ℕ) (l : L
   -- a turn of the loop that looks for the smallest of the chosen, and its end
   pub least_of-step : (d : A) → i < length l
       → least_of test value i m (drop i l)
-      ≡ least_of test value (i + 1) (if test i and value (get_or l i d) <? m then value (get_or l i d) else m) (drop (i + 1) l)
+      ≡ least_of test value (i + 1) (when test i and value (get_or l i d) <? m then value (get_or l i d) else m) (drop (i + 1) l)
   unfolding least_of
   least_of-step d h =
       ap (λ (r : List A). least_of test value i m r) (drop-cons l i d h)
-      ∙ ap (λ (k : ℕ). least_of test value (i + 1) (if test i and value (get_or l i d) <? m then value (get_or l i d) else m) (drop k l)) (sym (add-one i))
+      ∙ ap (λ (k : ℕ). least_of test value (i + 1) (when test i and value (get_or l i d) <? m then value (get_or l i d) else m) (drop k l)) (sym (add-one i))
 
   pub least_of-end : length l ≤ i → least_of test value i m (drop i l) ≡ m
   unfolding least_of
@@ -112,16 +112,16 @@ module _ (test : ℕ → Bool) where
 -- the smallest of the entries that are chosen is at most what it was compared with, at most each of them, and at least what all of them are
 module _ {A : Type 0} (test : ℕ → Bool) (value : A → ℕ) (d : A) where
   abbrev picked : ℕ → A → ℕ → ℕ
-  picked i x m = if test i and value x <? m then value x else m
+  picked i x m = when test i and value x <? m then value x else m
 
   picked_first : (i : ℕ) (x : A) (m : ℕ) → picked i x m ≤ m
   picked_first i x m =
-      if_elim (λ (y : ℕ). y ≤ m) (test i and value x <? m) (λ t. let z = ltb-true (value x) m (both_then (test i) _ t) in omega arith) (λ t. le_refl m)
+      when_elim (λ (y : ℕ). y ≤ m) (test i and value x <? m) (λ t. let z = ltb-true (value x) m (both_then (test i) _ t) in omega arith) (λ t. le_refl m)
 
   picked_most : (i : ℕ) (x : A) (m : ℕ) → test i ≡ true → picked i x m ≤ value x
   picked_most i x m e =
-      if_elim (λ (y : ℕ). y ≤ value x) (test i and value x <? m) (λ t. le_refl (value x))
-      (λ t. ltb-false (value x) m (if_true (test i) (value x <? m) _ false e refl ∙ t))
+      when_elim (λ (y : ℕ). y ≤ value x) (test i and value x <? m) (λ t. le_refl (value x))
+      (λ t. ltb-false (value x) m (when_true (test i) (value x <? m) _ false e refl ∙ t))
 
   pub least_of-first : (i m : ℕ) (l : List A) → least_of test value i m l ≤ m
   unfolding least_of
@@ -144,7 +144,7 @@ module _ {A : Type 0} (test : ℕ → Bool) (value : A → ℕ) (d : A) where
   least_from b m i (x ∷ l) h e =
       let z : i + 0 ≡ i = omega arith in
       least_from b (picked i x m) (i + 1) l
-      (if_elim (λ (y : ℕ). b ≤ y) (test i and value x <? m) (λ t. e 0 (omega arith) (rw z (both_first (test i) _ t))) (λ t. h))
+      (when_elim (λ (y : ℕ). b ≤ y) (test i and value x <? m) (λ t. e 0 (omega arith) (rw z (both_first (test i) _ t))) (λ t. h))
       (λ j k t. let y : i + 1 + j ≡ i + suc j = omega arith in e (suc j) (omega arith) (rw y at t))
 
   pub least_of-most : (m : ℕ) (l : List A) (j : ℕ) → j < length l → test j ≡ true → least_of test value 0 m l ≤ value (get_or l j d)

@@ -10,17 +10,17 @@ use native.Mathlib.Omega.{arith}
 use borrow.Author.Tests.{eqb-true, eqb-false, leb-true, leb-false}
 use lib.ListN.{length, get_or, set, take, drop, get_elem?}
 use lib.Seq.{get_or-set_same, get_or-set_other}
-use Rattle.group.specs.Choice.{if◌then◌else◌, ◌≤?◌, ◌=?◌}
+use Rattle.group.specs.Choice.{when◌then◌else◌, ◌≤?◌, ◌=?◌}
 use Rattle.group.specs.Question.{judged}
 use Rattle.group.specs.declared.Refusal.{Refusal}
 use Rattle.group.specs.declared.Verdict.{Verdict}
 use Rattle.group.specs.declared.Verdict.TheVariants.{Accepted, Refused}
 
 -- a claim of a choice: one proof for each way the test goes
-pub if_elim : {A : Type 0} (P : A → Type 0) (t : Bool) {x y : A} → (t ≡ true → P x) → (t ≡ false → P y) → P (if t then x else y)
-unfolding if◌then◌else◌
-if_elim P true f g = f refl
-if_elim P false f g = g refl
+pub when_elim : {A : Type 0} (P : A → Type 0) (t : Bool) {x y : A} → (t ≡ true → P x) → (t ≡ false → P y) → P (when t then x else y)
+unfolding when◌then◌else◌
+when_elim P true f g = f refl
+when_elim P false f g = g refl
 
 -- a claim of what a verdict comes to
 pub judged_elim : {A : Type 0} (P : A → Type 0) (v : Verdict) {f : Refusal → A} {x : A} → ((r : Refusal) → v ≡ Refused r → P (f r)) → (v ≡ Accepted → P x) → P (judged v f x)
@@ -30,11 +30,11 @@ judged_elim P (Refused r) f g = f r refl
 
 -- two numbers are equal or they are not
 pub eq_or : {B : Type 0} (m n : ℕ) → (m ≡ n → B) → (m ≢ n → B) → B
-eq_or {B} m n f g = if_elim (λ (x : ℕ). B) (m =? n) {x = 0} {y = 0} (λ t. f (eqb-true m n t)) (λ t. g (eqb-false m n t))
+eq_or {B} m n f g = when_elim (λ (x : ℕ). B) (m =? n) {x = 0} {y = 0} (λ t. f (eqb-true m n t)) (λ t. g (eqb-false m n t))
 
 -- one number is at most the other, or it is above it
 pub le_or : {B : Type 0} (m n : ℕ) → (m ≤ n → B) → (n < m → B) → B
-le_or {B} m n f g = if_elim (λ (x : ℕ). B) (m ≤? n) {x = 0} {y = 0} (λ t. f (leb-true m n t)) (λ t. g (leb-false m n t))
+le_or {B} m n f g = when_elim (λ (x : ℕ). B) (m ≤? n) {x = 0} {y = 0} (λ t. f (leb-true m n t)) (λ t. g (leb-false m n t))
 
 pub none≢some : {A : Type 0} {x : A} → none ≡ some x → ⊥
 none≢some e = let z : ◌≡◌ {A = ℕ} 0 1 = cc in omega arith

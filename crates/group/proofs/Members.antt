@@ -10,14 +10,14 @@ use lib.Arith.{bin_ind, lt-one}
 use lib.Bits.{bit_and, bit_or, and_step, or_step, and_shr, or_shr, or_zero_l, or_zero_r, and_le_l, and_le_r, and_self, or_lt}
 use lib.Count.{count_trailing_zeros, under, ones, ones_step}
 use lib.Pow.{pow_pos, pow_mono, pow-lt, shl_exact}
-use Rattle.group.specs.Choice.{if◌then◌else◌, ◌and◌, ◌=?◌}
+use Rattle.group.specs.Choice.{when◌then◌else◌, ◌and◌, ◌=?◌}
 use Rattle.group.specs.Limits.{members_most}
 use Rattle.group.specs.Members.{is_in, lowest, without_lowest, lowest_of, all_of, elected_of, others_of, expected_of, needed_of, group_sound}
 use Rattle.group.specs.Opening.{description_of}
 use Rattle.group.specs.declared.Group.{Group}
 use Rattle.group.proofs.Counting.{count, count_within, ones_count, half_lt, halves}
-use Rattle.group.proofs.Choice.{both_hold, if_ne, says}
-use Rattle.group.proofs.Lists.{if_elim, eq_or}
+use Rattle.group.proofs.Choice.{both_hold, when_ne, says}
+use Rattle.group.proofs.Lists.{when_elim, eq_or}
 
 -- a digit is 0 or 1
 digit : (a : ℕ) → (a % 2 ≡ 0) ⊎ (a % 2 ≡ 1)
@@ -197,10 +197,10 @@ pub lowest_turn : (found mask k : ℕ) → mask ≢ 0 → bit_or (bit_or found (
 unfolding lowest_of
 lowest_turn found mask k z =
     or_assoc found (2 ^ lowest mask) (lowest_of k (without_lowest mask))
-    ∙ ap (λ (x : ℕ). bit_or found x) (if_ne mask 0 _ 0 _ z refl)
+    ∙ ap (λ (x : ℕ). bit_or found x) (when_ne mask 0 _ 0 _ z refl)
 
 pub lowest_none : (found k : ℕ) → bit_or found (lowest_of k 0) ≡ found
-unfolding lowest_of if◌then◌else◌
+unfolding lowest_of when◌then◌else◌
 lowest_none found zero = or_zero_r found
 lowest_none found (suc k) = or_zero_r found
 
@@ -219,7 +219,7 @@ pub lowest_lt_all : (k mask : ℕ) → mask < 2 ^ members_most → lowest_of k m
 unfolding lowest_of
 lowest_lt_all zero mask h = pow_pos members_most
 lowest_lt_all (suc k) mask h =
-    if_elim (λ (x : ℕ). x < 2 ^ members_most) (mask =? 0) (λ z. pow_pos members_most)
+    when_elim (λ (x : ℕ). x < 2 ^ members_most) (mask =? 0) (λ z. pow_pos members_most)
     (λ z. or_lt members_most (2 ^ lowest mask) (lowest_of k (without_lowest mask))
     (pow-lt {i = lowest mask} {j = members_most} (lowest_lt mask (let q = eqb-false mask 0 z in omega arith) h))
     (lowest_lt_all k (without_lowest mask) (without_lt mask h)))
@@ -228,7 +228,7 @@ pub lowest_within : (k mask i : ℕ) → mask < 2 ^ members_most → is_in (lowe
 unfolding lowest_of
 lowest_within zero mask i h = λ e. absurd (in_zero i e)
 lowest_within (suc k) mask i h =
-    if_elim (λ (x : ℕ). is_in x i ≡ true → is_in mask i ≡ true) (mask =? 0) (λ z e. absurd (in_zero i e))
+    when_elim (λ (x : ℕ). is_in x i ≡ true → is_in mask i ≡ true) (mask =? 0) (λ z e. absurd (in_zero i e))
     (λ z e. go (eqb-false mask 0 z) (lowest_within k (without_lowest mask) i (without_lt mask h)) (in_or (2 ^ lowest mask) (lowest_of k (without_lowest mask)) i e))
   where
     go : mask ≢ 0 → (is_in (lowest_of k (without_lowest mask)) i ≡ true → is_in (without_lowest mask) i ≡ true) → (is_in (2 ^ lowest mask) i ≡ true) ⊎ (is_in (lowest_of k (without_lowest mask)) i ≡ true) → is_in mask i ≡ true

@@ -5,7 +5,7 @@ use mathlib.Core.Bool.{Bool, true, false}
 use mathlib.Core.List.{List, [], ◌∷◌, ◌++◌}
 use Prim.Native.Nat.{ℕ}
 use native.Mathlib.Omega.{arith}
-use Rattle.group.specs.Choice.{if◌then◌else◌, ask◌or◌then◌}
+use Rattle.group.specs.Choice.{when◌then◌else◌, ask◌or◌then◌}
 use Rattle.group.specs.Question.{Question, first_no, judged}
 use Rattle.group.specs.declared.Refusal.{Refusal}
 use Rattle.group.specs.declared.Verdict.{Verdict}
@@ -14,13 +14,13 @@ use Rattle.group.specs.declared.Verdict.TheVariants.{Accepted, Refused}
 -- a question before the others
 pub judged_ask : {A : Type 0} (refused : Refusal → A) (accepted : A) (yes : Bool) (refusal : Refusal) (rest : List Question)
     → ask yes or refused refusal then judged (first_no rest) refused accepted ≡ judged (first_no (record { yes = yes; refusal = refusal } ∷ rest)) refused accepted
-unfolding if◌then◌else◌ first_no judged
+unfolding when◌then◌else◌ first_no judged
 judged_ask refused accepted true refusal rest = refl
 judged_ask refused accepted false refusal rest = refl
 
 -- questions before the others
 pub first_no-append : (before rest : List Question) → judged (first_no before) Refused (first_no rest) ≡ first_no (before ++ rest)
-unfolding if◌then◌else◌ first_no judged
+unfolding when◌then◌else◌ first_no judged
 first_no-append [] rest = refl
 first_no-append (q ∷ before) rest = go q.yes (first_no-append before rest)
   where

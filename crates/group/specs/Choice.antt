@@ -3,7 +3,7 @@ use Rattle.std.specs.Prelude.{Bool, true, false, ℕ, leb, ltb, eqb}
 
 infix 40 ◌<?◌ ◌≤?◌ ◌=?◌
 infixr 20 ◌and◌
-infixr 10 if◌then◌else◌ ask◌or◌then◌
+infixr 10 when◌then◌else◌ ask◌or◌then◌
 abbrev pub ◌<?◌ : ℕ → ℕ → Bool
 a <? b = ltb a b
 
@@ -14,14 +14,14 @@ abbrev pub ◌=?◌ : ℕ → ℕ → Bool
 a =? b = eqb a b
 
 -- the first of two values where the test holds, else the second
-unfoldable pub if◌then◌else◌ : {A : Type 0} → Bool → A → A → A
-if true then a else b = a
-if false then a else b = b
+unfoldable pub when◌then◌else◌ : {A : Type 0} → Bool → A → A → A
+when true then a else b = a
+when false then a else b = b
 
 -- what follows where the answer is yes, else what is refused
 abbrev pub ask◌or◌then◌ : {A : Type 0} → Bool → A → A → A
-ask test or refused then rest = if test then rest else refused
+ask test or refused then rest = when test then rest else refused
 
 -- both tests hold
 abbrev pub ◌and◌ : Bool → Bool → Bool
-a and b = if a then b else false
+a and b = when a then b else false

@@ -2,7 +2,7 @@
 use Rattle.std.specs.Prelude.{Bool, true, false, List, [], ◌∷◌, ℕ}
 use Prim.Native.String.{String}
 use lib.Text.{eqt}
-use Rattle.group.specs.Choice.{if◌then◌else◌}
+use Rattle.group.specs.Choice.{when◌then◌else◌}
 use Rattle.group.specs.Wording.{Value, Wording}
 
 -- the numbers among the values of an answer
@@ -30,24 +30,24 @@ more_in (Value.any_packet ∷ rest) = more_in rest
 -- the code of a word that a call of an end answers with, above the numbers of all refusals; 0 for any other word, whose values say all
 unfoldable pub word_code : String → ℕ
 word_code w =
-    if eqt w "old" then 32 else
-    if eqt w "full" then 33 else
-    if eqt w "noted" then 34 else
-    if eqt w "sent" then 35 else
-    if eqt w "again" then 36 else
-    if eqt w "numbered" then 37 else
-    if eqt w "wanted" then 38 else
-    if eqt w "accepted" then 39 else
-    if eqt w "marked" then 40 else
-    if eqt w "kept" then 48 else
-    if eqt w "keptgap" then 49 else
-    if eqt w "beyond" then 50 else
-    if eqt w "beyondgap" then 51 else
-    if eqt w "gap" then 52 else
-    if eqt w "status" then 53 else
-    if eqt w "none" then 54 else
-    if eqt w "took" then 55 else
-    if eqt w "queued" then 56 else
+    when eqt w "old" then 32 else
+    when eqt w "full" then 33 else
+    when eqt w "noted" then 34 else
+    when eqt w "sent" then 35 else
+    when eqt w "again" then 36 else
+    when eqt w "numbered" then 37 else
+    when eqt w "wanted" then 38 else
+    when eqt w "accepted" then 39 else
+    when eqt w "marked" then 40 else
+    when eqt w "kept" then 48 else
+    when eqt w "keptgap" then 49 else
+    when eqt w "beyond" then 50 else
+    when eqt w "beyondgap" then 51 else
+    when eqt w "gap" then 52 else
+    when eqt w "status" then 53 else
+    when eqt w "none" then 54 else
+    when eqt w "took" then 55 else
+    when eqt w "queued" then 56 else
     0
 
 -- the number of a refusal, else the code of the word

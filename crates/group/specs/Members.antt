@@ -3,7 +3,7 @@
 use Rattle.std.specs.Prelude.{Bool, ℕ, zero, suc, ◌-◌, ◌/◌, ◌%◌, ◌^◌}
 use Rattle.std.specs.Int.Bits.{bit_and, bit_or}
 use Rattle.std.specs.Int.Count.{count_trailing_zeros, ones}
-use Rattle.group.specs.Choice.{if◌then◌else◌, ◌and◌, ◌<?◌, ◌≤?◌, ◌=?◌}
+use Rattle.group.specs.Choice.{when◌then◌else◌, ◌and◌, ◌<?◌, ◌≤?◌, ◌=?◌}
 use Rattle.group.specs.Limits.{members_most}
 use Rattle.group.specs.declared.Group.{Group}
 use Rattle.group.specs.declared.MemberNumber.{MemberNumber}
@@ -30,7 +30,7 @@ without_lowest mask = bit_and mask (mask - 1)
 -- the k lowest members of a mask; all of them where it has fewer
 unfoldable pub lowest_of : ℕ → ℕ → ℕ
 lowest_of zero mask = 0
-lowest_of (suc k) mask = if mask =? 0 then 0 else bit_or (2 ^ lowest mask) (lowest_of k (without_lowest mask))
+lowest_of (suc k) mask = when mask =? 0 then 0 else bit_or (2 ^ lowest mask) (lowest_of k (without_lowest mask))
 
 -- all of n members
 abbrev pub all_of : ℕ → ℕ

@@ -4,9 +4,9 @@ use mathlib.Core.Path.{◌≡◌, refl}
 use mathlib.Core.Bool.{true}
 use Prim.Native.Nat.{ℕ, ◌+◌, ◌≤◌, ◌<◌}
 use borrow.Author.Tests.{ltb-true, leb-true, lt-leb}
-use Rattle.group.proofs.Choice.{if_was}
+use Rattle.group.proofs.Choice.{when_was}
 use Rattle.group.proofs.Question.{accepted≢}
-use Rattle.group.specs.Choice.{if◌then◌else◌, ◌<?◌, ◌≤?◌}
+use Rattle.group.specs.Choice.{when◌then◌else◌, ◌<?◌, ◌≤?◌}
 use Rattle.group.specs.Limits.{largest_number}
 use Rattle.group.specs.Members.{is_in, expected_of}
 use Rattle.group.specs.declared.Group.{Group}
@@ -22,23 +22,23 @@ pub sender_was : (survivors top : ℕ) (sender : MemberNumber) (taken : Sequence
     → (is_in survivors sender.0 ≡ true) × (taken.0 ≤ top)
 unfolding sender_verdict
 sender_was survivors top sender taken e =
-    let a = if_was (is_in survivors sender.0) _ _ Verdict.Accepted e (accepted≢ UnknownMember) in
-    let b = if_was (taken.0 ≤? top) _ _ Verdict.Accepted a.1 (accepted≢ AcknowledgedAhead) in
+    let a = when_was (is_in survivors sender.0) _ _ Verdict.Accepted e (accepted≢ UnknownMember) in
+    let b = when_was (taken.0 ≤? top) _ _ Verdict.Accepted a.1 (accepted≢ AcknowledgedAhead) in
     (a.0, leb-true taken.0 top b.0)
 
 pub count_was : (last top count : ℕ) → count_verdict last top count ≡ Verdict.Accepted → (count ≤ last + 1) × (last < count → top < largest_number)
-unfolding count_verdict if◌then◌else◌
+unfolding count_verdict when◌then◌else◌
 count_was last top count e =
-    let a = if_was (count ≤? last + 1) _ _ Verdict.Accepted e (accepted≢ CountAhead) in
-    let b = if_was (if count ≤? last then true else top <? largest_number) _ _ Verdict.Accepted a.1 (accepted≢ NumbersUsedUp) in
+    let a = when_was (count ≤? last + 1) _ _ Verdict.Accepted e (accepted≢ CountAhead) in
+    let b = when_was (when count ≤? last then true else top <? largest_number) _ _ Verdict.Accepted a.1 (accepted≢ NumbersUsedUp) in
     (leb-true count (last + 1) a.0, λ h. ltb-true top largest_number (rw (lt-leb count last h) at b.0))
 
 pub expected_was : (group : Group) (accepted : ℕ) (sender : MemberNumber) (number : SequenceNumber) → expected_verdict group accepted sender number ≡ Verdict.Accepted
     → accepted < number.0 → is_in (expected_of group) sender.0 ≡ true
-unfolding expected_verdict if◌then◌else◌
+unfolding expected_verdict when◌then◌else◌
 expected_was group accepted sender number e h =
     rw (lt-leb number.0 accepted h) at
-    (if_was (if number.0 ≤? accepted then true else is_in (expected_of group) sender.0) _ _ Verdict.Accepted e (accepted≢ NotExpected)).0
+    (when_was (when number.0 ≤? accepted then true else is_in (expected_of group) sender.0) _ _ Verdict.Accepted e (accepted≢ NotExpected)).0
 
 -- a verdict that is known
 module _ {A : Type 0} (v : Verdict) (f : Refusal → A) (x : A) where

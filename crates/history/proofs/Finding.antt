@@ -5,12 +5,12 @@ use mathlib.Core.Bool.{Bool, true, false}
 use mathlib.Core.List.{List}
 use Prim.Native.Nat.{ℕ, suc, ◌+◌, ◌-◌, ◌≤◌, ◌<◌, zero}
 use native.Mathlib.Omega.{arith}
-use Rattle.group.specs.Choice.{if◌then◌else◌}
+use Rattle.group.specs.Choice.{when◌then◌else◌}
 use Rattle.group.specs.declared.MemberNumber.{MemberNumber}
-use Rattle.group.proofs.Choice.{if_true_of, if_false_of}
+use Rattle.group.proofs.Choice.{when_true_of, when_false_of}
 use Rattle.message.specs.Message.{Message}
 use mathlib.Core.Logic.{◌≢◌}
-use Rattle.group.proofs.Lists.{if_elim}
+use Rattle.group.proofs.Lists.{when_elim}
 use Rattle.history.specs.Repeat.{is_of, find_of}
 use Rattle.history.specs.State.{message_at}
 
@@ -18,7 +18,7 @@ module _ (history : List Message) (m : MemberNumber) (count floor top number : �
     (inv : find_of history m count floor (top - floor) ≡ find_of history m count floor (number - floor)) where
   find_step : floor < number
       → find_of history m count floor (top - floor)
-      ≡ if is_of m count (message_at history number) then number else find_of history m count floor (number - 1 - floor)
+      ≡ when is_of m count (message_at history number) then number else find_of history m count floor (number - 1 - floor)
   unfolding find_of
   find_step h =
       let e : number - floor ≡ suc (number - 1 - floor) = omega arith in
@@ -28,11 +28,11 @@ module _ (history : List Message) (m : MemberNumber) (count floor top number : �
   -- a turn of the search: found, on, and the end
   pub find_found : (r : Bool) → floor < number → r ≡ is_of m count (message_at history number) → r ≡ true
       → number ≡ find_of history m count floor (top - floor)
-  find_found r h e t = if_true_of _ r _ _ _ e t refl ∙ sym (find_step h)
+  find_found r h e t = when_true_of _ r _ _ _ e t refl ∙ sym (find_step h)
 
   pub find_on : (r : Bool) → floor < number → r ≡ is_of m count (message_at history number) → r ≡ false
       → find_of history m count floor (top - floor) ≡ find_of history m count floor (number - 1 - floor)
-  find_on r h e t = find_step h ∙ sym (if_false_of _ r _ _ _ e t refl)
+  find_on r h e t = find_step h ∙ sym (when_false_of _ r _ _ _ e t refl)
 
   pub find_end : number ≤ floor → 0 ≡ find_of history m count floor (top - floor)
   unfolding find_of
@@ -44,5 +44,5 @@ pub found_in : (history : List Message) (m : MemberNumber) (count floor k : ℕ)
 unfolding find_of
 found_in history m count floor zero some = absurd (some refl)
 found_in history m count floor (suc k) some =
-    if_elim (λ (x : ℕ). x ≢ 0 → (floor < x) × (x ≤ floor + suc k)) (is_of m count (message_at history (floor + suc k))) (λ t q. omega arith)
+    when_elim (λ (x : ℕ). x ≢ 0 → (floor < x) × (x ≤ floor + suc k)) (is_of m count (message_at history (floor + suc k))) (λ t q. omega arith)
     (λ t q. let z = found_in history m count floor k q in omega arith) some

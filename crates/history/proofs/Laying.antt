@@ -6,8 +6,8 @@ use Prim.Native.Nat.{ℕ, suc, ◌+◌, ◌-◌, ◌≤◌, ◌<◌}
 use native.Mathlib.Omega.{arith}
 use borrow.Author.Tests.{le-leb, lt-leb}
 use lib.ListN.{length, set, replicate, length-set, length-replicate, length-append}
-use Rattle.group.proofs.Choice.{if_true, if_false}
-use Rattle.group.specs.Choice.{if◌then◌else◌, ◌≤?◌}
+use Rattle.group.proofs.Choice.{when_true, when_false}
+use Rattle.group.specs.Choice.{when◌then◌else◌, ◌≤?◌}
 use Rattle.group.specs.Limits.{places_most, payload_most}
 use Rattle.group.specs.declared.MemberNumber.{MemberNumber}
 use Rattle.message.specs.Message.{Message, padded, message_of, empty_message, blank}
@@ -58,15 +58,15 @@ module _ (kept originators lengths payloads : List ℕ) (sizes : Places kept ori
   pub lay_new : (number top : ℕ) (sender : MemberNumber) (count : ℕ) (payload : List ℕ) → at ≡ place_of number → top < number → length payload ≤ payload_most
       → messages_in (set kept at count) (set originators at sender.0) (set lengths at (length payload)) (laid_at payloads at (padded payload))
       ≡ set (messages_in kept originators lengths payloads) (place_of number)
-      (if number ≤? top then message_at (messages_in kept originators lengths payloads) number else message_of sender count payload)
+      (when number ≤? top then message_at (messages_in kept originators lengths payloads) number else message_of sender count payload)
   unfolding message_of
   lay_new number top sender count payload p h short =
       laid_message count sender.0 (length payload) (padded payload) (simp (length-append, length-replicate) (omega arith))
-      ∙ (λ i. set (messages_in kept originators lengths payloads) (p i) (if_false (number ≤? top) (message_of sender count payload) (message_at (messages_in kept originators lengths payloads) number) (message_of sender count payload) (lt-leb number top h) refl i))
+      ∙ (λ i. set (messages_in kept originators lengths payloads) (p i) (when_false (number ≤? top) (message_of sender count payload) (message_at (messages_in kept originators lengths payloads) number) (message_of sender count payload) (lt-leb number top h) refl i))
 
 -- a number up to top has its own message
 pub lay_own : (history : List Message) (number top : ℕ) (message : Message) → number ≤ top
-    → history ≡ set history (place_of number) (if number ≤? top then message_at history number else message)
+    → history ≡ set history (place_of number) (when number ≤? top then message_at history number else message)
 lay_own history number top message h =
     sym (set_own history (place_of number) blank)
-    ∙ ap (set history (place_of number)) (if_true (number ≤? top) (message_at history number) (message_at history number) message (le-leb number top h) refl)
+    ∙ ap (set history (place_of number)) (when_true (number ≤? top) (message_at history number) (message_at history number) message (le-leb number top h) refl)

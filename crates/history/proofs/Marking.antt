@@ -8,8 +8,8 @@ use native.Mathlib.Omega.{arith}
 use lib.Bits.{bit_or}
 use lib.Count.{ones}
 use lib.ListN.{get_or, set}
-use Rattle.group.proofs.Choice.{if_true_of, if_false_of}
-use Rattle.group.specs.Choice.{if◌then◌else◌, ◌and◌, ◌<?◌, ◌≤?◌, ◌=?◌}
+use Rattle.group.proofs.Choice.{when_true_of, when_false_of}
+use Rattle.group.specs.Choice.{when◌then◌else◌, ◌and◌, ◌<?◌, ◌≤?◌, ◌=?◌}
 use Rattle.group.specs.Members.{only_of, is_within}
 use Rattle.group.specs.declared.MemberNumber.{MemberNumber}
 use Rattle.history.specs.Marks.{mark_at, marked_of, enough_of, unmarked_of, mark_sound}
@@ -33,7 +33,7 @@ module _ (was marks : List ℕ) (from passed at : ℕ) (least : from ≤ passed)
 
 module _ (marks : List ℕ) (needed from to number : ℕ) (inv : enough_of marks needed from (to - from) ≡ enough_of marks needed from (number - from)) where
   enough_step : from < number
-      → enough_of marks needed from (to - from) ≡ if needed ≤? ones (mark_at marks number) then number else enough_of marks needed from (number - 1 - from)
+      → enough_of marks needed from (to - from) ≡ when needed ≤? ones (mark_at marks number) then number else enough_of marks needed from (number - 1 - from)
   unfolding enough_of
   enough_step h =
       let e : number - from ≡ suc (number - 1 - from) = omega arith in
@@ -42,11 +42,11 @@ module _ (marks : List ℕ) (needed from to number : ℕ) (inv : enough_of marks
 
   -- a turn of the search: found, on, and the end
   pub enough_found : (r : Bool) → from < number → r ≡ (needed ≤? ones (mark_at marks number)) → r ≡ true → number ≡ enough_of marks needed from (to - from)
-  enough_found r h e t = if_true_of _ r _ _ _ e t refl ∙ sym (enough_step h)
+  enough_found r h e t = when_true_of _ r _ _ _ e t refl ∙ sym (enough_step h)
 
   pub enough_on : (r : Bool) → from < number → r ≡ (needed ≤? ones (mark_at marks number)) → r ≡ false
       → enough_of marks needed from (to - from) ≡ enough_of marks needed from (number - 1 - from)
-  enough_on r h e t = enough_step h ∙ sym (if_false_of _ r _ _ _ e t refl)
+  enough_on r h e t = enough_step h ∙ sym (when_false_of _ r _ _ _ e t refl)
 
   pub enough_end : number ≤ from → 0 ≡ enough_of marks needed from (to - from)
   unfolding enough_of
@@ -58,8 +58,8 @@ pub enough_asked : (marks : List ℕ) (needed number at : ℕ) (r : Bool) → at
 enough_asked marks needed number at r p e = e ∙ ap (λ (k : ℕ). needed ≤? ones (get_or marks k 0)) p
 
 pub mark_asked : (expected : ℕ) (marks : List ℕ) (accepted top number at : ℕ) (r : Bool) → at ≡ place_of number
-    → r ≡ (if accepted <? number and number ≤? top then is_within (get_or marks at 0) expected else get_or marks at 0 =? 0)
+    → r ≡ (when accepted <? number and number ≤? top then is_within (get_or marks at 0) expected else get_or marks at 0 =? 0)
     → r ≡ mark_sound expected marks accepted top number
 unfolding mark_sound
 mark_asked expected marks accepted top number at r p e =
-    e ∙ ap (λ (k : ℕ). if accepted <? number and number ≤? top then is_within (get_or marks k 0) expected else get_or marks k 0 =? 0) p
+    e ∙ ap (λ (k : ℕ). when accepted <? number and number ≤? top then is_within (get_or marks k 0) expected else get_or marks k 0 =? 0) p

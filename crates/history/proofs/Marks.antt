@@ -12,9 +12,9 @@ use lib.Count.{ones}
 use lib.ListN.{length, get_or, set, length-set, get_or-eq_default}
 use lib.Pow.{pow_pos, pow-lt}
 use lib.Seq.{get_or-set_same, get_or-set_other}
-use Rattle.group.proofs.Choice.{if_true, if_false, both_hold, first_fails, then_fails, both_first, both_then}
-use Rattle.group.proofs.Lists.{if_elim, eq_or, le_or}
-use Rattle.group.specs.Choice.{if◌then◌else◌, ◌and◌, ◌<?◌, ◌≤?◌, ◌=?◌}
+use Rattle.group.proofs.Choice.{when_true, when_false, both_hold, first_fails, then_fails, both_first, both_then}
+use Rattle.group.proofs.Lists.{when_elim, eq_or, le_or}
+use Rattle.group.specs.Choice.{when◌then◌else◌, ◌and◌, ◌<?◌, ◌≤?◌, ◌=?◌}
 use Rattle.group.specs.Limits.{places_most, members_most}
 use Rattle.group.specs.Members.{only_of, is_within}
 use Rattle.group.specs.declared.MemberNumber.{MemberNumber}
@@ -120,7 +120,7 @@ pub enough_in_lem : (marks : List ℕ) (needed f k : ℕ) → enough_of marks ne
 unfolding enough_of
 enough_in_lem marks needed f zero some = absurd (some refl)
 enough_in_lem marks needed f (suc k) some =
-    if_elim (λ (x : ℕ). x ≢ 0 → (f < x) × (x ≤ f + suc k) × (needed ≤ ones (mark_at marks x))) (needed ≤? ones (mark_at marks (f + suc k)))
+    when_elim (λ (x : ℕ). x ≢ 0 → (f < x) × (x ≤ f + suc k) × (needed ≤ ones (mark_at marks x))) (needed ≤? ones (mark_at marks (f + suc k)))
     (λ t q. (omega arith, omega arith, leb-true needed _ t))
     (λ t q. let z = enough_in_lem marks needed f k q in (z.0, (let y = z.1 in omega arith), z.2)) some
 
@@ -129,7 +129,7 @@ pub enough_highest : (marks : List ℕ) (needed f k j : ℕ) → enough_of marks
 unfolding enough_of
 enough_highest marks needed f zero j above low high = absurd (omega arith)
 enough_highest marks needed f (suc k) j above low high =
-    if_elim (λ (x : ℕ). x < j → ones (mark_at marks j) < needed) (needed ≤? ones (mark_at marks (f + suc k)))
+    when_elim (λ (x : ℕ). x < j → ones (mark_at marks j) < needed) (needed ≤? ones (mark_at marks (f + suc k)))
     (λ t q. absurd (omega arith))
     (λ t q. eq_or j (f + suc k) (λ e. rw e (leb-false needed _ t)) (λ e. enough_highest marks needed f k j q low (omega arith))) above
 
@@ -138,23 +138,23 @@ module _ (expected : ℕ) (marks : List ℕ) (accepted top number : ℕ) where
   pub mark_inside : accepted < number → number ≤ top → mark_sound expected marks accepted top number ≡ true → bit_and (mark_at marks number) expected ≡ mark_at marks number
   unfolding mark_sound
   mark_inside a b e =
-      eqb-true _ _ (if_true (accepted <? number and number ≤? top) _ _ _ (both_hold _ _ (lt-ltb accepted number a) (le-leb number top b)) refl ∙ e)
+      eqb-true _ _ (when_true (accepted <? number and number ≤? top) _ _ _ (both_hold _ _ (lt-ltb accepted number a) (le-leb number top b)) refl ∙ e)
 
   pub mark_below : number ≤ accepted → mark_sound expected marks accepted top number ≡ true → mark_at marks number ≡ 0
   unfolding mark_sound
   mark_below a e =
-      eqb-true _ _ (if_false (accepted <? number and number ≤? top) _ _ _ (first_fails _ _ (le-ltb accepted number a)) refl ∙ e)
+      eqb-true _ _ (when_false (accepted <? number and number ≤? top) _ _ _ (first_fails _ _ (le-ltb accepted number a)) refl ∙ e)
 
   pub mark_above : top < number → mark_sound expected marks accepted top number ≡ true → mark_at marks number ≡ 0
   unfolding mark_sound
   mark_above a e =
-      eqb-true _ _ (if_false (accepted <? number and number ≤? top) _ _ _ (then_fails _ _ (lt-leb number top a)) refl ∙ e)
+      eqb-true _ _ (when_false (accepted <? number and number ≤? top) _ _ _ (then_fails _ _ (lt-leb number top a)) refl ∙ e)
 
   pub mark_sound_lem : (accepted < number → number ≤ top → bit_and (mark_at marks number) expected ≡ mark_at marks number)
       → (number ≤ accepted → mark_at marks number ≡ 0) → (top < number → mark_at marks number ≡ 0) → mark_sound expected marks accepted top number ≡ true
   unfolding mark_sound
   mark_sound_lem inside below above =
-      if_elim (λ (x : Bool). x ≡ true) (accepted <? number and number ≤? top)
+      when_elim (λ (x : Bool). x ≡ true) (accepted <? number and number ≤? top)
       (λ t. eq-eqb _ _ (inside (ltb-true accepted number (both_first _ _ t)) (leb-true number top (both_then _ _ t))))
       (λ t. eq-eqb _ _ (le_or number accepted below (λ h. le_or number top
       (λ k. absurd (let z : true ≡ false = sym (both_hold _ _ (lt-ltb accepted number h) (le-leb number top k)) ∙ t in let y : ◌≡◌ {A = ℕ} 0 1 = cc in omega arith))

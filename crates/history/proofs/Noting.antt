@@ -8,7 +8,7 @@ use native.Mathlib.Omega.{arith}
 use borrow.Author.Tests.{ltb-true, ltb-false}
 use lib.ListN.{length, length-set}
 use lib.Seq.{get_or-set_same, get_or-set_other}
-use Rattle.group.proofs.Lists.{if_elim, eq_or, le_or}
+use Rattle.group.proofs.Lists.{when_elim, eq_or, le_or}
 use Rattle.group.specs.Choice.{◌<?◌}
 use Rattle.group.specs.Limits.{places_most}
 use Rattle.message.specs.Message.{Message, empty_message, blank}
@@ -17,15 +17,15 @@ use Rattle.history.specs.State.{place_of, message_at}
 
 pub larger_least : (a b : ℕ) → a ≤ larger_of a b
 unfolding larger_of
-larger_least a b = if_elim (λ (x : ℕ). a ≤ x) (a <? b) (λ t. let z = ltb-true a b t in omega arith) (λ t. le_refl a)
+larger_least a b = when_elim (λ (x : ℕ). a ≤ x) (a <? b) (λ t. let z = ltb-true a b t in omega arith) (λ t. le_refl a)
 
 pub larger_new : (a b : ℕ) → b ≤ larger_of a b
 unfolding larger_of
-larger_new a b = if_elim (λ (x : ℕ). b ≤ x) (a <? b) (λ t. le_refl b) (λ t. ltb-false a b t)
+larger_new a b = when_elim (λ (x : ℕ). b ≤ x) (a <? b) (λ t. le_refl b) (λ t. ltb-false a b t)
 
 pub larger_most : (a b c : ℕ) → a ≤ c → b ≤ c → larger_of a b ≤ c
 unfolding larger_of
-larger_most a b c h k = if_elim (λ (x : ℕ). x ≤ c) (a <? b) (λ t. k) (λ t. h)
+larger_most a b c h k = when_elim (λ (x : ℕ). x ≤ c) (a <? b) (λ t. k) (λ t. h)
 
 -- the history with the k numbers above f cleared
 module _ (history : List Message) (f : ℕ) where

@@ -9,7 +9,7 @@ use native.Mathlib.Omega.{arith}
 use borrow.Author.Tests.{lt-ltb, le-ltb}
 use lib.ListN.{length, set, drop, drop_of_length-le, replicate}
 use lib.Seq.{drop-cons}
-use Rattle.group.proofs.Choice.{if_true, if_false}
+use Rattle.group.proofs.Choice.{when_true, when_false}
 use Rattle.group.proofs.Lists.{le_or}
 use Rattle.group.specs.Choice.{◌<?◌}
 use Rattle.group.specs.Limits.{largest_number}
@@ -37,11 +37,11 @@ sum_set (a ∷ rest) (suc i) x h = let z = sum_set rest i x (omega arith) in ome
 -- one more, below the largest number and at it
 more_low : (r : ℕ) → r < largest_number → one_more r ≡ r + 1
 unfolding one_more
-more_low r h = sym (if_true (r <? largest_number) _ _ _ (lt-ltb r largest_number h) refl)
+more_low r h = sym (when_true (r <? largest_number) _ _ _ (lt-ltb r largest_number h) refl)
 
 more_high : (r : ℕ) → largest_number ≤ r → one_more r ≡ r
 unfolding one_more
-more_high r h = sym (if_false (r <? largest_number) _ _ _ (le-ltb r largest_number h) refl)
+more_high r h = sym (when_false (r <? largest_number) _ _ _ (le-ltb r largest_number h) refl)
 
 pub more_most : (r : ℕ) → r ≤ largest_number → one_more r ≤ largest_number
 more_most r h =
@@ -51,11 +51,11 @@ more_most r h =
 module _ (table : List Acknowledgement) where
   pub held_low : repeats_sum table < largest_number → repeats_of table ≡ repeats_sum table
   unfolding repeats_of
-  held_low h = sym (if_true (repeats_sum table <? largest_number) _ _ _ (lt-ltb (repeats_sum table) largest_number h) refl)
+  held_low h = sym (when_true (repeats_sum table <? largest_number) _ _ _ (lt-ltb (repeats_sum table) largest_number h) refl)
 
   pub held_high : largest_number ≤ repeats_sum table → repeats_of table ≡ largest_number
   unfolding repeats_of
-  held_high h = sym (if_false (repeats_sum table <? largest_number) _ _ _ (le-ltb (repeats_sum table) largest_number h) refl)
+  held_high h = sym (when_false (repeats_sum table <? largest_number) _ _ _ (le-ltb (repeats_sum table) largest_number h) refl)
 
 module _ (table : List Acknowledgement) (i : ℕ) (x : Acknowledgement) (inside : i < length table) where
   abbrev table' : List Acknowledgement

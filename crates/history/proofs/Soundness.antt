@@ -9,8 +9,8 @@ use borrow.Author.Tests.{ltb-false, leb-true, le-ltb, le-leb, eq-eqb}
 use lib.ListN.{length, get_or}
 use Rattle.group.proofs.Choice.{both_hold, says, tests}
 use Rattle.group.proofs.Fold.{least_of-first, least_of-most, least_of-least}
-use Rattle.group.proofs.Lists.{if_elim}
-use Rattle.group.specs.Choice.{if◌then◌else◌, ◌and◌, ◌<?◌, ◌=?◌}
+use Rattle.group.proofs.Lists.{when_elim}
+use Rattle.group.specs.Choice.{when◌then◌else◌, ◌and◌, ◌<?◌, ◌=?◌}
 use Rattle.group.specs.Limits.{payload_most, largest_number}
 use Rattle.group.specs.Members.{is_in}
 use Rattle.group.specs.declared.Group.{Group}
@@ -94,17 +94,17 @@ module _ (group : Group) (top : ℕ) (i : ℕ) (a : Acknowledgement) where
   pub entry_used : entry_sound group top i a ≡ true → a.taken.0 ≤ top
   unfolding entry_sound
   entry_used =
-      if_elim (λ (b : Bool). b ≡ true → a.taken.0 ≤ top) (is_in group.survivors i) (λ t e. leb-true a.taken.0 top e)
+      when_elim (λ (b : Bool). b ≡ true → a.taken.0 ≤ top) (is_in group.survivors i) (λ t e. leb-true a.taken.0 top e)
       (λ t e. let z : a.taken.0 ≡ 0 = search says in omega arith)
 
   pub entry_lost : is_in group.survivors i ≡ false → entry_sound group top i a ≡ true → Lost a
-  unfolding entry_sound if◌then◌else◌
+  unfolding entry_sound when◌then◌else◌
   entry_lost h e =
-      let z : a.taken.0 =? 0 and a.repeats =? 0 and (if i <? group.n then true else a.count =? 0) ≡ true = rw h at e in
+      let z : a.taken.0 =? 0 and a.repeats =? 0 and (when i <? group.n then true else a.count =? 0) ≡ true = rw h at e in
       record { taken = search says; repeats = search says }
 
   pub entry_unused : is_in group.survivors i ≡ false → group.n ≤ i → entry_sound group top i a ≡ true → a ≡ no_acknowledgement
-  unfolding entry_sound if◌then◌else◌
+  unfolding entry_sound when◌then◌else◌
   entry_unused out h e =
       let l = entry_lost out e in
       let z : a.taken.0 =? 0 and a.repeats =? 0 and a.count =? 0 ≡ true = rw (out, le-ltb i group.n h) at e in
@@ -114,9 +114,9 @@ module _ (group : Group) (top : ℕ) (i : ℕ) (a : Acknowledgement) where
   pub entry_sound_lem : a.taken.0 ≤ top → (is_in group.survivors i ≡ false → Lost a) → (group.n ≤ i → a ≡ no_acknowledgement) → entry_sound group top i a ≡ true
   unfolding entry_sound
   entry_sound_lem f l g =
-      if_elim (λ (b : Bool). b ≡ true) (is_in group.survivors i) (λ t. le-leb a.taken.0 top f)
+      when_elim (λ (b : Bool). b ≡ true) (is_in group.survivors i) (λ t. le-leb a.taken.0 top f)
       (λ t.
       let lost = l t in
       both_hold _ _ (eq-eqb a.taken.0 0 lost.taken) (both_hold _ _ (eq-eqb a.repeats 0 lost.repeats)
-      (if_elim (λ (b : Bool). b ≡ true) (i <? group.n) (λ u. refl)
+      (when_elim (λ (b : Bool). b ≡ true) (i <? group.n) (λ u. refl)
       (λ u. eq-eqb a.count 0 (ap (λ (x : Acknowledgement). x.count) (g (ltb-false i group.n u)))))))

@@ -9,7 +9,7 @@ use native.Mathlib.Omega.{arith}
 use lib.ListN.{length, drop, get_or, set, replicate}
 use lib.Seq.{get_or-drop}
 use Rattle.group.proofs.Fold.{least_of-step, least_of-end}
-use Rattle.group.specs.Choice.{if◌then◌else◌, ◌<?◌, ◌≤?◌, ◌=?◌, ◌and◌}
+use Rattle.group.specs.Choice.{when◌then◌else◌, ◌<?◌, ◌≤?◌, ◌=?◌, ◌and◌}
 use Rattle.group.specs.Fold.{least_of}
 use Rattle.group.specs.Members.{is_in}
 use Rattle.group.specs.Limits.{payload_most, largest_number}
@@ -123,7 +123,7 @@ least_taken : (survivors i low : ℕ) (taken counts repeats counts' repeats' : L
 unfolding table_in least_of
 least_taken survivors i low [] counts repeats counts' repeats' = refl
 least_taken survivors i low (t ∷ taken) counts repeats counts' repeats' =
-    least_taken survivors (i + 1) (if is_in survivors i and t <? low then t else low) taken (drop 1 counts) (drop 1 repeats) (drop 1 counts') (drop 1 repeats')
+    least_taken survivors (i + 1) (when is_in survivors i and t <? low then t else low) taken (drop 1 counts) (drop 1 repeats) (drop 1 counts') (drop 1 repeats')
 
 pub floor_taken : (survivors : ℕ) (taken counts repeats : List ℕ) → floor_of survivors (taken_only taken) ≡ floor_of survivors (table_in taken counts repeats)
 unfolding floor_of
@@ -155,7 +155,7 @@ module _ (taken counts repeats : List ℕ) (sizes : length counts ≡ length tak
 
   pub places_only : (n : ℕ) (history : List Message) (top : ℕ) → place_sound n (counts_only counts) history top ≡ place_sound n (table_in taken counts repeats) history top
   unfolding place_sound
-  places_only n history top = λ i number. if number ≤? top then kept_only n (message_at history number) i else is_empty (message_at history number)
+  places_only n history top = λ i number. when number ≤? top then kept_only n (message_at history number) i else is_empty (message_at history number)
 
   pub content_only : (group : Group) (accepted top : ℕ) (packet : Packet)
       → content_verdict group (counts_only counts) accepted top packet ≡ content_verdict group (table_in taken counts repeats) accepted top packet
@@ -212,7 +212,7 @@ module _ (kept originators lengths bytes : List ℕ) where
   unfolding find_of
   find_listed m count floor zero = refl
   find_listed m count floor (suc k) =
-      λ i. if of_listed m count (floor + suc k) i then floor + suc k else find_listed m count floor k i
+      λ i. when of_listed m count (floor + suc k) i then floor + suc k else find_listed m count floor k i
 
 -- What a turn of each loop over the arrays needs: an entry that was asked as its numbers, a place as its numbers and bytes.
 pub entry_asked : (test : ℕ → Acknowledgement → Bool) (taken counts repeats : List ℕ) (i : ℕ) (r : Bool) → i < length taken
@@ -221,13 +221,13 @@ entry_asked test taken counts repeats i r h e = e ∙ ap (test i) (sym (entry_in
 
 pub place_asked : (n : ℕ) (table : List Acknowledgement) (kept originators lengths bytes : List ℕ) (top number at : ℕ) (r : Bool) → at ≡ place_of number → at < length kept
     → r
-    ≡ (if number ≤? top then kept_sound n table (message_in (get_or kept at 0) (get_or originators at 0) (get_or lengths at 0) (part_of bytes at))
+    ≡ (when number ≤? top then kept_sound n table (message_in (get_or kept at 0) (get_or originators at 0) (get_or lengths at 0) (part_of bytes at))
     else is_empty (message_in (get_or kept at 0) (get_or originators at 0) (get_or lengths at 0) (part_of bytes at)))
     → r ≡ place_sound n table (messages_in kept originators lengths bytes) top number
 unfolding place_sound
 place_asked n table kept originators lengths bytes top number at r p h e =
     e
-    ∙ ap (λ (m : Message). if number ≤? top then kept_sound n table m else is_empty m)
+    ∙ ap (λ (m : Message). when number ≤? top then kept_sound n table m else is_empty m)
     (sym (message_in_lem kept originators lengths bytes at h) ∙ ap (λ (k : ℕ). get_or (messages_in kept originators lengths bytes) k blank) p)
 
 pub of_asked : (kept originators : List ℕ) (m : MemberNumber) (count number at : ℕ) (r : Bool) → at ≡ place_of number → at < length kept
@@ -238,7 +238,7 @@ of_asked kept originators m count number at r p h e =
     ∙ ap (λ (x : Message). x.originator.0 =? m.0 and x.count =? count)
     (sym (message_in_lem kept originators [] [] at h) ∙ ap (λ (k : ℕ). get_or (listed kept originators) k blank) p)
 
-pub smallest_on : (survivors low i r : ℕ) (taken : List ℕ) → i < length taken → r ≡ (if is_in survivors i and get_or taken i 0 <? low then get_or taken i 0 else low)
+pub smallest_on : (survivors low i r : ℕ) (taken : List ℕ) → i < length taken → r ≡ (when is_in survivors i and get_or taken i 0 <? low then get_or taken i 0 else low)
     → least_of (is_in survivors) (λ (a : Acknowledgement). a.taken.0) i low (drop i (taken_only taken))
     ≡ least_of (is_in survivors) (λ (a : Acknowledgement). a.taken.0) (i + 1) r (drop (i + 1) (taken_only taken))
 smallest_on survivors low i r taken h e =

@@ -1,6 +1,6 @@
 -- The questions that a packet meets at the sequencer: 6 of its sender, 7 to 12, 25, and 16.
 use Rattle.std.specs.Prelude.{true, List, ℕ, ◌+◌}
-use Rattle.group.specs.Choice.{if◌then◌else◌, ask◌or◌then◌, ◌≤?◌, ◌<?◌, ◌=?◌}
+use Rattle.group.specs.Choice.{when◌then◌else◌, ask◌or◌then◌, ◌≤?◌, ◌<?◌, ◌=?◌}
 use Rattle.group.specs.Limits.{largest_number}
 use Rattle.group.specs.Members.{is_in, expected_of}
 use Rattle.group.specs.Question.{judged}
@@ -26,7 +26,7 @@ sender_verdict survivors most sender a =
 unfoldable pub count_verdict : ℕ → ℕ → ℕ → Verdict
 count_verdict last top count =
     ask count ≤? last + 1 or Verdict.Refused CountAhead then
-    ask (if count ≤? last then true else top <? largest_number) or Verdict.Refused NumbersUsedUp then
+    ask (when count ≤? last then true else top <? largest_number) or Verdict.Refused NumbersUsedUp then
     Verdict.Accepted
 
 -- question 12 of a gap
@@ -36,7 +36,7 @@ wanted_verdict top last = ask last.0 ≤? top or Verdict.Refused WantedAhead the
 -- question 25 of a confirmation: its number is accepted, or its sender is expected
 unfoldable pub expected_verdict : Group → ℕ → MemberNumber → SequenceNumber → Verdict
 expected_verdict group accepted sender number =
-    ask (if number.0 ≤? accepted then true else is_in (expected_of group) sender.0) or Verdict.Refused NotExpected then Verdict.Accepted
+    ask (when number.0 ≤? accepted then true else is_in (expected_of group) sender.0) or Verdict.Refused NotExpected then Verdict.Accepted
 
 -- those of a request
 unfoldable pub request_verdict : ℕ → List Acknowledgement → ℕ → ℕ → MemberNumber → SequenceNumber → ℕ → Verdict

@@ -2,7 +2,7 @@
 use Rattle.std.specs.Prelude.{Bool, List, ℕ, zero, suc, ◌+◌, get_or, set}
 use Rattle.std.specs.Int.Bits.{bit_or}
 use Rattle.std.specs.Int.Count.{ones}
-use Rattle.group.specs.Choice.{if◌then◌else◌, ◌and◌, ◌<?◌, ◌≤?◌, ◌=?◌}
+use Rattle.group.specs.Choice.{when◌then◌else◌, ◌and◌, ◌<?◌, ◌≤?◌, ◌=?◌}
 use Rattle.group.specs.Members.{only_of, is_within}
 use Rattle.group.specs.declared.MemberNumber.{MemberNumber}
 use Rattle.history.specs.State.{place_of}
@@ -20,7 +20,7 @@ marked_of marks m f (suc k) =
 unfoldable pub enough_of : List ℕ → ℕ → ℕ → ℕ → ℕ
 enough_of marks needed f zero = 0
 enough_of marks needed f (suc k) =
-    if needed ≤? ones (mark_at marks (f + suc k)) then f + suc k else
+    when needed ≤? ones (mark_at marks (f + suc k)) then f + suc k else
     enough_of marks needed f k
 
 -- the marks of the k numbers above f cleared
@@ -31,5 +31,5 @@ unmarked_of marks f (suc k) = set (unmarked_of marks f k) (place_of (f + suc k))
 -- a mark has expected members' bits only, and stands only at a number above the last accepted, up to top; every other is zero
 unfoldable pub mark_sound : ℕ → List ℕ → ℕ → ℕ → ℕ → Bool
 mark_sound expected marks accepted top number =
-    if accepted <? number and number ≤? top then is_within (mark_at marks number) expected else
+    when accepted <? number and number ≤? top then is_within (mark_at marks number) expected else
     mark_at marks number =? 0

@@ -1,7 +1,7 @@
 -- What noting an acknowledgement does to the table and to the history: the member's entry becomes the larger of old and new,
 -- and what the floor passes is cleared to zeros.
 use Rattle.std.specs.Prelude.{List, ℕ, zero, suc, ◌+◌, set}
-use Rattle.group.specs.Choice.{if◌then◌else◌, ◌<?◌}
+use Rattle.group.specs.Choice.{when◌then◌else◌, ◌<?◌}
 use Rattle.group.specs.declared.MemberNumber.{MemberNumber}
 use Rattle.group.specs.declared.SequenceNumber.{SequenceNumber}
 use Rattle.message.specs.Message.{Message, empty_message}
@@ -9,7 +9,7 @@ use Rattle.history.specs.State.{Acknowledgement, acknowledgement_of, place_of}
 
 -- the larger of two numbers
 unfoldable pub larger_of : ℕ → ℕ → ℕ
-larger_of a b = if a <? b then b else a
+larger_of a b = when a <? b then b else a
 
 -- an entry that has taken up to the larger of old and new
 abbrev pub with_taken : Acknowledgement → SequenceNumber → Acknowledgement

@@ -3,7 +3,7 @@
 
 ghost use Rattle.std.specs.Prelude.{true, [], ◌≡◌, ◌-◌, ◌<◌, ◌≤◌, length, get_or, set};
 ghost use Rattle.std.specs.Int.Count.{ones};
-ghost use Rattle.group.specs.Choice.{if◌then◌else◌, ◌and◌, ◌<?◌, ◌≤?◌, ◌=?◌};
+ghost use Rattle.group.specs.Choice.{when◌then◌else◌, ◌and◌, ◌<?◌, ◌≤?◌, ◌=?◌};
 ghost use Rattle.group.specs.Fold.{all, all_above};
 ghost use Rattle.group.specs.Limits.{members_most, places_most, payload_most, largest_number};
 ghost use Rattle.group.specs.Members.{is_in, is_within, expected_of};
@@ -45,7 +45,7 @@ fn survives(survivors: u16, i: usize) -> bool
 // The smaller of a survivor's number and the smallest so far; another's counts for nothing.
 fn smaller(survivors: u16, i: usize, a: u32, b: u32) -> u32
     requires { i < members_most }
-    ensures { result ≡ (if is_in survivors i and a <? b then a else b) }
+    ensures { result ≡ (when is_in survivors i and a <? b then a else b) }
 {
     if survives(survivors, i) {
         if a < b {
@@ -185,7 +185,7 @@ fn place_sound(
     at: usize,
 ) -> bool
     requires { (n ≤ members_most) × Lies at payloads.now × (mask.now ≡ mask_of) × (length counts.now ≡ members_most) }
-    ensures { result ≡ (if number ≤? top.0 then kept_sound n (counts_only counts.now) (message_in count originator size (part_of payloads.now at)) else is_empty (message_in count originator size (part_of payloads.now at))) }
+    ensures { result ≡ (when number ≤? top.0 then kept_sound n (counts_only counts.now) (message_in count originator size (part_of payloads.now at)) else is_empty (message_in count originator size (part_of payloads.now at))) }
 {
     if number <= (top.0 as u64) {
         return kept_sound(n, counts, count, originator, size, payloads, mask, at);
@@ -271,7 +271,7 @@ fn mark_sound(
     number: u64,
     mark: u16,
 ) -> bool
-    ensures { result ≡ (if accepted.0 <? number and number ≤? top.0 then is_within mark expected else mark =? 0) }
+    ensures { result ≡ (when accepted.0 <? number and number ≤? top.0 then is_within mark expected else mark =? 0) }
 {
     if (accepted.0 as u64) < number {
         if number <= (top.0 as u64) {
@@ -419,7 +419,7 @@ pub fn lay(
     payload: &[u8],
 )
     requires { (length payload.now ≤ payload_most) × Places kept.old originators.old lengths.old payloads.old }
-    ensures { messages_in kept.new originators.new lengths.new payloads.new ≡ set (messages_in kept.old originators.old lengths.old payloads.old) (place_of number.0) (if number.0 ≤? top.0 then message_at (messages_in kept.old originators.old lengths.old payloads.old) number.0 else message_of sender count payload.now) }
+    ensures { messages_in kept.new originators.new lengths.new payloads.new ≡ set (messages_in kept.old originators.old lengths.old payloads.old) (place_of number.0) (when number.0 ≤? top.0 then message_at (messages_in kept.old originators.old lengths.old payloads.old) number.0 else message_of sender count payload.now) }
 {
     if number.0 <= top.0 {
         return;
@@ -522,7 +522,7 @@ fn ask_sender(
 
 // Whether a next number is left, where a count wants one.
 fn number_left(last: u32, top: SequenceNumber, count: u32) -> bool
-    ensures { result ≡ (if count ≤? last then true else top.0 <? largest_number) }
+    ensures { result ≡ (when count ≤? last then true else top.0 <? largest_number) }
 {
     if count <= last {
         return true;
@@ -601,7 +601,7 @@ fn may_confirm(
     sender: MemberNumber,
     number: SequenceNumber,
 ) -> bool
-    ensures { result ≡ (if number.0 ≤? accepted.0 then true else is_in (expected_of group) sender.0) }
+    ensures { result ≡ (when number.0 ≤? accepted.0 then true else is_in (expected_of group) sender.0) }
 {
     if number.0 <= accepted.0 {
         return true;

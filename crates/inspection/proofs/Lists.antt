@@ -6,7 +6,7 @@ use Prim.Native.Nat.{ℕ, zero, suc, ◌+◌, ◌-◌, ◌≤◌, ◌<◌}
 use native.Mathlib.Numerals.{add-one}
 use native.Mathlib.Omega.{arith}
 use lib.ListN.{length, get_or, length-map, get_or-map}
-use Rattle.group.proofs.Choice.{if_eq, if_ne}
+use Rattle.group.proofs.Choice.{when_eq, when_ne}
 use Rattle.group.specs.declared.MemberNumber.{MemberNumber}
 use Rattle.jobs.specs.Job.{unused_state, waiting_state, no_job}
 use Rattle.jobs.specs.declared.Job.{Job}
@@ -27,20 +27,20 @@ use Rattle.inspection.specs.Lists.{holder_text, used_line, job_line, job_lines, 
 -- the holder of a job that waits, and of one that does not
 pub waiting_text : (state : ℕ) (m : MemberNumber) → state ≡ waiting_state → text_of "waiting" ≡ holder_text state m
 unfolding holder_text
-waiting_text state m h = if_eq state waiting_state (text_of "waiting") (text_of "waiting") (decimal_of m.0) h refl
+waiting_text state m h = when_eq state waiting_state (text_of "waiting") (text_of "waiting") (decimal_of m.0) h refl
 
 pub holder_text_lem : (state : ℕ) (m : MemberNumber) → (state ≡ waiting_state → ⊥) → decimal_of m.0 ≡ holder_text state m
 unfolding holder_text
-holder_text_lem state m h = if_ne state waiting_state (decimal_of m.0) (text_of "waiting") (decimal_of m.0) h refl
+holder_text_lem state m h = when_ne state waiting_state (decimal_of m.0) (text_of "waiting") (decimal_of m.0) h refl
 
 -- the line of an unused record, and of another
 pub unused_line : (i place : ℕ) (job : Job) → job.state ≡ unused_state → [] ≡ job_line i place job
 unfolding job_line
-unused_line i place job h = if_eq job.state unused_state [] [] (used_line i place job) h refl
+unused_line i place job h = when_eq job.state unused_state [] [] (used_line i place job) h refl
 
 pub used_line_lem : (i place : ℕ) (job : Job) → (job.state ≡ unused_state → ⊥) → used_line i place job ≡ job_line i place job
 unfolding job_line
-used_line_lem i place job h = if_ne job.state unused_state (used_line i place job) [] (used_line i place job) h refl
+used_line_lem i place job h = when_ne job.state unused_state (used_line i place job) [] (used_line i place job) h refl
 
 -- a field under another name
 pub field_as : {at next : ℕ} {lent after : List ℕ} (a b : List ℕ) → a ≡ b → LaidAt at (spaced (a ∷ [])) lent after next → LaidAt at (spaced (b ∷ [])) lent after next

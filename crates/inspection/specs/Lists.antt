@@ -1,6 +1,6 @@
 -- What `inspect` prints of the work lists: a heading, and then a line a job, terminals and places in turn.
 use Rattle.std.specs.Prelude.{◌≡◌, List, [], ◌∷◌, ◌++◌, ℕ, zero, suc, ◌+◌, ◌*◌, length, take, get_or}
-use Rattle.group.specs.Choice.{if◌then◌else◌, ◌=?◌}
+use Rattle.group.specs.Choice.{when◌then◌else◌, ◌=?◌}
 use Rattle.group.specs.Limits.{job_most}
 use Rattle.group.specs.declared.MemberNumber.{MemberNumber}
 use Rattle.jobs.specs.Job.{unused_state, waiting_state, no_job}
@@ -18,7 +18,7 @@ job_columns = text_of "terminal" ∷ text_of "place" ∷ text_of "holder" ∷ te
 
 -- the member that a job is given to, or that it waits
 unfoldable pub holder_text : ℕ → MemberNumber → List ℕ
-holder_text state m = if state =? waiting_state then text_of "waiting" else decimal_of m.0
+holder_text state m = when state =? waiting_state then text_of "waiting" else decimal_of m.0
 
 -- the job at a place of terminal i's list: whom it is given to, and its bytes in hex
 abbrev pub used_line : ℕ → ℕ → Job → List ℕ
@@ -27,7 +27,7 @@ used_line i place job =
 
 -- an unused record has no line
 unfoldable pub job_line : ℕ → ℕ → Job → List ℕ
-job_line i place job = if job.state =? unused_state then [] else used_line i place job
+job_line i place job = when job.state =? unused_state then [] else used_line i place job
 
 -- those of the first k places
 unfoldable pub job_lines : ℕ → List Job → ℕ → List ℕ

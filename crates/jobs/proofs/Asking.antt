@@ -6,13 +6,13 @@ use mathlib.Core.List.{List, [], ◌∷◌}
 use Prim.Native.Nat.{ℕ}
 use native.Mathlib.Omega.{arith}
 use lib.ListN.{drop, set}
-use Rattle.group.specs.Choice.{if◌then◌else◌, ask◌or◌then◌, ◌<?◌}
+use Rattle.group.specs.Choice.{when◌then◌else◌, ask◌or◌then◌, ◌<?◌}
 use Rattle.group.specs.Limits.{jobs_most}
 use Rattle.group.specs.Question.{Question, first_no, judged}
 use Rattle.group.specs.declared.MemberNumber.{MemberNumber}
 use Rattle.group.specs.declared.Refusal.{Refusal}
 use Rattle.group.specs.declared.Verdict.{Verdict}
-use Rattle.group.proofs.Lists.{if_elim}
+use Rattle.group.proofs.Lists.{when_elim}
 use Rattle.group.proofs.Question.{judged_ask}
 use Rattle.jobs.specs.Feed.{is_add, is_fetch, for_list, refused, add_of, finish_of, give_of, form_of, feed_of}
 use Rattle.jobs.specs.Job.{unused_state, waiting_state, waiting_job, place_of}
@@ -47,7 +47,7 @@ asked jobs questions o step e accepts =
     }
 
 ask_same : (t : Bool) (r x y : Outcome) → (t ≡ true → x ≡ y) → ask t or r then x ≡ ask t or r then y
-unfolding if◌then◌else◌
+unfolding when◌then◌else◌
 ask_same true r x y e = e refl
 ask_same false r x y e = refl
 
@@ -55,15 +55,15 @@ module _ (jobs : List Job) (m : MemberNumber) (payload : List ℕ) where
   -- the step behind the questions
   abbrev taken : Outcome
   taken =
-      if is_fetch payload then give_of (finish_of jobs m) m else
+      when is_fetch payload then give_of (finish_of jobs m) m else
       record { jobs = set jobs (place_of unused_state 0 jobs) (waiting_job (drop 1 payload)); answer = Added }
 
   -- question 20, of an add
   abbrev full : Question
-  full = record { yes = if is_add payload then place_of unused_state 0 jobs <? jobs_most else true; refusal = Refusal.ListFull }
+  full = record { yes = when is_add payload then place_of unused_state 0 jobs <? jobs_most else true; refusal = Refusal.ListFull }
 
   form_asked : for_list m payload ≡ true → form_of jobs m payload ≡ judged (first_no (full ∷ [])) (refused jobs) taken
-  unfolding form_of add_of first_no judged if◌then◌else◌
+  unfolding form_of add_of first_no judged when◌then◌else◌
   form_asked f = go (is_fetch payload) refl
     where
       go : (t : Bool) → is_fetch payload ≡ t → form_of jobs m payload ≡ judged (first_no (full ∷ [])) (refused jobs) taken
@@ -76,8 +76,8 @@ module _ (jobs : List Job) (m : MemberNumber) (payload : List ℕ) where
   taken_accepts : Accepts taken
   unfolding give_of
   taken_accepts =
-      if_elim Accepts (is_fetch payload)
-      (λ _. if_elim Accepts (place_of waiting_state 0 (finish_of jobs m) <? jobs_most) (λ _. record { no = refl }) (λ _. record { no = refl }))
+      when_elim Accepts (is_fetch payload)
+      (λ _. when_elim Accepts (place_of waiting_state 0 (finish_of jobs m) <? jobs_most) (λ _. record { no = refl }) (λ _. record { no = refl }))
       (λ _. record { no = refl })
 
 pub feed_first_no : FeedFirstNo

@@ -6,11 +6,11 @@ use native.Mathlib.Nat.{not-suc-le-zero, le_of_suc-le-suc}
 use native.Mathlib.Omega.{arith}
 use borrow.Author.Tests.{lt-ltb, le-ltb, ltb-true, ltb-false}
 use lib.ListN.{length, drop, set, replicate}
-use Rattle.group.specs.Choice.{if◌then◌else◌, ◌<?◌, ◌=?◌}
+use Rattle.group.specs.Choice.{when◌then◌else◌, ◌<?◌, ◌=?◌}
 use Rattle.group.specs.Limits.{jobs_most}
 use Rattle.group.specs.declared.MemberNumber.{MemberNumber}
-use Rattle.group.proofs.Choice.{if_eq, if_ne, if_true, if_false}
-use Rattle.group.proofs.Lists.{if_elim}
+use Rattle.group.proofs.Choice.{when_eq, when_ne, when_true, when_false}
+use Rattle.group.proofs.Lists.{when_elim}
 use Rattle.jobs.specs.Count.{count_of, waiting_in, given_in, holds, added_by, finished_by}
 use Rattle.jobs.specs.Feed.{is_fetch, for_list, refused, add_of, without_place, finish_of, give_of, form_of, feed_of}
 use Rattle.jobs.specs.Job.{unused_state, waiting_state, given_state, no_job, no_jobs, waiting_job, given_to, place_of}
@@ -25,13 +25,13 @@ use Rattle.jobs.proofs.Soundness.{record_at, of_is, no_job_unused, sound_of_lem}
 
 -- one for a record with that state
 abbrev one : ℕ → Job → ℕ
-one state job = if job.state =? state then 1 else 0
+one state job = when job.state =? state then 1 else 0
 
 counts : (state : ℕ) (job : Job) → job.state ≡ state → ◌≡◌ {A = ℕ} (one state job) 1
-counts state job e = sym (if_eq job.state state 1 1 0 e refl)
+counts state job e = sym (when_eq job.state state 1 1 0 e refl)
 
 counts_not : (state other : ℕ) (job : Job) → job.state ≡ other → (other ≡ state → ⊥) → ◌≡◌ {A = ℕ} (one state job) 0
-counts_not state other job e n = sym (if_ne job.state state 0 1 0 (λ z. n (sym e ∙ z)) refl)
+counts_not state other job e n = sym (when_ne job.state state 0 1 0 (λ z. n (sym e ∙ z)) refl)
 
 waits : (bytes : List ℕ) → (waiting_job bytes).state ≡ waiting_state
 unfolding waiting_job
@@ -74,7 +74,7 @@ module _ (jobs : List Job) (size : length jobs ≡ jobs_most) where
   add_balances : (m : MemberNumber) (bytes : List ℕ) → Balances jobs m (add_of jobs bytes)
   unfolding add_of refused added_by finished_by
   add_balances m bytes =
-      if_elim (Balances jobs m) (place_of unused_state 0 jobs <? jobs_most)
+      when_elim (Balances jobs m) (place_of unused_state 0 jobs <? jobs_most)
       (λ t. let k : ℕ = place_of unused_state 0 jobs in
       let l = ltb-true k jobs_most t in
       let inside : k < length jobs = omega (arith, size, l) in
@@ -89,10 +89,10 @@ module _ (jobs : List Job) (size : length jobs ≡ jobs_most) where
       (λ f. record { balance = refl })
 
   -- the finishing: one fewer is given, where the member held one
-  finish_counts : (m : MemberNumber) → (waiting_in (finish_of jobs m) ≡ waiting_in jobs) × (given_in (finish_of jobs m) + (if holds jobs m then 1 else 0) ≡ given_in jobs)
+  finish_counts : (m : MemberNumber) → (waiting_in (finish_of jobs m) ≡ waiting_in jobs) × (given_in (finish_of jobs m) + (when holds jobs m then 1 else 0) ≡ given_in jobs)
   unfolding finish_of holds
   finish_counts m =
-      if_elim (λ (l : List Job). (waiting_in l ≡ waiting_in jobs) × (given_in l + (if place_of given_state m.0 jobs <? length jobs then 1 else 0) ≡ given_in jobs))
+      when_elim (λ (l : List Job). (waiting_in l ≡ waiting_in jobs) × (given_in l + (when place_of given_state m.0 jobs <? length jobs then 1 else 0) ≡ given_in jobs))
       (place_of given_state m.0 jobs <? jobs_most)
       (λ t. let k : ℕ = place_of given_state m.0 jobs in
       let l = ltb-true k jobs_most t in
@@ -104,18 +104,18 @@ module _ (jobs : List Job) (size : length jobs ≡ jobs_most) where
       let g₀ = counts given_state (record_at jobs k) u in
       let w₁ = counts_not waiting_state unused_state no_job no_job_unused (λ z. omega arith) in
       let g₁ = counts_not given_state unused_state no_job no_job_unused (λ z. omega arith) in
-      let h : ◌≡◌ {A = ℕ} (if k <? length jobs then 1 else 0) 1 = sym (if_true (k <? length jobs) 1 1 0 (lt-ltb k (length jobs) inside) refl) in
+      let h : ◌≡◌ {A = ℕ} (when k <? length jobs then 1 else 0) 1 = sym (when_true (k <? length jobs) 1 1 0 (lt-ltb k (length jobs) inside) refl) in
       (omega (arith, w, w₀, w₁), omega (arith, g, g₀, g₁, h)))
       (λ f. let l = ltb-false (place_of given_state m.0 jobs) jobs_most f in
-      let h : ◌≡◌ {A = ℕ} (if place_of given_state m.0 jobs <? length jobs then 1 else 0) 0 =
-      sym (if_false (place_of given_state m.0 jobs <? length jobs) 0 1 0 (le-ltb (place_of given_state m.0 jobs) (length jobs) (omega (arith, size, l))) refl) in
+      let h : ◌≡◌ {A = ℕ} (when place_of given_state m.0 jobs <? length jobs then 1 else 0) 0 =
+      sym (when_false (place_of given_state m.0 jobs <? length jobs) 0 1 0 (le-ltb (place_of given_state m.0 jobs) (length jobs) (omega (arith, size, l))) refl) in
       (refl, omega (arith, h)))
 
   -- the giving: one that waits is given
   give_counts : (m : MemberNumber) → waiting_in (give_of jobs m).jobs + given_in (give_of jobs m).jobs ≡ waiting_in jobs + given_in jobs
   unfolding give_of
   give_counts m =
-      if_elim (λ (o : Outcome). waiting_in o.jobs + given_in o.jobs ≡ waiting_in jobs + given_in jobs) (place_of waiting_state 0 jobs <? jobs_most)
+      when_elim (λ (o : Outcome). waiting_in o.jobs + given_in o.jobs ≡ waiting_in jobs + given_in jobs) (place_of waiting_state 0 jobs <? jobs_most)
       (λ t. let k : ℕ = place_of waiting_state 0 jobs in
       let l = ltb-true k jobs_most t in
       let inside : k < length jobs = omega (arith, size, l) in
@@ -130,19 +130,19 @@ module _ (jobs : List Job) (size : length jobs ≡ jobs_most) where
       (λ f. refl)
 
 -- a fetch that is accepted adds no job, and finishes one if its sender held one
-give_answers : (jobs list : List Job) (m : MemberNumber) → (added_by (give_of list m).answer ≡ 0) × (finished_by jobs m (give_of list m).answer ≡ (if holds jobs m then 1 else 0))
+give_answers : (jobs list : List Job) (m : MemberNumber) → (added_by (give_of list m).answer ≡ 0) × (finished_by jobs m (give_of list m).answer ≡ (when holds jobs m then 1 else 0))
 unfolding give_of added_by finished_by
 give_answers jobs list m =
-    if_elim (λ (o : Outcome). (added_by o.answer ≡ 0) × (finished_by jobs m o.answer ≡ (if holds jobs m then 1 else 0))) (place_of waiting_state 0 list <? jobs_most)
+    when_elim (λ (o : Outcome). (added_by o.answer ≡ 0) × (finished_by jobs m o.answer ≡ (when holds jobs m then 1 else 0))) (place_of waiting_state 0 list <? jobs_most)
     (λ t. (refl, refl)) (λ f. (refl, refl))
 
 pub feed_balances : FeedBalances
 unfolding feed_of form_of refused added_by finished_by
 feed_balances jobs m payload =
-    if_elim (Balances jobs m) (sound_of jobs)
-    (λ t. if_elim (Balances jobs m) (for_list m payload)
+    when_elim (Balances jobs m) (sound_of jobs)
+    (λ t. when_elim (Balances jobs m) (for_list m payload)
     (λ f. let s = sound_of_lem jobs t in
-    if_elim (Balances jobs m) (is_fetch payload)
+    when_elim (Balances jobs m) (is_fetch payload)
     (λ y. let a = finish_counts jobs s.size m in
     let b = give_counts (finish_of jobs m) (finish_sound jobs m s).0.size m in
     let c = give_answers jobs (finish_of jobs m) m in

@@ -7,14 +7,14 @@ use native.Mathlib.Omega.{arith}
 use borrow.Author.Tests.{ltb-true, leb-true, eqb-true, ne_eqb}
 use lib.ListN.{length, take, drop, get_or}
 use lib.Seq.{take-length}
-use Rattle.group.specs.Choice.{if◌then◌else◌, ◌<?◌, ◌≤?◌, ◌=?◌}
+use Rattle.group.specs.Choice.{when◌then◌else◌, ◌<?◌, ◌≤?◌, ◌=?◌}
 use Rattle.group.specs.Limits.{members_most, payload_most}
 use Rattle.group.specs.declared.MemberNumber.{MemberNumber}
 use Rattle.group.proofs.Choice.{both_first, both_then, then_fails}
 use Rattle.jobs.specs.Feed.{is_add, is_fetch, for_list}
 
-either : (t u : Bool) → (if t then true else u) ≡ true → u ≡ false → t ≡ true
-unfolding if◌then◌else◌
+either : (t u : Bool) → (when t then true else u) ≡ true → u ≡ false → t ≡ true
+unfolding when◌then◌else◌
 either true u e n = refl
 either false u e n = sym n ∙ e
 

@@ -9,11 +9,11 @@ use native.Mathlib.Omega.{arith}
 use borrow.Author.Tests.{lt-ltb, le-leb, ltb-true, ltb-false}
 use lib.ListN.{length, drop, set, replicate, length-set, length-drop, length-replicate, get_or-replicate, get_or-eq_default}
 use lib.Seq.{drop_at, get_or-set_same, get_or-set_other}
-use Rattle.group.specs.Choice.{if◌then◌else◌, ◌<?◌, ◌≤?◌}
+use Rattle.group.specs.Choice.{when◌then◌else◌, ◌<?◌, ◌≤?◌}
 use Rattle.group.specs.Limits.{members_most, jobs_most, job_most}
 use Rattle.group.specs.declared.MemberNumber.{MemberNumber}
-use Rattle.group.proofs.Choice.{if_lt, if_nlt, both_hold, both_then}
-use Rattle.group.proofs.Lists.{if_elim, eq_or, le_or}
+use Rattle.group.proofs.Choice.{when_lt, when_nlt, both_hold, both_then}
+use Rattle.group.proofs.Lists.{when_elim, eq_or, le_or}
 use Rattle.message.specs.Message.{all_zero}
 use Rattle.jobs.specs.Feed.{is_fetch, for_list, refused, add_of, without_place, finish_of, give_of, form_of, feed_of}
 use Rattle.jobs.specs.Job.{unused_state, waiting_state, given_state, no_job, no_jobs, waiting_job, given_to, place_of}
@@ -68,20 +68,20 @@ module _ (jobs : List Job) (k : ℕ) (job : Job) (inside : k < length jobs) wher
 
 -- ---- the records that are put
 zeros_behind : (n k : ℕ) → all_zero (drop n (replicate k 0)) ≡ true
-unfolding all_zero if◌then◌else◌
+unfolding all_zero when◌then◌else◌
 zeros_behind zero zero = refl
 zeros_behind zero (suc k) = zeros_behind zero k
 zeros_behind (suc n) zero = refl
 zeros_behind (suc n) (suc k) = zeros_behind n k
 
 waiting_sound_lem : (bytes : List ℕ) → length bytes ≤ job_most → job_sound (waiting_job bytes) ≡ true
-unfolding job_sound holder_sound waiting_job if◌then◌else◌
+unfolding job_sound holder_sound waiting_job when◌then◌else◌
 waiting_sound_lem bytes h =
     both_hold (length bytes ≤? job_most) _ (le-leb (length bytes) job_most h)
     (ap all_zero (drop_at bytes (drop (length bytes) (replicate job_most 0)) (length bytes) refl) ∙ zeros_behind (length bytes) job_most)
 
 held_sound_lem : (m : MemberNumber) (job : Job) → m.0 < members_most → holder_sound (given_to m job) ≡ true
-unfolding holder_sound given_to if◌then◌else◌
+unfolding holder_sound given_to when◌then◌else◌
 held_sound_lem m job h = lt-ltb m.0 members_most h
 
 given_sound : (m : MemberNumber) (job : Job) → job_sound job ≡ true → m.0 < members_most → job_sound (given_to m job) ≡ true
@@ -91,7 +91,7 @@ given_sound m job e h = both_hold (holder_sound (given_to m job)) _ (held_sound_
 pub add_sound : (jobs : List Job) (bytes : List ℕ) → Sound jobs → length bytes ≤ job_most → Sound (add_of jobs bytes).jobs
 unfolding add_of refused waiting_job
 add_sound jobs bytes s h =
-    if_elim (λ (o : Outcome). Sound o.jobs) (place_of unused_state 0 jobs <? jobs_most)
+    when_elim (λ (o : Outcome). Sound o.jobs) (place_of unused_state 0 jobs <? jobs_most)
     (λ t. let k : ℕ = place_of unused_state 0 jobs in
     let l = ltb-true k jobs_most t in
     let inside : k < length jobs = (let n = s.size in omega arith) in
@@ -102,10 +102,10 @@ add_sound jobs bytes s h =
 
 -- ---- a place closes up
 abbrev skip : ℕ → ℕ → ℕ
-skip k i = if i <? k then i else i + 1
+skip k i = when i <? k then i else i + 1
 
 skip_or : {B : Type 0} (k i : ℕ) → (i < k → skip k i ≡ i → B) → (k ≤ i → skip k i ≡ i + 1 → B) → B
-skip_or k i before behind = le_or k i (λ h. behind h (sym (if_nlt i k (i + 1) i (i + 1) h refl))) (λ h. before h (sym (if_lt i k i i (i + 1) h refl)))
+skip_or k i before behind = le_or k i (λ h. behind h (sym (when_nlt i k (i + 1) i (i + 1) h refl))) (λ h. before h (sym (when_lt i k i i (i + 1) h refl)))
 
 skip_up : (k i j : ℕ) → j < i → skip k j < skip k i
 skip_up k i j h =
@@ -146,7 +146,7 @@ Free m jobs = (i : ℕ) → (record_at jobs i).state ≡ given_state → (record
 pub finish_sound : (jobs : List Job) (m : MemberNumber) → Sound jobs → Sound (finish_of jobs m) × Free m.0 (finish_of jobs m)
 unfolding finish_of
 finish_sound jobs m s =
-    if_elim (λ (l : List Job). Sound l × Free m.0 l) (place_of given_state m.0 jobs <? jobs_most)
+    when_elim (λ (l : List Job). Sound l × Free m.0 l) (place_of given_state m.0 jobs <? jobs_most)
     (λ t. let k : ℕ = place_of given_state m.0 jobs in
     let l = ltb-true k jobs_most t in
     let inside : k < length jobs = (let n = s.size in omega arith) in
@@ -168,7 +168,7 @@ finish_sound jobs m s =
 pub give_sound : (jobs : List Job) (m : MemberNumber) → Sound jobs → Free m.0 jobs → m.0 < members_most → Sound (give_of jobs m).jobs
 unfolding give_of given_to
 give_sound jobs m s free h =
-    if_elim (λ (o : Outcome). Sound o.jobs) (place_of waiting_state 0 jobs <? jobs_most)
+    when_elim (λ (o : Outcome). Sound o.jobs) (place_of waiting_state 0 jobs <? jobs_most)
     (λ t. let k : ℕ = place_of waiting_state 0 jobs in
     let l = ltb-true k jobs_most t in
     let inside : k < length jobs = (let n = s.size in omega arith) in
@@ -182,15 +182,15 @@ give_sound jobs m s free h =
 form_sound : (jobs : List Job) (m : MemberNumber) (payload : List ℕ) → Sound jobs → for_list m payload ≡ true → Sound (form_of jobs m payload).jobs
 unfolding form_of
 form_sound jobs m payload s f =
-    if_elim (λ (o : Outcome). Sound o.jobs) (is_fetch payload)
+    when_elim (λ (o : Outcome). Sound o.jobs) (is_fetch payload)
     (λ t. let left = finish_sound jobs m s in give_sound (finish_of jobs m) m left.0 left.1 (for_list_member m payload f))
     (λ n. let a = for_list_adds m payload f n in let d = length-drop 1 payload in add_sound jobs (drop 1 payload) s (omega (arith, a.1, a.2, d)))
 
 pub feed_keeps : FeedKeeps
 unfolding feed_of refused
 feed_keeps jobs m payload =
-    if_elim (Keeps jobs) (sound_of jobs)
-    (λ t. if_elim (Keeps jobs) (for_list m payload)
+    when_elim (Keeps jobs) (sound_of jobs)
+    (λ t. when_elim (Keeps jobs) (for_list m payload)
     (λ f. let s = sound_of_lem jobs t in
     let k = form_sound jobs m payload s f in
     record { size = k.size ∙ sym s.size; sound = λ _. of_sound (form_of jobs m payload).jobs k })

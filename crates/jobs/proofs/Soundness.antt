@@ -8,12 +8,12 @@ use Prim.Native.Nat.{ℕ, ◌<◌}
 use native.Mathlib.Omega.{arith}
 use borrow.Author.Tests.{lt-ltb, eq-eqb, ne_eqb, ltb-true, eqb-true, eqb-false}
 use lib.ListN.{length, drop, get_or, get_or-eq_default}
-use Rattle.group.specs.Choice.{if◌then◌else◌, ◌and◌, ◌<?◌, ◌≤?◌, ◌=?◌}
+use Rattle.group.specs.Choice.{when◌then◌else◌, ◌and◌, ◌<?◌, ◌≤?◌, ◌=?◌}
 use Rattle.group.specs.Fold.{all}
 use Rattle.group.specs.Limits.{jobs_most, job_most}
 use Rattle.group.proofs.Choice.{both_hold, both_first, both_then}
 use Rattle.group.proofs.Fold.{all_at, at_all}
-use Rattle.group.proofs.Lists.{if_elim, eq_or, le_or}
+use Rattle.group.proofs.Lists.{when_elim, eq_or, le_or}
 use Rattle.message.specs.Message.{all_zero}
 use Rattle.jobs.specs.Job.{unused_state, given_state, no_job, is_of, place_of}
 use Rattle.jobs.specs.Sound.{holder_sound, job_sound, place_sound, record_sound, sound_of}
@@ -46,12 +46,12 @@ unfolding no_job
 no_job_unused = refl
 
 pub no_job_sound : job_sound no_job ≡ true
-unfolding job_sound holder_sound no_job all_zero if◌then◌else◌
+unfolding job_sound holder_sound no_job all_zero when◌then◌else◌
 no_job_sound = refl
 
 -- an unused record has no member
 pub unused_member : (job : Job) → job_sound job ≡ true → job.state ≡ unused_state → job.member.0 ≡ 0
-unfolding job_sound holder_sound if◌then◌else◌
+unfolding job_sound holder_sound when◌then◌else◌
 unused_member job e u =
     let h : holder_sound job ≡ true = both_first (holder_sound job) (job.length ≤? job_most and all_zero (drop job.length job.bytes)) e in
     let z : (job.member.0 =? 0 and job.length =? 0) ≡ true = rw (eq-eqb job.state unused_state u) at h in
@@ -66,9 +66,9 @@ given_used job g u = let z : given_state ≡ unused_state = sym g ∙ u in omega
 
 -- ---- one place
 module _ (jobs : List Job) (place : ℕ) (job : Job) where
-  used_sound : (if job.state =? unused_state then true else (place <? place_of unused_state 0 jobs and (if job.state =? given_state then place_of given_state job.member.0 jobs =? place else true))) ≡ true
-      → job.state ≢ unused_state → place <? place_of unused_state 0 jobs and (if job.state =? given_state then place_of given_state job.member.0 jobs =? place else true) ≡ true
-  unfolding if◌then◌else◌
+  used_sound : (when job.state =? unused_state then true else (place <? place_of unused_state 0 jobs and (when job.state =? given_state then place_of given_state job.member.0 jobs =? place else true))) ≡ true
+      → job.state ≢ unused_state → place <? place_of unused_state 0 jobs and (when job.state =? given_state then place_of given_state job.member.0 jobs =? place else true) ≡ true
+  unfolding when◌then◌else◌
   used_sound e u = rw (ne_eqb job.state unused_state u) at e
 
   place_first : place_sound jobs place job ≡ true → job.state ≢ unused_state → place < place_of unused_state 0 jobs
@@ -76,7 +76,7 @@ module _ (jobs : List Job) (place : ℕ) (job : Job) where
   place_first e u = ltb-true place (place_of unused_state 0 jobs) (both_first (place <? place_of unused_state 0 jobs) _ (used_sound e u))
 
   place_alone : place_sound jobs place job ≡ true → job.state ≡ given_state → place_of given_state job.member.0 jobs ≡ place
-  unfolding place_sound if◌then◌else◌
+  unfolding place_sound when◌then◌else◌
   place_alone e g =
       let z = both_then (place <? place_of unused_state 0 jobs) _ (used_sound e (given_used job g)) in
       eqb-true (place_of given_state job.member.0 jobs) place (rw (eq-eqb job.state given_state g) at z)
@@ -85,10 +85,10 @@ module _ (jobs : List Job) (place : ℕ) (job : Job) where
   unfolding place_sound
   place_sound_lem first alone =
       eq_or job.state unused_state
-      (λ u. if_elim (λ (t : Bool). t ≡ true) (job.state =? unused_state) (λ t. refl) (λ f. absurd (eqb-false job.state unused_state f u)))
-      (λ u. if_elim (λ (t : Bool). t ≡ true) (job.state =? unused_state) (λ t. refl)
+      (λ u. when_elim (λ (t : Bool). t ≡ true) (job.state =? unused_state) (λ t. refl) (λ f. absurd (eqb-false job.state unused_state f u)))
+      (λ u. when_elim (λ (t : Bool). t ≡ true) (job.state =? unused_state) (λ t. refl)
       (λ f. both_hold (place <? place_of unused_state 0 jobs) _ (lt-ltb place (place_of unused_state 0 jobs) (first u))
-      (if_elim (λ (t : Bool). t ≡ true) (job.state =? given_state)
+      (when_elim (λ (t : Bool). t ≡ true) (job.state =? given_state)
       (λ t. eq-eqb (place_of given_state job.member.0 jobs) place (alone (eqb-true job.state given_state t))) (λ f. refl))))
 
 -- ---- the list

@@ -1,6 +1,6 @@
 -- How many jobs wait and are given, and what a feed adds to those added and finished.
 use Rattle.std.specs.Prelude.{Bool, List, [], ◌∷◌, ℕ, ◌+◌, length}
-use Rattle.group.specs.Choice.{if◌then◌else◌, ◌<?◌, ◌=?◌}
+use Rattle.group.specs.Choice.{when◌then◌else◌, ◌<?◌, ◌=?◌}
 use Rattle.group.specs.declared.MemberNumber.{MemberNumber}
 use Rattle.jobs.specs.Job.{waiting_state, given_state, place_of}
 use Rattle.jobs.specs.declared.Answer.{Answer}
@@ -10,7 +10,7 @@ use Rattle.jobs.specs.declared.Job.{Job}
 -- the records with a state
 unfoldable pub count_of : ℕ → List Job → ℕ
 count_of state [] = 0
-count_of state (job ∷ rest) = (if job.state =? state then 1 else 0) + count_of state rest
+count_of state (job ∷ rest) = (when job.state =? state then 1 else 0) + count_of state rest
 
 abbrev pub waiting_in : List Job → ℕ
 waiting_in jobs = count_of waiting_state jobs
@@ -33,5 +33,5 @@ added_by None = 0
 unfoldable pub finished_by : List Job → MemberNumber → Answer → ℕ
 finished_by jobs m (Refused refusal) = 0
 finished_by jobs m Added = 0
-finished_by jobs m (Given place) = if holds jobs m then 1 else 0
-finished_by jobs m None = if holds jobs m then 1 else 0
+finished_by jobs m (Given place) = when holds jobs m then 1 else 0
+finished_by jobs m None = when holds jobs m then 1 else 0

@@ -1,7 +1,7 @@
 -- A feed: a message that was taken, by its originator and its payload. It goes down its questions in their order, and then takes
 -- its step.
 use Rattle.std.specs.Prelude.{Bool, true, List, [], ◌∷◌, ◌++◌, ℕ, ◌+◌, length, take, drop, get_or, set}
-use Rattle.group.specs.Choice.{if◌then◌else◌, ask◌or◌then◌, ◌and◌, ◌<?◌, ◌≤?◌, ◌=?◌}
+use Rattle.group.specs.Choice.{when◌then◌else◌, ask◌or◌then◌, ◌and◌, ◌<?◌, ◌≤?◌, ◌=?◌}
 use Rattle.group.specs.Limits.{members_most, payload_most, jobs_most}
 use Rattle.group.specs.declared.MemberNumber.{MemberNumber}
 use Rattle.group.specs.declared.Refusal.{Refusal}
@@ -21,7 +21,7 @@ unfoldable pub is_fetch : List ℕ → Bool
 is_fetch payload = length payload =? 1 and get_or payload 0 0 =? 2
 
 abbrev pub of_form : List ℕ → Bool
-of_form payload = if is_add payload then true else is_fetch payload
+of_form payload = when is_add payload then true else is_fetch payload
 
 -- question 19, one question: a member to 15, and a payload of a form and at most the limit's bytes
 unfoldable pub for_list : MemberNumber → List ℕ → Bool
@@ -44,7 +44,7 @@ without_place place jobs = take place jobs ++ (drop (place + 1) jobs ++ (no_job 
 -- a fetch first finishes the member's earlier job, if it has one
 unfoldable pub finish_of : List Job → MemberNumber → List Job
 finish_of jobs m =
-    if place_of given_state m.0 jobs <? jobs_most then without_place (place_of given_state m.0 jobs) jobs else
+    when place_of given_state m.0 jobs <? jobs_most then without_place (place_of given_state m.0 jobs) jobs else
     jobs
 
 -- the job at a place, given to a member
@@ -54,14 +54,14 @@ with_given place m jobs = set jobs place (given_to m (get_or jobs place no_job))
 -- then it gives the member the oldest job not given out, if there is one
 unfoldable pub give_of : List Job → MemberNumber → Outcome
 give_of jobs m =
-    if place_of waiting_state 0 jobs <? jobs_most
+    when place_of waiting_state 0 jobs <? jobs_most
     then record { jobs = with_given (place_of waiting_state 0 jobs) m jobs; answer = Given (place_of waiting_state 0 jobs) }
     else record { jobs = jobs; answer = None }
 
 -- a payload of a form
 unfoldable pub form_of : List Job → MemberNumber → List ℕ → Outcome
 form_of jobs m payload =
-    if is_fetch payload then give_of (finish_of jobs m) m else
+    when is_fetch payload then give_of (finish_of jobs m) m else
     add_of jobs (drop 1 payload)
 
 -- the call

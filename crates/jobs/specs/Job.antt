@@ -1,6 +1,6 @@
 -- A record of the work list, and where in the list the first of a kind stands.
 use Rattle.std.specs.Prelude.{Bool, List, [], ◌∷◌, ℕ, suc, length, replicate}
-use Rattle.group.specs.Choice.{if◌then◌else◌, ◌and◌, ◌=?◌}
+use Rattle.group.specs.Choice.{when◌then◌else◌, ◌and◌, ◌=?◌}
 use Rattle.group.specs.Lent.{front}
 use Rattle.group.specs.Limits.{jobs_most, job_most}
 use Rattle.group.specs.declared.MemberNumber.{MemberNumber}
@@ -40,4 +40,4 @@ is_of state member job = job.state =? state and job.member.0 =? member
 -- the place of the first record with that state and member: how many stand before it; all of them, where there is none
 unfoldable pub place_of : ℕ → ℕ → List Job → ℕ
 place_of state member [] = 0
-place_of state member (job ∷ rest) = if is_of state member job then 0 else suc (place_of state member rest)
+place_of state member (job ∷ rest) = when is_of state member job then 0 else suc (place_of state member rest)

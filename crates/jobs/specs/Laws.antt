@@ -1,6 +1,6 @@
 -- What is proved of a feed. `proofs/` has a proof of each statement.
 use Rattle.std.specs.Prelude.{◌≡◌, true, List, [], ◌∷◌, ℕ, ◌+◌, length}
-use Rattle.group.specs.Choice.{if◌then◌else◌, ◌<?◌}
+use Rattle.group.specs.Choice.{when◌then◌else◌, ◌<?◌}
 use Rattle.group.specs.Limits.{jobs_most}
 use Rattle.group.specs.Question.{Question, first_no}
 use Rattle.group.specs.declared.MemberNumber.{MemberNumber}
@@ -19,7 +19,7 @@ abbrev pub feed_questions : List Job → MemberNumber → List ℕ → List Ques
 feed_questions jobs m payload =
     record { yes = sound_of jobs; refusal = Refusal.UnsoundState }
     ∷ record { yes = for_list m payload; refusal = Refusal.NotForList }
-    ∷ record { yes = if is_add payload then place_of unused_state 0 jobs <? jobs_most else true; refusal = Refusal.ListFull }
+    ∷ record { yes = when is_add payload then place_of unused_state 0 jobs <? jobs_most else true; refusal = Refusal.ListFull }
     ∷ []
 
 -- demand 1: a refusal is answered exactly if some question says no, with the first one's number; then every record is left.

@@ -9,8 +9,8 @@ use native.Mathlib.Omega.{arith}
 use borrow.Author.Tests.{ltb-true, ltb-false}
 use lib.ListN.{length}
 use Rattle.group.specs.Choice.{◌<?◌, ◌=?◌}
-use Rattle.group.proofs.Choice.{if_true, if_eq, if_ne, if_was}
-use Rattle.group.proofs.Lists.{if_elim, eq_or}
+use Rattle.group.proofs.Choice.{when_true, when_eq, when_ne, when_was}
+use Rattle.group.proofs.Lists.{when_elim, eq_or}
 use Rattle.journal.specs.Limits.{block_size, records_at, records_end, record_head}
 use Rattle.journal.specs.Block.{first_at, record_start, behind_in, record_number, step_right, form_of}
 use Rattle.journal.specs.Walk.{block_at, entered_in, cursor_of, alone_in, alone_at, spot_of, moved_of, given_of, walk_of, walked, given_by, spot_with, spot_at}
@@ -72,7 +72,7 @@ module _ (journal : List ℕ) where
         let l : block_size - r.k - 1 ≡ block_size - (r.k + 1) = omega arith in
         let w : walk_of (alone c r.k) journal ≡ Walk.Next here (alone next (r.k + 1)) =
         sym (walk_here (alone c r.k) journal (omega arith) (omega arith))
-        ∙ sym (if_true (step_right c.form block c.at c.before) _ (Walk.Next (spot_of (alone c r.k) block) (moved_of (alone c r.k) block)) Walk.End right refl)
+        ∙ sym (when_true (step_right c.form block c.at c.before) _ (Walk.Next (spot_of (alone c r.k) block) (moved_of (alone c r.k) block)) Walk.End right refl)
         ∙ ap (λ (n : ℕ). Walk.Next here (record { base = c.base; blocks = 1; form = c.form; at = behind_in c.form block c.at; before = record_number c.form block c.at c.before; left = n })) l in
         ap (λ (x : Walk). walked x (λ n. given_by m n journal)) w
 
@@ -89,7 +89,7 @@ module _ (journal : List ℕ) where
         ∙ ap (λ (i : ℕ). spot_with start (given_by i (alone_at journal c.base) journal)) n
         ∙ r.same (suc (block_size - r.k - 1)) start (omega arith)
         ∙ ap (spot_with start) (step_alone (block_size - r.k - 1))
-        ∙ sym (if_eq start start here here _ refl refl)
+        ∙ sym (when_eq start start here here _ refl refl)
 
     step_reached : Reached next
     unfolding spot_with
@@ -106,7 +106,7 @@ module _ (journal : List ℕ) where
               ap (λ (i : ℕ). spot_with start (given_by i (alone_at journal c.base) journal)) n
               ∙ r.same (suc m) start (omega arith)
               ∙ ap (spot_with start) (step_alone m)
-              ∙ sym (if_ne (here.start + record_head) start _ here _ (λ z. omega arith) refl);
+              ∙ sym (when_ne (here.start + record_head) start _ here _ (λ z. omega arith) refl);
         }
 
   -- what a step gives is found again
@@ -117,7 +117,7 @@ module _ (journal : List ℕ) where
   unfolding given_of
   given_again c next s r fits e =
       let b = block_at journal c.base in
-      let (right, same) = if_was (step_right c.form b c.at c.before) (Walk.Next (spot_of c b) (moved_of c b)) Walk.End (Walk.Next s next) e
+      let (right, same) = when_was (step_right c.form b c.at c.before) (Walk.Next (spot_of c b) (moved_of c b)) Walk.End (Walk.Next s next) e
       (λ z. let y : ◌≡◌ {A = ℕ} 0 1 = cc in omega arith) in
       let f : spot_of c b ≡ s = cc in
       let g : moved_of c b ≡ next = cc in
@@ -128,11 +128,11 @@ module _ (journal : List ℕ) where
   walk_again : (c next : Cursor) (s : Spot) → Reached c → c.base + c.blocks * block_size ≤ length journal → walk_of c journal ≡ Walk.Next s next → Found s next
   unfolding walk_of entered_in
   walk_again c next s r fits e =
-      (if_elim (λ (w : Walk). w ≡ Walk.Next s next → Found s next) (c.blocks <? 1)
+      (when_elim (λ (w : Walk). w ≡ Walk.Next s next → Found s next) (c.blocks <? 1)
       (λ t e. absurd (let y : ◌≡◌ {A = ℕ} 0 1 = cc in omega arith))
-      (λ t. let some = ltb-false c.blocks 1 t in if_elim (λ (w : Walk). w ≡ Walk.Next s next → Found s next) (0 <? c.left)
+      (λ t. let some = ltb-false c.blocks 1 t in when_elim (λ (w : Walk). w ≡ Walk.Next s next → Found s next) (0 <? c.left)
       (λ t e. given_again c next s r (omega arith) e)
-      (λ t. if_elim (λ (w : Walk). w ≡ Walk.Next s next → Found s next) (c.blocks <? 2)
+      (λ t. when_elim (λ (w : Walk). w ≡ Walk.Next s next → Found s next) (c.blocks <? 2)
       (λ t e. absurd (let y : ◌≡◌ {A = ℕ} 0 1 = cc in omega arith))
       (λ t e.
       let two = ltb-false c.blocks 2 t in

@@ -8,10 +8,10 @@ use native.Mathlib.Omega.{arith}
 use borrow.Author.Tests.{lt-ltb, le-leb, eq-eqb}
 use lib.ListN.{length, drop, replicate, length-append, length-replicate}
 use lib.Seq.{drop-drop, take_at, drop_at}
-use Rattle.group.specs.Choice.{if◌then◌else◌, ◌<?◌, ◌≤?◌, ◌=?◌}
+use Rattle.group.specs.Choice.{when◌then◌else◌, ◌<?◌, ◌≤?◌, ◌=?◌}
 use Rattle.group.specs.Fold.{all}
 use Rattle.group.specs.Limits.{largest_number}
-use Rattle.group.proofs.Choice.{both_hold, if_true}
+use Rattle.group.proofs.Choice.{both_hold, when_true}
 use Rattle.message.specs.Order.{Ordered}
 use Rattle.big_endian.specs.Laws.{Bytes}
 use Rattle.big_endian.specs.Number.{number_at, bytes_of}
@@ -240,7 +240,7 @@ record Parts (form : Form) (first records : ℕ) (body : List ℕ) : Type 0 wher
   behind_head : (rest : List ℕ) × (drop records_at (block_with form first records body) ≡ body ++ (replicate (records_end - records_at - length body) 0 ++ rest))
 
 parts : (form : Form) (first records : ℕ) (body : List ℕ) → records_at + length body ≤ records_end → Parts form first records body
-unfolding framed block_of compact_framed compact_of form_of all if◌then◌else◌
+unfolding framed block_of compact_framed compact_of form_of all when◌then◌else◌
 parts Log first records body fits =
     record {
       long = whole_length mark refl first records body fits;
@@ -261,7 +261,7 @@ parts Compact first records body fits =
     }
 
 log_marked : (first records : ℕ) (body : List ℕ) → marked mark (block_of first records body) ≡ true
-unfolding framed block_of all if◌then◌else◌
+unfolding framed block_of all when◌then◌else◌
 log_marked first records body = refl
 
 -- a block of a form is read back, if its mark and its first number may stand behind the tail
@@ -331,5 +331,5 @@ compact_back t m ms n free fits =
     let p = parts Compact m.number (length (m ∷ ms)) body fits in
     let same : (first_at block =? number_at number_size block records_at) ≡ true = eq-eqb _ _ (p.first_at_lem f ∙ sym (compact_first m ms n.0 fits)) in
     let right : form_right Compact t block ≡ true = both_hold t.free _ free same in
-    let follow : follows t m.number ≡ true = sym (if_true t.free true _ _ free (sym (lt-ltb t.last.0 m.number above))) in
+    let follow : follows t m.number ≡ true = sym (when_true t.free true _ _ free (sym (lt-ltb t.last.0 m.number above))) in
     rw e at (back_with Compact t (m.number - 1) (m ∷ ms) (omega arith) (n.0, omega arith, n.2) (omega arith) fits (rw e right) (rw e follow))

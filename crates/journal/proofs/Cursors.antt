@@ -7,8 +7,8 @@ use Prim.Native.Nat.{ℕ, zero, suc, ◌+◌, ◌-◌, ◌*◌, ◌≤◌, ◌<�
 use native.Mathlib.Omega.{arith}
 use borrow.Author.Tests.{lt-ltb, le-ltb, eq-eqb, ne_eqb}
 use lib.ListN.{length, take, drop}
-use Rattle.group.specs.Choice.{if◌then◌else◌, ◌<?◌, ◌=?◌}
-use Rattle.group.proofs.Choice.{if_true, if_false}
+use Rattle.group.specs.Choice.{when◌then◌else◌, ◌<?◌, ◌=?◌}
+use Rattle.group.proofs.Choice.{when_true, when_false}
 use Rattle.journal.specs.Limits.{block_size, records_at, records_end, record_head}
 use Rattle.journal.specs.Block.{record_start, behind_in, record_number, step_right}
 use Rattle.journal.specs.Walk.{Passes, block_at, entered_in, cursor_of, spot_of, moved_of, given_of, walk_of}
@@ -29,7 +29,7 @@ module _ (c : Cursor) (block : List ℕ) (end number : ℕ) (p : Passes c.form b
   pub given_end : end ≡ 0 → Walk.End ≡ given_of c block
   unfolding given_of
   given_end z =
-      if_false (step_right c.form block c.at c.before) _ _ _
+      when_false (step_right c.form block c.at c.before) _ _ _
       (given_none (step_right c.form block c.at c.before) (behind_in c.form block c.at) end p.ends z (omega arith)) refl
 
   pub given_bounds : (end ≡ 0 → ⊥) → (c.at + record_head ≤ records_end) × (record_start c.form c.at + record_head ≤ records_end) × (end ≤ records_end)
@@ -48,36 +48,36 @@ module _ (c : Cursor) (block : List ℕ) (end number : ℕ) (p : Passes c.form b
   unfolding given_of
   given_next n left e =
       let (right, same) = given_says (step_right c.form block c.at c.before) (behind_in c.form block c.at) end p.ends n in
-      if_true (step_right c.form block c.at c.before) _ _ _ right (rw (e, p.numbered n, same))
+      when_true (step_right c.form block c.at c.before) _ _ _ right (rw (e, p.numbered n, same))
 
 -- what the code tests of a cursor
 module _ (c : Cursor) (journal : List ℕ) where
   pub walk_none : c.blocks < 1 → Walk.End ≡ walk_of c journal
   unfolding walk_of
-  walk_none h = if_true (c.blocks <? 1) _ _ _ (lt-ltb c.blocks 1 h) refl
+  walk_none h = when_true (c.blocks <? 1) _ _ _ (lt-ltb c.blocks 1 h) refl
 
   pub walk_here : 1 ≤ c.blocks → 0 < c.left → given_of c (block_at journal c.base) ≡ walk_of c journal
   unfolding walk_of
-  walk_here h k = if_false (c.blocks <? 1) _ _ _ (le-ltb c.blocks 1 h) (if_true (0 <? c.left) _ _ _ (lt-ltb 0 c.left k) refl)
+  walk_here h k = when_false (c.blocks <? 1) _ _ _ (le-ltb c.blocks 1 h) (when_true (0 <? c.left) _ _ _ (lt-ltb 0 c.left k) refl)
 
   pub walk_last : 1 ≤ c.blocks → c.left ≤ 0 → c.blocks < 2 → Walk.End ≡ walk_of c journal
   unfolding walk_of
   walk_last h k l =
-      if_false (c.blocks <? 1) _ _ _ (le-ltb c.blocks 1 h)
-      (if_false (0 <? c.left) _ _ _ (le-ltb 0 c.left k) (if_true (c.blocks <? 2) _ _ _ (lt-ltb c.blocks 2 l) refl))
+      when_false (c.blocks <? 1) _ _ _ (le-ltb c.blocks 1 h)
+      (when_false (0 <? c.left) _ _ _ (le-ltb 0 c.left k) (when_true (c.blocks <? 2) _ _ _ (lt-ltb c.blocks 2 l) refl))
 
   pub walk_on : c.left ≤ 0 → 2 ≤ c.blocks
       → given_of (entered_in (block_at journal (c.base + block_size)) (c.base + block_size) (c.blocks - 1)) (block_at journal (c.base + block_size)) ≡ walk_of c journal
   unfolding walk_of
   walk_on k l =
-      if_false (c.blocks <? 1) _ _ _ (le-ltb c.blocks 1 (omega arith))
-      (if_false (0 <? c.left) _ _ _ (le-ltb 0 c.left k) (if_false (c.blocks <? 2) _ _ _ (le-ltb c.blocks 2 l) refl))
+      when_false (c.blocks <? 1) _ _ _ (le-ltb c.blocks 1 (omega arith))
+      (when_false (0 <? c.left) _ _ _ (le-ltb 0 c.left k) (when_false (c.blocks <? 2) _ _ _ (le-ltb c.blocks 2 l) refl))
 
 pub cursor_none : (journal : List ℕ) (blocks : ℕ) → blocks ≡ 0
     → record { base = 0; blocks = 0; form = Log; at = records_at; before = 0; left = 0 } ≡ cursor_of journal blocks
 unfolding cursor_of
-cursor_none journal blocks e = if_true (blocks =? 0) _ _ _ (eq-eqb blocks 0 e) refl
+cursor_none journal blocks e = when_true (blocks =? 0) _ _ _ (eq-eqb blocks 0 e) refl
 
 pub cursor_first : (journal : List ℕ) (blocks : ℕ) → (blocks ≡ 0 → ⊥) → entered_in (block_at journal 0) 0 blocks ≡ cursor_of journal blocks
 unfolding cursor_of
-cursor_first journal blocks n = if_false (blocks =? 0) _ _ _ (ne_eqb blocks 0 n) refl
+cursor_first journal blocks n = when_false (blocks =? 0) _ _ _ (ne_eqb blocks 0 n) refl

@@ -3,7 +3,7 @@ use mathlib.Core.Path.{◌≡◌, refl}
 use mathlib.Core.List.{[], ◌∷◌, ◌++◌}
 use Prim.Native.Nat.{ℕ}
 use lib.ListN.{replicate}
-use Rattle.group.specs.Choice.{if◌then◌else◌}
+use Rattle.group.specs.Choice.{when◌then◌else◌}
 use Rattle.message.specs.Order.{Ordered}
 use Rattle.big_endian.specs.Number.{bytes_of}
 use Rattle.journal.specs.Block.{sum_from, record_of, records_of, framed, block_of, ended_at}
@@ -25,9 +25,9 @@ at_used : ℕ → Writer
 at_used used = record { tail = ended_at 0; first = record { 0 = 0 }; records = 7; used = used }
 
 just_fits : (kept_of (at_used 500) message []).writer.records ≡ 8
-unfolding at_used message kept_of record_of bytes_of if◌then◌else◌
+unfolding at_used message kept_of record_of bytes_of when◌then◌else◌
 just_fits = refl
 
 one_too_long : (kept_of (at_used 501) message []).writer.records ≡ 1
-unfolding at_used message kept_of record_of bytes_of if◌then◌else◌
+unfolding at_used message kept_of record_of bytes_of when◌then◌else◌
 one_too_long = refl

@@ -8,8 +8,8 @@ use borrow.Author.Tests.{ltb-false}
 use lib.ListN.{length, get_or, take, drop, length-append, length-drop}
 use lib.Seq.{length-take-le, get_or-take, get_or-drop, take-take, drop-drop}
 use Rattle.group.specs.Choice.{◌<?◌}
-use Rattle.group.proofs.Choice.{if_true, if_was}
-use Rattle.group.proofs.Lists.{if_elim, le_or, eq_or}
+use Rattle.group.proofs.Choice.{when_true, when_was}
+use Rattle.group.proofs.Lists.{when_elim, le_or, eq_or}
 use Rattle.message.specs.Order.{Ordered}
 use Rattle.big_endian.specs.Number.{number_at}
 use Rattle.journal.specs.Limits.{block_size, records_at, records_end, record_head}
@@ -76,7 +76,7 @@ module _ (journal : List ℕ) (base blocks : ℕ) (form : Form) (some : 1 ≤ bl
       let e : suc k - 1 ≡ k = omega arith in
       let w : walk_of c journal ≡ Walk.Next (spot_of c here) (standing (behind_in form here at) (record_number form here at before) k) =
       sym (walk_here c journal some (omega arith))
-      ∙ sym (if_true (step_right form here at before) _ (Walk.Next (spot_of c here) (moved_of c here)) Walk.End right refl)
+      ∙ sym (when_true (step_right form here at before) _ (Walk.Next (spot_of c here) (moved_of c here)) Walk.End right refl)
       ∙ ap (λ (n : ℕ). Walk.Next (spot_of c here) (standing (behind_in form here at) (record_number form here at before) n)) e in
       ap (λ (x : Walk). walked x (λ next. given_by m next journal)) w
 
@@ -124,13 +124,13 @@ found_first : (t : Tail) (journal : List ℕ) (k : ℕ) → 1 ≤ (found_from t 
 unfolding found_from
 found_first t journal zero h = absurd (omega arith)
 found_first t journal (suc k) h =
-    (if_elim (λ (r : Reads). 1 ≤ r.blocks → block_right t (take block_size journal) ≡ true) (block_right t (take block_size journal)) (λ e l. e) (λ e l. absurd (omega arith))) h
+    (when_elim (λ (r : Reads). 1 ≤ r.blocks → block_right t (take block_size journal) ≡ true) (block_right t (take block_size journal)) (λ e l. e) (λ e l. absurd (omega arith))) h
 
 found_none : (t : Tail) (journal : List ℕ) (k : ℕ) → (found_from t journal k).blocks < 1 → (found_from t journal k).messages ≡ []
 unfolding found_from
 found_none t journal zero h = refl
 found_none t journal (suc k) h =
-    (if_elim (λ (r : Reads). r.blocks < 1 → r.messages ≡ []) (block_right t (take block_size journal)) (λ e l. absurd (omega arith)) (λ e l. refl)) h
+    (when_elim (λ (r : Reads). r.blocks < 1 → r.messages ≡ []) (block_right t (take block_size journal)) (λ e l. absurd (omega arith)) (λ e l. refl)) h
 
 abbrev Given : List ℕ → ℕ → Reads → Type 0
 Given journal base r =
@@ -170,7 +170,7 @@ unfolding found_from given_by
 found_given journal t base zero = refl
 found_given journal t base (suc k) =
     let u = tail_of (block_at journal base) in
-    if_elim (Given journal base) (block_right t (block_at journal base))
+    when_elim (Given journal base) (block_right t (block_at journal base))
     (λ e. rw (drop-drop block_size base journal) (right_given journal t u base k e (found_given journal u (base + block_size) k)))
     (λ e. refl)
 
@@ -194,7 +194,7 @@ given_stands : (journal : List ℕ) (c next : Cursor) (s : Spot) → c.base + bl
 unfolding given_of
 given_stands journal c next s fits e =
     let block = block_at journal c.base in
-    let (right, same) = if_was (step_right c.form block c.at c.before) (Walk.Next (spot_of c block) (moved_of c block)) Walk.End (Walk.Next s next) e
+    let (right, same) = when_was (step_right c.form block c.at c.before) (Walk.Next (spot_of c block) (moved_of c block)) Walk.End (Walk.Next s next) e
     (λ z. let y : ◌≡◌ {A = ℕ} 0 1 = cc in omega arith) in
     let f : spot_of c block ≡ s = cc in
     let g : moved_of c block ≡ next = cc in
@@ -211,11 +211,11 @@ given_stands journal c next s fits e =
 pub gives_standing : GivesStanding
 unfolding walk_of entered_in
 gives_standing journal c next s fits e =
-    (if_elim (λ (w : Walk). w ≡ Walk.Next s next → StandsIn journal s × (next.base + next.blocks * block_size ≤ length journal)) (c.blocks <? 1)
+    (when_elim (λ (w : Walk). w ≡ Walk.Next s next → StandsIn journal s × (next.base + next.blocks * block_size ≤ length journal)) (c.blocks <? 1)
     (λ t e. absurd (let y : ◌≡◌ {A = ℕ} 0 1 = cc in omega arith))
-    (λ t. let some = ltb-false c.blocks 1 t in if_elim (λ (w : Walk). w ≡ Walk.Next s next → StandsIn journal s × (next.base + next.blocks * block_size ≤ length journal)) (0 <? c.left)
+    (λ t. let some = ltb-false c.blocks 1 t in when_elim (λ (w : Walk). w ≡ Walk.Next s next → StandsIn journal s × (next.base + next.blocks * block_size ≤ length journal)) (0 <? c.left)
     (λ t e. let (stands, b, k) = given_stands journal c next s (omega arith) e in (stands, omega arith))
-    (λ t. if_elim (λ (w : Walk). w ≡ Walk.Next s next → StandsIn journal s × (next.base + next.blocks * block_size ≤ length journal)) (c.blocks <? 2)
+    (λ t. when_elim (λ (w : Walk). w ≡ Walk.Next s next → StandsIn journal s × (next.base + next.blocks * block_size ≤ length journal)) (c.blocks <? 2)
     (λ t e. absurd (let y : ◌≡◌ {A = ℕ} 0 1 = cc in omega arith))
     (λ t e.
     let two = ltb-false c.blocks 2 t in
@@ -228,7 +228,7 @@ given_forward : (c next : Cursor) (s : Spot) (block : List ℕ) → given_of c b
     → (c.base + c.at ≤ s.start) × (s.start + record_head ≤ next.base + next.at) × (next.at ≤ records_end)
 unfolding given_of
 given_forward c next s block e =
-    let (right, same) = if_was (step_right c.form block c.at c.before) (Walk.Next (spot_of c block) (moved_of c block)) Walk.End (Walk.Next s next) e
+    let (right, same) = when_was (step_right c.form block c.at c.before) (Walk.Next (spot_of c block) (moved_of c block)) Walk.End (Walk.Next s next) e
     (λ z. let y : ◌≡◌ {A = ℕ} 0 1 = cc in omega arith) in
     let f : spot_of c block ≡ s = cc in
     let g : moved_of c block ≡ next = cc in
@@ -240,11 +240,11 @@ given_forward c next s block e =
 pub gives_forward : GivesForward
 unfolding walk_of entered_in
 gives_forward journal c next s low e =
-    (if_elim (λ (w : Walk). w ≡ Walk.Next s next → (c.base + c.at ≤ s.start) × (s.start + record_head ≤ next.base + next.at) × (next.at ≤ records_end)) (c.blocks <? 1)
+    (when_elim (λ (w : Walk). w ≡ Walk.Next s next → (c.base + c.at ≤ s.start) × (s.start + record_head ≤ next.base + next.at) × (next.at ≤ records_end)) (c.blocks <? 1)
     (λ t e. absurd (let y : ◌≡◌ {A = ℕ} 0 1 = cc in omega arith))
-    (λ t. if_elim (λ (w : Walk). w ≡ Walk.Next s next → (c.base + c.at ≤ s.start) × (s.start + record_head ≤ next.base + next.at) × (next.at ≤ records_end)) (0 <? c.left)
+    (λ t. when_elim (λ (w : Walk). w ≡ Walk.Next s next → (c.base + c.at ≤ s.start) × (s.start + record_head ≤ next.base + next.at) × (next.at ≤ records_end)) (0 <? c.left)
     (λ t e. given_forward c next s (block_at journal c.base) e)
-    (λ t. if_elim (λ (w : Walk). w ≡ Walk.Next s next → (c.base + c.at ≤ s.start) × (s.start + record_head ≤ next.base + next.at) × (next.at ≤ records_end)) (c.blocks <? 2)
+    (λ t. when_elim (λ (w : Walk). w ≡ Walk.Next s next → (c.base + c.at ≤ s.start) × (s.start + record_head ≤ next.base + next.at) × (next.at ≤ records_end)) (c.blocks <? 2)
     (λ t e. absurd (let y : ◌≡◌ {A = ℕ} 0 1 = cc in omega arith))
     (λ t e.
     let entered = entered_in (block_at journal (c.base + block_size)) (c.base + block_size) (c.blocks - 1) in

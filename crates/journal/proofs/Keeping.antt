@@ -7,14 +7,14 @@ use native.Mathlib.Omega.{arith}
 use borrow.Author.Tests.{le-leb, lt-leb, eq-eqb, ne_eqb}
 use lib.ListN.{length, take, drop, length-drop, drop_of_length-le}
 use lib.Seq.{length-take-le}
-use Rattle.group.specs.Choice.{if◌then◌else◌, ◌≤?◌, ◌=?◌}
+use Rattle.group.specs.Choice.{when◌then◌else◌, ◌≤?◌, ◌=?◌}
 use Rattle.group.specs.Lent.{front}
 use Rattle.group.specs.Question.{judged}
 use Rattle.group.specs.declared.Refusal.{Refusal}
 use Rattle.group.specs.declared.Refusal.TheVariants.{UnsoundState}
 use Rattle.group.specs.declared.SequenceNumber.{SequenceNumber}
 use Rattle.group.specs.declared.Verdict.{Verdict}
-use Rattle.group.proofs.Choice.{if_true, if_false}
+use Rattle.group.proofs.Choice.{when_true, when_false}
 use Rattle.message.specs.Order.{Ordered}
 use Rattle.text.specs.LaidAt.{written_at, LaidAt}
 use Rattle.journal.specs.Limits.{block_size, records_at, records_end, record_head}
@@ -71,7 +71,7 @@ pub kept_fits : (w : Writer) (m : Ordered) {hand after lent : List ℕ} {end : �
 unfolding kept_of
 kept_fits w m {hand} {end = end} writer h l e =
     let n = record_length m in
-    done_as (if_true (w.used + length (record_of m) ≤? records_end) (longer w m hand) (longer w m hand) (anew w m hand) (le-leb (w.used + length (record_of m)) records_end (omega arith)) refl)
+    done_as (when_true (w.used + length (record_of m) ≤? records_end) (longer w m hand) (longer w m hand) (anew w m hand) (le-leb (w.used + length (record_of m)) records_end (omega arith)) refl)
     (record {
       step = rw (e, l.ends);
       held = l.lays;
@@ -83,10 +83,10 @@ pub kept_over : (w : Writer) (m : Ordered) {hand after lent out : List ℕ} {end
     → length hand ≡ block_size → length lent ≡ block_size → records_at ≤ w.used → w.used ≤ records_end → out ≡ in_hand w hand
     → LaidAt records_at (record_of m) hand after end → writer ≡ grown_to (writer_after w.tail) (record { 0 = m.number }) end
     → Done (kept_of w m hand) (record { writer = writer; answer = Kept; written = block_size }) after lent out
-unfolding kept_of if◌then◌else◌
+unfolding kept_of when◌then◌else◌
 kept_over w m {hand} {lent = lent} writer h room n low high o l e =
     let k = record_length m in
-    done_as (if_false (w.used + length (record_of m) ≤? records_end) (anew w m hand) (longer w m hand) (anew w m hand) (lt-leb (w.used + length (record_of m)) records_end (omega arith)) refl)
+    done_as (when_false (w.used + length (record_of m) ≤? records_end) (anew w m hand) (longer w m hand) (anew w m hand) (lt-leb (w.used + length (record_of m)) records_end (omega arith)) refl)
     (record {
       step = rw (e, l.ends, hand_length w hand room low high);
       held = l.lays;
@@ -109,11 +109,11 @@ write_refused w m hand lent refusal e =
 module _ (w : Writer) (hand lent : List ℕ) where
   closes_as : {r : Step} {out : List ℕ} → writer_sound w ≡ true → Done (closed_of w hand) r hand lent out → Done (finish_of w hand) r hand lent out
   unfolding finish_of
-  closes_as s d = done_as (if_true (writer_sound w) _ _ _ s refl) d
+  closes_as s d = done_as (when_true (writer_sound w) _ _ _ s refl) d
 
   pub closed_none : (writer : Writer) → writer_sound w ≡ true → w.records ≡ 0 → writer ≡ writer_after w.tail
       → Done (finish_of w hand) (record { writer = writer; answer = Closed; written = 0 }) hand lent lent
-  unfolding if◌then◌else◌
+  unfolding when◌then◌else◌
   closed_none writer s z e =
       let n : (w.records =? 0) ≡ true = eq-eqb w.records 0 z in
       closes_as s (record { step = rw (e, n); held = refl; lays = rw n })
@@ -121,7 +121,7 @@ module _ (w : Writer) (hand lent : List ℕ) where
   pub closed_block : (writer : Writer) {out : List ℕ} → writer_sound w ≡ true → (w.records ≡ 0 → ⊥) → writer ≡ writer_after w.tail
       → length hand ≡ block_size → length lent ≡ block_size → records_at ≤ w.used → w.used ≤ records_end → out ≡ in_hand w hand
       → Done (finish_of w hand) (record { writer = writer; answer = Closed; written = block_size }) hand lent out
-  unfolding if◌then◌else◌
+  unfolding when◌then◌else◌
   closed_block writer s z e room n low high o =
       let f : (w.records =? 0) ≡ false = ne_eqb w.records 0 z in
       closes_as s
@@ -133,4 +133,4 @@ module _ (w : Writer) (hand lent : List ℕ) where
 
   pub closed_refused : writer_sound w ≡ false → Done (finish_of w hand) (record { writer = w; answer = Refused UnsoundState; written = 0 }) hand lent lent
   unfolding finish_of
-  closed_refused s = done_as (if_false (writer_sound w) _ _ _ s refl) (record { step = refl; held = refl; lays = refl })
+  closed_refused s = done_as (when_false (writer_sound w) _ _ _ s refl) (record { step = refl; held = refl; lays = refl })

@@ -6,12 +6,12 @@ use Prim.Native.Nat.{ℕ, ◌+◌, ◌%◌, ◌<◌}
 use native.Mathlib.Omega.{arith}
 use borrow.Author.Tests.{leb-true, leb-false}
 use lib.ListN.{length}
-use Rattle.group.specs.Choice.{if◌then◌else◌, ask◌or◌then◌, ◌and◌, ◌≤?◌, ◌=?◌}
+use Rattle.group.specs.Choice.{when◌then◌else◌, ask◌or◌then◌, ◌and◌, ◌≤?◌, ◌=?◌}
 use Rattle.group.specs.declared.Refusal.TheVariants.{UnsoundState, WrongJournal}
 use Rattle.group.specs.declared.Verdict.{Verdict}
-use Rattle.group.proofs.Choice.{if_true}
+use Rattle.group.proofs.Choice.{when_true}
 use Rattle.group.specs.Question.{first_no, judged}
-use Rattle.group.proofs.Lists.{if_elim}
+use Rattle.group.proofs.Lists.{when_elim}
 use Rattle.group.proofs.Question.{judged_ask}
 use Rattle.message.specs.Order.{Ordered}
 use Rattle.text.specs.LaidAt.{written_at}
@@ -49,14 +49,14 @@ kept_by (Verdict.Refused r) x w hand e = absurd (let z : ◌≡◌ {A = ℕ} 0 1
 -- a shutdown is never refused
 finished : (u : Tail) (ms : List Ordered) (w : Writer) (hand : List ℕ) → Pending u ms w hand → finish_of w hand ≡ closed_of w hand
 unfolding finish_of
-finished u ms w hand p = sym (if_true (writer_sound w) _ _ _ (pending_sound u ms w hand p) refl)
+finished u ms w hand p = sym (when_true (writer_sound w) _ _ _ (pending_sound u ms w hand p) refl)
 
 -- a record that does not fit: the block in hand is handed out, and the record begins the next
 begun_out : (u : Tail) (ms : List Ordered) (w : Writer) (hand : List ℕ) (m : Ordered) → Pending u ms w hand → Allowed m
     → follows w.tail m.number ≡ true → records_end < w.used + length (record_of m)
     → Rights u (handed (in_hand w hand)) w.tail × (messages_in (handed (in_hand w hand)) ≡ ms)
     × Pending w.tail (m ∷ []) (begun m) (written_at records_at (record_of m) hand)
-unfolding records_of if◌then◌else◌
+unfolding records_of when◌then◌else◌
 begun_out u [] w hand m p a follow full =
     let e = p.used in
     let l = record_length m in
@@ -87,7 +87,7 @@ module _ (start : Tail) (ms : List Ordered) (blocks : List (List ℕ)) (w : Writ
       let (_, may, f) = accepted_says w m accepted in
       let a : Allowed m = record { fits = fits; may = may } in
       subst (Next start (ms ++ (m ∷ [])) blocks) (sym same)
-      (if_elim (Next start (ms ++ (m ∷ [])) blocks) (w.used + length (record_of m) ≤? records_end)
+      (when_elim (Next start (ms ++ (m ∷ [])) blocks) (w.used + length (record_of m) ≤? records_end)
       (λ t.
       rw append-nil
       (record {

@@ -8,7 +8,7 @@ use native.Mathlib.Omega.{arith}
 use borrow.Author.Tests.{eq-eqb, ne_eqb}
 use lib.ListN.{length, take, drop, replicate, replicate-append-replicate}
 use lib.Seq.{drop-drop, drop_at, take-nil}
-use Rattle.group.specs.Choice.{if◌then◌else◌, ◌=?◌}
+use Rattle.group.specs.Choice.{when◌then◌else◌, ◌=?◌}
 use Rattle.group.proofs.Choice.{both_hold}
 use Rattle.message.specs.Message.{all_zero}
 use Rattle.big_endian.specs.Laws.{Bytes}
@@ -41,11 +41,11 @@ zeros_bytes zero = λ i h. absurd (omega arith)
 zeros_bytes (suc k) = bytes_cons 0 (replicate k 0) (omega arith) (zeros_bytes k)
 
 -- a byte of which each counts, as the loop over zeros sees it
-pub zero_byte : (b i : ℕ) → (b =? 0) ≡ if b =? 0 then true else (i + 1 - 0 =? 0)
-unfolding if◌then◌else◌
+pub zero_byte : (b i : ℕ) → (b =? 0) ≡ when b =? 0 then true else (i + 1 - 0 =? 0)
+unfolding when◌then◌else◌
 zero_byte b i = go (b =? 0)
   where
-    go : (t : Bool) → t ≡ if t then true else (i + 1 - 0 =? 0)
+    go : (t : Bool) → t ≡ when t then true else (i + 1 - 0 =? 0)
     go true = refl
     go false = sym (ne_eqb (i + 1 - 0) 0 (λ z. omega arith))
 

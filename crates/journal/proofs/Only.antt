@@ -8,7 +8,7 @@ use native.Mathlib.Omega.{arith}
 use borrow.Author.Tests.{lt-ltb, le-leb, leb-true, eqb-true}
 use lib.ListN.{length, get_or, take, drop, replicate, length-append, length-drop, take-append-drop, drop_of_length-le}
 use lib.Seq.{length-take-le, drop-cons, get_or-take, get_or-drop, drop-drop, drop-append-le, take_at}
-use Rattle.group.specs.Choice.{if◌then◌else◌, ◌<?◌, ◌≤?◌, ◌=?◌}
+use Rattle.group.specs.Choice.{when◌then◌else◌, ◌<?◌, ◌≤?◌, ◌=?◌}
 use Rattle.group.specs.Fold.{all}
 use Rattle.group.specs.Limits.{members_most, payload_most}
 use Rattle.group.proofs.Choice.{says, both_hold, both_first, both_then}
@@ -189,10 +189,10 @@ mark_of Compact = compact_mark
 
 -- a block of a form begins with its mark
 pub compact_marked : (block : List ℕ) → form_of block ≡ Compact → marked compact_mark block ≡ true
-unfolding form_of if◌then◌else◌
+unfolding form_of when◌then◌else◌
 compact_marked block e = go (marked compact_mark block) refl e
   where
-    go : (b : Bool) → marked compact_mark block ≡ b → (if b then Compact else Log) ≡ Compact → marked compact_mark block ≡ true
+    go : (b : Bool) → marked compact_mark block ≡ b → (when b then Compact else Log) ≡ Compact → marked compact_mark block ≡ true
     go true r e = r
     go false r e = let z : ◌≡◌ {A = ℕ} 0 1 = cc in absurd (omega arith)
 

@@ -7,8 +7,8 @@ use native.Mathlib.Omega.{arith}
 use borrow.Author.Tests.{lt-ltb, le-leb, eq-eqb, ne_eqb, ltb-true, eqb-true}
 use lib.ListN.{length, take, drop, length-append, length-drop, drop_of_length-le}
 use lib.Seq.{length-take-le, take_at, drop-append-le}
-use Rattle.group.specs.Choice.{if◌then◌else◌, ◌<?◌, ◌≤?◌, ◌=?◌}
-use Rattle.group.proofs.Choice.{if_true, if_false, both_hold}
+use Rattle.group.specs.Choice.{when◌then◌else◌, ◌<?◌, ◌≤?◌, ◌=?◌}
+use Rattle.group.proofs.Choice.{when_true, when_false, both_hold}
 use Rattle.message.specs.Order.{Ordered}
 use Rattle.text.specs.LaidAt.{written_at}
 use Rattle.journal.specs.Limits.{block_size, records_at, records_end, record_head}
@@ -97,9 +97,9 @@ block_out u m ms w hand p =
 
 -- what shutdown hands out
 pub closed_out : (u : Tail) (ms : List Ordered) (w : Writer) (hand : List ℕ) → Pending u ms w hand
-    → let blocks = handed (if w.records =? 0 then [] else in_hand w hand) in
+    → let blocks = handed (when w.records =? 0 then [] else in_hand w hand) in
     Rights u blocks w.tail × (messages_in blocks ≡ ms)
-unfolding handed messages_in if◌then◌else◌
+unfolding handed messages_in when◌then◌else◌
 closed_out u [] w hand p = rw p.records (sym p.ends, refl)
 closed_out u (m ∷ ms) w hand p =
     let r = p.records in
@@ -164,7 +164,7 @@ pending_grown u before ms w hand m p fits numbered ends =
 pub pending_more : (u : Tail) (ms : List Ordered) (w : Writer) (hand : List ℕ) (m : Ordered) → Pending u ms w hand → Allowed m
     → follows w.tail m.number ≡ true → w.used + length (record_of m) ≤ records_end
     → Pending u (ms ++ (m ∷ [])) (grown w m) (written_at w.used (record_of m) hand)
-unfolding if◌then◌else◌ Numbered
+unfolding when◌then◌else◌ Numbered
 pending_more u [] w hand m p a follow fits =
     let h = follows_positive w.tail m.number follow in
     let n : m.number ≡ m.number - 1 + 1 = omega arith in

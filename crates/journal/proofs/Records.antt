@@ -9,7 +9,7 @@ use lib.ListN.{length, get_or, take, drop}
 use lib.Seq.{get_or-drop, drop-drop, take_at}
 use Rattle.group.specs.Choice.{◌and◌, ◌<?◌, ◌≤?◌, ◌=?◌}
 use Rattle.group.specs.Limits.{members_most, payload_most, largest_number}
-use Rattle.group.proofs.Choice.{says, if_true, if_was, both_hold, both_first, both_then}
+use Rattle.group.proofs.Choice.{says, when_true, when_was, both_hold, both_first, both_then}
 use Rattle.group.specs.declared.SequenceNumber.{SequenceNumber}
 use Rattle.message.specs.Order.{Ordered}
 use Rattle.big_endian.specs.Laws.{Bytes}
@@ -78,14 +78,14 @@ pub says_step : (block : List ℕ) (form : Form) (at before : ℕ) → before < 
 unfolding step_right
 says_step block form at before h =
     let number = record_number form block at before in
-    if_true (before <? number) _ _ _ (lt-ltb before number h) refl
+    when_true (before <? number) _ _ _ (lt-ltb before number h) refl
 
 -- a right record of a block is its entry
 pub entry_right : (block : List ℕ) (at : ℕ) (number : SequenceNumber) → length block ≡ block_size → Says block at number.0
     → Entry.Right (record_at block at number) ≡ entry_of block at number
 unfolding entry_of
 entry_right block at number n s =
-    if_true (length block =? block_size and record_right block at number.0) _ _ _
+    when_true (length block =? block_size and record_right block at number.0) _ _ _
     (both_hold (length block =? block_size) _ (eq-eqb (length block) block_size n) (says_right block at number.0 s)) refl
 
 -- and an entry was a right record of a block
@@ -93,7 +93,7 @@ pub entry_was : (block : List ℕ) (at : ℕ) (number : SequenceNumber) (r : Rec
     → (length block ≡ block_size) × (record_right block at number.0 ≡ true) × (record_at block at number ≡ r)
 unfolding entry_of
 entry_was block at number r e =
-    let (right, same) = if_was (length block =? block_size and record_right block at number.0) (Entry.Right (record_at block at number)) Entry.Wrong (Entry.Right r) e
+    let (right, same) = when_was (length block =? block_size and record_right block at number.0) (Entry.Right (record_at block at number)) Entry.Wrong (Entry.Right r) e
     (λ z. let y : ◌≡◌ {A = ℕ} 0 1 = cc in omega arith) in
     (eqb-true (length block) block_size (both_first (length block =? block_size) _ right), both_then (length block =? block_size) _ right, (cc))
 

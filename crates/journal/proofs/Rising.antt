@@ -7,8 +7,8 @@ use native.Mathlib.Omega.{arith}
 use borrow.Author.Tests.{ltb-true, eqb-true}
 use lib.ListN.{length, take, drop}
 use lib.Seq.{take_all}
-use Rattle.group.specs.Choice.{if◌then◌else◌, ◌<?◌, ◌=?◌}
-use Rattle.group.proofs.Lists.{if_elim, le_or}
+use Rattle.group.specs.Choice.{when◌then◌else◌, ◌<?◌, ◌=?◌}
+use Rattle.group.proofs.Lists.{when_elim, le_or}
 use Rattle.message.specs.Order.{Ordered}
 use Rattle.big_endian.specs.Laws.{Bytes}
 use Rattle.journal.specs.Limits.{block_size, records_at}
@@ -25,7 +25,7 @@ use Rattle.journal.proofs.Only.{bytes_take, bytes_drop, records_only, block_says
 follows_above : (t : Tail) (number : ℕ) → follows t number ≡ true → t.last.0 < number
 unfolding follows
 follows_above t number e =
-    (if_elim (λ b. b ≡ true → t.last.0 < number) t.free (λ _ e. ltb-true _ _ e) (λ _ e. let z = eqb-true number (t.last.0 + 1) e in omega arith)) e
+    (when_elim (λ b. b ≡ true → t.last.0 < number) t.free (λ _ e. ltb-true _ _ e) (λ _ e. let z = eqb-true number (t.last.0 + 1) e in omega arith)) e
 
 -- numbers that rise in a block of either form rise, from any lower number on
 pub rising_from : (form : Form) (low before : ℕ) (ms : List Ordered) → low ≤ before → NumberedIn form before ms → NumberedIn Compact low ms
@@ -95,7 +95,7 @@ found_rises t journal zero bytes = tt
 found_rises t journal (suc k) bytes =
     let block = take block_size journal in
     let rest = found_rises (tail_of block) (drop block_size journal) k (bytes_drop block_size journal bytes) in
-    if_elim (λ (r : Reads). NumberedIn Compact t.last.0 r.messages) (block_right t block) (λ e. right_rises t journal _ bytes e rest) (λ e. tt)
+    when_elim (λ (r : Reads). NumberedIn Compact t.last.0 r.messages) (block_right t block) (λ e. right_rises t journal _ bytes e rest) (λ e. tt)
 
 pub found_rising : RisesIn
 unfolding found_in

@@ -6,13 +6,13 @@ use Prim.Native.Nat.{ℕ, ◌+◌, ◌*◌, ◌-◌, ◌≤◌, ◌<◌}
 use native.Mathlib.Omega.{arith}
 use borrow.Author.Tests.{lt-ltb, le-ltb, le-leb, eq-eqb, ne_eqb, ltb-true, leb-true, eqb-true}
 use lib.ListN.{length}
-use Rattle.group.specs.Choice.{if◌then◌else◌, ask◌or◌then◌, ◌and◌, ◌<?◌, ◌≤?◌, ◌=?◌}
+use Rattle.group.specs.Choice.{when◌then◌else◌, ask◌or◌then◌, ◌and◌, ◌<?◌, ◌≤?◌, ◌=?◌}
 use Rattle.group.specs.Limits.{payload_most}
 use Rattle.group.specs.Question.{judged}
 use Rattle.group.specs.declared.Refusal.TheVariants.{UnsoundState, WrongJournal}
 use Rattle.group.specs.declared.Verdict.{Verdict}
-use Rattle.group.proofs.Choice.{says, if_true, if_false, both_hold, both_first, both_then}
-use Rattle.group.proofs.Lists.{if_elim, judged_elim, eq_or}
+use Rattle.group.proofs.Choice.{says, when_true, when_false, both_hold, both_first, both_then}
+use Rattle.group.proofs.Lists.{when_elim, judged_elim, eq_or}
 use Rattle.message.specs.Order.{Ordered}
 use Rattle.journal.specs.Limits.{records_at, records_end, record_head}
 use Rattle.journal.specs.Block.{record_of, ended_at, follows}
@@ -24,39 +24,39 @@ use Rattle.journal.proofs.Records.{may, record_length}
 
 -- what a number that may follow says
 pub follows_ended : (n number : ℕ) → follows (ended_at n) number ≡ true → number ≡ n + 1
-unfolding follows if◌then◌else◌
+unfolding follows when◌then◌else◌
 follows_ended n number e = eqb-true number (n + 1) e
 
 pub follows_positive : (t : Tail) (number : ℕ) → follows t number ≡ true → 1 ≤ number
-unfolding follows if◌then◌else◌
+unfolding follows when◌then◌else◌
 follows_positive t number e = go t.free e
   where
-    go : (b : Bool) → (if b then t.last.0 <? number else number =? t.last.0 + 1) ≡ true → 1 ≤ number
+    go : (b : Bool) → (when b then t.last.0 <? number else number =? t.last.0 + 1) ≡ true → 1 ≤ number
     go true e = let z = ltb-true t.last.0 number e in omega arith
     go false e = let z = eqb-true number (t.last.0 + 1) e in omega arith
 
 pub follows_next : (t : Tail) (number : ℕ) → t.free ≡ false → follows t number ≡ true → number ≡ t.last.0 + 1
 unfolding follows
-follows_next t number f e = eqb-true number (t.last.0 + 1) (if_false t.free _ _ _ f refl ∙ e)
+follows_next t number f e = eqb-true number (t.last.0 + 1) (when_false t.free _ _ _ f refl ∙ e)
 
 -- the tests of a number in the code are those of the definition
 module _ (t : Tail) (number : ℕ) where
   pub follows_below : number ≤ t.last.0 → false ≡ follows t number
-  unfolding follows if◌then◌else◌
+  unfolding follows when◌then◌else◌
   follows_below h = go t.free
     where
-      go : (b : Bool) → false ≡ (if b then t.last.0 <? number else number =? t.last.0 + 1)
+      go : (b : Bool) → false ≡ (when b then t.last.0 <? number else number =? t.last.0 + 1)
       go true = sym (le-ltb t.last.0 number h)
       go false = sym (ne_eqb number (t.last.0 + 1) (λ z. omega arith))
 
   pub follows_free : t.last.0 < number → t.free ≡ true → true ≡ follows t number
   unfolding follows
-  follows_free h f = if_true t.free true _ _ f (sym (lt-ltb t.last.0 number h))
+  follows_free h f = when_true t.free true _ _ f (sym (lt-ltb t.last.0 number h))
 
   pub follows_one : t.last.0 < number → t.free ≡ false → (number - t.last.0 =? 1) ≡ follows t number
   unfolding follows
   follows_one h f =
-      if_false t.free _ _ _ f
+      when_false t.free _ _ _ f
       (eq_or number (t.last.0 + 1)
       (λ z. eq-eqb (number - t.last.0) 1 (omega arith) ∙ sym (eq-eqb number (t.last.0 + 1) z))
       (λ z. ne_eqb (number - t.last.0) 1 (λ y. z (omega arith)) ∙ sym (ne_eqb number (t.last.0 + 1) z)))
@@ -68,10 +68,10 @@ pub record Numbers (w : Writer) : Type 0 where
   pub last : w.first.0 + w.records ≡ w.tail.last.0 + 1
 
 numbers_say : (w : Writer) → numbers_sound w ≡ true → Numbers w
-unfolding numbers_sound if◌then◌else◌
+unfolding numbers_sound when◌then◌else◌
 numbers_say w e = go w.tail.free refl e
   where
-    go : (b : Bool) → w.tail.free ≡ b → (if b then false else 1 ≤? w.first.0 and w.first.0 + w.records =? w.tail.last.0 + 1) ≡ true → Numbers w
+    go : (b : Bool) → w.tail.free ≡ b → (when b then false else 1 ≤? w.first.0 and w.first.0 + w.records =? w.tail.last.0 + 1) ≡ true → Numbers w
     go true f e = absurd (let z : false ≡ true = e in let y : ◌≡◌ {A = ℕ} 0 1 = cc in omega arith)
     go false f e =
         record {
@@ -84,7 +84,7 @@ pub numbers_hold : (w : Writer) → Numbers w → numbers_sound w ≡ true
 unfolding numbers_sound
 numbers_hold w n =
     sym
-    (if_false w.tail.free true _ _ n.closed
+    (when_false w.tail.free true _ _ n.closed
     (sym
     (both_hold (1 ≤? w.first.0) _ (le-leb 1 w.first.0 n.first) (eq-eqb (w.first.0 + w.records) (w.tail.last.0 + 1) n.last))))
 
@@ -99,14 +99,14 @@ pub record Sound (w : Writer) : Type 0 where
 pub sound_says : (w : Writer) → writer_sound w ≡ true → Sound w
 unfolding writer_sound
 sound_says w e =
-    let held : (if w.records =? 0 then w.used =? records_at else numbers_sound w) ≡ true =
+    let held : (when w.records =? 0 then w.used =? records_at else numbers_sound w) ≡ true =
     both_then (record_head * w.records ≤? w.used - records_at) _ (both_then (w.used ≤? records_end) _ (both_then (records_at ≤? w.used) _ e)) in
     record {
       begins = search says;
       ends = search says;
       fits = search says;
-      none = λ z. eqb-true _ _ (if_true (w.records =? 0) _ _ _ (eq-eqb w.records 0 z) refl ∙ held);
-      some = λ z. numbers_say w (if_false (w.records =? 0) _ _ _ (ne_eqb w.records 0 z) refl ∙ held);
+      none = λ z. eqb-true _ _ (when_true (w.records =? 0) _ _ _ (eq-eqb w.records 0 z) refl ∙ held);
+      some = λ z. numbers_say w (when_false (w.records =? 0) _ _ _ (ne_eqb w.records 0 z) refl ∙ held);
     }
 
 pub sound_is : (w : Writer) → Sound w → writer_sound w ≡ true
@@ -116,8 +116,8 @@ sound_is w s =
     (both_hold (w.used ≤? records_end) _ (le-leb w.used records_end s.ends)
     (both_hold (record_head * w.records ≤? w.used - records_at) _ (le-leb (record_head * w.records) (w.used - records_at) s.fits)
     (eq_or w.records 0
-    (λ z. sym (if_true (w.records =? 0) true _ _ (eq-eqb w.records 0 z) (sym (eq-eqb w.used records_at (s.none z)))))
-    (λ z. sym (if_false (w.records =? 0) true _ _ (ne_eqb w.records 0 z) (sym (numbers_hold w (s.some z))))))))
+    (λ z. sym (when_true (w.records =? 0) true _ _ (eq-eqb w.records 0 z) (sym (eq-eqb w.used records_at (s.none z)))))
+    (λ z. sym (when_false (w.records =? 0) true _ _ (ne_eqb w.records 0 z) (sym (numbers_hold w (s.some z))))))))
 
 -- with nothing in hand
 pub after_sound : (t : Tail) → Sound (writer_after t)
@@ -126,7 +126,7 @@ after_sound t =
 
 -- with one more record, whose number is the next
 grown_numbers : (w : Writer) (m : Ordered) → Sound w → follows w.tail m.number ≡ true → Numbers (grown w m)
-unfolding if◌then◌else◌
+unfolding when◌then◌else◌
 grown_numbers w m s f =
     eq_or w.records 0
     (λ z.
@@ -154,7 +154,7 @@ grown_sound w m s f h =
 
 -- with that record alone: as with one more than none
 begun_sound : (w : Writer) (m : Ordered) → allowed m ≡ true → follows w.tail m.number ≡ true → Sound (begun m)
-unfolding if◌then◌else◌
+unfolding when◌then◌else◌
 begun_sound w m a f =
     let l = record_length m in
     let y = (may m a).size in
@@ -163,12 +163,12 @@ begun_sound w m a f =
 kept_sound_lem : (w : Writer) (m : Ordered) (hand : List ℕ) → Sound w → allowed m ≡ true → follows w.tail m.number ≡ true → Sound (kept_of w m hand).writer
 unfolding kept_of
 kept_sound_lem w m hand s a f =
-    if_elim (λ (o : Outcome). Sound o.writer) (w.used + length (record_of m) ≤? records_end)
+    when_elim (λ (o : Outcome). Sound o.writer) (w.used + length (record_of m) ≤? records_end)
     (λ t. grown_sound w m s f (leb-true _ _ t)) (λ t. begun_sound w m a f)
 
 -- a verdict that accepts
 accepts : (s a : Bool) → (ask s or Verdict.Refused UnsoundState then ask a or Verdict.Refused WrongJournal then Verdict.Accepted) ≡ Verdict.Accepted → (s ≡ true) × (a ≡ true)
-unfolding if◌then◌else◌
+unfolding when◌then◌else◌
 accepts true true e = (refl, refl)
 accepts true false e = absurd (let z : ◌≡◌ {A = ℕ} 0 1 = cc in omega arith)
 accepts false a e = absurd (let z : ◌≡◌ {A = ℕ} 0 1 = cc in omega arith)
@@ -191,7 +191,7 @@ write_stays w m hand s =
 finish_stays : (w : Writer) (hand : List ℕ) → writer_sound w ≡ true → writer_sound (finish_of w hand).writer ≡ true
 unfolding finish_of
 finish_stays w hand s =
-    if_elim (λ (o : Outcome). writer_sound o.writer ≡ true) (writer_sound w)
+    when_elim (λ (o : Outcome). writer_sound o.writer ≡ true) (writer_sound w)
     (λ t. sound_is (writer_after w.tail) (after_sound w.tail)) (λ t. s)
 
 pub stays_sound : StaysSound

@@ -9,10 +9,10 @@ use native.Mathlib.Omega.{arith}
 use borrow.Author.Tests.{le-leb, lt-leb, eq-eqb, ne_eqb, leb-true}
 use lib.ListN.{length, take, drop, length-append}
 use lib.Seq.{drop-drop}
-use Rattle.group.specs.Choice.{if◌then◌else◌, ◌and◌, ◌≤?◌, ◌=?◌}
+use Rattle.group.specs.Choice.{when◌then◌else◌, ◌and◌, ◌≤?◌, ◌=?◌}
 use Rattle.group.specs.Limits.{largest_number}
-use Rattle.group.proofs.Choice.{if_true, if_false, if_was, both_hold, both_first, both_then, first_fails, then_fails}
-use Rattle.group.proofs.Lists.{if_elim, le_or}
+use Rattle.group.proofs.Choice.{when_true, when_false, when_was, both_hold, both_first, both_then, first_fails, then_fails}
+use Rattle.group.proofs.Lists.{when_elim, le_or}
 use Rattle.message.specs.Message.{all_zero}
 use Rattle.big_endian.specs.Number.{number_at}
 use Rattle.message.specs.Order.{Ordered}
@@ -31,13 +31,13 @@ use Rattle.journal.proofs.Lists.{drop_take}
 use Rattle.journal.proofs.Records.{right_says, step_says, says_step, entry_right}
 
 -- a number that is given if a test holds, and else 0
-pub given_says : (b : Bool) (v e : ℕ) → e ≡ (if b then v else 0) → (e ≡ 0 → ⊥) → (b ≡ true) × (e ≡ v)
-unfolding if◌then◌else◌
+pub given_says : (b : Bool) (v e : ℕ) → e ≡ (when b then v else 0) → (e ≡ 0 → ⊥) → (b ≡ true) × (e ≡ v)
+unfolding when◌then◌else◌
 given_says true v e g n = (refl, g)
 given_says false v e g n = absurd (n g)
 
-pub given_none : (b : Bool) (v e : ℕ) → e ≡ (if b then v else 0) → e ≡ 0 → 1 ≤ v → b ≡ false
-unfolding if◌then◌else◌
+pub given_none : (b : Bool) (v e : ℕ) → e ≡ (when b then v else 0) → e ≡ 0 → 1 ≤ v → b ≡ false
+unfolding when◌then◌else◌
 given_none true v e g n h = absurd (omega arith)
 given_none false v e g n h = refl
 
@@ -47,15 +47,15 @@ module _ (block : List ℕ) (at number : ℕ) where
       → (record_right block at number ≡ true) × (record_at block at (record { 0 = number }) ≡ r)
   unfolding entry_of
   right_was r e =
-      let (right, same) = if_was (length block =? block_size and record_right block at number) _ Entry.Wrong (Entry.Right r) e
+      let (right, same) = when_was (length block =? block_size and record_right block at number) _ Entry.Wrong (Entry.Right r) e
       (λ z. let y : ◌≡◌ {A = ℕ} 0 1 = cc in omega arith) in
       (both_then (length block =? block_size) _ right, (cc))
 
   pub end_right : (r : Record) → entry_of block at (record { 0 = number }) ≡ Entry.Right r
-      → r.start + r.length ≡ (if record_right block at number then behind block at else 0)
+      → r.start + r.length ≡ (when record_right block at number then behind block at else 0)
   end_right r e =
       let (right, same) = right_was r e in
-      if_true (record_right block at number) _ _ _ right (sym (ap (λ (x : Record). x.start + x.length) same))
+      when_true (record_right block at number) _ _ _ right (sym (ap (λ (x : Record). x.start + x.length) same))
 
   pub end_within : (r : Record) → entry_of block at (record { 0 = number }) ≡ Entry.Right r → r.start + r.length ≤ records_end
   end_within r e =
@@ -63,9 +63,9 @@ module _ (block : List ℕ) (at number : ℕ) where
       rw (← same) (right_says block at number right).ends
 
   pub end_wrong : length block ≡ block_size → entry_of block at (record { 0 = number }) ≡ Entry.Wrong
-      → 0 ≡ (if record_right block at number then behind block at else 0)
+      → 0 ≡ (when record_right block at number then behind block at else 0)
   end_wrong n e =
-      if_elim (λ (x : ℕ). 0 ≡ x) (record_right block at number)
+      when_elim (λ (x : ℕ). 0 ≡ x) (record_right block at number)
       (λ t.
       let f = entry_right block at (record { 0 = number }) n (right_says block at number t) ∙ e in
       absurd (let y : ◌≡◌ {A = ℕ} 0 1 = cc in omega arith))
@@ -75,7 +75,7 @@ module _ (block : List ℕ) (at number : ℕ) where
 wrong_passes : (form : Form) (block : List ℕ) (at before number : ℕ) → (step_right form block at before ≡ true → ⊥) → Passes form block at before 0 number
 wrong_passes form block at before number w =
     record {
-      ends = if_elim (λ (x : ℕ). 0 ≡ x) (step_right form block at before) (λ t. absurd (w t)) (λ t. refl);
+      ends = when_elim (λ (x : ℕ). 0 ≡ x) (step_right form block at before) (λ t. absurd (w t)) (λ t. refl);
       numbered = λ n. absurd (n refl);
     }
 
@@ -83,10 +83,10 @@ module _ (block : List ℕ) (at before : ℕ) where
   pub passes_above : (number : ℕ) → largest_number ≤ before → Passes Log block at before 0 number
   passes_above number h = wrong_passes Log block at before number (λ t. let m = (step_says block Log at before t).1.most in omega arith)
 
-  pub passes_log : (end : ℕ) → end ≡ (if record_right block at (before + 1) then behind block at else 0) → Passes Log block at before end (before + 1)
+  pub passes_log : (end : ℕ) → end ≡ (when record_right block at (before + 1) then behind block at else 0) → Passes Log block at before end (before + 1)
   passes_log end e =
       record {
-        ends = e ∙ ap (λ (b : Bool). if b then behind block at else 0) (says_step block Log at before (omega arith));
+        ends = e ∙ ap (λ (b : Bool). when b then behind block at else 0) (says_step block Log at before (omega arith));
         numbered = λ n. refl;
       }
 
@@ -97,10 +97,10 @@ module _ (block : List ℕ) (at before : ℕ) where
   passes_low number e h = wrong_passes Compact block at before number (λ t. let m = (step_says block Compact at before t).0 in omega arith)
 
   pub passes_compact : (number end : ℕ) → number ≡ number_at number_size block at → before < number
-      → end ≡ (if record_right block (at + number_size) number then behind block (at + number_size) else 0) → Passes Compact block at before end number
+      → end ≡ (when record_right block (at + number_size) number then behind block (at + number_size) else 0) → Passes Compact block at before end number
   passes_compact number end e h g =
       record {
-        ends = g ∙ ap (λ (b : Bool). if b then behind block (at + number_size) else 0) (rw e (says_step block Compact at before (rw e at h)));
+        ends = g ∙ ap (λ (b : Bool). when b then behind block (at + number_size) else 0) (rw e (says_step block Compact at before (rw e at h)));
         numbered = λ n. e;
       }
 
@@ -112,14 +112,14 @@ module _ (form : Form) (block : List ℕ) (at before left whole : ℕ) (inv : wh
   abbrev rest_last : ℕ
   rest_last = last_from form block (behind_in form block at) (record_number form block at before) (left - 1)
 
-  passed_step : 0 < left → whole ≡ (if step_right form block at before and rest_right then rest_last else 0)
+  passed_step : 0 < left → whole ≡ (when step_right form block at before and rest_right then rest_last else 0)
   unfolding records_right last_from
   passed_step h = let e : left ≡ suc (left - 1) = omega arith in inv ∙ ap (last_or form block at before) e
 
   pub passed_off : (end number : ℕ) → 0 < left → Passes form block at before end number → end ≡ 0 → 0 ≡ whole
   passed_off end number h p z =
       let w = given_none (step_right form block at before) (behind_in form block at) end p.ends z (omega arith) in
-      sym (passed_step h ∙ sym (if_false (step_right form block at before and rest_right) _ _ _ (first_fails (step_right form block at before) _ w) refl))
+      sym (passed_step h ∙ sym (when_false (step_right form block at before and rest_right) _ _ _ (first_fails (step_right form block at before) _ w) refl))
 
   pub passed_on : (end number : ℕ) → 0 < left → Passes form block at before end number → (end ≡ 0 → ⊥)
       → (end ≤ records_end) × (whole ≡ last_or form block end number (left - 1))
@@ -129,15 +129,15 @@ module _ (form : Form) (block : List ℕ) (at before left whole : ℕ) (inv : wh
       let most = s.ends in (
         rw same most,
         passed_step h
-            ∙ ap (λ (b : Bool). if b then rest_last else 0) (sym (if_true (step_right form block at before) _ _ _ right refl))
+            ∙ ap (λ (b : Bool). when b then rest_last else 0) (sym (when_true (step_right form block at before) _ _ _ right refl))
             ∙ rw (same, p.numbered n),
       )
 
-  pub passed_done : left ≤ 0 → (z : Bool) → z ≡ all_zero (take (records_end - at) (drop at block)) → whole ≡ (if z then before else 0)
+  pub passed_done : left ≤ 0 → (z : Bool) → z ≡ all_zero (take (records_end - at) (drop at block)) → whole ≡ (when z then before else 0)
   unfolding records_right last_from
   passed_done h z g =
       let e : left ≡ 0 = omega arith in
-      inv ∙ ap (last_or form block at before) e ∙ ap (λ (b : Bool). if b then before else 0) (ap all_zero (drop_take at records_end block) ∙ sym g)
+      inv ∙ ap (last_or form block at before) e ∙ ap (λ (b : Bool). when b then before else 0) (ap all_zero (drop_take at records_end block) ∙ sym g)
 
 -- right records lie within the block, and their numbers rise
 pub records_within : (form : Form) (block : List ℕ) (at before k : ℕ) → at ≤ records_end → records_right form block at before k ≡ true
@@ -164,10 +164,10 @@ messages_length form block at before (suc k) = ap suc (messages_length form bloc
 -- what the code asks of a block's number, count and records
 module _ (t : Tail) (block : List ℕ) where
   abbrev content_last : ℕ
-  content_last = if content_right t block then last_of block else 0
+  content_last = when content_right t block then last_of block else 0
 
   unsaid : content_right t block ≡ false → 0 ≡ content_last
-  unsaid e = if_false (content_right t block) _ _ _ e refl
+  unsaid e = when_false (content_right t block) _ _ _ e refl
 
   pub content_none : records_in block < 1 → 0 ≡ content_last
   unfolding content_right
@@ -181,8 +181,8 @@ module _ (t : Tail) (block : List ℕ) where
       → last_or (form_of block) block records_at (first_at block - 1) (records_in block) ≡ content_last
   unfolding content_right
   content_is h f =
-      ap (λ (b : Bool). if b then last_of block else 0)
-      (if_true (1 ≤? records_in block) _ _ _ (le-leb 1 (records_in block) h) (if_true (follows t (first_at block)) _ _ _ f refl))
+      ap (λ (b : Bool). when b then last_of block else 0)
+      (when_true (1 ≤? records_in block) _ _ _ (le-leb 1 (records_in block) h) (when_true (follows t (first_at block)) _ _ _ f refl))
 
   -- what it says
   pub content_says : content_right t block ≡ true → (1 ≤ last_of block) × (records_at + record_head * records_in block ≤ records_end)
@@ -200,7 +200,7 @@ module _ (t : Tail) (block : List ℕ) where
 
   pub last_none : (last : ℕ) → last ≡ content_last → last < 1 → content_right t block ≡ false
   last_none last e h =
-      (if_elim (λ (x : ℕ). last ≡ x → content_right t block ≡ false) (content_right t block)
+      (when_elim (λ (x : ℕ). last ≡ x → content_right t block ≡ false) (content_right t block)
       (λ r same. let (some, _) = content_says r in absurd (omega arith)) (λ f same. f)) e
 
 -- what reading a block answers: right, with its messages and the tail behind them, or wrong
@@ -213,34 +213,34 @@ block_found block = rw (messages_length (form_of block) block records_at (first_
 
 module _ (t : Tail) (block : List ℕ) where
   pub next_right : length block ≡ block_size → form_right (form_of block) t block ≡ true → sum_right block ≡ true
-      → (last : ℕ) → last ≡ (if content_right t block then last_of block else 0) → 1 ≤ last
+      → (last : ℕ) → last ≡ (when content_right t block then last_of block else 0) → 1 ≤ last
       → Block.Right (record { blocks = 1; messages = records_in block; tail = tail_with (form_of block) last }) ≡ next_of t block
   unfolding next_of block_right
   next_right n m s last e h =
       let (c, same) = last_says t block last e h in
-      if_true (block_right t block) _ _ _
+      when_true (block_right t block) _ _ _
       (both_hold (length block =? block_size) _ (eq-eqb (length block) block_size n)
       (both_hold (form_right (form_of block) t block) _ m (both_hold (sum_right block) _ s c))) (rw same (ap Block.Right (block_found block)))
 
   pub next_short : (length block ≡ block_size → ⊥) → Block.Wrong ≡ next_of t block
   unfolding next_of block_right
-  next_short n = if_false (block_right t block) _ _ _ (first_fails (length block =? block_size) _ (ne_eqb (length block) block_size n)) refl
+  next_short n = when_false (block_right t block) _ _ _ (first_fails (length block =? block_size) _ (ne_eqb (length block) block_size n)) refl
 
   pub next_unmarked : form_right (form_of block) t block ≡ false → Block.Wrong ≡ next_of t block
   unfolding next_of block_right
   next_unmarked m =
-      if_false (block_right t block) _ _ _ (then_fails (length block =? block_size) _ (first_fails (form_right (form_of block) t block) _ m)) refl
+      when_false (block_right t block) _ _ _ (then_fails (length block =? block_size) _ (first_fails (form_right (form_of block) t block) _ m)) refl
 
   pub next_summed : sum_right block ≡ false → Block.Wrong ≡ next_of t block
   unfolding next_of block_right
   next_summed s =
-      if_false (block_right t block) _ _ _
+      when_false (block_right t block) _ _ _
       (then_fails (length block =? block_size) _ (then_fails (form_right (form_of block) t block) _ (first_fails (sum_right block) _ s))) refl
 
-  pub next_other : (last : ℕ) → last ≡ (if content_right t block then last_of block else 0) → last < 1 → Block.Wrong ≡ next_of t block
+  pub next_other : (last : ℕ) → last ≡ (when content_right t block then last_of block else 0) → last < 1 → Block.Wrong ≡ next_of t block
   unfolding next_of block_right
   next_other last e h =
-      if_false (block_right t block) _ _ _
+      when_false (block_right t block) _ _ _
       (then_fails (length block =? block_size) _
       (then_fails (form_right (form_of block) t block) _ (then_fails (sum_right block) _ (last_none t block last e h)))) refl
 
@@ -253,7 +253,7 @@ pub right_was_found : (t : Tail) (block : List ℕ) (f : Found) → next_of t bl
     → (block_right t block ≡ true) × (found_one block ≡ f) × (f.messages ≤ 71)
 unfolding next_of block_right
 right_was_found t block f e =
-    let (right, same) = if_was (block_right t block) (Block.Right (found_one block)) Block.Wrong (Block.Right f) e
+    let (right, same) = when_was (block_right t block) (Block.Right (found_one block)) Block.Wrong (Block.Right f) e
     (λ z. let y : ◌≡◌ {A = ℕ} 0 1 = cc in omega arith) in
     let q : found_one block ≡ f = cc in
     let content = both_then (sum_right block) _ (both_then (form_right (form_of block) t block) _ (both_then (length block =? block_size) _ right)) in
@@ -262,11 +262,11 @@ right_was_found t block f e =
     (right, q, omega arith)
 
 wrong_was : (t : Tail) (block : List ℕ) → next_of t block ≡ Block.Wrong → block_right t block ≡ false
-unfolding next_of if◌then◌else◌
+unfolding next_of when◌then◌else◌
 wrong_was t block e = go (block_right t block) refl e
   where
     go : (b : Bool) → block_right t block ≡ b
-        → (if b then Block.Right (found_one block) else Block.Wrong) ≡ Block.Wrong
+        → (when b then Block.Right (found_one block) else Block.Wrong) ≡ Block.Wrong
         → block_right t block ≡ false
     go true r e = absurd (let y : ◌≡◌ {A = ℕ} 0 1 = cc in omega arith)
     go false r e = r
@@ -286,7 +286,7 @@ module _ (journal : List ℕ) (t : Tail) (k m total : ℕ) (whole : Found)
   abbrev rest : Reads
   rest = found_from (tail_of here) (drop block_size (drop (k * block_size) journal)) (total - k - 1)
 
-  blocks_step : k < total → whole ≡ onto k m (counted (if block_right t here then joined 1 (messages_of here) rest else nothing t))
+  blocks_step : k < total → whole ≡ onto k m (counted (when block_right t here then joined 1 (messages_of here) rest else nothing t))
   unfolding found_from
   blocks_step h =
       let e : total - k ≡ suc (total - k - 1) = omega arith in
@@ -301,7 +301,7 @@ module _ (journal : List ℕ) (t : Tail) (k m total : ℕ) (whole : Found)
       let b : m + length (messages_of here ++ rest.messages) ≡ m + length (messages_of here) + length rest.messages = omega arith in
       let d : (k + 1) * block_size ≡ k * block_size + block_size = omega arith in
       let n : total - (k + 1) ≡ total - k - 1 = omega arith in
-      let p = blocks_step h ∙ ap (λ (r : Reads). onto k m (counted r)) (sym (if_true (block_right t here) _ (joined 1 (messages_of here) rest) _ right refl)) in
+      let p = blocks_step h ∙ ap (λ (r : Reads). onto k m (counted r)) (sym (when_true (block_right t here) _ (joined 1 (messages_of here) rest) _ right refl)) in
       (p ∙ rw (a, b) (rw (← same, d, n, ← (drop-drop block_size (k * block_size) journal))), most)
 
   ends_here : onto k m (counted (nothing t)) ≡ record { blocks = k; messages = m; tail = t }
@@ -311,7 +311,7 @@ module _ (journal : List ℕ) (t : Tail) (k m total : ℕ) (whole : Found)
   blocks_off h e =
       sym
       (blocks_step h
-      ∙ ap (λ (r : Reads). onto k m (counted r)) (sym (if_false (block_right t here) _ _ (nothing t) (wrong_was t here e) refl))
+      ∙ ap (λ (r : Reads). onto k m (counted r)) (sym (when_false (block_right t here) _ _ (nothing t) (wrong_was t here e) refl))
       ∙ ends_here)
 
   pub blocks_done : total ≤ k → record { blocks = k; messages = m; tail = t } ≡ whole

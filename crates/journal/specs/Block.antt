@@ -2,7 +2,7 @@
 -- zeros up to byte 507, and the sum over bytes 0 to 507 (4). A record: originator (1), count (4), L (2), L bytes of payload.
 -- Numbers are big-endian. In a block with `KJB2`, a compacted one, the sequence number (4) stands before each record.
 use Rattle.std.specs.Prelude.{Bool, true, false, List, [], ◌∷◌, ◌++◌, ℕ, zero, suc, ◌+◌, ◌*◌, ◌-◌, length, get_or, take, drop, replicate}
-use Rattle.group.specs.Choice.{if◌then◌else◌, ◌and◌, ◌<?◌, ◌≤?◌, ◌=?◌}
+use Rattle.group.specs.Choice.{when◌then◌else◌, ◌and◌, ◌<?◌, ◌≤?◌, ◌=?◌}
 use Rattle.group.specs.Fold.{all}
 use Rattle.group.specs.Limits.{members_most, payload_most, largest_number}
 use Rattle.message.specs.Message.{all_zero}
@@ -79,7 +79,7 @@ ended_at number = record { last = record { 0 = number }; free = false }
 
 -- whether a number may follow
 unfoldable pub follows : Tail → ℕ → Bool
-follows t number = if t.free then t.last.0 <? number else number =? t.last.0 + 1
+follows t number = when t.free then t.last.0 <? number else number =? t.last.0 + 1
 
 -- the record that stands at an index is right, and so is its number
 unfoldable pub record_right : List ℕ → ℕ → ℕ → Bool
@@ -123,7 +123,7 @@ marked begin block = all (λ i b. get_or block i 0 =? b) 0 begin
 
 -- what its mark makes it
 unfoldable pub form_of : List ℕ → Form
-form_of block = if marked compact_mark block then Compact else Log
+form_of block = when marked compact_mark block then Compact else Log
 
 -- the mark is right: a compacted block stands where any number may follow, and its number is its first record's
 unfoldable pub form_right : Form → Tail → List ℕ → Bool

@@ -1,7 +1,7 @@
 -- Reading a journal: block by block, up to the first that is wrong.
 use Rattle.std.specs.Prelude.{true, List, [], ◌++◌, ℕ, zero, suc, ◌+◌, ◌/◌, ◌%◌, length, get_or, take, drop}
 use Rattle.big_endian.specs.Number.{number_at}
-use Rattle.group.specs.Choice.{if◌then◌else◌, ask◌or◌then◌, ◌and◌, ◌=?◌}
+use Rattle.group.specs.Choice.{when◌then◌else◌, ask◌or◌then◌, ◌and◌, ◌=?◌}
 use Rattle.group.specs.declared.Refusal.TheVariants.{WrongJournal}
 use Rattle.group.specs.declared.SequenceNumber.{SequenceNumber}
 use Rattle.message.specs.Order.{Ordered}
@@ -36,7 +36,7 @@ joined k ms r = record { blocks = k + r.blocks; messages = ms ++ r.messages; tai
 unfoldable pub found_from : Tail → List ℕ → ℕ → Reads
 found_from t journal zero = nothing t
 found_from t journal (suc k) =
-    if block_right t (take block_size journal)
+    when block_right t (take block_size journal)
     then joined 1 (messages_of (take block_size journal)) (found_from (tail_of (take block_size journal)) (drop block_size journal) k)
     else nothing t
 
@@ -57,7 +57,7 @@ read_of journal =
 -- what reading one block behind a tail answers
 unfoldable pub next_of : Tail → List ℕ → Block
 next_of t block =
-    if block_right t block
+    when block_right t block
     then Block.Right (counted (record { blocks = 1; messages = messages_of block; tail = tail_of block }))
     else Block.Wrong
 
@@ -75,7 +75,7 @@ record_at block at number =
 -- what reading one record answers
 unfoldable pub entry_of : List ℕ → ℕ → SequenceNumber → Entry
 entry_of block at number =
-    if length block =? block_size and record_right block at number.0 then Entry.Right (record_at block at number) else Entry.Wrong
+    when length block =? block_size and record_right block at number.0 then Entry.Right (record_at block at number) else Entry.Wrong
 
 -- the message that such a record holds
 unfoldable pub held_by : List ℕ → Record → Ordered

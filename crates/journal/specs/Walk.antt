@@ -1,6 +1,6 @@
 -- Walking over the records of a block, and over those of the right blocks of a journal, one by one.
 use Rattle.std.specs.Prelude.{◌≡◌, Bool, List, [], ◌∷◌, map, ℕ, zero, suc, ◌+◌, ◌*◌, ◌-◌, ◌/◌, take, drop}
-use Rattle.group.specs.Choice.{if◌then◌else◌, ◌<?◌, ◌=?◌}
+use Rattle.group.specs.Choice.{when◌then◌else◌, ◌<?◌, ◌=?◌}
 use Rattle.message.specs.Order.{Ordered}
 use Rattle.journal.specs.Limits.{block_size, records_at, record_head}
 use Rattle.journal.specs.Block.{first_at, records_in, record_start, behind_in, record_number, step_right, records_right, form_of, last_from, message_at}
@@ -12,12 +12,12 @@ use Rattle.journal.specs.declared.Walk.{Walk}
 
 -- a record was passed: it ends there, 0 if it is wrong, and has that number
 pub record Passes (form : Form) (block : List ℕ) (at before end number : ℕ) : Type 0 where
-  pub ends : end ≡ (if step_right form block at before then behind_in form block at else 0)
+  pub ends : end ≡ (when step_right form block at before then behind_in form block at else 0)
   pub numbered : (end ≡ 0 → ⊥) → number ≡ record_number form block at before
 
 -- the last number of right records, else 0
 abbrev pub last_or : Form → List ℕ → ℕ → ℕ → ℕ → ℕ
-last_or form block at before k = if records_right form block at before k then last_from form block at before k else 0
+last_or form block at before k = when records_right form block at before k then last_from form block at before k else 0
 
 -- the number of a block's last record
 abbrev pub last_of : List ℕ → ℕ
@@ -42,7 +42,7 @@ entered_in block base blocks =
 -- a cursor before the first record of a journal of which so many blocks are right
 unfoldable pub cursor_of : List ℕ → ℕ → Cursor
 cursor_of journal blocks =
-    if blocks =? 0 then record { base = 0; blocks = 0; form = Log; at = records_at; before = 0; left = 0 }
+    when blocks =? 0 then record { base = 0; blocks = 0; form = Log; at = records_at; before = 0; left = 0 }
     else entered_in (block_at journal 0) 0 blocks
 
 -- a cursor before the first record of a block, for the records of that block alone, as far as they are right
@@ -83,14 +83,14 @@ moved_of c block =
 -- what the block in hand gives next
 unfoldable pub given_of : Cursor → List ℕ → Walk
 given_of c block =
-    if step_right c.form block c.at c.before then Walk.Next (spot_of c block) (moved_of c block) else Walk.End
+    when step_right c.form block c.at c.before then Walk.Next (spot_of c block) (moved_of c block) else Walk.End
 
 -- what a cursor gives next: of the block in hand or, behind its last record, of the next block
 unfoldable pub walk_of : Cursor → List ℕ → Walk
 walk_of c journal =
-    if c.blocks <? 1 then Walk.End else
-    if 0 <? c.left then given_of c (block_at journal c.base) else
-    if c.blocks <? 2 then Walk.End else
+    when c.blocks <? 1 then Walk.End else
+    when 0 <? c.left then given_of c (block_at journal c.base) else
+    when c.blocks <? 2 then Walk.End else
     given_of (entered_in (block_at journal (c.base + block_size)) (c.base + block_size) (c.blocks - 1)) (block_at journal (c.base + block_size))
 
 -- the records that a cursor gives, at most so many
@@ -105,7 +105,7 @@ given_by (suc k) c journal = walked (walk_of c journal) (λ next. given_by k nex
 -- of some records the first whose payload stands at an index, and that of the block in which the index lies
 unfoldable pub spot_with : ℕ → List Spot → Spot
 spot_with start [] = record { number = record { 0 = 0 }; start = 0; end = 0 }
-spot_with start (s ∷ rest) = if s.start + record_head =? start then s else spot_with start rest
+spot_with start (s ∷ rest) = when s.start + record_head =? start then s else spot_with start rest
 
 unfoldable pub spot_at : List ℕ → ℕ → Spot
 spot_at journal start = spot_with start (given_by block_size (alone_at journal (start / block_size * block_size)) journal)

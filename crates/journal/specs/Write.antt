@@ -1,6 +1,6 @@
 -- Writing a journal: records gather in the block in hand, which is handed out when the next does not fit, and at shutdown.
 use Rattle.std.specs.Prelude.{◌≡◌, Bool, false, List, [], ◌++◌, ℕ, ◌+◌, ◌*◌, ◌-◌, length, take, drop}
-use Rattle.group.specs.Choice.{if◌then◌else◌, ask◌or◌then◌, ◌and◌, ◌<?◌, ◌≤?◌, ◌=?◌}
+use Rattle.group.specs.Choice.{when◌then◌else◌, ask◌or◌then◌, ◌and◌, ◌<?◌, ◌≤?◌, ◌=?◌}
 use Rattle.group.specs.Lent.{front}
 use Rattle.group.specs.Limits.{members_most, payload_most}
 use Rattle.group.specs.Question.{judged}
@@ -48,7 +48,7 @@ writer_after t = record { tail = t; first = record { 0 = 0 }; records = 0; used 
 -- the records in hand have the numbers up to the last, and the next alone may follow
 unfoldable pub numbers_sound : Writer → Bool
 numbers_sound w =
-    if w.tail.free then false else
+    when w.tail.free then false else
     1 ≤? w.first.0 and w.first.0 + w.records =? w.tail.last.0 + 1
 
 -- the state is sound: the records in hand fit what is used, and with none in hand nothing is used
@@ -57,7 +57,7 @@ writer_sound w =
     records_at ≤? w.used
     and w.used ≤? records_end
     and record_head * w.records ≤? w.used - records_at
-    and (if w.records =? 0 then w.used =? records_at else numbers_sound w)
+    and (when w.records =? 0 then w.used =? records_at else numbers_sound w)
 
 -- a message that a record may hold: its originator, its count, and the length of its payload
 abbrev pub allowed_with : ℕ → ℕ → ℕ → Bool
@@ -71,7 +71,7 @@ abbrev pub grown_to : Writer → SequenceNumber → ℕ → Writer
 grown_to w number used =
     record {
       tail = ended_at number.0;
-      first = if w.records =? 0 then number else w.first;
+      first = when w.records =? 0 then number else w.first;
       records = w.records + 1;
       used = used;
     }
@@ -100,7 +100,7 @@ refused w hand refusal = record { writer = w; answer = Refused refusal; hand = h
 -- a message that may be kept: its record goes behind the others, or begins the next block
 unfoldable pub kept_of : Writer → Ordered → List ℕ → Outcome
 kept_of w m hand =
-    if w.used + length (record_of m) ≤? records_end
+    when w.used + length (record_of m) ≤? records_end
     then record { writer = grown w m; answer = Kept; hand = written_at w.used (record_of m) hand; bytes = [] }
     else record { writer = begun m; answer = Kept; hand = written_at records_at (record_of m) hand; bytes = in_hand w hand }
 
@@ -121,7 +121,7 @@ closed_of w hand =
       writer = writer_after w.tail;
       answer = Closed;
       hand = hand;
-      bytes = if w.records =? 0 then [] else in_hand w hand;
+      bytes = when w.records =? 0 then [] else in_hand w hand;
     }
 
 unfoldable pub finish_of : Writer → List ℕ → Outcome

@@ -1,7 +1,7 @@
 -- What the plan's calls lay has room in the output: an answer of so many bytes was given behind the question about the room.
 -- Assumes nothing.
 use Rattle.std.proofs.Common.{◌≡◌, ℕ, ◌%◌, ◌≤◌, Bool, true, false, List, length, refl, arith, leb-true}
-use Rattle.group.specs.Choice.{if◌then◌else◌, ask◌or◌then◌, ◌≤?◌, ◌=?◌}
+use Rattle.group.specs.Choice.{when◌then◌else◌, ask◌or◌then◌, ◌≤?◌, ◌=?◌}
 use Rattle.group.specs.declared.Refusal.{Refusal}
 use Rattle.group.specs.declared.Refusal.TheVariants.{WrongJournal, ManyUnits, NoRoom}
 use Rattle.journal.specs.Limits.{block_size}
@@ -13,7 +13,7 @@ use Rattle.plan.specs.declared.Answer.{Answer}
 
 -- bytes were laid, so the question before was answered yes
 passed : (t : Bool) (q : Refusal) (o : Outcome) (n : ℕ) → (ask t or refused q then o).answer ≡ Answer.Bytes n → (t ≡ true) × (o.answer ≡ Answer.Bytes n)
-unfolding if◌then◌else◌
+unfolding when◌then◌else◌
 passed true q o n e = (refl, e)
 passed false q o n e = absurd (let f : Answer.Refused q ≡ Answer.Bytes n = e in let y : ◌≡◌ {A = ℕ} 0 1 = cc in omega arith)
 

@@ -18,7 +18,7 @@ use Rattle.group.specs.declared.Group.{Group}
 use Rattle.group.specs.declared.Opened.{Opened}
 use Rattle.group.specs.declared.Refusal.{Refusal}
 use Rattle.group.specs.declared.Refusal.TheVariants.{Opening, Resilience}
-use Rattle.group.proofs.Choice.{if_was, both_first, both_then}
+use Rattle.group.proofs.Choice.{when_was, both_first, both_then}
 use Rattle.group.proofs.Lists.{le_or}
 use Rattle.text.specs.LaidAt.{LaidAt}
 use Rattle.text.proofs.Pieces.{laid_none, laid_then}
@@ -114,8 +114,8 @@ refused_not e = let z : ◌≡◌ {A = ℕ} 0 1 = cc in omega arith
 open_within : (n number : ℕ) (g : Group) → group.open_of n number 0 ≡ Opened.Open g → (1 ≤ g.n) × (g.n ≤ members_most)
 unfolding group.open_of
 open_within n number g e =
-    let w = if_was (1 ≤? n and n ≤? members_most) (ask 0 <? n or Opened.Refused Resilience then Opened.Open (group.description_of n number 0)) (Opened.Refused Opening) (Opened.Open g) e (λ z. let a : ◌≡◌ {A = ℕ} 0 1 = cc in omega arith) in
-    let d = if_was (0 <? n) (Opened.Open (group.description_of n number 0)) (Opened.Refused Resilience) (Opened.Open g) w.1 (λ z. let a : ◌≡◌ {A = ℕ} 0 1 = cc in omega arith) in
+    let w = when_was (1 ≤? n and n ≤? members_most) (ask 0 <? n or Opened.Refused Resilience then Opened.Open (group.description_of n number 0)) (Opened.Refused Opening) (Opened.Open g) e (λ z. let a : ◌≡◌ {A = ℕ} 0 1 = cc in omega arith) in
+    let d = when_was (0 <? n) (Opened.Open (group.description_of n number 0)) (Opened.Refused Resilience) (Opened.Open g) w.1 (λ z. let a : ◌≡◌ {A = ℕ} 0 1 = cc in omega arith) in
     let f = d.1 in
     let m : n ≡ g.n = cc in
     let h = leb-true 1 n (both_first (1 ≤? n) (n ≤? members_most) w.0) in

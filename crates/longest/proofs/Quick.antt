@@ -8,7 +8,7 @@ use Prim.Native.Nat.{ℕ, ◌+◌, ◌≤◌}
 use native.Mathlib.Omega.{arith}
 use borrow.Author.Tests.{ltb-true}
 use lib.ListN.{length, get_or, get_elem?}
-use Rattle.group.specs.Choice.{if◌then◌else◌, ◌<?◌, ◌=?◌}
+use Rattle.group.specs.Choice.{when◌then◌else◌, ◌<?◌, ◌=?◌}
 use Rattle.group.specs.Limits.{members_most, longest_packet, largest_number}
 use Rattle.group.specs.Question.{judged}
 use Rattle.group.specs.declared.Group as description
@@ -31,13 +31,13 @@ use Rattle.window.specs.Places.{message_at}
 abbrev submit_past : Member → List ℕ → member.Outcome
 submit_past m payload =
     judged (member.submit_verdict m (length payload)) (member.refused m)
-    (if m.waiting =? 0
+    (when m.waiting =? 0
     then record { member = member.with_waiting m payload; answer = memberAnswer.Answer.Sent; bytes = member.request_packet (member.with_waiting m payload) }
     else member.answered (member.with_waiting m payload) (memberAnswer.Answer.Queued (m.submitted + 1)))
 
 abbrev take_past : Member → member.Outcome
 take_past m =
-    if member.is_ready m (m.taken.0 + 1) then member.took_of m (message_at m.held (m.taken.0 + 1)) else
+    when member.is_ready m (m.taken.0 + 1) then member.took_of m (message_at m.held (m.taken.0 + 1)) else
     member.answered m memberAnswer.Answer.None
 
 abbrev status_past : Member → member.Outcome
@@ -58,7 +58,7 @@ sequencer_past g (some packet) = with_sequencer g (sequencer.read_step g.sequenc
 unfoldable pub past : Group → Event → Happened
 past g (submit i payload) = at_member g i (λ m. submit_past m payload)
 past g (repeat i) = happen g (repeat i)
-past g (world.take i) = if i <? length g.members then with_member g i (take_past (get_or g.members i no_member)) [] else missing g
+past g (world.take i) = when i <? length g.members then with_member g i (take_past (get_or g.members i no_member)) [] else missing g
 past g (status i) = at_member g i status_past
 past g poll = happen g poll
 past g (copy number) = happen g (copy number)
@@ -71,10 +71,10 @@ leaves g [] = g
 leaves g (e ∷ es) = leaves (past g e).group es
 
 -- a choice whose first way is the same
-if_first : {A B : Type 0} (t : Bool) (f : A → B) (x y : A) (d : B) → (t ≡ true → x ≡ y) → (if t then f x else d) ≡ (if t then f y else d)
-unfolding if◌then◌else◌
-if_first true f x y d h = ap f (h refl)
-if_first false f x y d h = refl
+when_first : {A B : Type 0} (t : Bool) (f : A → B) (x y : A) (d : B) → (t ≡ true → x ≡ y) → (when t then f x else d) ≡ (when t then f y else d)
+unfolding when◌then◌else◌
+when_first true f x y d h = ap f (h refl)
+when_first false f x y d h = refl
 
 -- a member's calls
 module _ (m : Member) (h : member_sound.sound_of m ≡ true) where
@@ -96,7 +96,7 @@ module _ (m : Member) (h : member_sound.sound_of m ≡ true) where
 
 -- the sequencer's
 sequencer_past_lem : (s : Sequencer) (packet : List ℕ) → sequencer_sound.sound_of s ≡ true → sequencer.receive_of s packet longest_packet ≡ sequencer.read_step s (read_of packet) (payload_at packet)
-unfolding sequencer.receive_of sequencer.call_verdict judged if◌then◌else◌
+unfolding sequencer.receive_of sequencer.call_verdict judged when◌then◌else◌
 sequencer_past_lem s packet h = rw h
 
 module _ (group : description.Group) where
@@ -110,7 +110,7 @@ module _ (group : description.Group) where
     at_past : (i : ℕ) (call call' : Member → member.Outcome) → ((m : Member) → member_sound.sound_of m ≡ true → call m ≡ call' m) → at_member g i call ≡ at_member g i call'
     at_past i call call' h =
         let m : Member = get_or g.members i no_member in
-        if_first (i <? length g.members) (λ (o : member.Outcome). with_member g i o (written o.bytes)) (call m) (call' m) (missing g) (λ t. h m (sound i t))
+        when_first (i <? length g.members) (λ (o : member.Outcome). with_member g i o (written o.bytes)) (call m) (call' m) (missing g) (λ t. h m (sound i t))
 
     hand_past : (i : ℕ) (packet : Option (List ℕ)) → hand_to_member g i packet ≡ member_past g i packet
     hand_past i none = refl
@@ -126,7 +126,7 @@ module _ (group : description.Group) where
     happen_past (repeat i) = refl
     happen_past (world.take i) =
         let m : Member = get_or g.members i no_member in
-        if_first (i <? length g.members) (λ (o : member.Outcome). with_member g i o []) (member.take_of m longest_packet) (take_past m) (missing g) (λ t. take_past_lem m (sound i t))
+        when_first (i <? length g.members) (λ (o : member.Outcome). with_member g i o []) (member.take_of m longest_packet) (take_past m) (missing g) (λ t. take_past_lem m (sound i t))
     happen_past (status i) = at_past i (λ m. member.status_of m longest_packet) status_past status_past_lem
     happen_past poll = refl
     happen_past (copy number) = refl

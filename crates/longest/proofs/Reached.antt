@@ -8,7 +8,7 @@ use lib.ListN.{length}
 use Rattle.big_endian.specs.Number.{number_at, bytes_of}
 use Rattle.group.proofs.Fold.{above_each}
 use Rattle.group.proofs.Lists.{le_or}
-use Rattle.group.specs.Choice.{if◌then◌else◌, ◌=?◌}
+use Rattle.group.specs.Choice.{when◌then◌else◌, ◌=?◌}
 use Rattle.group.specs.Fold.{all_above, least_of}
 use Rattle.group.specs.Members.{lowest_of, expected_of, needed_of}
 use lib.Count.{ones, ones_in}
@@ -38,7 +38,7 @@ length_of g = length (close_from g.members 0 g.sequencer.accepted.0 (length g.pa
 
 -- whether the list of n leads to the figure, computed with all that the line names
 unfoldable leads : ℕ → Bool
-unfolding if◌then◌else◌ least_of from_elected needed_of expected_of lowest_of ones ones_in open_of judged member.answered reach_of acknowledged_of member.request_packet member.status_packet member.submit_verdict member.with_waiting member.with_accepted member.with_held member.gap_up_to member.kept_of member.message_step member.broadcast_of window.larger_of window.smaller_of member.content_step member.read_step member.is_own member.with_taken member.is_ready member.took_of member.opened_of member.fresh_of window.lowest_missing window.row_end fresh_member message_of empty_message payload_of take_row close_member close_from fresh_members fresh number_at bytes_of header_of known_kind payload_fits obeys fields_verdict read_of header_bytes packet_of content_of fields_of written sequencer.answered sequencer.announced sequencer.broadcast_of sequencer.with_message sequencer.numbered_of sequencer.request_of sender_verdict count_verdict sequencer.content_step sequencer.read_step sequencer.opened_of sequencer.fresh_of larger_of table_noted cleared_of with_table note_of floor_of fresh_sequencer rounds hands holders lasts slowest past leaves
+unfolding when◌then◌else◌ least_of from_elected needed_of expected_of lowest_of ones ones_in open_of judged member.answered reach_of acknowledged_of member.request_packet member.status_packet member.submit_verdict member.with_waiting member.with_accepted member.with_held member.gap_up_to member.kept_of member.message_step member.broadcast_of window.larger_of window.smaller_of member.content_step member.read_step member.is_own member.with_taken member.is_ready member.took_of member.opened_of member.fresh_of window.lowest_missing window.row_end fresh_member message_of empty_message payload_of take_row close_member close_from fresh_members fresh number_at bytes_of header_of known_kind payload_fits obeys fields_verdict read_of header_bytes packet_of content_of fields_of written sequencer.answered sequencer.announced sequencer.broadcast_of sequencer.with_message sequencer.numbered_of sequencer.request_of sender_verdict count_verdict sequencer.content_step sequencer.read_step sequencer.opened_of sequencer.fresh_of larger_of table_noted cleared_of with_table note_of floor_of fresh_sequencer rounds hands holders lasts slowest past leaves
 leads n = length_of (leaves (fresh n 7 0).group (slowest n)) =? longest_closing n
 
 -- eight at a time: the steps that one declaration may take have a limit

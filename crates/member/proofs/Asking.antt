@@ -7,7 +7,7 @@ use Prim.Native.Nat.{ℕ, zero, suc, ◌+◌, ◌-◌, ◌≤◌, ◌<◌}
 use native.Mathlib.Omega.{arith}
 use borrow.Author.Tests.{lt-ltb, eqb-true}
 use lib.ListN.{length}
-use Rattle.group.specs.Choice.{if◌then◌else◌, ask◌or◌then◌, ◌and◌, ◌<?◌, ◌≤?◌, ◌=?◌}
+use Rattle.group.specs.Choice.{when◌then◌else◌, ask◌or◌then◌, ◌and◌, ◌<?◌, ◌≤?◌, ◌=?◌}
 use Rattle.group.specs.Limits.{held_most, waiting_most, payload_most, largest_number}
 use Rattle.group.specs.Members.{is_in, expected_of}
 use Rattle.group.specs.Question.{Question, first_no, judged}
@@ -15,7 +15,7 @@ use Rattle.group.specs.declared.MemberNumber.{MemberNumber}
 use Rattle.group.specs.declared.Refusal.{Refusal}
 use Rattle.group.specs.declared.Verdict.{Verdict}
 use Rattle.group.proofs.Choice.{says}
-use Rattle.group.proofs.Lists.{if_elim}
+use Rattle.group.proofs.Lists.{when_elim}
 use Rattle.group.proofs.Question.{judged_ask, judged_append, judged_same}
 use Rattle.packet.specs.Laws.{read_questions}
 use Rattle.packet.specs.Packet.{broadcast_kind, poll_kind, offer_kind, accept_kind, header_of, known_kind, from_elected, content_of, payload_at, read_of}
@@ -83,7 +83,7 @@ pub take_first_no : TakeFirstNo
 unfolding take_of took_of answered first_no judged
 take_first_no m room =
     asked m (call_questions m room) _ _ (call_asked m room [] _ _ (λ _. refl))
-    (if_elim Accepts (is_ready m (m.taken.0 + 1))
+    (when_elim Accepts (is_ready m (m.taken.0 + 1))
     (λ _. record { no = refl })
     (λ _. record { no = refl }))
 
@@ -106,28 +106,28 @@ submit_first_no m payload room =
     ∷ record { yes = m.submitted <? largest_number; refusal = Refusal.NumbersUsedUp }
     ∷ [])
     _ _ (λ _. refl))
-    (if_elim Accepts (m.waiting =? 0)
+    (when_elim Accepts (m.waiting =? 0)
     (λ _. record { no = refl })
     (λ _. record { no = refl }))
 
 -- what a packet that passes all questions does: a broadcast, a poll, an offer or an acceptance
 abbrev pub accepted_step : Member → Header → List ℕ → Outcome
 accepted_step m h payload =
-    if h.kind =? broadcast_kind then broadcast_of m h.member h.a h.b payload else
-    if h.kind =? poll_kind then poll_of m (record { 0 = h.a }) else
-    if h.kind =? offer_kind then offer_of m h.member h.a h.b payload else
+    when h.kind =? broadcast_kind then broadcast_of m h.member h.a h.b payload else
+    when h.kind =? poll_kind then poll_of m (record { 0 = h.a }) else
+    when h.kind =? offer_kind then offer_of m h.member h.a h.b payload else
     answered (with_accepted m h.a) Answer.Noted
 
 gap_accepts : (m : Member) (last : ℕ) (gapped : Answer) {whole : Outcome} → refuses gapped ≡ false → Accepts whole → Accepts (gap_up_to m last gapped whole)
 unfolding gap_up_to
-gap_accepts m last gapped f rest = if_elim Accepts (lowest_missing m.held m.taken.0 (last - m.taken.0) =? 0) (λ _. rest) (λ _. record { no = f })
+gap_accepts m last gapped f rest = when_elim Accepts (lowest_missing m.held m.taken.0 (last - m.taken.0) =? 0) (λ _. rest) (λ _. record { no = f })
 
 message_accepts : (m : Member) (originator : MemberNumber) (number count : ℕ) (payload : List ℕ) → Accepts (message_step m originator number count payload)
 unfolding message_step kept_of answered
 message_accepts m originator number count payload =
-    if_elim Accepts (number ≤? m.taken.0) (λ _. record { no = refl })
-    (λ _. if_elim Accepts (number ≤? m.taken.0 + held_most)
-    (λ _. if_elim Accepts (is_held m.held number) (λ _. record { no = refl })
+    when_elim Accepts (number ≤? m.taken.0) (λ _. record { no = refl })
+    (λ _. when_elim Accepts (number ≤? m.taken.0 + held_most)
+    (λ _. when_elim Accepts (is_held m.held number) (λ _. record { no = refl })
     (λ _. gap_accepts _ (number - 1) Answer.KeptGap refl (record { no = refl })))
     (λ _. gap_accepts m (m.taken.0 + held_most) Answer.BeyondGap refl (record { no = refl })))
 
@@ -135,21 +135,21 @@ message_accepts m originator number count payload =
 confirmed_accepts : (o : Outcome) (number : ℕ) → Accepts o → Accepts (confirmed_of o number)
 unfolding confirmed_of
 confirmed_accepts o number a =
-    if_elim Accepts (confirms o.answer and none_missing o.member number and is_in (expected_of o.member.group) o.member.number.0)
+    when_elim Accepts (confirms o.answer and none_missing o.member number and is_in (expected_of o.member.group) o.member.number.0)
     (λ _. record { no = a.no }) (λ _. a)
 
 pub step_accepts : (m : Member) (h : Header) (payload : List ℕ) → Accepts (accepted_step m h payload)
 unfolding broadcast_of offer_of poll_of answered
 step_accepts m h payload =
-    if_elim Accepts (h.kind =? broadcast_kind) (λ _. message_accepts _ h.member h.a h.b payload)
-    (λ _. if_elim Accepts (h.kind =? poll_kind) (λ _. gap_accepts m _ Answer.Gap refl (record { no = refl }))
-    (λ _. if_elim Accepts (h.kind =? offer_kind) (λ _. confirmed_accepts _ h.a (message_accepts m h.member h.a h.b payload))
+    when_elim Accepts (h.kind =? broadcast_kind) (λ _. message_accepts _ h.member h.a h.b payload)
+    (λ _. when_elim Accepts (h.kind =? poll_kind) (λ _. gap_accepts m _ Answer.Gap refl (record { no = refl }))
+    (λ _. when_elim Accepts (h.kind =? offer_kind) (λ _. confirmed_accepts _ h.a (message_accepts m h.member h.a h.b payload))
     (λ _. record { no = refl })))
 
 -- questions 8 and 9 of fields that obey their kind: the kind decides
 abbrev end_questions : Member → Header → List Question
 end_questions m h =
-    record { yes = if h.kind =? broadcast_kind then true else if h.kind =? poll_kind then true else if h.kind =? offer_kind then true else h.kind =? accept_kind; refusal = Refusal.OtherEnd }
+    record { yes = when h.kind =? broadcast_kind then true else when h.kind =? poll_kind then true else when h.kind =? offer_kind then true else h.kind =? accept_kind; refusal = Refusal.OtherEnd }
     ∷ record { yes = h.member.0 <? m.group.n; refusal = Refusal.UnknownMember }
     ∷ []
 
@@ -157,7 +157,7 @@ content_asked : (m : Member) (kind member group a b c : ℕ) (payload : List ℕ
     → let h : Header = record { kind = kind; member = record { 0 = member }; group = group; a = a; b = b; c = c } in
     m.group.elected.0 < m.group.n → from_elected m.group (content_of h) ≡ true → known_kind kind ≡ true
     → content_step m (content_of h) payload ≡ judged (first_no (end_questions m h)) (refused m) (accepted_step m h payload)
-unfolding known_kind from_elected content_of content_step first_no judged if◌then◌else◌
+unfolding known_kind from_elected content_of content_step first_no judged when◌then◌else◌
 content_asked m zero member group a b c payload some named known = let z : false ≡ true = known in cc
 content_asked m (suc zero) member group a b c payload some named known = refl
 content_asked m (suc (suc zero)) member group a b c payload some named known =
@@ -183,8 +183,8 @@ content_asked m (suc (suc (suc (suc (suc (suc (suc (suc (suc (suc (suc (suc kind
     absurd (omega arith)
 
 -- what follows a question need only be the same where its answer is yes
-ask_same : (b : Bool) {x y : Outcome} (z : Outcome) → (b ≡ true → x ≡ y) → (if b then x else z) ≡ (if b then y else z)
-unfolding if◌then◌else◌
+ask_same : (b : Bool) {x y : Outcome} (z : Outcome) → (b ≡ true → x ≡ y) → (when b then x else z) ≡ (when b then y else z)
+unfolding when◌then◌else◌
 ask_same true z f = f refl
 ask_same false z f = refl
 

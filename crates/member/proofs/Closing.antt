@@ -7,18 +7,18 @@ use Prim.Native.Nat.{ℕ, ◌+◌, ◌-◌, ◌≤◌, ◌<◌}
 use native.Mathlib.Omega.{arith}
 use borrow.Author.Tests.{le-leb, leb-true, leb-false, lt-ltb, ltb-true, ltb-false, eq-eqb, eqb-false}
 use lib.ListN.{length}
-use Rattle.group.specs.Choice.{if◌then◌else◌, ◌<?◌, ◌≤?◌, ◌=?◌}
+use Rattle.group.specs.Choice.{when◌then◌else◌, ◌<?◌, ◌≤?◌, ◌=?◌}
 use Rattle.group.specs.Limits.{members_most, held_most, longest_packet, largest_number}
 use Rattle.group.specs.Question.{judged}
 use Rattle.group.specs.declared.Group.{Group}
 use Rattle.group.specs.declared.MemberNumber.{MemberNumber}
 use Rattle.group.specs.declared.SequenceNumber.{SequenceNumber}
 use Rattle.group.specs.declared.Verdict.{Verdict}
-use Rattle.group.proofs.Choice.{says, if_true}
+use Rattle.group.proofs.Choice.{says, when_true}
 use Rattle.group.proofs.Members.{Standing}
 use Rattle.group.specs.Members.{is_in}
 use Rattle.group.specs.declared.Refusal.{Refusal}
-use Rattle.group.proofs.Lists.{if_elim, at_nil}
+use Rattle.group.proofs.Lists.{when_elim, at_nil}
 use Rattle.message.specs.Message.{Message, message_of}
 use Rattle.message.specs.Order.{Ordered, own_of, counted_from}
 use Rattle.packet.specs.Laws.{Allowed}
@@ -43,7 +43,7 @@ use Rattle.member.proofs.Writes.{status_allowed}
 
 -- a sound state and the longest packet's room go past questions 1 and 2
 pub call_accepted : (m : Member) → sound_of m ≡ true → call_verdict m longest_packet ≡ Verdict.Accepted
-unfolding call_verdict if◌then◌else◌
+unfolding call_verdict when◌then◌else◌
 call_accepted m h = rw h
 
 pub status_is : (m : Member) → sound_of m ≡ true → status_of m longest_packet ≡ record { member = m; answer = Answer.Sent; bytes = status_packet m }
@@ -51,14 +51,14 @@ unfolding status_of judged
 status_is m h = rw (call_accepted m h)
 
 pub take_is : (m : Member) → sound_of m ≡ true → 1 ≤ (message_at m.held (m.taken.0 + 1)).count → m.taken.0 + 1 ≤ m.accepted.0 → take_of m longest_packet ≡ took_of m (message_at m.held (m.taken.0 + 1))
-unfolding take_of is_ready judged if◌then◌else◌
+unfolding take_of is_ready judged when◌then◌else◌
 take_is m h c ready = rw (call_accepted m h, lt-ltb 0 (message_at m.held (m.taken.0 + 1)).count c, le-leb (m.taken.0 + 1) m.accepted.0 ready)
 
 -- a packet of the group is received as what it says
 pub receive_is : (m : Member) (group : Group) (content : Packet) (payload : List ℕ) → sound_of m ≡ true → m.group ≡ group → Allowed (fields_of group.number content) payload
     → receive_of m (packet_of (fields_of group.number content) payload) longest_packet
-    ≡ if from_elected m.group content then content_step m content payload else refused m Refusal.ForbiddenFields
-unfolding receive_of judged read_step if◌then◌else◌
+    ≡ when from_elected m.group content then content_step m content payload else refused m Refusal.ForbiddenFields
+unfolding receive_of judged read_step when◌then◌else◌
 receive_is m group content payload h e allowed =
     let r = read_written (fields_of group.number content) payload allowed in
     rw (call_accepted m h, r.0, r.1, content_fields group.number content, eq-eqb (fields_of group.number content).group m.group.number (fields_group group.number content ∙ sym (ap (λ (x : Group). x.number) e)))
@@ -66,7 +66,7 @@ receive_is m group content payload h e allowed =
 -- where the elected member sent it, or anybody may have
 pub receive_named : (m : Member) (group : Group) (content : Packet) (payload : List ℕ) → sound_of m ≡ true → m.group ≡ group → from_elected m.group content ≡ true
     → Allowed (fields_of group.number content) payload → receive_of m (packet_of (fields_of group.number content) payload) longest_packet ≡ content_step m content payload
-receive_named m group content payload h e named allowed = receive_is m group content payload h e allowed ∙ sym (if_true (from_elected m.group content) _ _ _ named refl)
+receive_named m group content payload h e named allowed = receive_is m group content payload h e allowed ∙ sym (when_true (from_elected m.group content) _ _ _ named refl)
 
 -- what handing over the broadcast of number t + 1 leaves
 pub record HandOk (m : Member) (o : Outcome) : Type 0 where
@@ -89,7 +89,7 @@ module _ (group : Group) (i acknowledged accepted : ℕ) (order took : List Orde
       (allowed : Allowed (fields_of group.number (Broadcast originator number c floor)) payload) (member : originator.0 < group.n) (next : number.0 ≡ m.taken.0 + 1) where
     -- a count of a broadcast is at least 1
     count_pos : 1 ≤ c
-    unfolding fields_of obeys if◌then◌else◌
+    unfolding fields_of obeys when◌then◌else◌
     count_pos =
         let w = writable _ payload longest_packet allowed.1 in
         let o = (askable _ (length payload) payload w.fields).obey in
@@ -119,13 +119,13 @@ module _ (group : Group) (i acknowledged accepted : ℕ) (order took : List Orde
     unfolding from_elected content_step broadcast_of message_step kept_of gap_up_to with_accepted with_held answered
     hand_ok =
         rw (receive_named m group (Broadcast originator number c floor) payload h.content.sound h.seat.group_is refl allowed)
-        (if_elim (HandOk m) (originator.0 <? m.group.n)
-        (λ _. if_elim (HandOk m) (number.0 ≤? m.taken.0)
+        (when_elim (HandOk m) (originator.0 <? m.group.n)
+        (λ _. when_elim (HandOk m) (number.0 ≤? m.taken.0)
         (λ a. let z = leb-true number.0 m.taken.0 a in absurd (omega arith))
-        (λ _. if_elim (HandOk m) (number.0 ≤? m.taken.0 + held_most)
-        (λ _. if_elim (HandOk m) (is_held m.held number.0)
+        (λ _. when_elim (HandOk m) (number.0 ≤? m.taken.0 + held_most)
+        (λ _. when_elim (HandOk m) (is_held m.held number.0)
         (λ a. record { taken_is = refl; held = rw (← next) (ltb-true 0 (message_at m.held number.0).count a); ready = ready; bytes_are = refl })
-        (λ _. if_elim (HandOk m) (low =? 0)
+        (λ _. when_elim (HandOk m) (low =? 0)
         (λ _. record { taken_is = refl; held = kept; ready = ready; bytes_are = refl })
         (λ a. absurd (eqb-false low 0 a none))))
         (λ a. let z = leb-false number.0 (m.taken.0 + held_most) a in absurd (omega arith))))

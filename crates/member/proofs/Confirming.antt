@@ -6,14 +6,14 @@ use mathlib.Core.Bool.{Bool, true, false}
 use mathlib.Core.List.{List, []}
 use Prim.Native.Nat.{ℕ, ◌+◌, ◌-◌, ◌≤◌}
 use native.Mathlib.Omega.{arith}
-use Rattle.group.specs.Choice.{if◌then◌else◌, ◌and◌, ◌≤?◌, ◌=?◌}
+use Rattle.group.specs.Choice.{when◌then◌else◌, ◌and◌, ◌≤?◌, ◌=?◌}
 use Rattle.group.specs.Lent.{front, Laid}
 use Rattle.group.specs.Limits.{held_most}
 use Rattle.group.specs.Members.{is_in, expected_of}
 use Rattle.group.specs.declared.MemberNumber.{MemberNumber}
 use Rattle.group.specs.declared.SequenceNumber.{SequenceNumber}
-use Rattle.group.proofs.Choice.{if_true, if_false, both_first, says}
-use Rattle.group.proofs.Lists.{if_elim}
+use Rattle.group.proofs.Choice.{when_true, when_false, both_first, says}
+use Rattle.group.proofs.Lists.{when_elim}
 use Rattle.message.specs.Message.{Message}
 use Rattle.packet.specs.Packet.{obeys, fields_of}
 use Rattle.packet.specs.declared.Packet.{Packet}
@@ -35,14 +35,14 @@ Silent o = confirms o.answer ≡ true → o.bytes ≡ []
 gap_silent : (m : Member) (last : ℕ) (gapped : Answer) (whole : Outcome) → confirms gapped ≡ false → Silent whole → Silent (gap_up_to m last gapped whole)
 unfolding gap_up_to
 gap_silent m last gapped whole silent rest =
-    if_elim Silent (lowest_missing m.held m.taken.0 (last - m.taken.0) =? 0) (λ _. rest) (λ _ e. let z : ◌≡◌ {A = ℕ} 0 1 = cc in absurd (omega arith))
+    when_elim Silent (lowest_missing m.held m.taken.0 (last - m.taken.0) =? 0) (λ _. rest) (λ _ e. let z : ◌≡◌ {A = ℕ} 0 1 = cc in absurd (omega arith))
 
 pub message_silent : (m : Member) (originator : MemberNumber) (number count : ℕ) (payload : List ℕ) → Silent (message_step m originator number count payload)
 unfolding message_step kept_of answered confirms
 message_silent m originator number count payload =
-    if_elim Silent (number ≤? m.taken.0) (λ _ _. refl)
-    (λ _. if_elim Silent (number ≤? m.taken.0 + held_most)
-    (λ _. if_elim Silent (is_held m.held number) (λ _ _. refl) (λ _. gap_silent _ (number - 1) Answer.KeptGap _ refl (λ _. refl)))
+    when_elim Silent (number ≤? m.taken.0) (λ _ _. refl)
+    (λ _. when_elim Silent (number ≤? m.taken.0 + held_most)
+    (λ _. when_elim Silent (is_held m.held number) (λ _ _. refl) (λ _. gap_silent _ (number - 1) Answer.KeptGap _ refl (λ _. refl)))
     (λ _. gap_silent m (m.taken.0 + held_most) Answer.BeyondGap _ refl (λ _. refl)))
 
 -- what the message of an offer came to, by the code
@@ -56,7 +56,7 @@ module _ (head : Head) (counts : List ℕ) (queue held : List Message) (c : Coun
   -- it is not confirmed
   pub confirms_not : (b : Bool) → b ≡ confirms_by head counts number r.answer → b ≡ false → Replied (member_of head queue held) (confirmed_of o number) r x y
   unfolding confirmed_of
-  confirms_not b t e = replied_as (if_false _ o _ o (sym test_is ∙ sym t ∙ e) refl) d
+  confirms_not b t e = replied_as (when_false _ o _ o (sym test_is ∙ sym t ∙ e) refl) d
 
   -- it is confirmed
   pub confirms_so : Silent o → (b : Bool) → b ≡ confirms_by head counts number r.answer → b ≡ true → {written : ℕ} {z : List ℕ} → Laid (confirm_packet (member_of head queue held) number) written y z
@@ -67,10 +67,10 @@ module _ (head : Head) (counts : List ℕ) (queue held : List Message) (c : Coun
       let none : y ≡ x = subst (λ (bytes : List ℕ). y ≡ front bytes x) (silent (both_first _ _ so)) d.spoken.lent in
       let laid : Laid (confirm_packet o.member number) written x z = subst (λ (m : Member). Laid (confirm_packet m number) written x z) (sym d.same) (subst (λ (before : List ℕ). Laid (confirm_packet (member_of head queue held) number) written before z) none l) in
       let p : Outcome = record { member = o.member; answer = o.answer; bytes = confirm_packet o.member number } in
-      replied_as {o = p} (if_true _ p p o so refl)
+      replied_as {o = p} (when_true _ p p o so refl)
       (record { same = d.same; spoken = record { answer_is = d.spoken.answer_is; written_is = laid.size; lent = laid.lent } })
 
 -- the number of an offer that obeys its kind
 pub offer_number : (g : ℕ) (originator : MemberNumber) (number : SequenceNumber) (count : ℕ) (floor : SequenceNumber) (payload : List ℕ) → obeys (fields_of g (Packet.Offer originator number count floor)) payload ≡ true → 1 ≤ number.0
-unfolding fields_of obeys if◌then◌else◌
+unfolding fields_of obeys when◌then◌else◌
 offer_number g originator number count floor payload e = search says

@@ -6,12 +6,12 @@ use mathlib.Core.List.{List}
 use Prim.Native.Nat.{ℕ, ◌+◌, ◌-◌, ◌≤◌, ◌<◌}
 use native.Mathlib.Omega.{arith}
 use lib.ListN.{length, set, get_or-replicate, length-replicate}
-use Rattle.group.specs.Choice.{if◌then◌else◌}
+use Rattle.group.specs.Choice.{when◌then◌else◌}
 use Rattle.group.specs.Limits.{members_most, held_most, waiting_most, payload_most, largest_number}
 use Rattle.group.specs.declared.Group.{Group}
 use Rattle.group.specs.declared.MemberNumber.{MemberNumber}
 use Rattle.group.proofs.Choice.{says}
-use Rattle.group.proofs.Lists.{if_elim}
+use Rattle.group.proofs.Lists.{when_elim}
 use Rattle.message.specs.Message.{Message, message_of, empty_message, blank}
 use Rattle.message.proofs.Kept.{kept_zero, empty_zero}
 use Rattle.member.specs.Calls.{with_waiting, with_accepted, with_held, with_taken, is_own}
@@ -103,8 +103,8 @@ module _ (m : Member) (typed : Typed m) where
   -- number t + 1 is taken
   module _ (message : Message) where
     own_waiting : (own : Bool) → (own ≡ true → 1 ≤ m.waiting) → WaitingSound m.number.0 m.submitted m.waiting m.queue
-        → WaitingSound m.number.0 m.submitted (if own then m.waiting - 1 else m.waiting) (if own then set m.queue (queue_place (first_count m)) empty_message else m.queue)
-    unfolding if◌then◌else◌
+        → WaitingSound m.number.0 m.submitted (when own then m.waiting - 1 else m.waiting) (when own then set m.queue (queue_place (first_count m)) empty_message else m.queue)
+    unfolding when◌then◌else◌
     own_waiting true f w = waiting_less m.number.0 m.submitted m.waiting m.queue typed.queue w (f refl)
     own_waiting false f w = w
 
@@ -117,7 +117,7 @@ module _ (m : Member) (typed : Typed m) where
           accepted = typed.accepted;
           submitted = typed.submitted;
           queue =
-              if_elim (λ (q : List Message). length q ≡ waiting_most) (is_own m message)
+              when_elim (λ (q : List Message). length q ≡ waiting_most) (is_own m message)
               (λ _. queue_length m.queue typed.queue (first_count m) empty_message)
               (λ _. typed.queue);
           held = set_length m.held typed.held (m.taken.0 + 1) empty_message;

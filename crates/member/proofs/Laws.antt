@@ -8,15 +8,15 @@ use Prim.Native.Nat.{ℕ, ◌+◌, ◌-◌, ◌≤◌, ◌<◌}
 use native.Mathlib.Omega.{arith}
 use borrow.Author.Tests.{leb-true, ltb-true}
 use lib.ListN.{length}
-use Rattle.group.specs.Choice.{if◌then◌else◌, ◌<?◌, ◌≤?◌, ◌=?◌}
+use Rattle.group.specs.Choice.{when◌then◌else◌, ◌<?◌, ◌≤?◌, ◌=?◌}
 use Rattle.group.specs.Limits.{header_size, payload_most, waiting_most, largest_number}
 use Rattle.group.specs.Members.{needed_of}
 use Rattle.group.specs.declared.MemberNumber.{MemberNumber}
 use Rattle.group.specs.declared.Refusal.{Refusal}
 use Rattle.group.specs.declared.Verdict.{Verdict}
-use Rattle.group.proofs.Choice.{if_was, both_first, both_then, says}
+use Rattle.group.proofs.Choice.{when_was, both_first, both_then, says}
 use Rattle.group.proofs.Question.{accepted≢}
-use Rattle.group.proofs.Lists.{if_elim, judged_elim, All}
+use Rattle.group.proofs.Lists.{when_elim, judged_elim, All}
 use Rattle.message.specs.Message.{message_of, payload_of}
 use Rattle.message.proofs.Kept.{kept_zero, payload_short}
 use Rattle.packet.specs.Laws.{Allowed}
@@ -43,7 +43,7 @@ use Rattle.member.proofs.Writes.{Own, request_allowed, status_allowed}
 -- what a call that goes past questions 1 and 2 was asked
 pub call_sound : (m : Member) (room : ℕ) → call_verdict m room ≡ Verdict.Accepted → sound_of m ≡ true
 unfolding call_verdict
-call_sound m room e = (if_was (sound_of m) _ _ Verdict.Accepted e (accepted≢ Refusal.UnsoundState)).0
+call_sound m room e = (when_was (sound_of m) _ _ Verdict.Accepted e (accepted≢ Refusal.UnsoundState)).0
 
 -- what a submission that is accepted was asked
 pub record Submittable (m : Member) (size : ℕ) : Type 0 where
@@ -54,9 +54,9 @@ pub record Submittable (m : Member) (size : ℕ) : Type 0 where
 pub submittable : (m : Member) (size : ℕ) → submit_verdict m size ≡ Verdict.Accepted → Submittable m size
 unfolding submit_verdict
 submittable m size e =
-    let a = if_was (size ≤? payload_most) _ _ Verdict.Accepted e (accepted≢ Refusal.LongPayload) in
-    let b = if_was (m.waiting <? waiting_most) _ _ Verdict.Accepted a.1 (accepted≢ Refusal.AlreadyWaiting) in
-    let c = if_was (m.submitted <? largest_number) _ _ Verdict.Accepted b.1 (accepted≢ Refusal.NumbersUsedUp) in
+    let a = when_was (size ≤? payload_most) _ _ Verdict.Accepted e (accepted≢ Refusal.LongPayload) in
+    let b = when_was (m.waiting <? waiting_most) _ _ Verdict.Accepted a.1 (accepted≢ Refusal.AlreadyWaiting) in
+    let c = when_was (m.submitted <? largest_number) _ _ Verdict.Accepted b.1 (accepted≢ Refusal.NumbersUsedUp) in
     record { short = leb-true size payload_most a.0; less = ltb-true m.waiting waiting_most b.0; left = ltb-true m.submitted largest_number c.0 }
 
 module _ (m : Member) (typed : Typed m) where
@@ -91,7 +91,7 @@ submit_keeps m payload room typed =
     (λ f. let a = submittable m (length payload) f in
     let s = waiting_sound_lem m typed payload a.short a.less (sound_of_lem m (call_sound m room e)) in
     let t = waiting_typed m typed payload a.left in
-    if_elim (Good m typed) (m.waiting =? 0)
+    when_elim (Good m typed) (m.waiting =? 0)
     (λ _. (kept m typed (with_waiting m payload) Answer.Sent _ t s, request_writes (with_waiting m payload) Answer.Sent t s (omega arith)))
     (λ _. (kept m typed (with_waiting m payload) _ _ t s, inl refl))))
 
@@ -99,7 +99,7 @@ pub repeat_keeps : RepeatKeeps
 unfolding repeat_of
 repeat_keeps m room typed =
     judged_elim (Good m typed) (call_verdict m room) (λ r _. quiet m typed (Answer.Refused r))
-    (λ e. if_elim (Good m typed) (1 ≤? m.waiting)
+    (λ e. when_elim (Good m typed) (1 ≤? m.waiting)
     (λ f. let s = sound_of_lem m (call_sound m room e) in
     (same m typed Answer.Sent _, request_writes m Answer.Sent typed s (leb-true 1 m.waiting f)))
     (λ _. quiet m typed (Answer.Refused Refusal.NothingWaiting)))
@@ -117,7 +117,7 @@ pub take_keeps : TakeKeeps
 unfolding take_of is_ready took_of answered
 take_keeps m room typed =
     judged_elim Took (call_verdict m room) (λ r _. none (Answer.Refused r))
-    (λ e. if_elim Took (is_ready m (m.taken.0 + 1))
+    (λ e. when_elim Took (is_ready m (m.taken.0 + 1))
     (λ t. let f = both_first (is_held m.held (m.taken.0 + 1)) _ t in
     let ready = leb-true (m.taken.0 + 1) m.accepted.0 (both_then (is_held m.held (m.taken.0 + 1)) _ t) in
     let s = sound_of_lem m (call_sound m room e) in
@@ -153,7 +153,7 @@ acceptable m number most (typed, s) = (accepted_typed m typed number most, accep
 
 keepable : (m : Member) (g : ℕ) (content : Packet) (payload : List ℕ) → obeys (fields_of g content) payload ≡ true → (fields_of g content).a ≤ largest_number
     → length payload ≤ payload_most → Right m → Keepable Right m content payload
-unfolding fields_of obeys if◌then◌else◌
+unfolding fields_of obeys when◌then◌else◌
 keepable m g (Request sender taken count) payload obey most short right = tt
 keepable m g (Broadcast originator number count floor) payload obey most short right =
     let right' = acceptable m number.0 most right in

@@ -7,7 +7,7 @@ use lib.ListN.{length, drop}
 use Rattle.group.specs.Question.{Question, first_no}
 use Rattle.group.specs.declared.Refusal.{Refusal}
 use Rattle.group.specs.declared.Verdict.{Verdict}
-use Rattle.group.proofs.Lists.{if_elim, judged_elim}
+use Rattle.group.proofs.Lists.{when_elim, judged_elim}
 use Rattle.member.specs.Calls.{Outcome, answered, refused, repeat_of, status_of}
 use Rattle.member.specs.Laws.{FirstNo, RepeatLeaves, StatusLeaves}
 use Rattle.member.specs.Promise.{Told}
@@ -35,7 +35,7 @@ lent_left {before = before} {after = after} f refusal d e =
 pub repeat_leaves : RepeatLeaves
 unfolding repeat_of answered
 repeat_leaves m before after reply =
-    (judged_elim (λ (o : Outcome). o.member ≡ m) _ (λ _ _. refl) (λ _. if_elim (λ (o : Outcome). o.member ≡ m) _ (λ _. refl) (λ _. refl)), λ refusal d e. lent_left (repeat_first_no m (length before)) refusal d e)
+    (judged_elim (λ (o : Outcome). o.member ≡ m) _ (λ _ _. refl) (λ _. when_elim (λ (o : Outcome). o.member ≡ m) _ (λ _. refl) (λ _. refl)), λ refusal d e. lent_left (repeat_first_no m (length before)) refusal d e)
 
 pub status_leaves : StatusLeaves
 unfolding status_of answered

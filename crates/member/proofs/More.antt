@@ -5,9 +5,9 @@ use Prim.Native.Nat.{ℕ, ◌+◌, ◌≤◌}
 use native.Mathlib.Omega.{arith}
 use borrow.Author.Tests.{leb-true, ltb-true}
 use lib.Seq.{get_or-set_other}
-use Rattle.group.proofs.Choice.{if_was, both_first, both_then}
+use Rattle.group.proofs.Choice.{when_was, both_first, both_then}
 use Rattle.group.proofs.Question.{accepted≢}
-use Rattle.group.specs.Choice.{if◌then◌else◌, ◌and◌, ◌<?◌, ◌≤?◌}
+use Rattle.group.specs.Choice.{when◌then◌else◌, ◌and◌, ◌<?◌, ◌≤?◌}
 use Rattle.group.specs.Limits.{longest_packet}
 use Rattle.group.specs.Question.{judged}
 use Rattle.group.specs.declared.Refusal.{Refusal}
@@ -36,24 +36,24 @@ ready_next m x =
 
 -- a state past questions 1 and 2
 taken_called : (m : Member) (room : ℕ) (x : Message) → Typed m → call_verdict m room ≡ Verdict.Accepted → m.taken.0 + 1 ≤ m.accepted.0 → call_verdict (with_taken m x) room ≡ Verdict.Accepted
-unfolding call_verdict if◌then◌else◌
+unfolding call_verdict when◌then◌else◌
 taken_called m room x typed e ready =
-    let a = if_was (sound_of m) _ _ Verdict.Accepted e (accepted≢ Refusal.UnsoundState) in
-    let b = if_was (longest_packet ≤? room) _ _ Verdict.Accepted a.1 (accepted≢ Refusal.ShortOutput) in
+    let a = when_was (sound_of m) _ _ Verdict.Accepted e (accepted≢ Refusal.UnsoundState) in
+    let b = when_was (longest_packet ≤? room) _ _ Verdict.Accepted a.1 (accepted≢ Refusal.ShortOutput) in
     rw (of_sound (with_taken m x) (taken_sound m typed x (sound_of_lem m a.0) ready), b.0)
 
 -- a take, by what its questions and its test come to
 took_or : (m : Member) (room : ℕ) → call_verdict m room ≡ Verdict.Accepted → is_took (take_of m room).answer ≡ is_ready m (m.taken.0 + 1)
-unfolding take_of took_of answered judged is_took if◌then◌else◌
+unfolding take_of took_of answered judged is_took when◌then◌else◌
 took_or m room e = rw e (go (is_ready m (m.taken.0 + 1)))
   where
-    go : (t : Bool) → is_took (if t then took_of m (message_at m.held (m.taken.0 + 1)) else answered m Answer.None).answer ≡ t
+    go : (t : Bool) → is_took (when t then took_of m (message_at m.held (m.taken.0 + 1)) else answered m Answer.None).answer ≡ t
     go true = refl
     go false = refl
 
 -- what it comes to
 taking : (m : Member) (room : ℕ) (v : Verdict) (t : Bool) → call_verdict m room ≡ v → is_ready m (m.taken.0 + 1) ≡ t
-    → take_of m room ≡ judged v (refused m) (if t then took_of m (message_at m.held (m.taken.0 + 1)) else answered m Answer.None)
+    → take_of m room ≡ judged v (refused m) (when t then took_of m (message_at m.held (m.taken.0 + 1)) else answered m Answer.None)
 unfolding take_of
 taking m room v t e r = rw (e, r)
 
@@ -68,7 +68,7 @@ stays m room answer o more took =
 
 by_verdict : (m : Member) (room : ℕ) → Typed m → (v : Verdict) (t : Bool) → call_verdict m room ≡ v → is_ready m (m.taken.0 + 1) ≡ t
     → more_of (take_of m room).answer ≡ is_took (take_of (take_of m room).member room).answer
-unfolding judged took_of is_ready more_of is_took if◌then◌else◌
+unfolding judged took_of is_ready more_of is_took when◌then◌else◌
 by_verdict m room typed (Verdict.Refused refusal) t e r = stays m room (Answer.Refused refusal) (taking m room (Verdict.Refused refusal) t e r) refl refl
 by_verdict m room typed Verdict.Accepted false e r = stays m room Answer.None (taking m room Verdict.Accepted false e r) refl refl
 by_verdict m room typed Verdict.Accepted true e r =

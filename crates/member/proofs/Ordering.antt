@@ -18,7 +18,7 @@ use Rattle.group.specs.Members.{needed_of}
 use Rattle.group.specs.declared.Group.{Group}
 use Rattle.group.specs.declared.MemberNumber.{MemberNumber}
 use Rattle.group.specs.declared.Refusal.{Refusal}
-use Rattle.group.proofs.Lists.{eq_or, if_elim, judged_elim, at, All, at_append, at_last, at_snoc}
+use Rattle.group.proofs.Lists.{eq_or, when_elim, judged_elim, at, All, at_append, at_last, at_snoc}
 use Rattle.message.specs.Message.{Message, message_of}
 use Rattle.message.specs.Order.{Ordered, own_of, counted_from}
 use Rattle.message.proofs.Owning.{own_most}
@@ -86,7 +86,7 @@ module _ (group : Group) (i acknowledged accepted : ℕ) (order took : List Orde
     unfolding repeat_of
     repeat_good =
         judged_elim Good (call_verdict m longest_packet) (λ r _. quiet (Answer.Refused r))
-        (λ _. if_elim Good (1 ≤? m.waiting)
+        (λ _. when_elim Good (1 ≤? m.waiting)
         (λ e. let w = leb-true 1 m.waiting e in
         same _ refl (request_own m h.content.typed (sound_of_lem m h.content.sound) (requested_by m submitted) Answer.Sent w (first_requested h.content w)))
         (λ _. quiet (Answer.Refused Refusal.NothingWaiting)))
@@ -183,7 +183,7 @@ module _ (group : Group) (i acknowledged accepted : ℕ) (order took : List Orde
         judged_elim (GoodSubmit payload) (call_verdict m longest_packet) (λ r _. submit_refused payload r)
         (λ _. judged_elim (GoodSubmit payload) (submit_verdict m (length payload)) (λ r _. submit_refused payload r)
         (λ e. let a = submittable m (length payload) e in
-        if_elim (GoodSubmit payload) (m.waiting =? 0)
+        when_elim (GoodSubmit payload) (m.waiting =? 0)
         (λ _. sends_good payload a.short a.less a.left)
         (λ _. queues_good payload a.short a.less a.left)))
 

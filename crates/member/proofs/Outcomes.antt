@@ -6,7 +6,7 @@ use Prim.Native.Nat.{ℕ, ◌+◌, ◌-◌, ◌≤◌, ◌<◌}
 use native.Mathlib.Omega.{arith}
 use borrow.Author.Tests.{leb-true, ltb-true, eqb-true, lt-ltb}
 use lib.ListN.{length, get_or, set}
-use Rattle.group.specs.Choice.{if◌then◌else◌, ◌and◌, ◌≤?◌, ◌<?◌, ◌=?◌}
+use Rattle.group.specs.Choice.{when◌then◌else◌, ◌and◌, ◌≤?◌, ◌<?◌, ◌=?◌}
 use Rattle.group.specs.Fold.{all_above}
 use Rattle.group.specs.Lent.{Laid}
 use Rattle.group.specs.Limits.{held_most, header_size, waiting_most, payload_most, longest_packet, largest_number}
@@ -16,7 +16,7 @@ use Rattle.group.specs.declared.Refusal.{Refusal}
 use Rattle.group.specs.declared.SequenceNumber.{SequenceNumber}
 use Rattle.group.specs.declared.Verdict.{Verdict}
 use Rattle.group.specs.declared.Verdict.TheVariants.{Accepted, Refused}
-use Rattle.group.proofs.Choice.{if_true, if_eq, if_ne, if_was, both_first, both_then, says}
+use Rattle.group.proofs.Choice.{when_true, when_eq, when_ne, when_was, both_first, both_then, says}
 use Rattle.message.specs.Message.{Message, empty_message, payload_of, blank}
 use Rattle.packet.specs.Packet.{obeys, content_of, fields_of, packet_of, payload_at, read_of, from_elected}
 use Rattle.packet.specs.declared.Header.{Header}
@@ -96,7 +96,7 @@ module _ (m : Member) (last : ℕ) (end : SequenceNumber) (e : end.0 ≡ reach_o
   unfolding gap_up_to reach_of
   none_missing_lem h =
       let z : last ≤ reach_of m = rw e at h in
-      if_eq (lowest_missing m.held m.taken.0 (last - m.taken.0)) 0 _ _ _ (lowest_reached m.held m.taken.0 (left m.taken.0) last (in_left m.taken.0 last near fits) z) refl
+      when_eq (lowest_missing m.held m.taken.0 (last - m.taken.0)) 0 _ _ _ (lowest_reached m.held m.taken.0 (left m.taken.0) last (in_left m.taken.0 last near fits) z) refl
 
   pub some_missing : end.0 < last
       → record { member = m; answer = gapped; bytes = packet_of (fields_of m.group.number (Packet.Gap m.number (record { 0 = smaller_of end.0 m.accepted.0 }) (record { 0 = end.0 + 1 }) (record { 0 = last }))) [] } ≡ gap_up_to m last gapped whole
@@ -104,7 +104,7 @@ module _ (m : Member) (last : ℕ) (end : SequenceNumber) (e : end.0 ≡ reach_o
   some_missing h =
       let y : reach_of m < last = rw e at h in
       let z : lowest_missing m.held m.taken.0 (last - m.taken.0) ≡ reach_of m + 1 = lowest_behind m.held m.taken.0 (left m.taken.0) last (in_left m.taken.0 last near fits) y in
-      if_ne (lowest_missing m.held m.taken.0 (last - m.taken.0)) 0 _ _ _ (λ q. absurd (omega arith))
+      when_ne (lowest_missing m.held m.taken.0 (last - m.taken.0)) 0 _ _ _ (λ q. absurd (omega arith))
       (λ j. record {
         member = m;
         answer = gapped;
@@ -128,17 +128,17 @@ accepted≢ q e = let z : ◌≡◌ {A = ℕ} 0 1 = cc in omega arith
 pub asked : (m : Member) (room : ℕ) → call_verdict m room ≡ Accepted → (sound_of m ≡ true) × (longest_packet ≤ room)
 unfolding call_verdict
 asked m room e =
-    let s = if_was (sound_of m) _ _ Accepted e (accepted≢ Refusal.UnsoundState) in
-    let l = if_was (longest_packet ≤? room) _ _ Accepted s.1 (accepted≢ Refusal.ShortOutput) in
+    let s = when_was (sound_of m) _ _ Accepted e (accepted≢ Refusal.UnsoundState) in
+    let l = when_was (longest_packet ≤? room) _ _ Accepted s.1 (accepted≢ Refusal.ShortOutput) in
     (s.0, leb-true longest_packet room l.0)
 
 -- what questions 13, 14 and 16 have said
 pub asked_submission : (m : Member) (size : ℕ) → submit_verdict m size ≡ Accepted → (size ≤ payload_most) × (m.waiting < waiting_most) × (m.submitted < largest_number)
 unfolding submit_verdict
 asked_submission m size e =
-    let s = if_was (size ≤? payload_most) _ _ Accepted e (accepted≢ Refusal.LongPayload) in
-    let w = if_was (m.waiting <? waiting_most) _ _ Accepted s.1 (accepted≢ Refusal.AlreadyWaiting) in
-    let u = if_was (m.submitted <? largest_number) _ _ Accepted w.1 (accepted≢ Refusal.NumbersUsedUp) in
+    let s = when_was (size ≤? payload_most) _ _ Accepted e (accepted≢ Refusal.LongPayload) in
+    let w = when_was (m.waiting <? waiting_most) _ _ Accepted s.1 (accepted≢ Refusal.AlreadyWaiting) in
+    let u = when_was (m.submitted <? largest_number) _ _ Accepted w.1 (accepted≢ Refusal.NumbersUsedUp) in
     (leb-true size payload_most s.0, ltb-true m.waiting waiting_most w.0, ltb-true m.submitted largest_number u.0)
 
 module _ (m : Member) (e : sound_of m ≡ true) where
@@ -148,7 +148,7 @@ module _ (m : Member) (e : sound_of m ≡ true) where
   unfolding sound_of all_above place_sound
   next_short h =
       let s = both_first _ _ (both_then _ _ (both_then _ _ e)) in
-      let t = if_true _ _ _ _ (lt-ltb 0 _ h) refl ∙ s in
+      let t = when_true _ _ _ _ (lt-ltb 0 _ h) refl ∙ s in
       (search says depth 9, search says depth 9)
 
 -- the test of the code is the definition's
@@ -170,13 +170,13 @@ module _ (m : Member) (message : Message) (held : List Message) (h : held ≡ se
   pub taken_own : (queue : List Message) → queue ≡ set m.queue (queue_place message.count) empty_message → is_own m message ≡ true
       → with_taken m message
       ≡ record { group = m.group; number = m.number; taken = record { 0 = m.taken.0 + 1 }; accepted = m.accepted; submitted = m.submitted; waiting = m.waiting - 1; queue = queue; held = held }
-  unfolding with_taken if◌then◌else◌
+  unfolding with_taken when◌then◌else◌
   taken_own queue f o = let q : message.count ≡ first_count m = (own_first m message o).2 in rw (h, o, f, q)
 
   pub taken_other : is_own m message ≡ false
       → with_taken m message
       ≡ record { group = m.group; number = m.number; taken = record { 0 = m.taken.0 + 1 }; accepted = m.accepted; submitted = m.submitted; waiting = m.waiting; queue = m.queue; held = held }
-  unfolding with_taken if◌then◌else◌
+  unfolding with_taken when◌then◌else◌
   taken_other o = rw (h, o)
 
 -- what the code asks of a number's count and of the number before it is whether it may be taken
@@ -218,8 +218,8 @@ pub read_ours_lem : (group : Group) (reading : Reading) (h : Header) → read_ou
     → (reading ≡ Fields h) × (from_elected group (content_of h) ≡ true) × (h.group ≡ group.number)
 unfolding read_ours
 read_ours_lem group (Fields k) h e =
-    let f = if_was (from_elected group (content_of k)) _ _ (Fields h) e (fields≢ h Refusal.ForbiddenFields) in
-    let g = if_was (k.group =? group.number) _ _ (Fields h) f.1 (fields≢ h Refusal.OtherGroup) in
+    let f = when_was (from_elected group (content_of k)) _ _ (Fields h) e (fields≢ h Refusal.ForbiddenFields) in
+    let g = when_was (k.group =? group.number) _ _ (Fields h) f.1 (fields≢ h Refusal.OtherGroup) in
     let same : k ≡ h = cc in
     (ap Fields same, subst (λ (x : Header). from_elected group (content_of x) ≡ true) same f.0, subst (λ (x : Header). x.group ≡ group.number) same (eqb-true k.group group.number g.0))
 read_ours_lem group (Reading.Refused q) h e = absurd (fields≢ h q e)
@@ -230,14 +230,14 @@ module _ (m : Member) (payload : List ℕ) where
   unfolding read_step
   ours reading h e =
       let r = read_ours_lem m.group reading h e in
-      rw r.0 (if_true (from_elected m.group (content_of h)) _ _ _ r.1 (if_eq h.group m.group.number _ _ _ r.2 refl))
+      rw r.0 (when_true (from_elected m.group (content_of h)) _ _ _ r.1 (when_eq h.group m.group.number _ _ _ r.2 refl))
 
   pub others : (reading : Reading) (q : Refusal) → read_ours m.group reading ≡ Reading.Refused q → refused m q ≡ read_step m reading payload
-  unfolding read_ours read_step if◌then◌else◌
+  unfolding read_ours read_step when◌then◌else◌
   others (Fields h) q e = go (from_elected m.group (content_of h)) (h.group =? m.group.number) e
     where
-      go : (a b : Bool) → (if a then (if b then Fields h else Reading.Refused Refusal.OtherGroup) else Reading.Refused Refusal.ForbiddenFields) ≡ Reading.Refused q
-          → refused m q ≡ (if a then (if b then content_step m (content_of h) payload else refused m Refusal.OtherGroup) else refused m Refusal.ForbiddenFields)
+      go : (a b : Bool) → (when a then (when b then Fields h else Reading.Refused Refusal.OtherGroup) else Reading.Refused Refusal.ForbiddenFields) ≡ Reading.Refused q
+          → refused m q ≡ (when a then (when b then content_step m (content_of h) payload else refused m Refusal.OtherGroup) else refused m Refusal.ForbiddenFields)
       go true true f = absurd (fields≢ h q (sym f))
       go true false f = let z : Refusal.OtherGroup ≡ q = cc in ap (refused m) (sym z)
       go false b f = let z : Refusal.ForbiddenFields ≡ q = cc in ap (refused m) (sym z)

@@ -15,7 +15,7 @@ use Rattle.group.specs.declared.MemberNumber.{MemberNumber}
 use Rattle.group.specs.declared.SequenceNumber.{SequenceNumber}
 use Rattle.group.specs.declared.Refusal.{Refusal}
 use Rattle.group.proofs.Choice.{both_first, both_then}
-use Rattle.group.proofs.Lists.{if_elim}
+use Rattle.group.proofs.Lists.{when_elim}
 use Rattle.group.proofs.Members.{none_expected}
 use Rattle.message.specs.Message.{message_of}
 use Rattle.packet.specs.Packet.{content_of, fields_of, written, from_elected}
@@ -70,7 +70,7 @@ module _ (S : Member → Type 0) (typed-of : (m : Member) → S m → Typed m) (
     gap_heard : (last : ℕ) (gapped : Answer) {whole : Outcome} → last ≤ largest_number → Heard S before whole → Heard S before (gap_up_to m last gapped whole)
     unfolding gap_up_to
     gap_heard last gapped most rest =
-        if_elim (Heard S before) (low =? 0)
+        when_elim (Heard S before) (low =? 0)
         (λ _. rest)
         (λ e. let l = lowest_is m.held m.taken.0 (last - m.taken.0) (eqb-false low 0 e) in
         record { state = s; up = up; own = λ requested. gap_own m (typed-of m s) (sound_of_lem m s) requested low last gapped (acknowledged_missing m l) (omega arith) most })
@@ -83,9 +83,9 @@ module _ (S : Member → Type 0) (typed-of : (m : Member) → S m → Typed m) (
         → Heard S before (message_step m originator number count payload)
     unfolding message_step kept_of
     message_heard originator number count payload most member keep =
-        if_elim (Heard S before) (number ≤? m.taken.0) (λ _. quiet m s up Answer.Old)
-        (λ a. if_elim (Heard S before) (number ≤? m.taken.0 + held_most)
-        (λ b. if_elim (Heard S before) (is_held m.held number) (λ _. quiet m s up Answer.Old)
+        when_elim (Heard S before) (number ≤? m.taken.0) (λ _. quiet m s up Answer.Old)
+        (λ a. when_elim (Heard S before) (number ≤? m.taken.0 + held_most)
+        (λ b. when_elim (Heard S before) (is_held m.held number) (λ _. quiet m s up Answer.Old)
         (λ c. let lo = leb-false number _ a in
         let hi = leb-true number _ b in
         let x = message_of originator count payload in
@@ -101,16 +101,16 @@ module _ (S : Member → Type 0) (typed-of : (m : Member) → S m → Typed m) (
     gap_near : (number : ℕ) (m' : Member) (last : ℕ) (gapped : Answer) (whole : Outcome) → confirms gapped ≡ false → Near number whole → Near number (gap_up_to m' last gapped whole)
     unfolding gap_up_to
     gap_near number m' last gapped whole silent rest =
-        if_elim (Near number) (lowest_missing m'.held m'.taken.0 (last - m'.taken.0) =? 0) (λ _. rest)
+        when_elim (Near number) (lowest_missing m'.held m'.taken.0 (last - m'.taken.0) =? 0) (λ _. rest)
         (λ _ e. let z : ◌≡◌ {A = ℕ} 0 1 = cc in absurd (omega arith))
 
     message_near : (originator : MemberNumber) (number count : ℕ) (payload : List ℕ) → Near number (message_step m originator number count payload)
     unfolding message_step kept_of with_held answered confirms
     message_near originator number count payload =
-        if_elim (Near number) (number ≤? m.taken.0) (λ a _. let z = leb-true number m.taken.0 a in omega arith)
-        (λ a. if_elim (Near number) (number ≤? m.taken.0 + held_most)
+        when_elim (Near number) (number ≤? m.taken.0) (λ a _. let z = leb-true number m.taken.0 a in omega arith)
+        (λ a. when_elim (Near number) (number ≤? m.taken.0 + held_most)
         (λ b. let near = leb-true number (m.taken.0 + held_most) b in
-        if_elim (Near number) (is_held m.held number) (λ _ _. near) (λ _. gap_near number _ (number - 1) Answer.KeptGap _ refl (λ _. near)))
+        when_elim (Near number) (is_held m.held number) (λ _ _. near) (λ _. gap_near number _ (number - 1) Answer.KeptGap _ refl (λ _. near)))
         (λ b. gap_near number m (m.taken.0 + held_most) Answer.BeyondGap (answered m Answer.Beyond) refl (λ e. let z : false ≡ true = e in let y : ◌≡◌ {A = ℕ} 0 1 = cc in absurd (omega arith))))
 
     -- an offer, whose message came to `o`
@@ -120,7 +120,7 @@ module _ (S : Member → Type 0) (typed-of : (m : Member) → S m → Typed m) (
         let said = confirms o.answer in
         let whole = none_missing o.member number in
         let expected = is_in (expected_of o.member.group) o.member.number.0 in
-        if_elim (Heard S before) (said and whole and expected)
+        when_elim (Heard S before) (said and whole and expected)
         (λ t.
         let a = both_first said _ t in
         let b = both_first whole _ (both_then said _ t) in
@@ -139,7 +139,7 @@ module _ (S : Member → Type 0) (typed-of : (m : Member) → S m → Typed m) (
     unfolding poll_of smaller_of
     poll_heard top most =
         gap_heard m s up _ Answer.Gap
-        (if_elim (λ (k : ℕ). k ≤ largest_number) (top.0 <? m.taken.0 + held_most) (λ _. most) (λ a. let z = ltb-false top.0 (m.taken.0 + held_most) a in omega arith))
+        (when_elim (λ (k : ℕ). k ≤ largest_number) (top.0 <? m.taken.0 + held_most) (λ _. most) (λ a. let z = ltb-false top.0 (m.taken.0 + held_most) a in omega arith))
         (record { state = s; up = up; own = λ requested. status_own m (typed-of m s) (sound_of_lem m s) requested Answer.Status })
 
 module _ (S : Member → Type 0) (typed-of : (m : Member) → S m → Typed m) (sound_of_lem : (m : Member) → S m → Sound m) (m : Member) (s : S m) where
@@ -151,7 +151,7 @@ module _ (S : Member → Type 0) (typed-of : (m : Member) → S m → Typed m) (
   unfolding content_step fields_of broadcast_of offer_of with_accepted
   content_heard g (Request sender taken count) payload most keep = same (Answer.Refused Refusal.OtherEnd)
   content_heard g (Broadcast originator number count floor) payload most keep =
-      if_elim (Heard S m) (originator.0 <? m.group.n)
+      when_elim (Heard S m) (originator.0 <? m.group.n)
       (λ a. message_heard S typed-of sound_of_lem m (with_accepted m number.0) keep.0 (up_accepted m number.0) originator number.0 count payload most
       (ltb-true originator.0 m.group.n a) keep.1)
       (λ _. same (Answer.Refused Refusal.UnknownMember))
@@ -159,7 +159,7 @@ module _ (S : Member → Type 0) (typed-of : (m : Member) → S m → Typed m) (
   content_heard g (Status sender taken) payload most keep = same (Answer.Refused Refusal.OtherEnd)
   content_heard g (Poll elected top floor) payload most keep = poll_heard S typed-of sound_of_lem m m s (up_refl m) top most
   content_heard g (Offer originator number count floor) payload most keep =
-      if_elim (Heard S m) (originator.0 <? m.group.n)
+      when_elim (Heard S m) (originator.0 <? m.group.n)
       (λ a. confirmed_heard S typed-of sound_of_lem m m s (up_refl m) number.0 (message_step m originator number.0 count payload) keep.0 most
       (message_near S typed-of sound_of_lem m m s (up_refl m) originator number.0 count payload)
       (message_heard S typed-of sound_of_lem m m s (up_refl m) originator number.0 count payload most (ltb-true originator.0 m.group.n a) keep.1))
@@ -176,8 +176,8 @@ module _ (S : Member → Type 0) (typed-of : (m : Member) → S m → Typed m) (
   unfolding read_step
   read_heard (Reading.Fields h) payload keep =
       let k = keep h refl in
-      if_elim (Heard S m) (from_elected m.group (content_of h))
-      (λ _. if_elim (Heard S m) (h.group =? m.group.number)
+      when_elim (Heard S m) (from_elected m.group (content_of h))
+      (λ _. when_elim (Heard S m) (h.group =? m.group.number)
       (λ _. content_heard h.group (content_of h) payload k.0 k.1)
       (λ _. same (Answer.Refused Refusal.OtherGroup)))
       (λ _. same (Answer.Refused Refusal.ForbiddenFields))

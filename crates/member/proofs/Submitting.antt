@@ -8,7 +8,7 @@ use lib.Seq.{get_or-set_same}
 use Rattle.group.specs.Lent.{Laid}
 use Rattle.group.specs.Limits.{waiting_most, payload_most, largest_number}
 use Rattle.group.specs.declared.Verdict.{Verdict}
-use Rattle.group.proofs.Choice.{if_eq, if_ne}
+use Rattle.group.proofs.Choice.{when_eq, when_ne}
 use Rattle.message.specs.Message.{Message, message_of, payload_of, blank}
 use Rattle.message.proofs.Kept.{kept_payload}
 use Rattle.window.specs.Places.{queue_place, queued_at}
@@ -55,7 +55,7 @@ module _ (head : Head) (queue held queue' : List Message) (payload : List ℕ)
     unfolding submit_of
     submits_behind n =
         left_as left_is
-        (replied_as (if_ne head.waiting 0 _ _ _ n refl ∙ judged_yes _ _ _ w ∙ judged_yes _ _ _ v)
+        (replied_as (when_ne head.waiting 0 _ _ _ n refl ∙ judged_yes _ _ _ w ∙ judged_yes _ _ _ v)
         (quiet (with_waiting (member_of head queue held) payload) (Answer.Queued (head.submitted + 1)) _ x refl))
 
     -- where none waits, the request is written
@@ -68,7 +68,7 @@ module _ (head : Head) (queue held queue' : List Message) (payload : List ℕ)
         let request : request_in first counts (head.submitted + 1) payload ≡ request_packet (with_waiting (member_of head queue held) payload) =
         ap (λ (k : ℕ). request_in first counts k payload) (sym count_is) ∙ request_is first counts queue' held c most payload (kept_is inside) ∙ ap request_packet (sym left) in
         left_as left
-        (replied_as (if_eq head.waiting 0 _ _ _ z refl ∙ judged_yes _ _ _ w ∙ judged_yes _ _ _ v)
+        (replied_as (when_eq head.waiting 0 _ _ _ z refl ∙ judged_yes _ _ _ w ∙ judged_yes _ _ _ v)
         (sent (with_waiting (member_of head queue held) payload) Answer.Sent _ written x y (subst (λ (bytes : List ℕ). Laid bytes written x y) request l)))
 
 -- questions 13, 14 and 16 are of the head alone

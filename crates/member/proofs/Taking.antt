@@ -10,10 +10,10 @@ use lib.ListN.{length, take, set}
 use native.Mathlib.Numerals.{add-one}
 use native.Mathlib.Omega.{arith}
 use borrow.Author.Tests.{ltb-true, leb-true, le-leb, eq-eqb}
-use Rattle.group.specs.Choice.{if◌then◌else◌}
+use Rattle.group.specs.Choice.{when◌then◌else◌}
 use Rattle.group.specs.Limits.{longest_packet}
 use Rattle.group.proofs.Choice.{both_hold, both_first, both_then}
-use Rattle.group.proofs.Lists.{if_elim, judged_elim, at, at_le, take_at_suc}
+use Rattle.group.proofs.Lists.{when_elim, judged_elim, at, at_le, take_at_suc}
 use Rattle.group.specs.declared.Group.{Group}
 use Rattle.message.specs.Message.{Message, message_of, empty_message, payload_of}
 use Rattle.message.specs.Order.{Ordered, own_of}
@@ -76,8 +76,8 @@ module _ (group : Group) (i acknowledged accepted : ℕ) (order took : List Orde
           both_hold _ _ (le-leb 1 m.waiting some-wait) (both_hold _ _ (eq-eqb _ _ a) (eq-eqb next.count (first_count m) (omega arith)))
 
       -- its own messages taken are the submissions but for those that wait
-      taken_own : (own : Bool) → is_own m next ≡ own → length (own_of i (took ++ (this.0 ∷ []))) ≡ m.submitted - (if own then m.waiting - 1 else m.waiting)
-      unfolding if◌then◌else◌ message_of
+      taken_own : (own : Bool) → is_own m next ≡ own → length (own_of i (took ++ (this.0 ∷ []))) ≡ m.submitted - (when own then m.waiting - 1 else m.waiting)
+      unfolding when◌then◌else◌ message_of
       taken_own true e =
           let f = own_first m next e in
           let y = this.0 in
@@ -89,9 +89,9 @@ module _ (group : Group) (i acknowledged accepted : ℕ) (order took : List Orde
       taken_own false e =
           ap length (own_other i took this.0 (λ o. let t = own_waits o in let z : ◌≡◌ {A = ℕ} 0 1 = cc in omega arith)) ∙ h.content.own_taken
 
-      still_waits : (own : Bool) → is_own m next ≡ own → (c : ℕ) → m.submitted - (if own then m.waiting - 1 else m.waiting) < c → c ≤ m.submitted
-          → (payload : List ℕ) × (at submitted c ≡ some payload) × (queued_at (if own then set m.queue (queue_place (first_count m)) empty_message else m.queue) c ≡ message_of (record { 0 = i }) c payload)
-      unfolding if◌then◌else◌
+      still_waits : (own : Bool) → is_own m next ≡ own → (c : ℕ) → m.submitted - (when own then m.waiting - 1 else m.waiting) < c → c ≤ m.submitted
+          → (payload : List ℕ) × (at submitted c ≡ some payload) × (queued_at (when own then set m.queue (queue_place (first_count m)) empty_message else m.queue) c ≡ message_of (record { 0 = i }) c payload)
+      unfolding when◌then◌else◌
       still_waits true e c lo hi =
           let some-wait = (own_first m next e).0 in
           let w = (sound_of_lem m h.content.sound).waiting in
@@ -104,8 +104,8 @@ module _ (group : Group) (i acknowledged accepted : ℕ) (order took : List Orde
       still_waits false e c lo hi = h.content.waiting_is c lo hi
 
       -- what is numbered of its own stays below the first that waits
-      counts : (own : Bool) → length (own_of i order) ≤ m.submitted - (if own then m.waiting - 1 else m.waiting) + 1
-      unfolding if◌then◌else◌
+      counts : (own : Bool) → length (own_of i order) ≤ m.submitted - (when own then m.waiting - 1 else m.waiting) + 1
+      unfolding when◌then◌else◌
       counts true = let z = h.content.count_le in omega arith
       counts false = h.content.count_le
 
@@ -175,7 +175,7 @@ module _ (group : Group) (i acknowledged accepted : ℕ) (order took : List Orde
     unfolding take_of is_ready took_by
     take_good =
         judged_elim GoodTake (call_verdict m longest_packet) (λ r _. take_none (Answer.Refused r) refl)
-        (λ _. if_elim GoodTake (is_ready m (m.taken.0 + 1))
+        (λ _. when_elim GoodTake (is_ready m (m.taken.0 + 1))
         (λ e. takes_good (ltb-true 0 next.count (both_first (is_held m.held (m.taken.0 + 1)) _ e))
         (leb-true (m.taken.0 + 1) m.accepted.0 (both_then (is_held m.held (m.taken.0 + 1)) _ e)))
         (λ _. take_none Answer.None refl))

@@ -1,6 +1,6 @@
 -- The member's calls: each goes down its questions in their order, and then takes its step.
 use Rattle.std.specs.Prelude.{Bool, true, false, List, [], ℕ, ◌+◌, ◌-◌, length, set}
-use Rattle.group.specs.Choice.{if◌then◌else◌, ask◌or◌then◌, ◌and◌, ◌<?◌, ◌≤?◌, ◌=?◌}
+use Rattle.group.specs.Choice.{when◌then◌else◌, ask◌or◌then◌, ◌and◌, ◌<?◌, ◌≤?◌, ◌=?◌}
 use Rattle.group.specs.Limits.{held_most, waiting_most, payload_most, longest_packet, largest_number}
 use Rattle.group.specs.Members.{is_in, expected_of}
 use Rattle.group.specs.Opening.{description_of, open_of}
@@ -89,7 +89,7 @@ unfoldable pub submit_of : Member → List ℕ → ℕ → Outcome
 submit_of m payload room =
     judged (call_verdict m room) (refused m)
     (judged (submit_verdict m (length payload)) (refused m)
-    (if m.waiting =? 0
+    (when m.waiting =? 0
     then record { member = with_waiting m payload; answer = Answer.Sent; bytes = request_packet (with_waiting m payload) }
     else answered (with_waiting m payload) (Answer.Queued (m.submitted + 1))))
 
@@ -137,7 +137,7 @@ with_held m number message =
 -- where a number up to `last` is missing: `gapped`, with a gap packet from the lowest missing to `last`; else `whole`
 unfoldable pub gap_up_to : Member → ℕ → Answer → Outcome → Outcome
 gap_up_to m last gapped whole =
-    if lowest_missing m.held m.taken.0 (last - m.taken.0) =? 0 then whole else
+    when lowest_missing m.held m.taken.0 (last - m.taken.0) =? 0 then whole else
     record { member = m; answer = gapped; bytes = gap_packet m (lowest_missing m.held m.taken.0 (last - m.taken.0)) last }
 
 -- a number that is neither taken nor held, up to t + 8: it is kept
@@ -149,9 +149,9 @@ kept_of m originator number count payload =
 -- message of a number. Floor is read and not yet acted on
 unfoldable pub message_step : Member → MemberNumber → ℕ → ℕ → List ℕ → Outcome
 message_step m originator number count payload =
-    if number ≤? m.taken.0 then answered m Answer.Old else
-    if number ≤? m.taken.0 + held_most
-    then if is_held m.held number then answered m Answer.Old else kept_of m originator number count payload
+    when number ≤? m.taken.0 then answered m Answer.Old else
+    when number ≤? m.taken.0 + held_most
+    then when is_held m.held number then answered m Answer.Old else kept_of m originator number count payload
     else gap_up_to m (m.taken.0 + held_most) Answer.BeyondGap (answered m Answer.Beyond)
 
 -- broadcast of a number: it accepts all up to it
@@ -182,7 +182,7 @@ none_missing m number = lowest_missing m.held m.taken.0 (number - m.taken.0) =? 
 -- its number is missing
 unfoldable pub confirmed_of : Outcome → ℕ → Outcome
 confirmed_of o number =
-    if confirms o.answer and none_missing o.member number and is_in (expected_of o.member.group) o.member.number.0
+    when confirms o.answer and none_missing o.member number and is_in (expected_of o.member.group) o.member.number.0
     then record { member = o.member; answer = o.answer; bytes = confirm_packet o.member number }
     else o
 
@@ -244,8 +244,8 @@ with_taken m message =
       taken = record { 0 = m.taken.0 + 1 };
       accepted = m.accepted;
       submitted = m.submitted;
-      waiting = if is_own m message then m.waiting - 1 else m.waiting;
-      queue = if is_own m message then set m.queue (queue_place (first_count m)) empty_message else m.queue;
+      waiting = when is_own m message then m.waiting - 1 else m.waiting;
+      queue = when is_own m message then set m.queue (queue_place (first_count m)) empty_message else m.queue;
       held = set m.held (place_of (m.taken.0 + 1)) empty_message;
     }
 
@@ -266,7 +266,7 @@ took_of m message =
 unfoldable pub take_of : Member → ℕ → Outcome
 take_of m room =
     judged (call_verdict m room) (refused m)
-    (if is_ready m (m.taken.0 + 1) then took_of m (message_at m.held (m.taken.0 + 1)) else
+    (when is_ready m (m.taken.0 + 1) then took_of m (message_at m.held (m.taken.0 + 1)) else
     answered m Answer.None)
 
 -- what opening comes to: the state that it leaves, and its verdict

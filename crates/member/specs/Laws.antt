@@ -1,6 +1,6 @@
 -- What is proved of the member's meaning. `proofs/` has a proof of each statement.
 use Rattle.std.specs.Prelude.{◌≡◌, Bool, true, false, List, [], ◌∷◌, ◌++◌, ◌⊎◌, ℕ, ◌≤◌, length}
-use Rattle.group.specs.Choice.{if◌then◌else◌, ◌<?◌, ◌≤?◌, ◌=?◌}
+use Rattle.group.specs.Choice.{when◌then◌else◌, ◌<?◌, ◌≤?◌, ◌=?◌}
 use Rattle.group.specs.Limits.{held_most, waiting_most, payload_most, longest_packet, largest_number}
 use Rattle.group.specs.Question.{Question, first_no}
 use Rattle.group.specs.declared.Refusal.{Refusal}
@@ -28,7 +28,7 @@ abbrev pub fields_questions : Member → Header → List Question
 fields_questions m h =
     record { yes = from_elected m.group (content_of h); refusal = Refusal.ForbiddenFields }
     ∷ record { yes = h.group =? m.group.number; refusal = Refusal.OtherGroup }
-    ∷ record { yes = if h.kind =? broadcast_kind then true else if h.kind =? poll_kind then true else if h.kind =? offer_kind then true else h.kind =? accept_kind; refusal = Refusal.OtherEnd }
+    ∷ record { yes = when h.kind =? broadcast_kind then true else when h.kind =? poll_kind then true else when h.kind =? offer_kind then true else h.kind =? accept_kind; refusal = Refusal.OtherEnd }
     ∷ record { yes = h.member.0 <? m.group.n; refusal = Refusal.UnknownMember }
     ∷ []
 

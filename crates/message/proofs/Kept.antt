@@ -6,13 +6,13 @@ use Prim.Native.Nat.{ℕ, zero, suc, ◌-◌, ◌≤◌}
 use native.Mathlib.Omega.{arith}
 use lib.ListN.{length, replicate, length-take}
 use lib.Seq.{drop_at, take_at}
-use Rattle.group.specs.Choice.{if◌then◌else◌}
+use Rattle.group.specs.Choice.{when◌then◌else◌}
 use Rattle.group.specs.Limits.{payload_most}
 use Rattle.group.specs.declared.MemberNumber.{MemberNumber}
 use Rattle.message.specs.Message.{Message, all_zero, message_of, empty_message, payload_of, zero_behind, is_empty}
 
 zeros : (k : ℕ) → all_zero (replicate k 0) ≡ true
-unfolding all_zero if◌then◌else◌
+unfolding all_zero when◌then◌else◌
 zeros zero = refl
 zeros (suc k) = zeros k
 
@@ -31,5 +31,5 @@ kept_zero m count payload =
     ap all_zero (drop_at payload (replicate (payload_most - length payload) 0) (length payload) refl) ∙ zeros (payload_most - length payload)
 
 pub empty_zero : is_empty empty_message ≡ true
-unfolding is_empty zero_behind empty_message all_zero if◌then◌else◌
+unfolding is_empty zero_behind empty_message all_zero when◌then◌else◌
 empty_zero = refl

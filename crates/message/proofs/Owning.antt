@@ -11,7 +11,7 @@ use borrow.Author.Tests.{eq-eqb, ne_eqb}
 use lib.ListN.{length, take, drop, get_elem?, length-append, length-take, take-append-drop}
 use lib.Seq.{length-take-le, take-take}
 use Rattle.group.proofs.Lists.{none≢some, at, get_lt, get_append, get_last, take_at_suc}
-use Rattle.group.specs.Choice.{if◌then◌else◌, ◌=?◌}
+use Rattle.group.specs.Choice.{when◌then◌else◌, ◌=?◌}
 use Rattle.message.specs.Order.{Ordered, Submission, own_of, counted_from}
 
 -- terminal i's own messages in an order are its first submissions, as many as they are
@@ -22,28 +22,28 @@ Owns i order submitted = own_of i order ≡ counted_from 1 (take (length (own_of
 abbrev submission_of : Ordered → Submission
 submission_of m = record { count = m.count; payload = m.payload }
 
-if_append : (t : Bool) (m : Submission) (l r : List Submission) → (if t then m ∷ (l ++ r) else (l ++ r)) ≡ (if t then m ∷ l else l) ++ r
-unfolding if◌then◌else◌
-if_append true m l r = refl
-if_append false m l r = refl
+when_append : (t : Bool) (m : Submission) (l r : List Submission) → (when t then m ∷ (l ++ r) else (l ++ r)) ≡ (when t then m ∷ l else l) ++ r
+unfolding when◌then◌else◌
+when_append true m l r = refl
+when_append false m l r = refl
 
 own_append : (i : ℕ) (l r : List Ordered) → own_of i (l ++ r) ≡ own_of i l ++ own_of i r
 unfolding own_of
 own_append i [] r = refl
-own_append i (m ∷ l) r = rw (own_append i l r) (if_append (m.originator =? i) (submission_of m) (own_of i l) (own_of i r))
+own_append i (m ∷ l) r = rw (own_append i l r) (when_append (m.originator =? i) (submission_of m) (own_of i l) (own_of i r))
 
 pub own_grows : (i : ℕ) (l r : List Ordered) → length (own_of i l) ≤ length (own_of i (l ++ r))
 own_grows i l r = rw (own_append i l r) (simp length-append (omega arith))
 
 own_same : (l : List Ordered) (m : Ordered) → own_of m.originator (l ++ (m ∷ [])) ≡ own_of m.originator l ++ (submission_of m ∷ [])
-unfolding own_of if◌then◌else◌
+unfolding own_of when◌then◌else◌
 own_same l m = own_append m.originator l (m ∷ []) ∙ rw (eq-eqb m.originator m.originator refl)
 
 pub own_more : (l : List Ordered) (m : Ordered) → length (own_of m.originator (l ++ (m ∷ []))) ≡ length (own_of m.originator l) + 1
 own_more l m = ap length (own_same l m) ∙ length-append (own_of m.originator l) (submission_of m ∷ [])
 
 pub own_other : (i : ℕ) (l : List Ordered) (m : Ordered) → m.originator ≢ i → own_of i (l ++ (m ∷ [])) ≡ own_of i l
-unfolding own_of if◌then◌else◌
+unfolding own_of when◌then◌else◌
 own_other i l m e = own_append i l (m ∷ []) ∙ rw (ne_eqb m.originator i e) (append-nil (own_of i l))
 
 pub counted_length : (count : ℕ) (l : List (List ℕ)) → length (counted_from count l) ≡ length l

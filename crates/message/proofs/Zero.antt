@@ -9,18 +9,18 @@ use borrow.Author.Tests.{eq-eqb, ne_eqb, eqb-true, eqb-false}
 use lib.Bits.{bit_and, bit_or, or_add_and, and_le_l, and_le_r}
 use lib.ListN.{length, get_or, drop, drop_of_length-le}
 use lib.Seq.{drop-cons}
-use Rattle.group.specs.Choice.{if◌then◌else◌, ◌and◌, ◌=?◌}
+use Rattle.group.specs.Choice.{when◌then◌else◌, ◌and◌, ◌=?◌}
 use Rattle.group.proofs.Choice.{both_hold, first_fails, then_fails}
 use Rattle.group.proofs.Lists.{le_or}
 use Rattle.message.specs.Message.{all_zero}
 
 and_assoc : (a b c : Bool) → (a and b) and c ≡ a and (b and c)
-unfolding if◌then◌else◌
+unfolding when◌then◌else◌
 and_assoc true b c = refl
 and_assoc false b c = refl
 
 and_true : (a : Bool) → a and true ≡ a
-unfolding if◌then◌else◌
+unfolding when◌then◌else◌
 and_true true = refl
 and_true false = refl
 
@@ -41,13 +41,13 @@ or_zero a b = go (a =? 0) refl (b =? 0) refl
     go false p u q =
         ne_eqb (bit_or a b) 0 (λ z. eqb-false a 0 p (let l = and_le_r a b in omega (arith, sum))) ∙ sym (first_fails (a =? 0) (b =? 0) p)
 
-either_true : (t u : Bool) → u ≡ true → (if t then true else u) ≡ true
-unfolding if◌then◌else◌
+either_true : (t u : Bool) → u ≡ true → (when t then true else u) ≡ true
+unfolding when◌then◌else◌
 either_true true u e = refl
 either_true false u e = e
 
-either_first : (t u : Bool) → u ≡ false → (if t then true else u) ≡ t
-unfolding if◌then◌else◌
+either_first : (t u : Bool) → u ≡ false → (when t then true else u) ≡ t
+unfolding when◌then◌else◌
 either_first true u e = refl
 either_first false u e = e
 
@@ -55,7 +55,7 @@ either_first false u e = e
 -- left are the bytes from the larger of i and `from` on.
 module _ (bytes : List ℕ) (from seen i : ℕ) (inv : seen =? 0 and all_zero (drop (i + (from - i)) bytes) ≡ all_zero (drop from bytes)) where
   -- a byte before the index counts as zero
-  skipped : (s : ℕ) → i < from → (s =? 0) ≡ (if get_or bytes i 0 =? 0 then true else (i + 1 - from =? 0))
+  skipped : (s : ℕ) → i < from → (s =? 0) ≡ (when get_or bytes i 0 =? 0 then true else (i + 1 - from =? 0))
       → bit_or seen s =? 0 and all_zero (drop (i + 1 + (from - (i + 1))) bytes) ≡ all_zero (drop from bytes)
   skipped s h c =
       let o : (i + 1 - from =? 0) ≡ true = eq-eqb (i + 1 - from) 0 (omega arith) in
@@ -64,7 +64,7 @@ module _ (bytes : List ℕ) (from seen i : ℕ) (inv : seen =? 0 and all_zero (d
       rw (k, or_zero seen s, z, and_true (seen =? 0)) inv
 
   -- one behind it counts
-  counted : (s : ℕ) → from ≤ i → i < length bytes → (s =? 0) ≡ (if get_or bytes i 0 =? 0 then true else (i + 1 - from =? 0))
+  counted : (s : ℕ) → from ≤ i → i < length bytes → (s =? 0) ≡ (when get_or bytes i 0 =? 0 then true else (i + 1 - from =? 0))
       → bit_or seen s =? 0 and all_zero (drop (i + 1 + (from - (i + 1))) bytes) ≡ all_zero (drop from bytes)
   unfolding all_zero
   counted s h b c =
@@ -78,7 +78,7 @@ module _ (bytes : List ℕ) (from seen i : ℕ) (inv : seen =? 0 and all_zero (d
       ∙ ap (λ (b : Bool). seen =? 0 and b) (sym (ap all_zero (drop-cons bytes i 0 b) ∙ rw add-one))
       ∙ now)
 
-  pub zero_on : (s : ℕ) → i < length bytes → (s =? 0) ≡ (if get_or bytes i 0 =? 0 then true else (i + 1 - from =? 0))
+  pub zero_on : (s : ℕ) → i < length bytes → (s =? 0) ≡ (when get_or bytes i 0 =? 0 then true else (i + 1 - from =? 0))
       → bit_or seen s =? 0 and all_zero (drop (i + 1 + (from - (i + 1))) bytes) ≡ all_zero (drop from bytes)
   zero_on s b c = le_or from i (λ h. counted s h b c) (λ h. skipped s h c)
 

@@ -1,7 +1,7 @@
 -- What demand 3 speaks of: a message of the order is its number, originator, count and payload; a terminal's own messages
 -- and its accepted submissions are compared by count and payload.
 use Rattle.std.specs.Prelude.{List, [], ◌∷◌, ℕ, ◌+◌}
-use Rattle.group.specs.Choice.{if◌then◌else◌, ◌=?◌}
+use Rattle.group.specs.Choice.{when◌then◌else◌, ◌=?◌}
 
 pub record Ordered : Type 0 where
   pub number : ℕ
@@ -17,7 +17,7 @@ pub record Submission : Type 0 where
 unfoldable pub own_of : ℕ → List Ordered → List Submission
 own_of i [] = []
 own_of i (m ∷ rest) =
-    if m.originator =? i then record { count = m.count; payload = m.payload } ∷ own_of i rest else
+    when m.originator =? i then record { count = m.count; payload = m.payload } ∷ own_of i rest else
     own_of i rest
 
 -- payloads submitted one after the other, the first with that count

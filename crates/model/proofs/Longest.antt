@@ -9,7 +9,7 @@ use borrow.Author.Tests.{eq-eqb, ne_eqb}
 use lib.ListN.{length, get_or, take, drop, length-append}
 use lib.Seq.{length-take-le, take-add}
 use Rattle.group.proofs.Lists.{none≢some, at, at_taken}
-use Rattle.group.specs.Choice.{if◌then◌else◌}
+use Rattle.group.specs.Choice.{when◌then◌else◌}
 use Rattle.group.specs.Opening.{description_of}
 use Rattle.group.specs.declared.Group as description
 use Rattle.member.proofs.Acknowledged.{acknowledged_least, acknowledged_near, acknowledged_most}
@@ -55,7 +55,7 @@ at_behind m l (suc s) e = e
 
 -- a list of messages of n originators is as long as these have messages in it
 sum_own : (n : ℕ) (l : List Ordered) → ((s : ℕ) (m : Ordered) → at l s ≡ some m → m.originator < n) → length l ≡ sum n (λ k. length (own_of k l))
-unfolding own_of if◌then◌else◌
+unfolding own_of when◌then◌else◌
 sum_own n [] h = sym (sum_none n)
 sum_own n (m ∷ l) h =
     let z = sum_own n l (λ s x e. h (suc s) x (at_behind m l s e)) in

@@ -8,7 +8,7 @@ use Prim.Native.Nat.{ℕ, zero, suc, ◌<◌}
 use native.Mathlib.Nat.{not-suc-le-zero, le_of_suc-le-suc}
 use borrow.Author.Tests.{ltb-true}
 use lib.ListN.{length, get_or, set, get_elem?}
-use Rattle.group.proofs.Lists.{if_elim}
+use Rattle.group.proofs.Lists.{when_elim}
 use Rattle.group.specs.Choice.{◌<?◌}
 use Rattle.group.specs.Limits.{longest_packet}
 use Rattle.group.specs.Question.{Question, first_no}
@@ -84,13 +84,13 @@ nothing_written bytes e = ap written e
 pub refused_changes_nothing : RefusedChangesNothing
 unfolding happen
 refused_changes_nothing g (submit i payload) =
-    if_elim (Stays g) (i <? length g.members) (at_member_lem g i _ _ _ (memberAsking.submit_first_no (m g i) payload longest_packet) (nothing_written _)) (λ f d. refl)
+    when_elim (Stays g) (i <? length g.members) (at_member_lem g i _ _ _ (memberAsking.submit_first_no (m g i) payload longest_packet) (nothing_written _)) (λ f d. refl)
 refused_changes_nothing g (repeat i) =
-    if_elim (Stays g) (i <? length g.members) (at_member_lem g i _ _ _ (memberAsking.repeat_first_no (m g i) longest_packet) (nothing_written _)) (λ f d. refl)
+    when_elim (Stays g) (i <? length g.members) (at_member_lem g i _ _ _ (memberAsking.repeat_first_no (m g i) longest_packet) (nothing_written _)) (λ f d. refl)
 refused_changes_nothing g (world.take i) =
-    if_elim (Stays g) (i <? length g.members) (at_member_lem g i _ _ [] (memberAsking.take_first_no (m g i) longest_packet) (λ e. refl)) (λ f d. refl)
+    when_elim (Stays g) (i <? length g.members) (at_member_lem g i _ _ [] (memberAsking.take_first_no (m g i) longest_packet) (λ e. refl)) (λ f d. refl)
 refused_changes_nothing g (status i) =
-    if_elim (Stays g) (i <? length g.members) (at_member_lem g i _ _ _ (memberAsking.status_first_no (m g i) longest_packet) (nothing_written _)) (λ f d. refl)
+    when_elim (Stays g) (i <? length g.members) (at_member_lem g i _ _ _ (memberAsking.status_first_no (m g i) longest_packet) (nothing_written _)) (λ f d. refl)
 refused_changes_nothing g poll = at_sequencer_lem g _ _ (sequencerProofs.poll_first_no g.sequencer longest_packet)
 refused_changes_nothing g (copy number) = at_sequencer_lem g _ _ (sequencerProofs.copy_first_no g.sequencer (record { 0 = number }) longest_packet)
 refused_changes_nothing g (hand_member k i) = go (get_elem? g.packets k)
@@ -98,7 +98,7 @@ refused_changes_nothing g (hand_member k i) = go (get_elem? g.packets k)
     go : (x : Option (List ℕ)) → Stays g (hand_to_member g i x)
     go none = λ d. refl
     go (some packet) =
-        if_elim (Stays g) (i <? length g.members) (at_member_lem g i _ _ _ (memberAsking.receive_first_no (m g i) packet longest_packet) (nothing_written _)) (λ f d. refl)
+        when_elim (Stays g) (i <? length g.members) (at_member_lem g i _ _ _ (memberAsking.receive_first_no (m g i) packet longest_packet) (nothing_written _)) (λ f d. refl)
 refused_changes_nothing g (hand_sequencer k) = go (get_elem? g.packets k)
   where
     go : (x : Option (List ℕ)) → Stays g (hand_to_sequencer g x)

@@ -11,12 +11,12 @@ use native.Mathlib.Omega.{arith}
 use borrow.Author.Tests.{le-leb, lt-leb, leb-true, lt-ltb, ltb-true, ltb-false}
 use lib.ListN.{length, get_or, drop, get_elem?}
 use lib.Seq.{length-take-le}
-use Rattle.group.proofs.Choice.{if_false, both_hold, both_first, both_then}
+use Rattle.group.proofs.Choice.{when_false, both_hold, both_first, both_then}
 use Rattle.group.proofs.Counting.{one, count, count_mono, one_false}
-use Rattle.group.proofs.Lists.{if_elim, le_or, at, at_some, at_take, All, all_get}
+use Rattle.group.proofs.Lists.{when_elim, le_or, at, at_some, at_take, All, all_get}
 use Rattle.group.proofs.Expected.{needed_are}
 use Rattle.group.proofs.Members.{Standing, fresh_standing, others_in}
-use Rattle.group.specs.Choice.{if◌then◌else◌, ◌and◌, ◌<?◌, ◌≤?◌}
+use Rattle.group.specs.Choice.{when◌then◌else◌, ◌and◌, ◌<?◌, ◌≤?◌}
 use Rattle.group.specs.Limits.{held_most}
 use Rattle.group.specs.Members.{is_in, others_of, needed_of}
 use Rattle.group.specs.Opening.{description_of}
@@ -47,15 +47,15 @@ use Rattle.window.specs.Places.{message_at, is_held}
 reached_has : (m : Member) (s : ℕ) → s ≤ reach_of m → has m s ≡ true
 unfolding has
 reached_has m s h =
-    if_elim (λ (b : Bool). b ≡ true) (s ≤? m.taken.0) (λ t. refl)
+    when_elim (λ (b : Bool). b ≡ true) (s ≤? m.taken.0) (λ t. refl)
     (λ t.
     let near = reach_near m in
     let above : m.taken.0 < s = le_or s m.taken.0 (λ k. absurd (let z : true ≡ false = sym (le-leb s m.taken.0 k) ∙ t in let y : ◌≡◌ {A = ℕ} 0 1 = cc in omega arith)) (λ k. k) in
     both_hold _ _ (le-leb s (m.taken.0 + held_most) (omega arith)) (lt-ltb 0 (message_at m.held s).count (reach_holds m s above h)))
 
 -- how many have it, counted
-one_of : (b : Bool) → (if b then 1 else 0) ≡ one b
-unfolding if◌then◌else◌ one
+one_of : (b : Bool) → (when b then 1 else 0) ≡ one b
+unfolding when◌then◌else◌ one
 one_of true = refl
 one_of false = refl
 
@@ -127,7 +127,7 @@ has_it group w v i s b least e =
       held = λ z. absurd (omega arith);
     })
     (λ high.
-    let both : (near and is_held m.held s) ≡ true = if_false (s ≤? m.taken.0) _ true _ (lt-leb s m.taken.0 high) refl ∙ e in
+    let both : (near and is_held m.held s) ≡ true = when_false (s ≤? m.taken.0) _ true _ (lt-leb s m.taken.0 high) refl ∙ e in
     let y = h.held_is s high (leb-true s (m.taken.0 + held_most) (both_first near _ both)) (ltb-true 0 (message_at m.held s).count (both_then near _ both)) in
     record {
       message = y.0;
@@ -171,7 +171,7 @@ module _ (group : description.Group) (none : needed_of group ≡ 0) (w : World) 
 
   plain_ready : (i k : ℕ) → i < group.n → let m : Member = get_or w.group.members i no_member in
       m.taken.0 < k → k ≤ m.taken.0 + held_most → is_ready m k ≡ is_held m.held k
-  unfolding is_ready if◌then◌else◌
+  unfolding is_ready when◌then◌else◌
   plain_ready i k b lo hi =
       let m : Member = get_or w.group.members i no_member in
       go m (is_held m.held k) refl ((v.terminal i b).seat.plain none k lo hi)

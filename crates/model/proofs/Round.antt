@@ -10,8 +10,8 @@ use native.Mathlib.Omega.{arith}
 use borrow.Author.Tests.{ltb-false}
 use lib.ListN.{length, get_or, set, get_elem?, length-append}
 use lib.Seq.{get_or-set_same, get_or-set_other}
-use Rattle.group.proofs.Lists.{if_elim, get_last, at_some}
-use Rattle.group.specs.Choice.{if◌then◌else◌, ◌<?◌}
+use Rattle.group.proofs.Lists.{when_elim, get_last, at_some}
+use Rattle.group.specs.Choice.{when◌then◌else◌, ◌<?◌}
 use Rattle.group.specs.Limits.{members_most, largest_number, longest_packet}
 use Rattle.group.specs.declared.MemberNumber.{MemberNumber}
 use Rattle.group.specs.declared.SequenceNumber.{SequenceNumber}
@@ -69,8 +69,8 @@ put_effect g i t' o packets h e =
     }
 
 -- a choice by whether member i is there
-there : (P : Happened → Type 0) (g : Group) (i : ℕ) {x : Happened} → i < length g.members → P x → P (if i <? length g.members then x else missing g)
-there P g i h p = if_elim P (i <? length g.members) (λ t. p) (λ f. let z = ltb-false i _ f in absurd (omega arith))
+there : (P : Happened → Type 0) (g : Group) (i : ℕ) {x : Happened} → i < length g.members → P x → P (when i <? length g.members then x else missing g)
+there P g i h p = when_elim P (i <? length g.members) (λ t. p) (λ f. let z = ltb-false i _ f in absurd (omega arith))
 
 -- a copy, written as `bytes`
 record CopyEffect (g : Group) (bytes : List ℕ) (d : Happened) : Type 0 where

@@ -10,9 +10,9 @@ use native.Mathlib.Omega.{arith}
 use borrow.Author.Tests.{lt-ltb, ltb-true, eq-eqb, ne_eqb}
 use borrow.Author.Rules.{rules}
 use lib.ListN.{length, get_or, get_elem?, replicate, get_or-replicate, length-take}
-use Rattle.group.proofs.Choice.{choices, tests, if_true, if_false}
-use Rattle.group.proofs.Lists.{if_elim, at, all_get}
-use Rattle.group.specs.Choice.{if◌then◌else◌, ◌<?◌, ◌=?◌}
+use Rattle.group.proofs.Choice.{choices, tests, when_true, when_false}
+use Rattle.group.proofs.Lists.{when_elim, at, all_get}
+use Rattle.group.specs.Choice.{when◌then◌else◌, ◌<?◌, ◌=?◌}
 use Rattle.group.specs.Limits.{members_most, largest_number, longest_packet}
 use Rattle.group.proofs.Members.{in_all, Standing, fresh_standing}
 use Rattle.group.specs.Opening.{description_of, open_of}
@@ -48,22 +48,22 @@ inv_ext : (group : description.Group) (w : Group) (ord ord' : List Ordered) (tk 
 inv_ext group w ord ord' tk tk' sb sb' eo et es v = rw (eo, fun_ext et, fun_ext es) v
 
 -- a choice by whether two terminals are the same
-if_same : {A : Type 0} (i : ℕ) (x y : A) → (if i =? i then x else y) ≡ x
-if_same i x y = sym (if_true (i =? i) x x y (eq-eqb i i refl) refl)
+when_same : {A : Type 0} (i : ℕ) (x y : A) → (when i =? i then x else y) ≡ x
+when_same i x y = sym (when_true (i =? i) x x y (eq-eqb i i refl) refl)
 
-if_other : {A : Type 0} (i j : ℕ) (x y : A) → j ≢ i → (if i =? j then x else y) ≡ y
-if_other i j x y h = sym (if_false (i =? j) y x y (ne_eqb i j (λ e. h (sym e))) refl)
+when_other : {A : Type 0} (i j : ℕ) (x y : A) → j ≢ i → (when i =? j then x else y) ≡ y
+when_other i j x y h = sym (when_false (i =? j) y x y (ne_eqb i j (λ e. h (sym e))) refl)
 
-if_either : {A : Type 0} (t : Bool) (x : A) → (if t then x else x) ≡ x
-unfolding if◌then◌else◌
-if_either true x = refl
-if_either false x = refl
+when_either : {A : Type 0} (t : Bool) (x : A) → (when t then x else x) ≡ x
+unfolding when◌then◌else◌
+when_either true x = refl
+when_either false x = refl
 
 took_absent : (e : Event) (j : ℕ) → took_at j e absent ≡ []
 unfolding took_at took_in
 took_absent (submit i p) j = refl
 took_absent (repeat i) j = refl
-took_absent (world.take i) j = if_either (i =? j) []
+took_absent (world.take i) j = when_either (i =? j) []
 took_absent (status i) j = refl
 took_absent poll j = refl
 took_absent (copy s) j = refl
@@ -72,7 +72,7 @@ took_absent (hand_sequencer k) j = refl
 
 submitted_absent : (e : Event) (j : ℕ) → submitted_at j e absent ≡ []
 unfolding submitted_at accepted_in
-submitted_absent (submit i p) j = if_either (i =? j) []
+submitted_absent (submit i p) j = when_either (i =? j) []
 submitted_absent (repeat i) j = refl
 submitted_absent (world.take i) j = refl
 submitted_absent (status i) j = refl
@@ -121,9 +121,9 @@ module _ (group : description.Group) (w : Group) (ord : List Ordered) (tk : ℕ 
   submit_kept : (i : ℕ) (p : List ℕ) → Kept (submit i p) (at_member w i (λ m. member.submit_of m p longest_packet))
   unfolding took_at submitted_at accepted_in
   submit_kept i p =
-      if_elim (Kept (submit i p)) (i <? length w.members)
+      when_elim (Kept (submit i p)) (i <? length w.members)
       (λ b. let m = get_or w.members i no_member in let o = member.submit_of m p longest_packet in
-      member_kept i (submit i p) o (written o.bytes) [] (accepted_by o.answer p) (inside i b) refl (if_same i _ _) (λ j q. refl) (λ j q. if_other i j _ _ q)
+      member_kept i (submit i p) o (written o.bytes) [] (accepted_by o.answer p) (inside i b) refl (when_same i _ _) (λ j q. refl) (λ j q. when_other i j _ _ q)
       (rw (append-nil (tk i)) (memberOrdering.submit_good group i _ _ ord (tk i) (sb i) m (v.terminal i (inside i b)) p)))
       (λ b. absent_kept (submit i p))
 
@@ -131,16 +131,16 @@ module _ (group : description.Group) (w : Group) (ord : List Ordered) (tk : ℕ 
   take_kept : (i : ℕ) → Kept (world.take i) (take_at w i)
   unfolding took_at submitted_at took_in
   take_kept i =
-      if_elim (Kept (world.take i)) (i <? length w.members)
+      when_elim (Kept (world.take i)) (i <? length w.members)
       (λ b. let m = get_or w.members i no_member in let o = member.take_of m longest_packet in
-      member_kept i (world.take i) o [] (took_by o.answer o.bytes) [] (inside i b) (if_same i _ _) refl (λ j q. if_other i j _ _ q) (λ j q. refl)
+      member_kept i (world.take i) o [] (took_by o.answer o.bytes) [] (inside i b) (when_same i _ _) refl (λ j q. when_other i j _ _ q) (λ j q. refl)
       (rw (append-nil (sb i)) (take_good group i _ _ ord (tk i) (sb i) m (v.terminal i (inside i b)) v.sequencer.number_is)))
       (λ b. absent_kept (world.take i))
 
   repeat_kept : (i : ℕ) → Kept (repeat i) (at_member w i (λ m. member.repeat_of m longest_packet))
   unfolding took_at submitted_at
   repeat_kept i =
-      if_elim (Kept (repeat i)) (i <? length w.members)
+      when_elim (Kept (repeat i)) (i <? length w.members)
       (λ b. still_kept i (repeat i) _ _ (inside i b) (λ j. refl) (λ j. refl)
       (memberOrdering.repeat_good group i _ _ ord (tk i) (sb i) (get_or w.members i no_member) (v.terminal i (inside i b))))
       (λ b. absent_kept (repeat i))
@@ -148,7 +148,7 @@ module _ (group : description.Group) (w : Group) (ord : List Ordered) (tk : ℕ 
   status_kept : (i : ℕ) → Kept (status i) (at_member w i (λ m. member.status_of m longest_packet))
   unfolding took_at submitted_at
   status_kept i =
-      if_elim (Kept (status i)) (i <? length w.members)
+      when_elim (Kept (status i)) (i <? length w.members)
       (λ b. still_kept i (status i) _ _ (inside i b) (λ j. refl) (λ j. refl)
       (memberOrdering.status_good group i _ _ ord (tk i) (sb i) (get_or w.members i no_member) (v.terminal i (inside i b))))
       (λ b. absent_kept (status i))
@@ -159,7 +159,7 @@ module _ (group : description.Group) (w : Group) (ord : List Ordered) (tk : ℕ 
     where
       at_i : (p : List ℕ) → get_elem? w.packets k ≡ some p → Kept (hand_member k i) (hand_to_member w i (some p))
       at_i p e =
-          if_elim (Kept (hand_member k i)) (i <? length w.members)
+          when_elim (Kept (hand_member k i)) (i <? length w.members)
           (λ b. still_kept i (hand_member k i) _ _ (inside i b) (λ j. refl) (λ j. refl)
           (memberOrdering.receive_good group i _ _ ord (tk i) (sb i) (get_or w.members i no_member) (v.terminal i (inside i b)) (voice_in w.members sb) p (all_get _ w.packets k v.packets e)))
           (λ b. absent_kept (hand_member k i))
@@ -244,7 +244,7 @@ module _ (n g r : ℕ) (o : Opens n g r) where
   open_sequencer = rw open_group
 
   open_member_lem : (i : ℕ) → i < n → (member.fresh_of n (record { 0 = i }) g r).member ≡ fresh_member (description_of n g r) (record { 0 = i })
-  unfolding member.fresh_of member.opened_of if◌then◌else◌
+  unfolding member.fresh_of member.opened_of when◌then◌else◌
   open_member_lem i b = rw (lt-ltb i n b, open_group)
 
 members_length : (n g r i k : ℕ) → length (fresh_members n g r i k) ≡ k

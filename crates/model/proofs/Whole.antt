@@ -8,8 +8,8 @@ use native.Mathlib.Omega.{arith}
 use borrow.Author.Tests.{ltb-true, ltb-false}
 use lib.ListN.{length, get_or, take, drop, take-append-drop, length-append, length-drop}
 use lib.Seq.{length-take-le, drop-drop, take_all, take-add, take-take}
-use Rattle.group.proofs.Lists.{if_elim, none≢some, at, at_nil, at_some, at_append, at_take, drop_at_suc}
-use Rattle.group.specs.Choice.{if◌then◌else◌, ◌<?◌}
+use Rattle.group.proofs.Lists.{when_elim, none≢some, at, at_nil, at_some, at_append, at_take, drop_at_suc}
+use Rattle.group.specs.Choice.{when◌then◌else◌, ◌<?◌}
 use Rattle.group.specs.Limits.{waiting_most}
 use Rattle.group.specs.declared.Group as description
 use Rattle.member.proofs.Acknowledged.{acknowledged_least, acknowledged_near, acknowledged_holds, acknowledged_most}
@@ -57,7 +57,7 @@ above_all : (b c : ℕ) (l : List Ordered) → c ≤ b → Runs b l → above c 
 unfolding above
 above_all b c [] hc h = refl
 above_all b c (x ∷ l) hc h =
-    if_elim (λ (r : List Ordered). r ≡ x ∷ l) (c <? x.number)
+    when_elim (λ (r : List Ordered). r ≡ x ∷ l) (c <? x.number)
     (λ t. ap (λ (r : List Ordered). x ∷ r) (above_all (suc b) c l (omega arith) (runs_tail b x l h)))
     (λ t. let z = h 1 x refl in let y = ltb-false c x.number t in absurd (omega arith))
 
@@ -68,7 +68,7 @@ above_drop b zero l h = above_all b (b + 0) l (omega arith) h
 above_drop b (suc k) [] h = refl
 above_drop b (suc k) (x ∷ l) h =
     let e : b + suc k ≡ suc b + k = omega arith in
-    if_elim (λ (r : List Ordered). r ≡ drop k l) (b + suc k <? x.number)
+    when_elim (λ (r : List Ordered). r ≡ drop k l) (b + suc k <? x.number)
     (λ t. let z = h 1 x refl in let y = ltb-true (b + suc k) x.number t in absurd (omega arith))
     (λ t. ap (λ (n : ℕ). above n l) e ∙ above_drop (suc b) k l (runs_tail b x l h))
 

@@ -1,7 +1,7 @@
 -- What is read off the list of events and answers, and off the history: the words of demand 3.
 use Rattle.std.specs.Prelude.{List, [], ◌∷◌, ◌++◌, ℕ, zero, suc, ◌+◌, ◌-◌, get_or}
 use Rattle.std.proofs.Math.ListN as list
-use Rattle.group.specs.Choice.{if◌then◌else◌, ◌<?◌, ◌=?◌}
+use Rattle.group.specs.Choice.{when◌then◌else◌, ◌<?◌, ◌=?◌}
 use Rattle.member.specs.Order.{took_by, accepted_by}
 use Rattle.member.specs.State.{Member, acknowledged_of}
 use Rattle.message.specs.Message.{Message, payload_of}
@@ -43,7 +43,7 @@ accepted_in payload (by_member answer bytes) = accepted_by answer payload
 unfoldable pub took_at : ℕ → Event → Answer → List Ordered
 took_at i (submit j payload) answer = []
 took_at i (repeat j) answer = []
-took_at i (take j) answer = if j =? i then took_in answer else []
+took_at i (take j) answer = when j =? i then took_in answer else []
 took_at i (status j) answer = []
 took_at i poll answer = []
 took_at i (copy number) answer = []
@@ -51,7 +51,7 @@ took_at i (hand_member k j) answer = []
 took_at i (hand_sequencer k) answer = []
 
 unfoldable pub submitted_at : ℕ → Event → Answer → List (List ℕ)
-submitted_at i (submit j payload) answer = if j =? i then accepted_in payload answer else []
+submitted_at i (submit j payload) answer = when j =? i then accepted_in payload answer else []
 submitted_at i (repeat j) answer = []
 submitted_at i (take j) answer = []
 submitted_at i (status j) answer = []
@@ -110,7 +110,7 @@ last_number (m ∷ (next ∷ rest)) = last_number (next ∷ rest)
 -- the messages numbered above a number
 unfoldable pub above : ℕ → List Ordered → List Ordered
 above number [] = []
-above number (m ∷ rest) = if number <? m.number then m ∷ above number rest else above number rest
+above number (m ∷ rest) = when number <? m.number then m ∷ above number rest else above number rest
 
 -- the row that a member acknowledges above what it took: the accepted messages that it holds from t + 1 on without a hole, lowest first
 abbrev pub row_of : Member → List Ordered

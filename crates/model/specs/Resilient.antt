@@ -3,7 +3,7 @@
 use Rattle.std.specs.Prelude.{◌≡◌, Bool, true, false, List, [], ◌∷◌, ℕ, ◌+◌, ◌-◌, ◌≤◌, ◌<◌, length, get_or, drop}
 use Rattle.std.proofs.Math.Option.{some}
 use Rattle.std.proofs.Math.ListN.{get_elem?}
-use Rattle.group.specs.Choice.{if◌then◌else◌, ◌and◌, ◌≤?◌}
+use Rattle.group.specs.Choice.{when◌then◌else◌, ◌and◌, ◌≤?◌}
 use Rattle.group.specs.Limits.{held_most}
 use Rattle.member.specs.Calls.{is_ready}
 use Rattle.member.specs.State.{Member, reach_of, acknowledged_of}
@@ -20,13 +20,13 @@ use Rattle.window.specs.Places.{is_held}
 -- a member has the message of a number, taken or held
 unfoldable pub has : Member → ℕ → Bool
 has m number =
-    if number ≤? m.taken.0 then true else
+    when number ≤? m.taken.0 then true else
     (number ≤? m.taken.0 + held_most and is_held m.held number)
 
 -- how many of a list of members have it
 unfoldable pub having : List Member → ℕ → ℕ
 having [] number = 0
-having (m ∷ rest) number = (if has m number then 1 else 0) + having rest number
+having (m ∷ rest) number = (when has m number then 1 else 0) + having rest number
 
 -- after every list of events, each message that a terminal took is one that r members other than 0 have; since the list up to a take
 -- is such a list too, it is taken only when they have it

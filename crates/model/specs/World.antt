@@ -3,7 +3,7 @@
 use Rattle.std.specs.Prelude.{List, [], ◌∷◌, ◌++◌, ℕ, zero, suc, ◌+◌, length, get_or, set}
 use Rattle.std.proofs.Math.Option.{Option, none, some}
 use Rattle.std.proofs.Math.ListN.{get_elem?}
-use Rattle.group.specs.Choice.{if◌then◌else◌, ◌<?◌}
+use Rattle.group.specs.Choice.{when◌then◌else◌, ◌<?◌}
 use Rattle.group.specs.Limits.{longest_packet}
 use Rattle.group.specs.Opening.{description_of}
 use Rattle.member.specs.Calls as member
@@ -76,13 +76,13 @@ no_member = fresh_member (description_of 0 0 0) (record { 0 = 0 })
 -- a call of member i that writes packets, if there is such a member
 abbrev pub at_member : Group → ℕ → (Member → member.Outcome) → Happened
 at_member g i call =
-    if i <? length g.members then with_member g i (call (get_or g.members i no_member)) (written (call (get_or g.members i no_member)).bytes) else
+    when i <? length g.members then with_member g i (call (get_or g.members i no_member)) (written (call (get_or g.members i no_member)).bytes) else
     missing g
 
 -- a take writes a payload and no packet
 abbrev pub take_at : Group → ℕ → Happened
 take_at g i =
-    if i <? length g.members then with_member g i (member.take_of (get_or g.members i no_member) longest_packet) [] else
+    when i <? length g.members then with_member g i (member.take_of (get_or g.members i no_member) longest_packet) [] else
     missing g
 
 -- a packet handed over, if there is such a packet

@@ -6,7 +6,7 @@ use mathlib.Core.List.{List, [], ◌∷◌}
 use Prim.Native.Nat.{ℕ, zero, suc, ◌-◌, ◌≤◌}
 use native.Mathlib.Omega.{arith}
 use lib.ListN.{length, length-drop}
-use Rattle.group.specs.Choice.{if◌then◌else◌, ask◌or◌then◌, ◌≤?◌}
+use Rattle.group.specs.Choice.{when◌then◌else◌, ask◌or◌then◌, ◌≤?◌}
 use Rattle.group.specs.Limits.{header_size, payload_most, longest_packet}
 use Rattle.group.specs.Question.{Question, first_no, judged}
 use Rattle.group.specs.declared.Refusal.TheVariants.{ShortOutput, PacketSize, UnknownKind, PayloadLength, ForbiddenFields, LongPayload}
@@ -67,7 +67,7 @@ write_first_no h payload room =
     (first_no-append (fields_questions h (length payload) payload) (record { yes = length payload ≤? payload_most; refusal = LongPayload } ∷ []))
 
 pub content_fields : ContentFields
-unfolding content_of fields_of if◌then◌else◌
+unfolding content_of fields_of when◌then◌else◌
 content_fields group (Request sender taken count) = refl
 content_fields group (Broadcast originator number count floor) = refl
 content_fields group (Gap sender taken first last) = refl
@@ -84,7 +84,7 @@ content_fields group (Result sender attempt elected number) = refl
 fields_content_by : (kind member group a b c : ℕ) (payload : List ℕ)
     → let h : Header = record { kind = kind; member = record { 0 = member }; group = group; a = a; b = b; c = c } in
     known_kind kind ≡ true → obeys h payload ≡ true → fields_of group (content_of h) ≡ h
-unfolding known_kind obeys content_of fields_of if◌then◌else◌
+unfolding known_kind obeys content_of fields_of when◌then◌else◌
 fields_content_by zero member group a b c payload k o = let z : false ≡ true = k in cc
 fields_content_by (suc zero) member group a b c payload k o = let z : c ≡ 0 = search says in rw z
 fields_content_by (suc (suc zero)) member group a b c payload k o = refl

@@ -7,7 +7,7 @@ use Prim.Native.Nat.{ℕ, ◌+◌, ◌≤◌, ◌<◌}
 use native.Mathlib.Omega.{arith}
 use borrow.Author.Tests.{lt-ltb, le-leb, eq-eqb}
 use lib.ListN.{length}
-use Rattle.group.specs.Choice.{if◌then◌else◌}
+use Rattle.group.specs.Choice.{when◌then◌else◌}
 use Rattle.group.specs.Lent.{Laid}
 use Rattle.group.specs.Limits.{header_size, payload_most, longest_packet}
 use Rattle.group.specs.Members.{is_in}
@@ -24,55 +24,55 @@ use Rattle.packet.proofs.Verdicts.{accepted, written, written_not}
 
 module _ (g : ℕ) (member : MemberNumber) where
   pub request_fields : (taken : SequenceNumber) (count : ℕ) (payload : List ℕ) → 1 ≤ count → fields_verdict (fields_of g (Request member taken count)) (length payload) payload ≡ Verdict.Accepted
-  unfolding fields_verdict known_kind payload_fits obeys fields_of if◌then◌else◌
+  unfolding fields_verdict known_kind payload_fits obeys fields_of when◌then◌else◌
   request_fields taken count payload a = rw (eq-eqb (length payload) (length payload) refl, le-leb 1 count a)
 
   pub broadcast_fields : (number floor : SequenceNumber) (count : ℕ) (payload : List ℕ) → 1 ≤ count → floor.0 < number.0
       → fields_verdict (fields_of g (Broadcast member number count floor)) (length payload) payload ≡ Verdict.Accepted
-  unfolding fields_verdict known_kind payload_fits obeys fields_of if◌then◌else◌
+  unfolding fields_verdict known_kind payload_fits obeys fields_of when◌then◌else◌
   broadcast_fields number floor count payload a b =
       let c : 1 ≤ number.0 = omega arith in
       rw (eq-eqb (length payload) (length payload) refl, le-leb 1 number.0 c, le-leb 1 count a, lt-ltb floor.0 number.0 b)
 
   pub offer_fields : (number floor : SequenceNumber) (count : ℕ) (payload : List ℕ) → 1 ≤ count → floor.0 < number.0
       → fields_verdict (fields_of g (Offer member number count floor)) (length payload) payload ≡ Verdict.Accepted
-  unfolding fields_verdict known_kind payload_fits obeys fields_of if◌then◌else◌
+  unfolding fields_verdict known_kind payload_fits obeys fields_of when◌then◌else◌
   offer_fields number floor count payload a b =
       let c : 1 ≤ number.0 = omega arith in
       rw (eq-eqb (length payload) (length payload) refl, le-leb 1 number.0 c, le-leb 1 count a, lt-ltb floor.0 number.0 b)
 
   pub gap_fields : (taken first last : SequenceNumber) → taken.0 < first.0 → first.0 ≤ last.0 → fields_verdict (fields_of g (Gap member taken first last)) 0 [] ≡ Verdict.Accepted
-  unfolding fields_verdict known_kind payload_fits obeys fields_of if◌then◌else◌
+  unfolding fields_verdict known_kind payload_fits obeys fields_of when◌then◌else◌
   gap_fields taken first last a b = rw (lt-ltb taken.0 first.0 a, le-leb first.0 last.0 b)
 
   pub status_fields : (taken : SequenceNumber) → fields_verdict (fields_of g (Status member taken)) 0 [] ≡ Verdict.Accepted
-  unfolding fields_verdict known_kind payload_fits obeys fields_of if◌then◌else◌
+  unfolding fields_verdict known_kind payload_fits obeys fields_of when◌then◌else◌
   status_fields taken = refl
 
   pub confirm_fields : (number : SequenceNumber) → 1 ≤ number.0 → fields_verdict (fields_of g (Confirm member number)) 0 [] ≡ Verdict.Accepted
-  unfolding fields_verdict known_kind payload_fits obeys fields_of if◌then◌else◌
+  unfolding fields_verdict known_kind payload_fits obeys fields_of when◌then◌else◌
   confirm_fields number a = rw (le-leb 1 number.0 a)
 
 pub poll_fields : (g : ℕ) (elected : MemberNumber) (top floor : SequenceNumber) → floor.0 ≤ top.0 → fields_verdict (fields_of g (Poll elected top floor)) 0 [] ≡ Verdict.Accepted
-unfolding fields_verdict known_kind payload_fits obeys fields_of if◌then◌else◌
+unfolding fields_verdict known_kind payload_fits obeys fields_of when◌then◌else◌
 poll_fields g elected top floor a = rw (le-leb floor.0 top.0 a)
 
 pub accept_fields : (g : ℕ) (elected : MemberNumber) (number : SequenceNumber) → 1 ≤ number.0 → fields_verdict (fields_of g (Accept elected number)) 0 [] ≡ Verdict.Accepted
-unfolding fields_verdict known_kind payload_fits obeys fields_of if◌then◌else◌
+unfolding fields_verdict known_kind payload_fits obeys fields_of when◌then◌else◌
 accept_fields g elected number a = rw (le-leb 1 number.0 a)
 
 pub invitation_fields : (g : ℕ) (sender : MemberNumber) (attempt : ℕ) → fields_verdict (fields_of g (Invitation sender attempt)) 0 [] ≡ Verdict.Accepted
-unfolding fields_verdict known_kind payload_fits obeys fields_of if◌then◌else◌
+unfolding fields_verdict known_kind payload_fits obeys fields_of when◌then◌else◌
 invitation_fields g sender attempt = refl
 
 pub reply_fields : (g : ℕ) (sender : MemberNumber) (attempt : ℕ) (number : SequenceNumber) → fields_verdict (fields_of g (Reply sender attempt number)) 0 [] ≡ Verdict.Accepted
-unfolding fields_verdict known_kind payload_fits obeys fields_of if◌then◌else◌
+unfolding fields_verdict known_kind payload_fits obeys fields_of when◌then◌else◌
 reply_fields g sender attempt number = refl
 
 pub result_fields : (g : ℕ) (sender elected : MemberNumber) (attempt : ℕ) (number : SequenceNumber) (payload : List ℕ) → length payload ≡ survivors_size
     → is_in (survivors_in payload) sender.0 ≡ true → is_in (survivors_in payload) elected.0 ≡ true
     → fields_verdict (fields_of g (Result sender attempt elected number)) (length payload) payload ≡ Verdict.Accepted
-unfolding fields_verdict known_kind payload_fits obeys fields_of if◌then◌else◌
+unfolding fields_verdict known_kind payload_fits obeys fields_of when◌then◌else◌
 result_fields g sender elected attempt number payload l a b = rw (l, a, b)
 
 bytes_one : {size other : ℕ} → Writing.Bytes size ≡ Writing.Bytes other → size ≡ other

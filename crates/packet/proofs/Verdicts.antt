@@ -9,7 +9,7 @@ use borrow.Author.Rules.{rules}
 use borrow.Author.Tests.{leb-true, eqb-true}
 use lib.ListN.{length, take, length-drop}
 use lib.Seq.{take_all}
-use Rattle.group.specs.Choice.{if◌then◌else◌, ◌and◌, ◌≤?◌, ◌=?◌}
+use Rattle.group.specs.Choice.{when◌then◌else◌, ◌and◌, ◌≤?◌, ◌=?◌}
 use Rattle.group.specs.Limits.{members_most, header_size, payload_most, longest_packet}
 use Rattle.group.specs.Members.{is_in}
 use Rattle.group.specs.Question.{judged}
@@ -17,7 +17,7 @@ use Rattle.group.specs.declared.Refusal.{Refusal}
 use Rattle.group.specs.declared.Refusal.TheVariants.{ShortOutput, PacketSize, UnknownKind, PayloadLength, ForbiddenFields, LongPayload}
 use Rattle.group.specs.declared.Verdict.{Verdict}
 use Rattle.group.specs.declared.Verdict.TheVariants.{Accepted, Refused}
-use Rattle.group.proofs.Choice.{choices, tests, if_was, both_first, both_then}
+use Rattle.group.proofs.Choice.{choices, tests, when_was, both_first, both_then}
 use Rattle.group.proofs.Members.{in_lt}
 use Rattle.group.proofs.Question.{accepted≢, judged_was}
 use Rattle.big_endian.specs.Laws.{Bytes}
@@ -44,9 +44,9 @@ pub record Askable (h : Header) (l : ℕ) (payload : List ℕ) : Type 0 where
 pub askable : (h : Header) (l : ℕ) (payload : List ℕ) → fields_verdict h l payload ≡ Accepted → Askable h l payload
 unfolding fields_verdict payload_fits
 askable h l payload e =
-    let k = if_was _ _ _ Accepted e (accepted≢ UnknownKind) in
-    let f = if_was _ _ _ Accepted k.1 (accepted≢ PayloadLength) in
-    let o = if_was _ _ _ Accepted f.1 (accepted≢ ForbiddenFields) in
+    let k = when_was _ _ _ Accepted e (accepted≢ UnknownKind) in
+    let f = when_was _ _ _ Accepted k.1 (accepted≢ PayloadLength) in
+    let o = when_was _ _ _ Accepted f.1 (accepted≢ ForbiddenFields) in
     let s = both_first (length payload =? l) _ f.0 in
     record { known = k.0; fits = f.0; obey = o.0; size = eqb-true (length payload) l s }
 
@@ -66,7 +66,7 @@ unfolding known_kind
 kind_high kind e = leb-true kind result_kind (both_then (1 ≤? kind) _ e)
 
 result_fits : (size : ℕ) → payload_fits result_kind size size ≡ true → (size =? survivors_size) ≡ true
-unfolding payload_fits if◌then◌else◌
+unfolding payload_fits when◌then◌else◌
 result_fits size e = both_then (size =? size) (size =? survivors_size) e
 
 pub result_size : (kind size : ℕ) → known_kind kind ≡ true → payload_fits kind size size ≡ true → reply_kind < kind → survivors_size ≤ size
@@ -102,7 +102,7 @@ pub readable : (p : List ℕ) (h : Header) → read_of p ≡ Reading.Fields h �
 unfolding read_of
 readable p h e =
     let v = fields_verdict (header_of p) (length_at p) (payload_at p) in
-    let w = if_was (header_size ≤? length p and length p ≤? longest_packet) _ _ (Reading.Fields h) e (fields≢ h PacketSize) in
+    let w = when_was (header_size ≤? length p and length p ≤? longest_packet) _ _ (Reading.Fields h) e (fields≢ h PacketSize) in
     let j = judged_was v Reading.Refused (Reading.Fields (header_of p)) (Reading.Fields h) (fields≢ h) w.1 in
     let lo = leb-true header_size (length p) (both_first (header_size ≤? length p) _ w.0) in
     let hi = leb-true (length p) longest_packet (both_then (header_size ≤? length p) _ w.0) in
@@ -119,7 +119,7 @@ readable p h e =
 
 -- of a result the survivors have B, which is then below 16: their mask is two bytes
 result_named : (h : Header) (payload : List ℕ) → h.kind ≡ result_kind → obeys h payload ≡ true → is_in (survivors_in payload) h.b ≡ true
-unfolding obeys if◌then◌else◌
+unfolding obeys when◌then◌else◌
 result_named h payload k o = both_then (is_in (survivors_in payload) h.member.0) (is_in (survivors_in payload) h.b) (rw k at o)
 
 -- what was read has a meaning
@@ -155,15 +155,15 @@ pub writable : (h : Header) (payload : List ℕ) (room : ℕ) → write_verdict 
 unfolding write_verdict
 writable h payload room e =
     let size = length payload in
-    let long = if size ≤? payload_most then Accepted else Refused LongPayload in
-    let w = if_was (longest_packet ≤? room) (judged (fields_verdict h size payload) Refused long) (Refused ShortOutput) Accepted e (accepted≢ ShortOutput) in
+    let long = when size ≤? payload_most then Accepted else Refused LongPayload in
+    let w = when_was (longest_packet ≤? room) (judged (fields_verdict h size payload) Refused long) (Refused ShortOutput) Accepted e (accepted≢ ShortOutput) in
     let j = judged_was (fields_verdict h size payload) Refused long Accepted accepted≢ w.1 in
-    let s = if_was (size ≤? payload_most) Accepted (Refused LongPayload) Accepted j.1 (accepted≢ LongPayload) in
+    let s = when_was (size ≤? payload_most) Accepted (Refused LongPayload) Accepted j.1 (accepted≢ LongPayload) in
     record { enough = leb-true longest_packet room w.0; fields = j.0; short = leb-true size payload_most s.0 }
 
 -- a writing that the output is long enough for goes by the verdict on the fields, and then by the payload's length
 pub write_by : (h : Header) (payload : List ℕ) (room : ℕ) (v : Verdict) → longest_packet ≤ room → v ≡ fields_verdict h (length payload) payload
-    → judged v Refused (if length payload ≤? payload_most then Accepted else Refused LongPayload) ≡ write_verdict h payload room
+    → judged v Refused (when length payload ≤? payload_most then Accepted else Refused LongPayload) ≡ write_verdict h payload room
 unfolding write_verdict
 write_by h payload room v e ev = rw ev (search (choices, rules) depth 9)
 

@@ -1,7 +1,7 @@
 -- Packets: 20 bytes of header and then L payload bytes. Byte 0 is the kind, byte 1 a member number, bytes 2-3 L,
 -- bytes 4-7 the group number, then A (8-11), B (12-15), C (16-19). Numbers are big-endian.
 use Rattle.std.specs.Prelude.{Bool, true, List, [], ◌∷◌, ◌++◌, ℕ, ◌+◌, ◌-◌, ◌<◌, ◌≤◌, length, get_or, drop}
-use Rattle.group.specs.Choice.{if◌then◌else◌, ask◌or◌then◌, ◌and◌, ◌<?◌, ◌≤?◌, ◌=?◌}
+use Rattle.group.specs.Choice.{when◌then◌else◌, ask◌or◌then◌, ◌and◌, ◌<?◌, ◌≤?◌, ◌=?◌}
 use Rattle.group.specs.Limits.{header_size, payload_most, longest_packet}
 use Rattle.group.specs.Members.{is_in}
 use Rattle.group.specs.Question.{judged}
@@ -84,9 +84,9 @@ known_kind kind = request_kind ≤? kind and kind ≤? result_kind
 unfoldable pub payload_fits : ℕ → ℕ → ℕ → Bool
 payload_fits kind l size =
     size =? l
-    and (if kind <? gap_kind then true else
-    if kind =? offer_kind then true else
-    if kind =? result_kind then l =? survivors_size else
+    and (when kind <? gap_kind then true else
+    when kind =? offer_kind then true else
+    when kind =? result_kind then l =? survivors_size else
     l =? 0)
 
 -- of a message's packet A and B are at least 1 and C is below A
@@ -98,16 +98,16 @@ message_obeys h = 1 ≤? h.a and 1 ≤? h.b and h.c <? h.a
 -- invitation B and C are zero, of a reply C is; of a result the sender and B are among the survivors that its payload names
 unfoldable pub obeys : Header → List ℕ → Bool
 obeys h payload =
-    if h.kind =? request_kind then 1 ≤? h.b and h.c =? 0 else
-    if h.kind =? broadcast_kind then message_obeys h else
-    if h.kind =? gap_kind then h.a <? h.b and h.b ≤? h.c else
-    if h.kind =? status_kind then h.b =? 0 and h.c =? 0 else
-    if h.kind =? poll_kind then h.b =? 0 and h.c ≤? h.a else
-    if h.kind =? offer_kind then message_obeys h else
-    if h.kind =? confirm_kind then 1 ≤? h.a and h.b =? 0 and h.c =? 0 else
-    if h.kind =? accept_kind then 1 ≤? h.a and h.b =? 0 and h.c =? 0 else
-    if h.kind =? invitation_kind then h.b =? 0 and h.c =? 0 else
-    if h.kind =? reply_kind then h.c =? 0 else
+    when h.kind =? request_kind then 1 ≤? h.b and h.c =? 0 else
+    when h.kind =? broadcast_kind then message_obeys h else
+    when h.kind =? gap_kind then h.a <? h.b and h.b ≤? h.c else
+    when h.kind =? status_kind then h.b =? 0 and h.c =? 0 else
+    when h.kind =? poll_kind then h.b =? 0 and h.c ≤? h.a else
+    when h.kind =? offer_kind then message_obeys h else
+    when h.kind =? confirm_kind then 1 ≤? h.a and h.b =? 0 and h.c =? 0 else
+    when h.kind =? accept_kind then 1 ≤? h.a and h.b =? 0 and h.c =? 0 else
+    when h.kind =? invitation_kind then h.b =? 0 and h.c =? 0 else
+    when h.kind =? reply_kind then h.c =? 0 else
     (is_in (survivors_in payload) h.member.0 and is_in (survivors_in payload) h.b)
 
 -- questions 4, 5 and 6 of fields and L before a payload
@@ -155,16 +155,16 @@ write_of h payload room =
 -- what the fields of each kind mean
 unfoldable pub content_of : Header → Packet
 content_of h =
-    if h.kind =? request_kind then Request h.member (record { 0 = h.a }) h.b else
-    if h.kind =? broadcast_kind then Broadcast h.member (record { 0 = h.a }) h.b (record { 0 = h.c }) else
-    if h.kind =? gap_kind then Gap h.member (record { 0 = h.a }) (record { 0 = h.b }) (record { 0 = h.c }) else
-    if h.kind =? status_kind then Status h.member (record { 0 = h.a }) else
-    if h.kind =? poll_kind then Poll h.member (record { 0 = h.a }) (record { 0 = h.c }) else
-    if h.kind =? offer_kind then Offer h.member (record { 0 = h.a }) h.b (record { 0 = h.c }) else
-    if h.kind =? confirm_kind then Confirm h.member (record { 0 = h.a }) else
-    if h.kind =? accept_kind then Accept h.member (record { 0 = h.a }) else
-    if h.kind =? invitation_kind then Invitation h.member h.a else
-    if h.kind =? reply_kind then Reply h.member h.a (record { 0 = h.b }) else
+    when h.kind =? request_kind then Request h.member (record { 0 = h.a }) h.b else
+    when h.kind =? broadcast_kind then Broadcast h.member (record { 0 = h.a }) h.b (record { 0 = h.c }) else
+    when h.kind =? gap_kind then Gap h.member (record { 0 = h.a }) (record { 0 = h.b }) (record { 0 = h.c }) else
+    when h.kind =? status_kind then Status h.member (record { 0 = h.a }) else
+    when h.kind =? poll_kind then Poll h.member (record { 0 = h.a }) (record { 0 = h.c }) else
+    when h.kind =? offer_kind then Offer h.member (record { 0 = h.a }) h.b (record { 0 = h.c }) else
+    when h.kind =? confirm_kind then Confirm h.member (record { 0 = h.a }) else
+    when h.kind =? accept_kind then Accept h.member (record { 0 = h.a }) else
+    when h.kind =? invitation_kind then Invitation h.member h.a else
+    when h.kind =? reply_kind then Reply h.member h.a (record { 0 = h.b }) else
     Result h.member h.a (record { 0 = h.b }) (record { 0 = h.c })
 
 -- what reading leaves to the meaning of fields: a kind from 1, and of a result a B that is a member number, which a byte holds

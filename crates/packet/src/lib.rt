@@ -2,7 +2,7 @@
 #![tactic(auto)]
 
 ghost use Rattle.std.specs.Prelude.{true, ◌≡◌, ◌+◌, ◌<◌, ◌≤◌, length};
-ghost use Rattle.group.specs.Choice.{if◌then◌else◌, ◌and◌, ◌≤?◌, ◌=?◌};
+ghost use Rattle.group.specs.Choice.{when◌then◌else◌, ◌and◌, ◌≤?◌, ◌=?◌};
 ghost use Rattle.group.specs.Limits.{header_size, payload_most};
 ghost use Rattle.group.specs.Members.{is_in};
 ghost use Rattle.group.specs.Lent.{front, Laid};
@@ -195,7 +195,7 @@ impl Header {
     // Question 6 of kinds 9 to 11: of an invitation B and C are zero, of a reply C is.
     fn reset_obeys(self, payload: &[u8]) -> bool
         requires { (accept_kind < self.kind) × (known_kind self.kind ≡ true) × (payload_fits self.kind (length payload.now) (length payload.now) ≡ true) }
-        ensures { result ≡ (if self.kind =? invitation_kind then self.b =? 0 and self.c =? 0 else if self.kind =? reply_kind then self.c =? 0 else (is_in (survivors_in payload.now) self.member.0 and is_in (survivors_in payload.now) self.b)) }
+        ensures { result ≡ (when self.kind =? invitation_kind then self.b =? 0 and self.c =? 0 else when self.kind =? reply_kind then self.c =? 0 else (is_in (survivors_in payload.now) self.member.0 and is_in (survivors_in payload.now) self.b)) }
     {
         if self.kind == Header::INVITATION {
             if self.b != 0 {
@@ -384,7 +384,7 @@ impl Packet {
     // What the fields of kinds 9 to 11 mean.
     fn of_reset(h: Header) -> Self
         requires { (accept_kind < h.kind) × Named h }
-        ensures { result ≡ (if h.kind =? invitation_kind then Invitation h.member h.a else if h.kind =? reply_kind then Reply h.member h.a (record { 0 = h.b }) else Result h.member h.a (record { 0 = h.b }) (record { 0 = h.c })) }
+        ensures { result ≡ (when h.kind =? invitation_kind then Invitation h.member h.a else when h.kind =? reply_kind then Reply h.member h.a (record { 0 = h.b }) else Result h.member h.a (record { 0 = h.b }) (record { 0 = h.c })) }
     {
         let member = h.member;
         if h.kind == Header::INVITATION {

@@ -8,9 +8,9 @@ use native.Mathlib.Omega.{arith}
 use borrow.Author.Tests.{ltb-true, eq-eqb, ne_eqb}
 use lib.ListN.{length, take, drop, length-append, length-drop}
 use lib.Seq.{length-take-le, take_at, drop-drop}
-use Rattle.group.specs.Choice.{if◌then◌else◌, ◌<?◌, ◌=?◌}
-use Rattle.group.proofs.Choice.{if_true, if_false, if_lt, if_nlt, if_le, if_nle}
-use Rattle.group.proofs.Lists.{if_elim}
+use Rattle.group.specs.Choice.{when◌then◌else◌, ◌<?◌, ◌=?◌}
+use Rattle.group.proofs.Choice.{when_true, when_false, when_lt, when_nlt, when_le, when_nle}
+use Rattle.group.proofs.Lists.{when_elim}
 use Rattle.message.specs.Order.{Ordered}
 use Rattle.big_endian.specs.Number.{bytes_of}
 use Rattle.big_endian.proofs.Number.{bytes_of-length}
@@ -65,7 +65,7 @@ module _ (p : Packer) (hand out : List ℕ) where
 
   pub closed_none : length out / block_size ≤ p.blocks → out ≡ closed_in p hand out
   unfolding closed_in
-  closed_none h = if_nlt p.blocks (length out / block_size) _ _ _ h refl
+  closed_none h = when_nlt p.blocks (length out / block_size) _ _ _ h refl
 
   module _ (used : p.used ≤ records_room) (sized : length hand ≡ block_size) where
     closing_length : length closing ≡ block_size
@@ -82,14 +82,14 @@ module _ (p : Packer) (hand out : List ℕ) where
         let n = closing_length in
         let k : at + block_size - at ≡ length closing = omega arith in
         let d : drop (at + block_size - at) (drop at out) ≡ drop (at + length closing) out = ap (λ (i : ℕ). drop i (drop at out)) k ∙ drop-drop (length closing) at out in
-        if_lt p.blocks (length out / block_size) _ _ _ h
+        when_lt p.blocks (length out / block_size) _ _ _ h
         (ap (λ (x : List ℕ). take at out ++ (x ++ drop (at + block_size - at) (drop at out))) e ∙ ap (λ (x : List ℕ). take at out ++ (closing ++ x)) d)
 
     pub closed_length : length (closed_in p hand out) ≡ length out
     unfolding closed_in
     closed_length =
         let n = closing_length in
-        if_elim (λ (x : List ℕ). length x ≡ length out) (p.blocks <? length out / block_size)
+        when_elim (λ (x : List ℕ). length x ≡ length out) (p.blocks <? length out / block_size)
         (λ t. let h = ltb-true p.blocks (length out / block_size) t in written_length (p.blocks * block_size) closing out (omega arith)) (λ t. refl)
 
     closed_room : p.blocks * block_size + block_size ≤ length out → LaidAt (p.blocks * block_size) closing out (closed_in p hand out) (p.blocks * block_size + block_size)
@@ -97,7 +97,7 @@ module _ (p : Packer) (hand out : List ℕ) where
     closed_room h =
         let n = closing_length in
         record {
-          lays = sym (if_lt p.blocks (length out / block_size) _ _ _ (omega arith) refl);
+          lays = sym (when_lt p.blocks (length out / block_size) _ _ _ (omega arith) refl);
           ends = omega arith;
           fits = h;
         }
@@ -109,7 +109,7 @@ module _ (p : Packer) (m : Ordered) (hand out : List ℕ) where
   unfolding kept_by
   kept_fits r after end h l e =
       let k : end ≡ p.used + record_size m = l.ends ∙ ap (λ (x : ℕ). p.used + x) (numbered_length m) in
-      if_le (p.used + record_size m) records_room _ _ _ h
+      when_le (p.used + record_size m) records_room _ _ _ h
       (ap (λ (x : Packer). packs x after out) (e ∙ ap (grown_to p m.number) k)
       ∙ ap (λ (x : List ℕ). packs (grown_to p m.number (p.used + record_size m)) x out) l.lays)
 
@@ -118,7 +118,7 @@ module _ (p : Packer) (m : Ordered) (hand out : List ℕ) where
   unfolding kept_by
   kept_over after lent end h l e =
       let k : end ≡ record_size m = l.ends ∙ zero-add (length (numbered m)) ∙ numbered_length m in
-      if_nle (p.used + record_size m) records_room _ _ _ h
+      when_nle (p.used + record_size m) records_room _ _ _ h
       (ap (λ (x : ℕ). packs (begun_with p m.number x) after lent) k
       ∙ ap (λ (x : List ℕ). packs (begun_with p m.number (record_size m)) x lent) l.lays
       ∙ ap (λ (x : List ℕ). packs (begun_with p m.number (record_size m)) (written_at 0 (numbered m) hand) x) e)
@@ -164,9 +164,9 @@ records_snoc (h ∷ held) m =
     ∙ sym (append_assoc (bytes_of number_size h.number) (record_of h ++ compact_records held) (numbered m))
 
 first_snoc : (held : List Ordered) (m : Ordered) (first records : ℕ) → first ≡ first_of held → records ≡ length held
-    → if records =? 0 then m.number else first ≡ first_of (held ++ (m ∷ []))
-first_snoc [] m first records e n = sym (if_true (records =? 0) m.number m.number first (eq-eqb records 0 n) refl)
-first_snoc (h ∷ held) m first records e n = sym (if_false (records =? 0) h.number m.number first (ne_eqb records 0 (λ z. omega arith)) (sym e))
+    → when records =? 0 then m.number else first ≡ first_of (held ++ (m ∷ []))
+first_snoc [] m first records e n = sym (when_true (records =? 0) m.number m.number first (eq-eqb records 0 n) refl)
+first_snoc (h ∷ held) m first records e n = sym (when_false (records =? 0) h.number m.number first (ne_eqb records 0 (λ z. omega arith)) (sym e))
 
 module _ (done : List ℕ) (held : List Ordered) (lent : List ℕ) (x : Packs) (o : Holding done held lent x) where
   abbrev block : List ℕ
@@ -215,7 +215,7 @@ module _ (done : List ℕ) (held : List Ordered) (lent : List ℕ) (x : Packs) (
         let e = ap length (records_snoc held m) in
         let front_is : take x.packer.used x.hand ++ numbered m ≡ compact_records (held ++ (m ∷ [])) = ap (λ (y : List ℕ). y ++ numbered m) o.body ∙ sym (records_snoc held m) in
         let front_long : length (take x.packer.used x.hand ++ numbered m) ≡ x.packer.used + record_size m = ap length front_is ∙ omega arith in
-        subst (Holding done (held ++ (m ∷ [])) lent) (if_le (x.packer.used + record_size m) records_room _ _ _ h refl)
+        subst (Holding done (held ++ (m ∷ [])) lent) (when_le (x.packer.used + record_size m) records_room _ _ _ h refl)
         (record {
           hand_size = written_length x.packer.used (numbered m) x.hand (omega arith) ∙ z;
           out_size = o.out_size;
@@ -239,7 +239,7 @@ module _ (done : List ℕ) (held : List Ordered) (lent : List ℕ) (x : Packs) (
         let d = done_length some in
         let one : numbered m ≡ compact_records (m ∷ []) = sym (records_snoc [] m) in
         let e = ap length one in
-        subst (Holding (done ++ compact_block held) (m ∷ []) lent) (if_nle (x.packer.used + record_size m) records_room _ _ _ h refl)
+        subst (Holding (done ++ compact_block held) (m ∷ []) lent) (when_nle (x.packer.used + record_size m) records_room _ _ _ h refl)
         (record {
           hand_size = written_length 0 (numbered m) x.hand (omega arith) ∙ z;
           out_size = closed_length x.packer x.hand x.out o.room o.hand_size ∙ o.out_size;

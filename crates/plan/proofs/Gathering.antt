@@ -10,9 +10,9 @@ use native.Mathlib.Omega.{arith}
 use borrow.Author.Tests.{le-leb, lt-leb, leb-true}
 use lib.ListN.{length, get_or, take, drop, length-drop, length-map}
 use lib.Seq.{length-take-le, get_or-take, get_or-drop}
-use Rattle.group.specs.Choice.{if◌then◌else◌, ◌≤?◌, ◌=?◌}
-use Rattle.group.proofs.Choice.{if_true, if_false, both_first, first_fails}
-use Rattle.group.proofs.Lists.{if_elim}
+use Rattle.group.specs.Choice.{when◌then◌else◌, ◌≤?◌, ◌=?◌}
+use Rattle.group.proofs.Choice.{when_true, when_false, both_first, first_fails}
+use Rattle.group.proofs.Lists.{when_elim}
 use Rattle.message.specs.Order.{Ordered}
 use Rattle.big_endian.specs.Number.{number_at}
 use Rattle.journal.specs.Limits.{block_size, record_head}
@@ -75,7 +75,7 @@ module _ (journal : List ℕ) (s : Spot) (stands : StandsIn journal s) where
       let n = payload_length in
       let z : start + 0 ≡ start = omega arith in
       let e : get_or payload 0 0 ≡ get_or journal start 0 = at_payload 0 (omega arith) ∙ ap (λ (i : ℕ). get_or journal i 0) z in
-      if_true (3 ≤? length payload) _ _ _ (le-leb 3 (length payload) (omega arith)) (ap (λ (b : ℕ). b =? 3) (sym e))
+      when_true (3 ≤? length payload) _ _ _ (le-leb 3 (length payload) (omega arith)) (ap (λ (b : ℕ). b =? 3) (sym e))
 
   pub spot_long : sets (spotted journal s) ≡ true → 3 ≤ s.end - start
   unfolding sets
@@ -105,7 +105,7 @@ module _ (journal : List ℕ) (s : Spot) (stands : StandsIn journal s) where
       record {
         units_size = refl;
         places_size = refl;
-        held = λ rows r h k. rw (sym (if_false (sets (spotted journal s)) rows (placed (spotted journal s) rows) rows f refl)) h;
+        held = λ rows r h k. rw (sym (when_false (sets (spotted journal s)) rows (placed (spotted journal s) rows) rows f refl)) h;
         many = λ rows r h k. absurd (omega arith);
       }
 
@@ -115,17 +115,17 @@ module _ (journal : List ℕ) (s : Spot) (stands : StandsIn journal s) where
       record {
         units_size = n.units_size;
         places_size = n.places_size;
-        held = λ rows r h k. rw (sym (if_true (sets (spotted journal s)) (placed (spotted journal s) rows) (placed (spotted journal s) rows) rows t refl)) (n.held rows (spotted journal s) r h u refl k);
-        many = λ rows r h k. rw (sym (if_true (sets (spotted journal s)) (placed (spotted journal s) rows) (placed (spotted journal s) rows) rows t refl)) (n.many rows (spotted journal s) r h u k);
+        held = λ rows r h k. rw (sym (when_true (sets (spotted journal s)) (placed (spotted journal s) rows) (placed (spotted journal s) rows) rows t refl)) (n.held rows (spotted journal s) r h u refl k);
+        many = λ rows r h k. rw (sym (when_true (sets (spotted journal s)) (placed (spotted journal s) rows) (placed (spotted journal s) rows) rows t refl)) (n.many rows (spotted journal s) r h u k);
       }
 
   -- what holds of rows holds with it
   rows_rise : (rows : List Ordered) → Rises unit_of rows → Rises unit_of (rows_with journal s rows)
-  rows_rise rows r = if_elim (Rises unit_of) (sets (spotted journal s)) (λ t. placed_rises (spotted journal s) rows r) (λ t. r)
+  rows_rise rows r = when_elim (Rises unit_of) (sets (spotted journal s)) (λ t. placed_rises (spotted journal s) rows r) (λ t. r)
 
   rows_stood : (rows : List Ordered) → ((y : Ordered) → y among rows → Stood journal y) → (y : Ordered) → y among rows_with journal s rows → Stood journal y
   rows_stood rows all =
-      if_elim (λ (l : List Ordered). (y : Ordered) → y among l → Stood journal y) (sets (spotted journal s))
+      when_elim (λ (l : List Ordered). (y : Ordered) → y among l → Stood journal y) (sets (spotted journal s))
       (λ t y i. go t y (placed_from (spotted journal s) rows y i)) (λ t. all)
     where
       go : sets (spotted journal s) ≡ true → (y : Ordered) → (y ≡ spotted journal s) ⊎ (y among rows) → Stood journal y
@@ -144,7 +144,7 @@ latest_length : (rows ms : List Ordered) → length rows ≤ length (latest_from
 unfolding latest_from
 latest_length rows [] = omega arith
 latest_length rows (m ∷ ms) =
-    if_elim (λ (l : List Ordered). length rows ≤ length (latest_from l ms)) (sets m)
+    when_elim (λ (l : List Ordered). length rows ≤ length (latest_from l ms)) (sets m)
     (λ t. let a = placed_length m rows in let b = latest_length (placed m rows) ms in omega arith)
     (λ t. latest_length rows ms)
 
@@ -262,4 +262,4 @@ pub cursor_within : (journal : List ℕ) (blocks : ℕ) (cursor : Cursor) → cu
     → cursor.base + cursor.blocks * block_size ≤ length journal
 unfolding cursor_of entered_in
 cursor_within journal blocks cursor e h =
-    rw e (if_elim (λ (c : Cursor). c.base + c.blocks * block_size ≤ length journal) (blocks =? 0) (λ t. omega arith) (λ t. omega arith))
+    rw e (when_elim (λ (c : Cursor). c.base + c.blocks * block_size ≤ length journal) (blocks =? 0) (λ t. omega arith) (λ t. omega arith))

@@ -6,7 +6,7 @@ use mathlib.Core.List.{List, [], ◌∷◌, ◌++◌, append-nil}
 use Prim.Native.Nat.{ℕ}
 use borrow.Author.Tests.{eq-eqb, ne_eqb}
 use Rattle.group.specs.Choice.{◌=?◌}
-use Rattle.group.proofs.Choice.{if_true, if_false, both_hold, first_fails, then_fails}
+use Rattle.group.proofs.Choice.{when_true, when_false, both_hold, first_fails, then_fails}
 use Rattle.group.proofs.Lists.{eq_or}
 use Rattle.message.specs.Order.{Ordered}
 use Rattle.plan.specs.Units.{sets, unit_of, placed, latest_from}
@@ -18,37 +18,37 @@ module _ (m : Ordered) (rest : List Ordered) where
   -- a message is placed if it sets a unit
   pub latest_set : (rows : List Ordered) → sets m ≡ true → latest_from rows (m ∷ rest) ≡ latest_from (placed m rows) rest
   unfolding latest_from
-  latest_set rows h = ap (λ (l : List Ordered). latest_from l rest) (sym (if_true (sets m) _ (placed m rows) rows h refl))
+  latest_set rows h = ap (λ (l : List Ordered). latest_from l rest) (sym (when_true (sets m) _ (placed m rows) rows h refl))
 
   pub latest_not : (rows : List Ordered) → sets m ≡ false → latest_from rows (m ∷ rest) ≡ latest_from rows rest
   unfolding latest_from
-  latest_not rows h = ap (λ (l : List Ordered). latest_from l rest) (sym (if_false (sets m) _ (placed m rows) rows h refl))
+  latest_not rows h = ap (λ (l : List Ordered). latest_from l rest) (sym (when_false (sets m) _ (placed m rows) rows h refl))
 
   -- whether it sets unit u
   pub in_first : (u : ℕ) → sets m ≡ true → unit_of m ≡ u → not_in u (m ∷ rest) ≡ false
   unfolding not_in
-  in_first u h e = sym (if_true _ _ false (not_in u rest) (both_hold (sets m) (unit_of m =? u) h (eq-eqb _ _ e)) refl)
+  in_first u h e = sym (when_true _ _ false (not_in u rest) (both_hold (sets m) (unit_of m =? u) h (eq-eqb _ _ e)) refl)
 
   pub in_other : (u : ℕ) → unit_of m ≢ u → not_in u (m ∷ rest) ≡ not_in u rest
   unfolding not_in
-  in_other u d = sym (if_false _ _ false (not_in u rest) (then_fails (sets m) (unit_of m =? u) (ne_eqb _ _ d)) refl)
+  in_other u d = sym (when_false _ _ false (not_in u rest) (then_fails (sets m) (unit_of m =? u) (ne_eqb _ _ d)) refl)
 
   pub in_not : (u : ℕ) → sets m ≡ false → not_in u (m ∷ rest) ≡ not_in u rest
   unfolding not_in
-  in_not u h = sym (if_false _ _ false (not_in u rest) (first_fails (sets m) (unit_of m =? u) h) refl)
+  in_not u h = sym (when_false _ _ false (not_in u rest) (first_fails (sets m) (unit_of m =? u) h) refl)
 
   -- whether it is kept
   pub keep_last : sets m ≡ true → not_in (unit_of m) rest ≡ true → last_ones (m ∷ rest) ≡ m ∷ last_ones rest
   unfolding last_ones
-  keep_last h k = sym (if_true _ _ (m ∷ last_ones rest) (last_ones rest) (both_hold (sets m) (not_in (unit_of m) rest) h k) refl)
+  keep_last h k = sym (when_true _ _ (m ∷ last_ones rest) (last_ones rest) (both_hold (sets m) (not_in (unit_of m) rest) h k) refl)
 
   pub drop_set : not_in (unit_of m) rest ≡ false → last_ones (m ∷ rest) ≡ last_ones rest
   unfolding last_ones
-  drop_set k = sym (if_false _ _ (m ∷ last_ones rest) (last_ones rest) (then_fails (sets m) (not_in (unit_of m) rest) k) refl)
+  drop_set k = sym (when_false _ _ (m ∷ last_ones rest) (last_ones rest) (then_fails (sets m) (not_in (unit_of m) rest) k) refl)
 
   pub drop_not : sets m ≡ false → last_ones (m ∷ rest) ≡ last_ones rest
   unfolding last_ones
-  drop_not h = sym (if_false _ _ (m ∷ last_ones rest) (last_ones rest) (first_fails (sets m) (not_in (unit_of m) rest) h) refl)
+  drop_not h = sym (when_false _ _ (m ∷ last_ones rest) (last_ones rest) (first_fails (sets m) (not_in (unit_of m) rest) h) refl)
 
   -- a claim of what is kept
   pub kept_elim : (P : List Ordered → Type 0) → (sets m ≡ true → not_in (unit_of m) rest ≡ true → P (m ∷ last_ones rest))

@@ -8,9 +8,9 @@ use Prim.Native.Nat.{ℕ, zero, suc, ◌+◌, ◌-◌, ◌≤◌, ◌<◌}
 use native.Mathlib.Omega.{arith}
 use borrow.Author.Tests.{eq-eqb, ne_eqb, eqb-true}
 use lib.ListN.{take}
-use Rattle.group.specs.Choice.{if◌then◌else◌, ◌and◌, ◌=?◌}
-use Rattle.group.proofs.Choice.{if_true, if_false}
-use Rattle.group.proofs.Lists.{eq_or, if_elim}
+use Rattle.group.specs.Choice.{when◌then◌else◌, ◌and◌, ◌=?◌}
+use Rattle.group.proofs.Choice.{when_true, when_false}
+use Rattle.group.proofs.Lists.{eq_or, when_elim}
 use Rattle.message.specs.Order.{Ordered}
 use Rattle.journal.specs.Limits.{records_end, record_head}
 use Rattle.journal.specs.Laws.{StandsIn}
@@ -203,29 +203,29 @@ module _ (journal : List ℕ) where
   unfoldable last_spots : List Spot → List Spot
   last_spots [] = []
   last_spots (s ∷ rest) =
-      if sets (message_on journal s) and not_in (unit_of (message_on journal s)) (map (message_on journal) rest) then s ∷ last_spots rest else last_spots rest
+      when sets (message_on journal s) and not_in (unit_of (message_on journal s)) (map (message_on journal) rest) then s ∷ last_spots rest else last_spots rest
 
   last_spotted : (spots : List Spot) → map (spotted journal) (last_spots spots) ≡ last_ones (map (spotted journal) spots)
   unfolding last_spots last_ones
   last_spotted [] = refl
   last_spotted (s ∷ spots) =
       rw (same_sets s, same_unit s, same_not_in (unit_of (message_on journal s)) spots, ← last_spotted spots)
-      (if_elim (λ (l : List Spot). map (spotted journal) l ≡ if sets (message_on journal s) and not_in (unit_of (message_on journal s)) (map (message_on journal) spots) then spotted journal s ∷ map (spotted journal) (last_spots spots) else map (spotted journal) (last_spots spots))
-      (sets (message_on journal s) and not_in (unit_of (message_on journal s)) (map (message_on journal) spots)) (λ t. if_true _ _ _ _ t refl) (λ t. if_false _ _ _ _ t refl))
+      (when_elim (λ (l : List Spot). map (spotted journal) l ≡ when sets (message_on journal s) and not_in (unit_of (message_on journal s)) (map (message_on journal) spots) then spotted journal s ∷ map (spotted journal) (last_spots spots) else map (spotted journal) (last_spots spots))
+      (sets (message_on journal s) and not_in (unit_of (message_on journal s)) (map (message_on journal) spots)) (λ t. when_true _ _ _ _ t refl) (λ t. when_false _ _ _ _ t refl))
 
   last_messages : (spots : List Spot) → map (message_on journal) (last_spots spots) ≡ last_ones (map (message_on journal) spots)
   unfolding last_spots last_ones
   last_messages [] = refl
   last_messages (s ∷ spots) =
       rw (← last_messages spots)
-      (if_elim (λ (l : List Spot). map (message_on journal) l ≡ if sets (message_on journal s) and not_in (unit_of (message_on journal s)) (map (message_on journal) spots) then message_on journal s ∷ map (message_on journal) (last_spots spots) else map (message_on journal) (last_spots spots))
-      (sets (message_on journal s) and not_in (unit_of (message_on journal s)) (map (message_on journal) spots)) (λ t. if_true _ _ _ _ t refl) (λ t. if_false _ _ _ _ t refl))
+      (when_elim (λ (l : List Spot). map (message_on journal) l ≡ when sets (message_on journal s) and not_in (unit_of (message_on journal s)) (map (message_on journal) spots) then message_on journal s ∷ map (message_on journal) (last_spots spots) else map (message_on journal) (last_spots spots))
+      (sets (message_on journal s) and not_in (unit_of (message_on journal s)) (map (message_on journal) spots)) (λ t. when_true _ _ _ _ t refl) (λ t. when_false _ _ _ _ t refl))
 
   last_from_lem : (spots : List Spot) (s : Spot) → s among last_spots spots → s among spots
   unfolding last_spots
   last_from_lem [] s i = i
   last_from_lem (x ∷ spots) s i =
-      (if_elim (λ (l : List Spot). s among l → s among (x ∷ spots)) (sets (message_on journal x) and not_in (unit_of (message_on journal x)) (map (message_on journal) spots))
+      (when_elim (λ (l : List Spot). s among l → s among (x ∷ spots)) (sets (message_on journal x) and not_in (unit_of (message_on journal x)) (map (message_on journal) spots))
       (λ t. here (last_from_lem spots s)) (λ t i. Memᴰ.tail (last_from_lem spots s i))) i
     where
       here : (s among last_spots spots → s among spots) → s among (x ∷ last_spots spots) → s among (x ∷ spots)
@@ -274,7 +274,7 @@ given_rises journal (suc left) c low = go (given_rises journal left) (walk_of c 
 
 cursor_low : (journal : List ℕ) (blocks : ℕ) → (cursor_of journal blocks).at ≤ records_end
 unfolding cursor_of entered_in
-cursor_low journal blocks = if_elim (λ (c : Cursor). c.at ≤ records_end) (blocks =? 0) (λ t. omega arith) (λ t. omega arith)
+cursor_low journal blocks = when_elim (λ (c : Cursor). c.at ≤ records_end) (blocks =? 0) (λ t. omega arith) (λ t. omega arith)
 
 -- the whole journal
 module _ (journal : List ℕ) (blocks messages : ℕ) (f : FoundIn journal blocks messages) (units places : List ℕ) (count : ℕ)

@@ -10,7 +10,7 @@ use lib.ListN.{length, get_or, set, take, drop, length-map, length-set}
 use borrow.Author.Tests.{lt-ltb, eq-eqb, ltb-true, eqb-true}
 use lib.Seq.{length-take-le, take-set-lt, set-get_or, get_or-take}
 use Rattle.group.specs.Choice.{◌and◌, ◌<?◌, ◌=?◌}
-use Rattle.group.proofs.Choice.{if_lt, if_nlt, both_hold, both_first, both_then}
+use Rattle.group.proofs.Choice.{when_lt, when_nlt, both_hold, both_first, both_then}
 use Rattle.message.specs.Order.{Ordered}
 use Rattle.plan.specs.Units.{unit_of, placed}
 use Rattle.plan.specs.Laws.{◌among◌, Rises}
@@ -49,11 +49,11 @@ index_of m rows = place_of (unit_of m) (map unit_of rows)
 module _ (m row : Ordered) (rest : List Ordered) where
   pub index_below : unit_of row < unit_of m → index_of m (row ∷ rest) ≡ suc (index_of m rest)
   unfolding place_of
-  index_below h = sym (if_lt (unit_of row) (unit_of m) _ _ _ h (sym (add-one _)))
+  index_below h = sym (when_lt (unit_of row) (unit_of m) _ _ _ h (sym (add-one _)))
 
   pub index_here : unit_of m ≤ unit_of row → index_of m (row ∷ rest) ≡ 0
   unfolding place_of
-  index_here h = sym (if_nlt (unit_of row) (unit_of m) _ _ _ (omega arith) refl)
+  index_here h = sym (when_nlt (unit_of row) (unit_of m) _ _ _ (omega arith) refl)
 
 pub placed_over : (m : Ordered) (rows : List Ordered) → index_of m rows < length rows → get_or (map unit_of rows) (index_of m rows) 0 ≡ unit_of m
     → placed m rows ≡ set rows (index_of m rows) m

@@ -7,7 +7,7 @@ use native.Mathlib.Omega.{arith}
 use borrow.Author.Tests.{leb-true, leb-false}
 use lib.ListN.{length}
 use Rattle.group.specs.Choice.{◌≤?◌}
-use Rattle.group.proofs.Lists.{if_elim}
+use Rattle.group.proofs.Lists.{when_elim}
 use Rattle.message.specs.Order.{Ordered}
 use Rattle.plan.specs.Kept.{total, packed}
 use Rattle.plan.specs.Laws.{◌among◌, Filled, Tight, PackedWhole, PackedFits, PackedTight}
@@ -19,7 +19,7 @@ module _ (size : Ordered → ℕ) (room : ℕ) where
       → (room < total size held + size m → P (held ∷ packed size room (m ∷ []) rest)) → P (packed size room held (m ∷ rest))
   unfolding packed
   packed_elim P held m rest f g =
-      if_elim P (total size held + size m ≤? room) (λ t. f (leb-true _ _ t)) (λ t. g (leb-false _ _ t))
+      when_elim P (total size held + size m ≤? room) (λ t. f (leb-true _ _ t)) (λ t. g (leb-false _ _ t))
 
   whole_from : (held ms : List Ordered) → flatten (packed size room held ms) ≡ held ++ ms
   unfolding packed flatten

@@ -7,7 +7,7 @@ use mathlib.Core.List.{List, [], ◌∷◌}
 use Prim.Native.Nat.{ℕ, suc, ◌<◌}
 use native.Mathlib.Omega.{arith}
 use lib.ListN.{length}
-use Rattle.group.proofs.Choice.{if_lt, if_nlt, if_eq, if_ne}
+use Rattle.group.proofs.Choice.{when_lt, when_nlt, when_eq, when_ne}
 use Rattle.group.proofs.Lists.{eq_or, le_or}
 use Rattle.message.specs.Order.{Ordered}
 use Rattle.plan.specs.Units.{unit_of, placed}
@@ -25,15 +25,15 @@ order_or m n f g h = eq_or m n g (λ q. le_or m n (λ l. f (omega arith)) h)
 module _ (m row : Ordered) (rest : List Ordered) where
   pub placed_below : unit_of row < unit_of m → placed m (row ∷ rest) ≡ row ∷ placed m rest
   unfolding placed
-  placed_below h = sym (if_lt (unit_of row) (unit_of m) _ _ _ h refl)
+  placed_below h = sym (when_lt (unit_of row) (unit_of m) _ _ _ h refl)
 
   pub placed_same : unit_of row ≡ unit_of m → placed m (row ∷ rest) ≡ m ∷ rest
   unfolding placed
-  placed_same h = sym (if_nlt (unit_of row) (unit_of m) _ _ _ (omega arith) (if_eq (unit_of row) (unit_of m) _ _ _ h refl))
+  placed_same h = sym (when_nlt (unit_of row) (unit_of m) _ _ _ (omega arith) (when_eq (unit_of row) (unit_of m) _ _ _ h refl))
 
   pub placed_above : unit_of m < unit_of row → placed m (row ∷ rest) ≡ m ∷ row ∷ rest
   unfolding placed
-  placed_above h = sym (if_nlt (unit_of row) (unit_of m) _ _ _ (omega arith) (if_ne (unit_of row) (unit_of m) _ _ _ (λ q. omega arith) refl))
+  placed_above h = sym (when_nlt (unit_of row) (unit_of m) _ _ _ (omega arith) (when_ne (unit_of row) (unit_of m) _ _ _ (λ q. omega arith) refl))
 
   -- a claim of rows among which a message is placed
   pub placed_elim : (P : List Ordered → Type 0) → (unit_of row < unit_of m → P (row ∷ placed m rest)) → (unit_of row ≡ unit_of m → P (m ∷ rest))

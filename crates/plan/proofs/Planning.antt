@@ -8,12 +8,12 @@ use native.Mathlib.Omega.{arith}
 use borrow.Author.Tests.{le-leb, lt-leb, eq-eqb, eqb-true}
 use lib.ListN.{length, get_or, take, drop, length-map, length-drop}
 use lib.Seq.{length-take-le, get_or-take, get_or-drop, drop-drop}
-use Rattle.group.specs.Choice.{if◌then◌else◌, ◌≤?◌, ◌=?◌}
+use Rattle.group.specs.Choice.{when◌then◌else◌, ◌≤?◌, ◌=?◌}
 use Rattle.group.specs.Lent.{front}
 use Rattle.group.specs.declared.Refusal.{Refusal}
 use Rattle.group.specs.declared.Refusal.TheVariants.{WrongJournal, ManyUnits, NoRoom}
-use Rattle.group.proofs.Choice.{if_true, if_false, if_was}
-use Rattle.group.proofs.Lists.{if_elim}
+use Rattle.group.proofs.Choice.{when_true, when_false, when_was}
+use Rattle.group.proofs.Lists.{when_elim}
 use Rattle.message.specs.Order.{Ordered}
 use Rattle.big_endian.specs.Number.{number_at, bytes_of}
 use Rattle.journal.specs.Limits.{block_size, record_head}
@@ -135,7 +135,7 @@ found_most : (t : Tail) (journal : List ℕ) (k : ℕ) → (found_from t journal
 unfolding found_from
 found_most t journal zero = omega arith
 found_most t journal (suc k) =
-    if_elim (λ (r : Reads). r.blocks ≤ suc k) (block_right t (take block_size journal))
+    when_elim (λ (r : Reads). r.blocks ≤ suc k) (block_right t (take block_size journal))
     (λ e. let h = found_most (tail_of (take block_size journal)) (drop block_size journal) k in omega arith) (λ e. omega arith)
 
 pub found_within : (journal : List ℕ) (blocks messages : ℕ) → FoundIn journal blocks messages → blocks * block_size ≤ length journal
@@ -155,13 +155,13 @@ module _ (bytes : List ℕ) (room : ℕ) where
   pub lays_short : (lent : List ℕ) → room < length bytes → Lays (laid_in bytes room) (Answer.Refused NoRoom) lent lent
   unfolding laid_in
   lays_short lent h =
-      let e : refused NoRoom ≡ laid_in bytes room = if_false (length bytes ≤? room) _ _ _ (lt-leb (length bytes) room h) refl in
+      let e : refused NoRoom ≡ laid_in bytes room = when_false (length bytes ≤? room) _ _ _ (lt-leb (length bytes) room h) refl in
       rw (← e) (record { answers = refl; lent = refl })
 
   pub lays_all : (lent after : List ℕ) (size : ℕ) → length bytes ≤ room → size ≡ length bytes → after ≡ front bytes lent → Lays (laid_in bytes room) (Answer.Bytes size) lent after
   unfolding laid_in
   lays_all lent after size h n l =
-      let e : written bytes ≡ laid_in bytes room = if_true (length bytes ≤? room) _ _ _ (le-leb (length bytes) room h) refl in
+      let e : written bytes ≡ laid_in bytes room = when_true (length bytes ≤? room) _ _ _ (le-leb (length bytes) room h) refl in
       rw (← e) (record { answers = ap Answer.Bytes n; lent = l })
 
 -- the questions before it
@@ -173,8 +173,8 @@ module _ (journal : List ℕ) (blocks messages : ℕ) (f : FoundIn journal block
       let (_, n) = rows_plan journal blocks messages f in
       let m = g.many h in
       let e : refused ManyUnits ≡ asked_of journal bytes room =
-      if_true (length journal % block_size =? 0) _ _ _ (eq-eqb _ _ f.sized)
-      (if_false (length (latest (recorded_in journal)) ≤? units_most) _ _ _ (lt-leb (length (latest (recorded_in journal))) units_most (omega arith)) refl) in
+      when_true (length journal % block_size =? 0) _ _ _ (eq-eqb _ _ f.sized)
+      (when_false (length (latest (recorded_in journal)) ≤? units_most) _ _ _ (lt-leb (length (latest (recorded_in journal))) units_most (omega arith)) refl) in
       rw (← e) (record { answers = refl; lent = refl })
 
   pub asked_laid : (bytes : List ℕ) (room : ℕ) (r : Answer) (lent after : List ℕ) → count ≤ units_most → Lays (laid_in bytes room) r lent after → Lays (asked_of journal bytes room) r lent after
@@ -183,8 +183,8 @@ module _ (journal : List ℕ) (blocks messages : ℕ) (f : FoundIn journal block
       let (_, n) = rows_plan journal blocks messages f in
       let m = (g.held h).many in
       let e : laid_in bytes room ≡ asked_of journal bytes room =
-      if_true (length journal % block_size =? 0) _ _ _ (eq-eqb _ _ f.sized)
-      (if_true (length (latest (recorded_in journal)) ≤? units_most) _ _ _ (le-leb (length (latest (recorded_in journal))) units_most (omega arith)) refl) in
+      when_true (length journal % block_size =? 0) _ _ _ (eq-eqb _ _ f.sized)
+      (when_true (length (latest (recorded_in journal)) ≤? units_most) _ _ _ (le-leb (length (latest (recorded_in journal))) units_most (omega arith)) refl) in
       rw (← e) l
 
   pub plan_many : (room : ℕ) (lent : List ℕ) → units_most < count → Lays (plan_of journal room) (Answer.Refused ManyUnits) lent lent
@@ -206,7 +206,7 @@ module _ (journal : List ℕ) (blocks messages : ℕ) (f : FoundIn journal block
 pub read_found : (journal : List ℕ) (found : Found) → read_of journal ≡ Reading.Read found → FoundIn journal found.blocks found.messages
 unfolding read_of
 read_found journal found e =
-    let (t, same) = if_was (length journal % block_size =? 0) (Reading.Read (counted (found_in journal))) (Reading.Refused WrongJournal) (Reading.Read found) e
+    let (t, same) = when_was (length journal % block_size =? 0) (Reading.Read (counted (found_in journal))) (Reading.Refused WrongJournal) (Reading.Read found) e
     (λ z. let y : ◌≡◌ {A = ℕ} 0 1 = cc in omega arith) in
     let f : counted (found_in journal) ≡ found = cc in
     record {
@@ -218,7 +218,7 @@ read_found journal found e =
 read_wrong : (journal : List ℕ) (r : Refusal) → read_of journal ≡ Reading.Refused r → ((length journal % block_size =? 0) ≡ false) × (r ≡ WrongJournal)
 unfolding read_of
 read_wrong journal r e =
-    (if_elim (λ (x : Reading). x ≡ Reading.Refused r → ((length journal % block_size =? 0) ≡ false) × (r ≡ WrongJournal)) (length journal % block_size =? 0)
+    (when_elim (λ (x : Reading). x ≡ Reading.Refused r → ((length journal % block_size =? 0) ≡ false) × (r ≡ WrongJournal)) (length journal % block_size =? 0)
     (λ t e. absurd (let y : ◌≡◌ {A = ℕ} 0 1 = cc in omega arith)) (λ t e. (t, (cc)))) e
 
 pub asked_refused : (journal bytes : List ℕ) (r : Refusal) (room : ℕ) (lent : List ℕ) → read_of journal ≡ Reading.Refused r
@@ -226,5 +226,5 @@ pub asked_refused : (journal bytes : List ℕ) (r : Refusal) (room : ℕ) (lent 
 unfolding asked_of
 asked_refused journal bytes r room lent e =
     let (t, same) = read_wrong journal r e in
-    let f : refused r ≡ asked_of journal bytes room = if_false (length journal % block_size =? 0) _ _ _ t (ap refused same) in
+    let f : refused r ≡ asked_of journal bytes room = when_false (length journal % block_size =? 0) _ _ _ t (ap refused same) in
     rw (← f) (record { answers = refl; lent = refl })

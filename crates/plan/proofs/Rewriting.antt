@@ -7,12 +7,12 @@ use Prim.Native.Nat.{ℕ, zero, suc, ◌+◌, ◌-◌, ◌*◌, ◌/◌, ◌%◌
 use native.Mathlib.Omega.{arith}
 use borrow.Author.Tests.{eq-eqb}
 use lib.ListN.{length, length-append}
-use Rattle.group.specs.Choice.{if◌then◌else◌, ask◌or◌then◌, ◌≤?◌, ◌=?◌}
+use Rattle.group.specs.Choice.{when◌then◌else◌, ask◌or◌then◌, ◌≤?◌, ◌=?◌}
 use Rattle.group.specs.Limits.{payload_most}
 use Rattle.group.specs.Question.{Question, first_no, judged}
 use Rattle.group.specs.declared.Refusal.{Refusal}
 use Rattle.group.specs.declared.Refusal.TheVariants.{WrongJournal, ManyUnits, NoRoom}
-use Rattle.group.proofs.Lists.{if_elim}
+use Rattle.group.proofs.Lists.{when_elim}
 use Rattle.message.specs.Order.{Ordered}
 use Rattle.big_endian.specs.Laws.{Bytes}
 use Rattle.big_endian.specs.Number.{bytes_of}
@@ -121,9 +121,9 @@ asked_was : (journal bytes : List ℕ) (room size : ℕ) → (asked_of journal b
     → ((length journal % block_size =? 0) ≡ true) × ((asked_of journal bytes room).bytes ≡ bytes)
 unfolding asked_of laid_in
 asked_was journal bytes room size e =
-    (if_elim (λ (o : Outcome). o.answer ≡ Answer.Bytes size → ((length journal % block_size =? 0) ≡ true) × (o.bytes ≡ bytes)) (length journal % block_size =? 0)
-    (λ t. if_elim (λ (o : Outcome). o.answer ≡ Answer.Bytes size → ((length journal % block_size =? 0) ≡ true) × (o.bytes ≡ bytes)) (length (latest (recorded_in journal)) ≤? units_most)
-    (λ u. if_elim (λ (o : Outcome). o.answer ≡ Answer.Bytes size → ((length journal % block_size =? 0) ≡ true) × (o.bytes ≡ bytes)) (length bytes ≤? room)
+    (when_elim (λ (o : Outcome). o.answer ≡ Answer.Bytes size → ((length journal % block_size =? 0) ≡ true) × (o.bytes ≡ bytes)) (length journal % block_size =? 0)
+    (λ t. when_elim (λ (o : Outcome). o.answer ≡ Answer.Bytes size → ((length journal % block_size =? 0) ≡ true) × (o.bytes ≡ bytes)) (length (latest (recorded_in journal)) ≤? units_most)
+    (λ u. when_elim (λ (o : Outcome). o.answer ≡ Answer.Bytes size → ((length journal % block_size =? 0) ≡ true) × (o.bytes ≡ bytes)) (length bytes ≤? room)
     (λ v e. (t, refl)) (λ v e. absurd (let z : ◌≡◌ {A = ℕ} 0 1 = cc in omega arith)))
     (λ u e. absurd (let z : ◌≡◌ {A = ℕ} 0 1 = cc in omega arith)))
     (λ t e. absurd (let z : ◌≡◌ {A = ℕ} 0 1 = cc in omega arith))) e
@@ -162,7 +162,7 @@ rewrite_twice_bytes journal bytes =
 judged_three : {A : Type 0} (a b c : Bool) (f : Refusal → A) (x : A) (p q r : Refusal)
     → (ask a or f p then (ask b or f q then (ask c or f r then x)))
     ≡ judged (first_no (record { yes = a; refusal = p } ∷ record { yes = b; refusal = q } ∷ record { yes = c; refusal = r } ∷ [])) f x
-unfolding first_no judged if◌then◌else◌
+unfolding first_no judged when◌then◌else◌
 judged_three false b c f x p q r = refl
 judged_three true false c f x p q r = refl
 judged_three true true false f x p q r = refl

@@ -8,7 +8,7 @@ use native.Mathlib.Omega.{arith}
 use native.Mathlib.Numerals.{add-one}
 use lib.ListN.{length, get_or, take}
 use lib.Seq.{take-suc}
-use Rattle.group.proofs.Choice.{if_lt, if_nlt}
+use Rattle.group.proofs.Choice.{when_lt, when_nlt}
 use Rattle.group.proofs.Lists.{le_or}
 use Rattle.plan.specs.Laws.{◌among◌, Rises}
 use Rattle.plan.specs.Table.{place_of, Rising, Place, inserted}
@@ -25,11 +25,11 @@ among_with x l = inserted (place_of x l) x l
 module _ (x y : ℕ) (l : List ℕ) where
   with_below : y < x → among_with x (y ∷ l) ≡ y ∷ among_with x l
   unfolding place_of
-  with_below h = let e : place_of x (y ∷ l) ≡ suc (place_of x l) = sym (if_lt y x _ _ _ h (sym (add-one _))) in ap (λ (i : ℕ). inserted i x (y ∷ l)) e
+  with_below h = let e : place_of x (y ∷ l) ≡ suc (place_of x l) = sym (when_lt y x _ _ _ h (sym (add-one _))) in ap (λ (i : ℕ). inserted i x (y ∷ l)) e
 
   with_above : x ≤ y → among_with x (y ∷ l) ≡ x ∷ y ∷ l
   unfolding place_of
-  with_above h = let e : place_of x (y ∷ l) ≡ 0 = sym (if_nlt y x _ _ _ h refl) in ap (λ (i : ℕ). inserted i x (y ∷ l)) e
+  with_above h = let e : place_of x (y ∷ l) ≡ 0 = sym (when_nlt y x _ _ _ h refl) in ap (λ (i : ℕ). inserted i x (y ∷ l)) e
 
   with_elim : (P : List ℕ → Type 0) → (y < x → P (y ∷ among_with x l)) → (x ≤ y → P (x ∷ y ∷ l)) → P (among_with x (y ∷ l))
   with_elim P f g = le_or x y (λ h. subst P (sym (with_above h)) (g h)) (λ h. subst P (sym (with_below h)) (f h))

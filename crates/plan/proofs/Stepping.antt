@@ -7,7 +7,7 @@ use native.Mathlib.Omega.{arith}
 use native.Mathlib.Numerals.{add-one}
 use lib.ListN.{length, get_or, take, drop, drop_of_length-le}
 use lib.Seq.{length-take-le, drop-cons, get_or-take}
-use Rattle.group.proofs.Choice.{if_le, if_nle, if_eq, if_ne}
+use Rattle.group.proofs.Choice.{when_le, when_nle, when_eq, when_ne}
 use Rattle.group.proofs.Lists.{le_or}
 use Rattle.message.specs.Order.{Ordered}
 use Rattle.big_endian.specs.Number.{number_at, bytes_of}
@@ -57,14 +57,14 @@ module _ (journal : List ℕ) (start : ℕ) (cursor : Cursor) (left : ℕ) (p : 
   pub seeking_found : (s : Spot) (next : Cursor) → 0 < left → walk_of cursor journal ≡ Walk.Next s next → s.start + record_head ≡ start → s ≡ spot_at journal start
   unfolding spot_with
   seeking_found s next h e q =
-      if_eq (s.start + record_head) start s s _ q refl ∙ sym (ap (spot_with start) (given_next journal cursor next s left h e)) ∙ p.rest
+      when_eq (s.start + record_head) start s s _ q refl ∙ sym (ap (spot_with start) (given_next journal cursor next s left h e)) ∙ p.rest
 
   pub seeking_on : (s : Spot) (next : Cursor) → 0 < left → walk_of cursor journal ≡ Walk.Next s next → (s.start + record_head ≡ start → ⊥) → Seeking journal start next (left - 1)
   unfolding spot_with
   seeking_on s next h e q =
       record {
         within = (gives_standing journal cursor next s p.within e).1;
-        rest = if_ne (s.start + record_head) start _ s _ q refl ∙ sym (ap (spot_with start) (given_next journal cursor next s left h e)) ∙ p.rest;
+        rest = when_ne (s.start + record_head) start _ s _ q refl ∙ sym (ap (spot_with start) (given_next journal cursor next s left h e)) ∙ p.rest;
       }
 
   abbrev none : Spot
@@ -111,7 +111,7 @@ module _ (most room left : ℕ) (x : Packs) (f : Fit most room left x) where
       let met = f.sound.met in
       le_or (x.packer.used + record_size m) records_room
       (λ q.
-      subst (Fit most room (left - 1)) (if_le (x.packer.used + record_size m) records_room _ _ _ q refl)
+      subst (Fit most room (left - 1)) (when_le (x.packer.used + record_size m) records_room _ _ _ q refl)
       (record {
         sound = record { room = q; few = omega arith; some = λ k. omega arith; met = omega arith; held = λ k. omega arith };
         hand_size = written_length x.packer.used (numbered m) x.hand (omega arith) ∙ z;
@@ -120,7 +120,7 @@ module _ (most room left : ℕ) (x : Packs) (f : Fit most room left x) where
       (λ q.
       let some = f.sound.some (omega arith) in
       let held = f.sound.held some in
-      subst (Fit most room (left - 1)) (if_nle (x.packer.used + record_size m) records_room _ _ _ q refl)
+      subst (Fit most room (left - 1)) (when_nle (x.packer.used + record_size m) records_room _ _ _ q refl)
       (record {
         sound = record { room = small; few = omega arith; some = λ k. omega arith; met = omega arith; held = λ k. omega arith };
         hand_size = written_length 0 (numbered m) x.hand (omega arith) ∙ z;

@@ -6,7 +6,7 @@ use native.Mathlib.Omega.{arith}
 use native.Mathlib.Numerals.{add-one}
 use lib.ListN.{length, get_or, set, take, drop, length-append, length-drop, length-set, take-append-drop, get_or-append}
 use lib.Seq.{length-take-le, take_at, take-take, take_all, take-append-le, get_or_at, get_or-append-add, get_or-drop, get_or-take}
-use Rattle.group.proofs.Choice.{if_lt, if_nlt}
+use Rattle.group.proofs.Choice.{when_lt, when_nlt}
 use Rattle.group.proofs.Lists.{eq_or}
 use Rattle.message.proofs.Laying.{over, over_next}
 use Rattle.plan.specs.Table.{place_of, Rising, inserted}
@@ -39,9 +39,9 @@ pub place_is : (number : ℕ) (l : List ℕ) (k : ℕ) → k ≤ length l → Bo
 unfolding place_of
 place_is number [] k h b = omega arith
 place_is number (x ∷ l) zero h b =
-    if_nlt x number _ _ _ (let z = b.above 0 (omega arith) (omega arith) in omega arith) refl
+    when_nlt x number _ _ _ (let z = b.above 0 (omega arith) (omega arith) in omega arith) refl
 place_is number (x ∷ l) (suc k) h b =
-    if_lt x number _ _ _ (b.below 0 (omega arith))
+    when_lt x number _ _ _ (b.below 0 (omega arith))
     (let e = place_is number l k (omega arith) (record { below = λ i g. b.below (suc i) (omega arith); above = λ i g n. b.above (suc i) (omega arith) (omega arith) }) in omega arith)
 
 -- room for a number at an index: from there on each entry takes the one before it

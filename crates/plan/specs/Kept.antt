@@ -1,6 +1,6 @@
 -- Rewriting: the messages that stay, and how they are laid into blocks.
 use Rattle.std.specs.Prelude.{Bool, true, false, List, [], ◌∷◌, ◌++◌, ℕ, ◌+◌, ◌-◌, length}
-use Rattle.group.specs.Choice.{if◌then◌else◌, ◌and◌, ◌≤?◌, ◌=?◌}
+use Rattle.group.specs.Choice.{when◌then◌else◌, ◌and◌, ◌≤?◌, ◌=?◌}
 use Rattle.message.specs.Order.{Ordered}
 use Rattle.journal.specs.Limits.{records_at, records_end, number_size}
 use Rattle.journal.specs.Block.{record_of, compact_records, compact_of}
@@ -9,12 +9,12 @@ use Rattle.plan.specs.Units.{sets, unit_of}
 -- whether no message sets unit u
 unfoldable pub not_in : ℕ → List Ordered → Bool
 not_in u [] = true
-not_in u (m ∷ rest) = if sets m and unit_of m =? u then false else not_in u rest
+not_in u (m ∷ rest) = when sets m and unit_of m =? u then false else not_in u rest
 
 -- the messages that set a unit which no later one sets, in their order
 unfoldable pub last_ones : List Ordered → List Ordered
 last_ones [] = []
-last_ones (m ∷ rest) = if sets m and not_in (unit_of m) rest then m ∷ last_ones rest else last_ones rest
+last_ones (m ∷ rest) = when sets m and not_in (unit_of m) rest then m ∷ last_ones rest else last_ones rest
 
 -- the bytes of records, where `size` says those of one
 unfoldable pub total : (Ordered → ℕ) → List Ordered → ℕ
@@ -26,7 +26,7 @@ unfoldable pub packed : (Ordered → ℕ) → ℕ → List Ordered → List Orde
 packed size room [] [] = []
 packed size room (h ∷ held) [] = (h ∷ held) ∷ []
 packed size room held (m ∷ rest) =
-    if total size held + size m ≤? room
+    when total size held + size m ≤? room
     then packed size room (held ++ (m ∷ [])) rest
     else held ∷ packed size room (m ∷ []) rest
 

@@ -1,7 +1,7 @@
 -- How the latest records are put in order and packed into compacted blocks: they gather in the block in hand, which is laid at its
 -- place in the output when the next does not fit, and at the end.
 use Rattle.std.specs.Prelude.{◌≡◌, ◌≢◌, List, [], ◌∷◌, ◌++◌, map, ℕ, ◌+◌, ◌*◌, ◌/◌, ◌≤◌, ◌<◌, length, get_or, take}
-use Rattle.group.specs.Choice.{if◌then◌else◌, ◌<?◌, ◌≤?◌, ◌=?◌}
+use Rattle.group.specs.Choice.{when◌then◌else◌, ◌<?◌, ◌≤?◌, ◌=?◌}
 use Rattle.group.specs.Lent.{front}
 use Rattle.message.specs.Order.{Ordered}
 use Rattle.text.specs.LaidAt.{written_at}
@@ -58,7 +58,7 @@ numbered m = bytes_of number_size m.number ++ record_of m
 unfoldable pub grown_to : Packer → ℕ → ℕ → Packer
 grown_to p number used =
     record {
-      first = if p.records =? 0 then number else p.first;
+      first = when p.records =? 0 then number else p.first;
       records = p.records + 1;
       used = used;
       blocks = p.blocks;
@@ -71,14 +71,14 @@ begun_with p number used = record { first = number; records = 1; used = used; bl
 -- the output with the block in hand behind those before it, if there is room
 unfoldable pub closed_in : Packer → List ℕ → List ℕ → List ℕ
 closed_in p hand out =
-    if p.blocks <? length out / block_size
+    when p.blocks <? length out / block_size
     then written_at (p.blocks * block_size) (compact_of p.first p.records (take p.used hand)) out
     else out
 
 -- a record is kept: it goes behind the others, or begins the next block
 unfoldable pub kept_by : Packs → Ordered → Packs
 kept_by s m =
-    if s.packer.used + record_size m ≤? records_room
+    when s.packer.used + record_size m ≤? records_room
     then packs (grown_to s.packer m.number (s.packer.used + record_size m)) (written_at s.packer.used (numbered m) s.hand) s.out
     else packs (begun_with s.packer m.number (record_size m)) (written_at 0 (numbered m) s.hand) (closed_in s.packer s.hand s.out)
 

@@ -1,7 +1,7 @@
 -- How rows are kept while a journal is read: two tables beside each other, of unit numbers, rising, and of the indices in the
 -- journal at which the payloads stand.
 use Rattle.std.specs.Prelude.{◌≡◌, List, [], ◌∷◌, ◌++◌, map, ℕ, ◌+◌, ◌-◌, ◌≤◌, ◌<◌, length, get_or, take, drop}
-use Rattle.group.specs.Choice.{if◌then◌else◌, ◌<?◌}
+use Rattle.group.specs.Choice.{when◌then◌else◌, ◌<?◌}
 use Rattle.message.specs.Order.{Ordered}
 use Rattle.journal.specs.Limits.{record_head}
 use Rattle.journal.specs.Walk.{cursor_of, given_by, message_on}
@@ -17,7 +17,7 @@ units_most = 512
 -- how many of a list stand before the first that is not below a number
 unfoldable pub place_of : ℕ → List ℕ → ℕ
 place_of number [] = 0
-place_of number (x ∷ rest) = if x <? number then place_of number rest + 1 else 0
+place_of number (x ∷ rest) = when x <? number then place_of number rest + 1 else 0
 
 -- the numbers of a list rise
 abbrev pub Rising : List ℕ → Type 0
@@ -83,7 +83,7 @@ spotted journal s =
 
 -- the rows with a record noted
 abbrev pub rows_with : List ℕ → Spot → List Ordered → List Ordered
-rows_with journal s rows = if sets (spotted journal s) then placed (spotted journal s) rows else rows
+rows_with journal s rows = when sets (spotted journal s) then placed (spotted journal s) rows else rows
 
 -- what noting a record leaves
 pub record NotedSpot (journal : List ℕ) (s : Spot) (units places : List ℕ) (count : ℕ) (units' places' : List ℕ) (count' : ℕ) : Type 0 where

@@ -1,6 +1,6 @@
 -- The plan: of each unit that some message sets, its number and its latest description.
 use Rattle.std.specs.Prelude.{Bool, List, [], ◌∷◌, ◌++◌, ℕ, length, get_or, drop}
-use Rattle.group.specs.Choice.{if◌then◌else◌, ◌and◌, ◌<?◌, ◌≤?◌, ◌=?◌}
+use Rattle.group.specs.Choice.{when◌then◌else◌, ◌and◌, ◌<?◌, ◌≤?◌, ◌=?◌}
 use Rattle.message.specs.Order.{Ordered}
 use Rattle.big_endian.specs.Number.{number_at, bytes_of}
 
@@ -19,14 +19,14 @@ description_of m = drop 3 m.payload
 unfoldable pub placed : Ordered → List Ordered → List Ordered
 placed m [] = m ∷ []
 placed m (row ∷ rest) =
-    if unit_of row <? unit_of m then row ∷ placed m rest else
-    if unit_of row =? unit_of m then m ∷ rest else
+    when unit_of row <? unit_of m then row ∷ placed m rest else
+    when unit_of row =? unit_of m then m ∷ rest else
     m ∷ row ∷ rest
 
 -- the latest message of each unit, where `rows` are those so far
 unfoldable pub latest_from : List Ordered → List Ordered → List Ordered
 latest_from rows [] = rows
-latest_from rows (m ∷ rest) = latest_from (if sets m then placed m rows else rows) rest
+latest_from rows (m ∷ rest) = latest_from (when sets m then placed m rows else rows) rest
 
 abbrev pub latest : List Ordered → List Ordered
 latest ms = latest_from [] ms

@@ -2,7 +2,7 @@
 #![tactic(auto)]
 
 ghost use Rattle.std.specs.Prelude.{◌≡◌, [], ◌+◌, ◌*◌, ◌-◌, ◌/◌, ◌%◌, ◌≤◌, ◌<◌, length, get_or, take};
-ghost use Rattle.group.specs.Choice.{if◌then◌else◌, ◌and◌, ◌<?◌, ◌=?◌};
+ghost use Rattle.group.specs.Choice.{when◌then◌else◌, ◌and◌, ◌<?◌, ◌=?◌};
 ghost use Rattle.group.specs.Lent.{front};
 ghost use Rattle.text.specs.LaidAt.{LaidAt};
 ghost use Rattle.journal.specs.Limits.{block_size, number_size};

@@ -6,8 +6,8 @@ use native.Mathlib.Omega.{arith}
 use borrow.Author.Tests.{ltb-true, ltb-false}
 use lib.ListN.{length, take, drop, length-append, length-drop}
 use lib.Seq.{length-take-le, take_all, take-nil, take-take, take-append-le, take-append-add}
-use Rattle.group.proofs.Lists.{if_elim, le_or}
-use Rattle.group.specs.Choice.{if◌then◌else◌, ◌<?◌}
+use Rattle.group.proofs.Lists.{when_elim, le_or}
+use Rattle.group.specs.Choice.{when◌then◌else◌, ◌<?◌}
 use Rattle.group.specs.Lent.{front}
 use Rattle.packet.proofs.Parts.{behind}
 use Rattle.player.proofs.Keeping.{smaller_fits}
@@ -27,10 +27,10 @@ shown_more printed text room =
     take-append-le room printed text (omega arith) ∙ sym (append-nil (take room printed))
     ∙ ap (λ (k : ℕ). take room printed ++ take k text) (sym z))
 
-cut : (text : List ℕ) (size room : ℕ) → size ≤ length text → take (if size <? room then size else room) text ≡ take room (take size text)
+cut : (text : List ℕ) (size room : ℕ) → size ≤ length text → take (when size <? room then size else room) text ≡ take room (take size text)
 cut text size room h =
     let n = length-take-le size text h in
-    if_elim (λ (x : ℕ). take x text ≡ take room (take size text)) (size <? room)
+    when_elim (λ (x : ℕ). take x text ≡ take room (take size text)) (size <? room)
     (λ t. let z = ltb-true size room t in sym (take_all room (take size text) (omega arith)))
     (λ t. let z = ltb-false size room t in sym (take-take room size text z))
 
@@ -46,7 +46,7 @@ shows_length printed lent now at s =
     (n, omega arith)
 
 pub put_shows : (printed lent now text part : List ℕ) (size at n : ℕ) → Shows printed lent now at → size ≤ length text
-    → n ≡ (if size <? (length now - at) then size else (length now - at)) → part ≡ front (take n text) (take (length now - at) (drop at now))
+    → n ≡ (when size <? (length now - at) then size else (length now - at)) → part ≡ front (take n text) (take (length now - at) (drop at now))
     → Shows (printed ++ take size text) lent (take at now ++ (part ++ drop (length now - at) (drop at now))) (at + n)
 put_shows printed lent now text part size at n s b e p =
     let p₀ = shown_of printed (length lent) in

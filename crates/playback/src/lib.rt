@@ -2,7 +2,7 @@
 #![tactic(auto)]
 
 ghost use Rattle.std.specs.Prelude.{◌≡◌, ◌++◌, ◌≤◌, length, take};
-ghost use Rattle.group.specs.Choice.{if◌then◌else◌, ◌<?◌};
+ghost use Rattle.group.specs.Choice.{when◌then◌else◌, ◌<?◌};
 ghost use Rattle.group.specs.Lent.{front};
 ghost use Rattle.player.specs.Feed.{end_of};
 ghost use Rattle.player.specs.Play.{last_of, play_of};
@@ -16,7 +16,7 @@ use player::{LINE, OUTPUT, Player};
 use simulator::{NUMBERS, PACKETS};
 
 fn smaller(a: usize, b: usize) -> usize
-    ensures { result ≡ (if a <? b then a else b) }
+    ensures { result ≡ (when a <? b then a else b) }
 {
     if a < b { a } else { b }
 }

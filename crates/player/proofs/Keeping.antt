@@ -6,26 +6,26 @@ use native.Mathlib.Omega.{arith}
 use borrow.Author.Tests.{ltb-true, ltb-false}
 use lib.ListN.{length, take}
 use lib.Seq.{length-take-le, take_at, take_all, take-append-le, take-append-add}
-use Rattle.group.proofs.Lists.{if_elim, le_or}
-use Rattle.group.specs.Choice.{if◌then◌else◌, ◌<?◌}
+use Rattle.group.proofs.Lists.{when_elim, le_or}
+use Rattle.group.specs.Choice.{when◌then◌else◌, ◌<?◌}
 use Rattle.player.specs.Feed.{kept_most, kept_of}
 
 -- the smaller of two numbers is at most each
-pub smaller_fits : (a b r : ℕ) → r ≡ (if a <? b then a else b) → (r ≤ a) × (r ≤ b)
+pub smaller_fits : (a b r : ℕ) → r ≡ (when a <? b then a else b) → (r ≤ a) × (r ≤ b)
 smaller_fits a b r e =
-    let h : ((if a <? b then a else b) ≤ a) × ((if a <? b then a else b) ≤ b) =
-    if_elim (λ (x : ℕ). (x ≤ a) × (x ≤ b)) (a <? b) (λ t. let z = ltb-true a b t in (omega arith, omega arith)) (λ t. let z = ltb-false a b t in (omega arith, omega arith)) in
+    let h : ((when a <? b then a else b) ≤ a) × ((when a <? b then a else b) ≤ b) =
+    when_elim (λ (x : ℕ). (x ≤ a) × (x ≤ b)) (a <? b) (λ t. let z = ltb-true a b t in (omega arith, omega arith)) (λ t. let z = ltb-false a b t in (omega arith, omega arith)) in
     (rw e h.0, rw e h.1)
 
 -- as much of a part as is kept
-part_kept : (part : List ℕ) (room : ℕ) → take (if length part <? room then length part else room) part ≡ take room part
+part_kept : (part : List ℕ) (room : ℕ) → take (when length part <? room then length part else room) part ≡ take room part
 part_kept part room =
-    if_elim (λ (x : ℕ). take x part ≡ take room part) (length part <? room)
+    when_elim (λ (x : ℕ). take x part ≡ take room part) (length part <? room)
     (λ t. let z = ltb-true (length part) room t in take_all (length part) part (omega arith) ∙ sym (take_all room part (omega arith)))
     (λ t. refl)
 
 -- what has room is kept
-pub kept_with : (bytes part behind : List ℕ) (from size : ℕ) → from ≤ length bytes → from ≤ kept_most → size ≡ (if length part <? kept_most - from then length part else kept_most - from)
+pub kept_with : (bytes part behind : List ℕ) (from size : ℕ) → from ≤ length bytes → from ≤ kept_most → size ≡ (when length part <? kept_most - from then length part else kept_most - from)
     → take (from + size) (take from bytes ++ (take size part ++ behind)) ≡ kept_of (take from bytes ++ part)
 kept_with bytes part behind from size h k e =
     let n = length-take-le from bytes h in
@@ -52,13 +52,13 @@ kept_kept line part =
     ∙ sym (take-append-le kept_most line part (omega arith)))
 
 -- a size past the end of a text takes it whole
-pub whole_text : (text : List ℕ) (size most : ℕ) → length text ≡ most → take (if size <? most then size else most) text ≡ take size text
+pub whole_text : (text : List ℕ) (size most : ℕ) → length text ≡ most → take (when size <? most then size else most) text ≡ take size text
 whole_text text size most n =
-    if_elim (λ (x : ℕ). take x text ≡ take size text) (size <? most) (λ t. refl)
+    when_elim (λ (x : ℕ). take x text ≡ take size text) (size <? most) (λ t. refl)
     (λ t. let z = ltb-false size most t in take_all most text (omega arith) ∙ sym (take_all size text (omega arith)))
 
 -- the smaller of two numbers is 0, and the second is not
-pub smaller_zero : (a b r : ℕ) → 0 < b → r ≡ (if a <? b then a else b) → r ≡ 0 → a ≡ 0
+pub smaller_zero : (a b r : ℕ) → 0 < b → r ≡ (when a <? b then a else b) → r ≡ 0 → a ≡ 0
 smaller_zero a b r h e z =
-    let f : (if a <? b then a else b) ≡ 0 → a ≡ 0 = if_elim (λ (x : ℕ). x ≡ 0 → a ≡ 0) (a <? b) (λ _ k. k) (λ _ k. absurd (omega arith)) in
+    let f : (when a <? b then a else b) ≡ 0 → a ≡ 0 = when_elim (λ (x : ℕ). x ≡ 0 → a ≡ 0) (a <? b) (λ _ k. k) (λ _ k. absurd (omega arith)) in
     f (sym e ∙ z)

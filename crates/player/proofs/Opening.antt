@@ -6,9 +6,9 @@ use Prim.Native.Nat.{ℕ, ◌+◌, ◌≤◌, ◌<◌}
 use native.Mathlib.Omega.{arith}
 use borrow.Author.Tests.{lt-leb}
 use lib.ListN.{length, take}
-use Rattle.group.proofs.Choice.{if_lt, if_nlt, if_false, then_fails}
+use Rattle.group.proofs.Choice.{when_lt, when_nlt, when_false, then_fails}
 use Rattle.group.proofs.Lists.{le_or}
-use Rattle.group.specs.Choice.{if◌then◌else◌, ◌and◌, ◌≤?◌}
+use Rattle.group.specs.Choice.{when◌then◌else◌, ◌and◌, ◌≤?◌}
 use Rattle.group.specs.Limits.{members_most}
 use Rattle.group.specs.Opening.{open_of}
 use Rattle.group.specs.Question.{judged}
@@ -39,7 +39,7 @@ pub many_refused : (n number resilience : ℕ) → members_most < n → (fresh_o
 unfolding fresh_of open_of opened_of
 many_refused n number resilience h =
     let e : group.Opened.Refused Refusal.Opening ≡ open_of n number resilience =
-    if_false (1 ≤? n and n ≤? members_most) _ _ _ (then_fails (1 ≤? n) (n ≤? members_most) (lt-leb n members_most h)) refl in
+    when_false (1 ≤? n and n ≤? members_most) _ _ _ (then_fails (1 ≤? n) (n ≤? members_most) (lt-leb n members_most h)) refl in
     ap (λ (o : group.Opened). (opened_of o).verdict) (sym e)
 
 module _ (n number resilience : ℕ) where
@@ -73,16 +73,16 @@ module _ (n number resilience : ℕ) where
 -- a resilience degree from n on is refused, unless n is
 module _ (n number : ℕ) where
   abbrev pub first : Refusal
-  first = if 1 ≤? n and n ≤? members_most then Refusal.Resilience else Refusal.Opening
+  first = when 1 ≤? n and n ≤? members_most then Refusal.Resilience else Refusal.Opening
 
   pub degree_refused : (resilience : ℕ) → n ≤ resilience → (fresh_of n number resilience).verdict ≡ Verdict.Refused first
-  unfolding fresh_of open_of opened_of if◌then◌else◌
+  unfolding fresh_of open_of opened_of when◌then◌else◌
   degree_refused resilience h =
-      ap (λ (o : group.Opened). (opened_of (if 1 ≤? n and n ≤? members_most then o else group.Opened.Refused Refusal.Opening)).verdict)
-      (sym (if_nlt resilience n (group.Opened.Refused Refusal.Resilience) _ _ h refl))
+      ap (λ (o : group.Opened). (opened_of (when 1 ≤? n and n ≤? members_most then o else group.Opened.Refused Refusal.Opening)).verdict)
+      (sym (when_nlt resilience n (group.Opened.Refused Refusal.Resilience) _ _ h refl))
       ∙ each (1 ≤? n and n ≤? members_most)
     where
-      each : (t : Bool) → (opened_of (if t then group.Opened.Refused Refusal.Resilience else group.Opened.Refused Refusal.Opening)).verdict ≡ Verdict.Refused (if t then Refusal.Resilience else Refusal.Opening)
+      each : (t : Bool) → (opened_of (when t then group.Opened.Refused Refusal.Resilience else group.Opened.Refused Refusal.Opening)).verdict ≡ Verdict.Refused (when t then Refusal.Resilience else Refusal.Opening)
       each true = refl
       each false = refl
 
@@ -91,9 +91,9 @@ module _ (n number : ℕ) where
   unfolding degree_of
   told_degree resilience d h is =
       le_or members_most resilience
-      (λ k. let e : d ≡ members_most = is ∙ sym (if_nlt resilience members_most members_most resilience members_most k refl) in
+      (λ k. let e : d ≡ members_most = is ∙ sym (when_nlt resilience members_most members_most resilience members_most k refl) in
       rw e (sym (told_refused n number members_most first (degree_refused members_most h)) ∙ told_refused n number resilience first (degree_refused resilience (omega arith))))
-      (λ k. ap (λ (r : ℕ). open_told (Opening.Group n number r)) (is ∙ sym (if_lt resilience members_most resilience resilience members_most k refl)))
+      (λ k. ap (λ (r : ℕ). open_told (Opening.Group n number r)) (is ∙ sym (when_lt resilience members_most resilience resilience members_most k refl)))
 
 -- the end of the input, and a part of it
 module _ (s : State) (r : Fed) (w : Whole) (bytes lent after : List ℕ) where

@@ -9,8 +9,8 @@ use native.Mathlib.Nat.{zero-add, le_refl}
 use native.Mathlib.Numerals.{add-one}
 use lib.ListN.{length, take, drop, length-drop}
 use lib.Seq.{length-take-le, take_at, take_all, drop-length, drop-drop}
-use Rattle.group.proofs.Choice.{if_eq, if_ne}
-use Rattle.group.specs.Choice.{if◌then◌else◌, ◌=?◌}
+use Rattle.group.proofs.Choice.{when_eq, when_ne}
+use Rattle.group.specs.Choice.{when◌then◌else◌, ◌=?◌}
 use Rattle.group.specs.Lent.{front}
 use borrow.Author.Tests.{eqb-true, eqb-false}
 use Rattle.text.proofs.Split.{found_from}
@@ -36,15 +36,15 @@ open_append (c ∷ a) b p q = (p.0, open_append a b p.1 q)
 -- a line that ends
 line_ends : (line rest : List ℕ) → Open line → lines_of (line ++ (line_feed ∷ rest)) ≡ line ∷ lines_of rest
 unfolding lines_of Open before
-line_ends [] rest p = sym (if_eq line_feed line_feed _ _ _ refl refl)
+line_ends [] rest p = sym (when_eq line_feed line_feed _ _ _ refl refl)
 line_ends (c ∷ line) rest p =
-    sym (if_ne c line_feed _ _ _ p.0 refl) ∙ ap (before c) (line_ends line rest p.1)
+    sym (when_ne c line_feed _ _ _ p.0 refl) ∙ ap (before c) (line_ends line rest p.1)
 
 -- a line that has not ended is one at the end of the input, unless it is empty
 line_last : (c : ℕ) (line : List ℕ) → Open (c ∷ line) → lines_of (c ∷ line) ≡ (c ∷ line) ∷ []
 unfolding lines_of Open before
-line_last c [] p = sym (if_ne c line_feed _ _ _ p.0 refl)
-line_last c (d ∷ line) p = sym (if_ne c line_feed _ _ _ p.0 refl) ∙ ap (before c) (line_last d line p.1)
+line_last c [] p = sym (when_ne c line_feed _ _ _ p.0 refl)
+line_last c (d ∷ line) p = sym (when_ne c line_feed _ _ _ p.0 refl) ∙ ap (before c) (line_last d line p.1)
 
 nothing≢ : {e : ℕ} → Nothing ≡ At e → ⊥
 nothing≢ h = let z : ◌≡◌ {A = ℕ} 0 1 = cc in omega arith
@@ -57,11 +57,11 @@ record Ends (part : List ℕ) (i e : ℕ) : Type 0 where
   split : part ≡ take size part ++ (line_feed ∷ drop (suc size) part)
 
 found_at : (part : List ℕ) (i e : ℕ) → first_from line_feed i part ≡ At e → Ends part i e
-unfolding first_from Open if◌then◌else◌
+unfolding first_from Open when◌then◌else◌
 found_at [] i e h = absurd (nothing≢ h)
 found_at (c ∷ part) i e h = go (c =? line_feed) refl (found_at part (i + 1) e) h
   where
-    go : (t : Bool) → (c =? line_feed) ≡ t → (first_from line_feed (i + 1) part ≡ At e → Ends part (i + 1) e) → if t then At i else first_from line_feed (i + 1) part ≡ At e
+    go : (t : Bool) → (c =? line_feed) ≡ t → (first_from line_feed (i + 1) part ≡ At e → Ends part (i + 1) e) → when t then At i else first_from line_feed (i + 1) part ≡ At e
         → Ends (c ∷ part) i e
     go true t further h =
         let z : i ≡ e = cc in
@@ -78,11 +78,11 @@ found_at (c ∷ part) i e h = go (c =? line_feed) refl (found_at part (i + 1) e)
         }
 
 found_none : (part : List ℕ) (i : ℕ) → first_from line_feed i part ≡ Nothing → Open part
-unfolding first_from Open if◌then◌else◌
+unfolding first_from Open when◌then◌else◌
 found_none [] i h = tt
 found_none (c ∷ part) i h = go (c =? line_feed) refl (found_none part (i + 1)) h
   where
-    go : (t : Bool) → (c =? line_feed) ≡ t → (first_from line_feed (i + 1) part ≡ Nothing → Open part) → if t then At i else first_from line_feed (i + 1) part ≡ Nothing
+    go : (t : Bool) → (c =? line_feed) ≡ t → (first_from line_feed (i + 1) part ≡ Nothing → Open part) → when t then At i else first_from line_feed (i + 1) part ≡ Nothing
         → Open (c ∷ part)
     go true t further h = absurd (nothing≢ (sym h))
     go false t further h = (eqb-false c line_feed t, further h)
@@ -110,12 +110,12 @@ module _ {Stage : Type 0} (line_told : Stage → List ℕ → Told Stage) (told_
         → said_of program (end_of line_told s) ++ program.last (end_of line_told s).state.stage ≡ lines_told line_told program s.stage (lines_of (line ++ []))
     unfolding end_of lines_told lines_of
     at_end s [] k o =
-        ap (λ (f : Fed Stage). on f.state.stage f.text (program.last f.state.stage)) (sym (if_eq (length s.line) 0 _ _ _ (ap length k) refl))
+        ap (λ (f : Fed Stage). on f.state.stage f.text (program.last f.state.stage)) (sym (when_eq (length s.line) 0 _ _ _ (ap length k) refl))
         ∙ silent s.stage (program.last s.stage)
     at_end s (c ∷ line) k o =
         let n : length s.line ≡ suc (length (take line_most line)) = ap length k in
         let told : line_told s.stage s.line ≡ line_told s.stage (c ∷ line) = ap (line_told s.stage) k ∙ told_kept s.stage (c ∷ line) in
-        ap (λ (f : Fed Stage). on f.state.stage f.text (program.last f.state.stage)) (sym (if_ne (length s.line) 0 _ _ _ (λ z. omega arith) refl))
+        ap (λ (f : Fed Stage). on f.state.stage f.text (program.last f.state.stage)) (sym (when_ne (length s.line) 0 _ _ _ (λ z. omega arith) refl))
         ∙ ap (λ (t : Told Stage). on t.stage t.text (program.last t.stage)) told
         ∙ ap (lines_told line_told program s.stage) (sym (ap lines_of (append-nil (c ∷ line)) ∙ line_last c line o))
 
@@ -189,11 +189,11 @@ module _ {Stage : Type 0} (line_told : Stage → List ℕ → Told Stage) where
   module _ (Says : Fed Stage → Type 0) (s : State Stage) where
     pub ends_none : length s.line ≡ 0 → Says (record { text = []; state = s; used = 0 }) → Says (end_of line_told s)
     unfolding end_of
-    ends_none z d = subst Says (if_eq (length s.line) 0 _ _ _ z refl) d
+    ends_none z d = subst Says (when_eq (length s.line) 0 _ _ _ z refl) d
 
     pub ends_told : (length s.line ≡ 0 → ⊥) → Says (told_as (line_told s.stage s.line) 0) → Says (end_of line_told s)
     unfolding end_of
-    ends_told z d = subst Says (if_ne (length s.line) 0 _ _ _ z refl) d
+    ends_told z d = subst Says (when_ne (length s.line) 0 _ _ _ z refl) d
 
     pub feeds_line : (part line : List ℕ) (e : ℕ) → line_end part ≡ At e → line ≡ kept_of (s.line ++ take e part) → Says (told_as (line_told s.stage line) (e + 1)) → Says (fed_of line_told s part)
     unfolding fed_up_to

@@ -12,9 +12,9 @@ use types.Run.{OneOf}
 use native.Mathlib.Numerals.{add-one}
 use lib.ListN.{length, take, set, length-append, length-drop}
 use lib.Seq.{take-suc-set}
-use Rattle.group.proofs.Choice.{if_true, if_le, if_lt, if_nlt, if_was, both_hold, both_first, both_then}
-use Rattle.group.proofs.Lists.{if_elim}
-use Rattle.group.specs.Choice.{if◌then◌else◌, ◌and◌, ◌<?◌, ◌≤?◌}
+use Rattle.group.proofs.Choice.{when_true, when_le, when_lt, when_nlt, when_was, both_hold, both_first, both_then}
+use Rattle.group.proofs.Lists.{when_elim}
+use Rattle.group.specs.Choice.{when◌then◌else◌, ◌and◌, ◌<?◌, ◌≤?◌}
 use Rattle.group.specs.Lent.{front, Laid}
 use Rattle.group.specs.Limits.{members_most, longest_packet}
 use Rattle.group.specs.declared.Group as group
@@ -49,18 +49,18 @@ module _ (n count : ℕ) where
   test = n ≤? members_most and count ≤? packets_most
 
   pub within_is : (phase : Phase) → n ≤ members_most → count ≤ packets_most → phase_with n count phase ≡ phase
-  within_is phase h k = sym (if_true test phase phase Closed (both_hold (n ≤? members_most) (count ≤? packets_most) (le-leb n members_most h) (le-leb count packets_most k)) refl)
+  within_is phase h k = sym (when_true test phase phase Closed (both_hold (n ≤? members_most) (count ≤? packets_most) (le-leb n members_most h) (le-leb count packets_most k)) refl)
 
   pub within_was : (phase p : Phase) → phase_with n count phase ≡ p → (Closed ≡ p → ⊥) → (n ≤ members_most) × (count ≤ packets_most) × (phase ≡ p)
   within_was phase p e shut =
-      let z = if_was test phase Closed p e shut in (
+      let z = when_was test phase Closed p e shut in (
         leb-true n members_most (both_first (n ≤? members_most) (count ≤? packets_most) z.0),
         leb-true count packets_most (both_then (n ≤? members_most) (count ≤? packets_most) z.0),
         z.1,
       )
 
   pub within_closed : phase_with n count Closed ≡ Closed
-  within_closed = if_elim (λ (p : Phase). p ≡ Closed) test (λ _. refl) (λ _. refl)
+  within_closed = when_elim (λ (p : Phase). p ≡ Closed) test (λ _. refl) (λ _. refl)
 
 module _ (head : Head) where
   pub phase_is : (phase : Phase) → Fits head → phase_of head phase ≡ phase
@@ -86,7 +86,7 @@ ended≢ e = let z : ◌≡◌ {A = ℕ} 0 1 = cc in omega arith
 -- an output with the room asked has the line
 pub fits_in : (asked room : ℕ) (bytes : List ℕ) → asked ≤ room → fitting asked room bytes ≡ bytes
 unfolding fitting
-fits_in asked room bytes h = sym (if_le asked room bytes bytes [] h refl)
+fits_in asked room bytes h = sym (when_le asked room bytes bytes [] h refl)
 
 module _ (text lent after : List ℕ) (r : Told) (w : Whole) (asked : ℕ) (fit : asked ≤ length lent)
     (written : r.written ≡ length (fitting asked (length lent) text)) (output : after ≡ front (fitting asked (length lent) text) lent) where
@@ -193,7 +193,7 @@ module _ (w : Whole) (number : ℕ) (event : Option Event) where
       go : (event : Option Event) → (command_of event ≡ Command.Other → ⊥) → packets_most ≤ length g.packets
           → record { text = no_space number; stage = ended g } ≡ event_told g number event
       go none o h = absurd (o refl)
-      go (some e) o h = if_nlt (length g.packets) packets_most _ _ _ h refl
+      go (some e) o h = when_nlt (length g.packets) packets_most _ _ _ h refl
 
   pub told_event : (command_of event ≡ Command.Other → ⊥) → (head : Head) → Fits head → head.count ≡ length g.packets → head.count < packets_most → (h : Happening) (w' : Whole) (before bytes : List ℕ)
       → Performed event head w h w' before bytes → (r : Told) (lent after : List ℕ) → Happens h bytes number head.count r lent after → Tells (event_told g number event) r w' lent after
@@ -220,7 +220,7 @@ module _ (w : Whole) (number : ℕ) (event : Option Event) where
             output = t.output ∙ ap (λ (bytes : List ℕ). front bytes lent) line;
           } in
           let is : record { text = line_of number (happen g e).answer (length g.packets); stage = running (happen g e).group (next_number number) } ≡ event_told g number (some e) =
-          if_lt (length g.packets) packets_most _ _ _ (omega arith) refl in
+          when_lt (length g.packets) packets_most _ _ _ (omega arith) refl in
           subst (λ (x : play.Told). Tells x r w' lent after) is told
 
 -- a tag from 1 on is not 0

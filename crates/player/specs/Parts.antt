@@ -2,7 +2,7 @@
 -- What is printed part by part is what the whole input prints, if a line that is cut tells what the whole line tells. `proofs/Parts.antt` has
 -- the proofs.
 use Rattle.std.specs.Prelude.{◌≡◌, List, [], ◌++◌, ℕ, ◌+◌, ◌≤◌, length, take, drop}
-use Rattle.group.specs.Choice.{if◌then◌else◌, ◌=?◌}
+use Rattle.group.specs.Choice.{when◌then◌else◌, ◌=?◌}
 use Rattle.text.specs.Field.{line_end}
 use Rattle.schedule.specs.Line.{line_most}
 use Rattle.text.specs.declared.Found.{Found}
@@ -56,7 +56,7 @@ module _ {Stage : Type 0} (line_told : Stage → List ℕ → Told Stage) where
   -- at the end of the input, what stands behind the last line feed is a line too, unless it is empty
   unfoldable pub end_of : State Stage → Fed Stage
   end_of s =
-      if length s.line =? 0
+      when length s.line =? 0
       then record { text = []; state = s; used = 0 }
       else told_as (line_told s.stage s.line) 0
 

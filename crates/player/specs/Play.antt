@@ -1,7 +1,7 @@
 -- What `play` prints: the first line opens a group, then one event a line.
 use Rattle.std.specs.Prelude.{List, [], map, ℕ, ◌+◌, length}
 use Rattle.std.proofs.Math.Option.{Option, none, some}
-use Rattle.group.specs.Choice.{if◌then◌else◌, ◌<?◌}
+use Rattle.group.specs.Choice.{when◌then◌else◌, ◌<?◌}
 use Rattle.group.specs.Question.{judged}
 use Rattle.group.specs.declared.Refusal.{Refusal}
 use Rattle.model.specs.World.{Event, Group, happen, fresh}
@@ -18,7 +18,7 @@ abbrev pub count_largest : ℕ
 count_largest = 18446744073709551615
 
 unfoldable pub next_number : ℕ → ℕ
-next_number number = if number <? count_largest then number + 1 else number
+next_number number = when number <? count_largest then number + 1 else number
 
 -- the first line is awaited; events are read, with the number of the next; a line ended the events; no group was opened
 pub data Stage : Type 0 where
@@ -46,7 +46,7 @@ open_told (Opening.Group n number resilience) =
 unfoldable pub event_told : Group → ℕ → Option Event → Told
 event_told g number none = record { text = bad_line number; stage = ended g }
 event_told g number (some event) =
-    if length g.packets <? packets_most
+    when length g.packets <? packets_most
     then record { text = line_of number (happen g event).answer (length g.packets); stage = running (happen g event).group (next_number number) }
     else record { text = no_space number; stage = ended g }
 

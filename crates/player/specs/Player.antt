@@ -1,6 +1,6 @@
 -- The player of the code as the state of the meaning: its numbers, the group that it runs, and the line's array.
 use Rattle.std.specs.Prelude.{◌≡◌, List, [], map, ℕ, ◌+◌, ◌*◌, length, take, get_or}
-use Rattle.group.specs.Choice.{if◌then◌else◌, ◌and◌, ◌<?◌, ◌≤?◌}
+use Rattle.group.specs.Choice.{when◌then◌else◌, ◌and◌, ◌<?◌, ◌≤?◌}
 use Rattle.group.specs.Lent.{front, Laid}
 use Rattle.group.specs.Limits.{members_most, longest_packet}
 use Rattle.model.specs.World.{Group}
@@ -28,7 +28,7 @@ stage_in Closed g number = play.closed
 
 -- the phase of a group with n members and that many packets: one that has not the room that it says is none
 abbrev pub phase_with : ℕ → ℕ → Phase → Phase
-phase_with n count phase = if n ≤? members_most and count ≤? packets_most then phase else Closed
+phase_with n count phase = when n ≤? members_most and count ≤? packets_most then phase else Closed
 
 unfoldable pub phase_of : Head → Phase → Phase
 phase_of head phase = phase_with head.sequencer.group.n head.count phase
@@ -41,7 +41,7 @@ state_of p w line = record { stage = stage_of p w; line = take p.length line }
 
 -- a resilience degree as a byte. No group has one of the most members or more: those become the most members
 unfoldable pub degree_of : ℕ → ℕ
-degree_of resilience = if resilience <? members_most then resilience else members_most
+degree_of resilience = when resilience <? members_most then resilience else members_most
 
 -- a player that does what the meaning says, with the lent output before and after
 pub record Does (told : feed.Fed) (r : Fed) (w : Whole) (line : List ℕ) (lent after : List ℕ) : Type 0 where

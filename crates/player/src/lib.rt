@@ -3,7 +3,7 @@
 #![tactic(auto)]
 
 ghost use Rattle.std.specs.Prelude.{Bool, true, false, ◌≡◌, ◌++◌, ◌≤◌, ◌<◌, length, take};
-ghost use Rattle.group.specs.Choice.{if◌then◌else◌, ◌<?◌};
+ghost use Rattle.group.specs.Choice.{when◌then◌else◌, ◌<?◌};
 ghost use Rattle.group.specs.Lent.{front};
 ghost use Rattle.group.specs.Limits.{members_most, longest_packet};
 ghost use Rattle.model.specs.World.{answer_of};
@@ -113,7 +113,7 @@ pub fn next_number(number: u64) -> u64
 
 // The smaller of two.
 pub fn smaller(a: usize, b: usize) -> usize
-    ensures { result ≡ (if a <? b then a else b) }
+    ensures { result ≡ (when a <? b then a else b) }
 {
     if a < b { a } else { b }
 }

@@ -7,11 +7,11 @@ use native.Mathlib.Omega.{arith}
 use borrow.Author.Tests.{lt-ltb, eqb-true}
 use lib.Count.{ones}
 use lib.ListN.{length}
-use Rattle.group.proofs.Choice.{says, if_was, both_first, if_true}
-use Rattle.group.proofs.Lists.{if_elim, judged_elim}
+use Rattle.group.proofs.Choice.{says, when_was, both_first, when_true}
+use Rattle.group.proofs.Lists.{when_elim, judged_elim}
 use Rattle.group.proofs.Members.{survivor_lt}
 use Rattle.group.proofs.Question.{accepted≢, judged_ask, judged_append, judged_same}
-use Rattle.group.specs.Choice.{if◌then◌else◌, ask◌or◌then◌, ◌and◌, ◌<?◌, ◌≤?◌, ◌=?◌}
+use Rattle.group.specs.Choice.{when◌then◌else◌, ask◌or◌then◌, ◌and◌, ◌<?◌, ◌≤?◌, ◌=?◌}
 use Rattle.group.specs.Limits.{payload_most, waiting_most, largest_number}
 use Rattle.group.specs.Members.{is_within, all_of}
 use Rattle.group.specs.Question.{Question, first_no, judged}
@@ -81,7 +81,7 @@ call_asked t room rest x step e =
 -- a terminal whose questions 1 and 2 were answered yes has a member whose are
 called : (t : Terminal) (room : ℕ) → call_verdict t room ≡ Verdict.Accepted → member_sound t ≡ true
 unfolding call_verdict
-called t room e = (if_was (member_sound t) _ _ Verdict.Accepted e (accepted≢ Refusal.UnsoundState)).0
+called t room e = (when_was (member_sound t) _ _ Verdict.Accepted e (accepted≢ Refusal.UnsoundState)).0
 
 pub member_sound_lem : (t : Terminal) → member_sound t ≡ true → memberCalls.sound_of t.member ≡ true
 unfolding member_sound
@@ -90,8 +90,8 @@ member_sound_lem t e = both_first (memberCalls.sound_of t.member) _ e
 pub member_called : (t : Terminal) (room : ℕ) → call_verdict t room ≡ Verdict.Accepted → member.call_verdict t.member room ≡ Verdict.Accepted
 unfolding call_verdict member.call_verdict
 member_called t room e =
-    let a = if_was (member_sound t) _ _ Verdict.Accepted e (accepted≢ Refusal.UnsoundState) in
-    sym (if_true (memberCalls.sound_of t.member) _ _ _ (member_sound_lem t a.0) refl) ∙ a.1
+    let a = when_was (member_sound t) _ _ Verdict.Accepted e (accepted≢ Refusal.UnsoundState) in
+    sym (when_true (memberCalls.sound_of t.member) _ _ _ (member_sound_lem t a.0) refl) ∙ a.1
 
 -- the member's questions behind questions 1 and 2
 carried_judged : (t : Terminal) (v : Verdict) (x : member.Outcome) → carried t t.kept (judged v (member.refused t.member) x) ≡ judged v (refused t) (carried t t.kept x)
@@ -114,7 +114,7 @@ submit_asked : (t : Terminal) (payload : List ℕ) (room : ℕ) → call_verdict
     ∷ record { yes = t.member.submitted <? largest_number; refusal = Refusal.NumbersUsedUp }
     ∷ []))
     (member.refused t.member)
-    (if t.member.waiting =? 0
+    (when t.member.waiting =? 0
     then record { member = member.with_waiting t.member payload; answer = Answer.Sent; bytes = member.request_packet (member.with_waiting t.member payload) }
     else member.answered (member.with_waiting t.member payload) (Answer.Queued (t.member.submitted + 1)))
 unfolding member.submit_of member.submit_verdict judged first_no
@@ -123,12 +123,12 @@ submit_asked t payload room e = rw (member_called t room e)
 submit_accepts : (t : Terminal) (payload : List ℕ)
     → Accepts
     (carried t t.kept
-    (if t.member.waiting =? 0
+    (when t.member.waiting =? 0
     then record { member = member.with_waiting t.member payload; answer = Answer.Sent; bytes = member.request_packet (member.with_waiting t.member payload) }
     else member.answered (member.with_waiting t.member payload) (Answer.Queued (t.member.submitted + 1))))
 unfolding member.answered is_refusal
 submit_accepts t payload =
-    if_elim (λ (x : member.Outcome). Accepts (carried t t.kept x)) (t.member.waiting =? 0) (λ _. record { no = refl }) (λ _. record { no = refl })
+    when_elim (λ (x : member.Outcome). Accepts (carried t t.kept x)) (t.member.waiting =? 0) (λ _. record { no = refl }) (λ _. record { no = refl })
 
 pub status_first_no : StatusFirstNo
 unfolding status_of member.status_of first_no judged is_refusal
@@ -156,7 +156,7 @@ submit_first_no t payload room =
     ∷ record { yes = m.submitted <? largest_number; refusal = Refusal.NumbersUsedUp }
     ∷ [] in
     let step : member.Outcome =
-    if m.waiting =? 0 then record { member = member.with_waiting m payload; answer = Answer.Sent; bytes = member.request_packet (member.with_waiting m payload) } else
+    when m.waiting =? 0 then record { member = member.with_waiting m payload; answer = Answer.Sent; bytes = member.request_packet (member.with_waiting m payload) } else
     member.answered (member.with_waiting m payload) (Answer.Queued (m.submitted + 1)) in
     asked t (submit_questions t payload room) _ (carried t t.kept step)
     (call_asked t room rest _ _ (λ e. ap (λ (x : member.Outcome). carried t t.kept x) (submit_asked t payload room e) ∙ carried_judged t (first_no rest) step))
@@ -166,31 +166,31 @@ pub take_first_no : TakeFirstNo
 unfolding take_of member.take_of member.took_of member.answered first_no judged is_refusal
 take_first_no t room =
     let next = t.member.taken.0 + 1 in
-    let kept : Kept = if member.is_ready t.member next then kept_took t.kept next (window.message_at t.member.held next) else t.kept in
-    let step : member.Outcome = if member.is_ready t.member next then member.took_of t.member (window.message_at t.member.held next) else member.answered t.member Answer.None in
+    let kept : Kept = when member.is_ready t.member next then kept_took t.kept next (window.message_at t.member.held next) else t.kept in
+    let step : member.Outcome = when member.is_ready t.member next then member.took_of t.member (window.message_at t.member.held next) else member.answered t.member Answer.None in
     asked t (call_questions t room) _ (carried t kept step)
     (call_asked t room [] _ _ (λ e. rw (member_called t room e)))
-    (if_elim (λ (o : member.Outcome). Accepts (carried t kept o)) (member.is_ready t.member next) (λ _. record { no = refl }) (λ _. record { no = refl }))
+    (when_elim (λ (o : member.Outcome). Accepts (carried t kept o)) (member.is_ready t.member next) (λ _. record { no = refl }) (λ _. record { no = refl }))
 
 -- what the member came to, and the floor that was read
 abbrev heard : Terminal → ℕ → member.Outcome → Outcome
 heard t floor o = carried t (kept_read t.kept o.answer floor) o
 
 heard_ask : (t : Terminal) (floor : ℕ) (b : Bool) (x : member.Outcome) (r : Refusal)
-    → heard t floor (if b then x else member.refused t.member r) ≡ (if b then heard t floor x else refused t r)
-unfolding if◌then◌else◌ kept_read is_refusal member.answered refused
+    → heard t floor (when b then x else member.refused t.member r) ≡ (when b then heard t floor x else refused t r)
+unfolding when◌then◌else◌ kept_read is_refusal member.answered refused
 heard_ask t floor true x r = refl
 heard_ask t floor false x r = refl
 
 -- what follows a question need only be the same where its answer is yes
-ask_same : (b : Bool) {x y : Outcome} (z : Outcome) → (b ≡ true → x ≡ y) → (if b then x else z) ≡ (if b then y else z)
-unfolding if◌then◌else◌
+ask_same : (b : Bool) {x y : Outcome} (z : Outcome) → (b ≡ true → x ≡ y) → (when b then x else z) ≡ (when b then y else z)
+unfolding when◌then◌else◌
 ask_same true z f = f refl
 ask_same false z f = refl
 
 -- the group's number is ours, and no reply is open
 abbrev ours : Terminal → ℕ → Bool
-ours t group = group =? t.member.group.number and (if t.reset.replied then false else true)
+ours t group = group =? t.member.group.number and (when t.reset.replied then false else true)
 
 abbrev other_end : List Question
 other_end = record { yes = false; refusal = Refusal.OtherEnd } ∷ []
@@ -198,9 +198,9 @@ other_end = record { yes = false; refusal = Refusal.OtherEnd } ∷ []
 -- what a packet that passes all questions does
 abbrev accepted_step : Terminal → Header → List ℕ → Outcome
 accepted_step t h payload =
-    if invitation_kind ≤? h.kind
-    then (if h.kind =? invitation_kind then invited_of t h.member h.a else
-    if h.kind =? reply_kind then noted (with_reset t (with_reply t.reset h.member h.b) t.frozen) [] else
+    when invitation_kind ≤? h.kind
+    then (when h.kind =? invitation_kind then invited_of t h.member h.a else
+    when h.kind =? reply_kind then noted (with_reset t (with_reply t.reset h.member h.b) t.frozen) [] else
     noted (result_of t h.a (record { 0 = h.b }) (record { 0 = h.c }) (survivors_in payload)) [])
     else heard t (floor_in (content_of h)) (memberAsking.accepted_step t.member h payload)
 
@@ -226,19 +226,19 @@ member_accepts t floor o a = record { no = go o.answer a.no }
 step_accepts : (t : Terminal) (h : Header) (payload : List ℕ) → Accepts (accepted_step t h payload)
 unfolding invited_of is_refusal
 step_accepts t h payload =
-    if_elim Accepts (invitation_kind ≤? h.kind)
-    (λ _. if_elim Accepts (h.kind =? invitation_kind) (λ _. record { no = refl })
-    (λ _. if_elim Accepts (h.kind =? reply_kind) (λ _. record { no = refl }) (λ _. record { no = refl })))
+    when_elim Accepts (invitation_kind ≤? h.kind)
+    (λ _. when_elim Accepts (h.kind =? invitation_kind) (λ _. record { no = refl })
+    (λ _. when_elim Accepts (h.kind =? reply_kind) (λ _. record { no = refl }) (λ _. record { no = refl })))
     (λ _. member_accepts t (floor_in (content_of h)) _ (memberAsking.step_accepts t.member h payload))
 
 -- a packet of a reset: the whole terminal, then the group's number
 by_terminal : (t : Terminal) (group : ℕ) (step x : Outcome) (rest : List Question) → x ≡ judged (first_no rest) (refused t) step
-    → (if terminal_sound t then (if group =? t.member.group.number then x else refused t Refusal.OtherGroup) else refused t Refusal.UnsoundState)
+    → (when terminal_sound t then (when group =? t.member.group.number then x else refused t Refusal.OtherGroup) else refused t Refusal.UnsoundState)
     ≡ judged (first_no (record { yes = terminal_sound t; refusal = Refusal.UnsoundState } ∷ record { yes = group =? t.member.group.number; refusal = Refusal.OtherGroup } ∷ rest)) (refused t) step
 unfolding first_no
 by_terminal t group step x rest e =
-    ap (λ (o : Outcome). if terminal_sound t then o else refused t Refusal.UnsoundState)
-    (ap (λ (o : Outcome). if group =? t.member.group.number then o else refused t Refusal.OtherGroup) e
+    ap (λ (o : Outcome). when terminal_sound t then o else refused t Refusal.UnsoundState)
+    (ap (λ (o : Outcome). when group =? t.member.group.number then o else refused t Refusal.OtherGroup) e
     ∙ judged_ask (refused t) step (group =? t.member.group.number) Refusal.OtherGroup rest)
     ∙ judged_ask (refused t) step (terminal_sound t) Refusal.UnsoundState (record { yes = group =? t.member.group.number; refusal = Refusal.OtherGroup } ∷ rest)
 
@@ -246,14 +246,14 @@ module _ (t : Terminal) (payload : List ℕ) (elected : t.member.group.elected.0
   -- kind by kind
   kinds : (kind member group a b c : ℕ) → let h : Header = record { kind = kind; member = record { 0 = member }; group = group; a = a; b = b; c = c } in
       known_kind kind ≡ true → read_step t (Reading.Fields h) payload ≡ judged (first_no (fields_questions t h payload)) (refused t) (accepted_step t h payload)
-  unfolding read_step from_elected content_of of_reset heard_of reset_step floor_in member.content_step kept_read is_refusal member.answered refused known_kind first_no judged if◌then◌else◌
+  unfolding read_step from_elected content_of of_reset heard_of reset_step floor_in member.content_step kept_read is_refusal member.answered refused known_kind first_no judged when◌then◌else◌
   kinds zero member group a b c known = let z : false ≡ true = known in cc
   kinds (suc zero) member group a b c known =
       judged_ask (refused t) (accepted_step t (record { kind = 1; member = record { 0 = member }; group = group; a = a; b = b; c = c }) payload) (ours t group) Refusal.OtherGroup other_end
   kinds (suc (suc zero)) member group a b c known =
       let p : Header = record { kind = 2; member = record { 0 = member }; group = group; a = a; b = b; c = c } in
       let step = accepted_step t p payload in
-      ap (λ (o : Outcome). if ours t group then o else refused t Refusal.OtherGroup)
+      ap (λ (o : Outcome). when ours t group then o else refused t Refusal.OtherGroup)
       (heard_ask t c (member <? t.member.group.n) _ Refusal.UnknownMember ∙ judged_ask (refused t) step (member <? t.member.group.n) Refusal.UnknownMember [])
       ∙ judged_ask (refused t) step (ours t group) Refusal.OtherGroup (record { yes = member <? t.member.group.n; refusal = Refusal.UnknownMember } ∷ [])
   kinds (suc (suc (suc zero))) member group a b c known =
@@ -273,7 +273,7 @@ module _ (t : Terminal) (payload : List ℕ) (elected : t.member.group.elected.0
   kinds (suc (suc (suc (suc (suc (suc zero)))))) member group a b c known =
       let p : Header = record { kind = 6; member = record { 0 = member }; group = group; a = a; b = b; c = c } in
       let step = accepted_step t p payload in
-      ap (λ (o : Outcome). if ours t group then o else refused t Refusal.OtherGroup)
+      ap (λ (o : Outcome). when ours t group then o else refused t Refusal.OtherGroup)
       (heard_ask t c (member <? t.member.group.n) _ Refusal.UnknownMember ∙ judged_ask (refused t) step (member <? t.member.group.n) Refusal.UnknownMember [])
       ∙ judged_ask (refused t) step (ours t group) Refusal.OtherGroup (record { yes = member <? t.member.group.n; refusal = Refusal.UnknownMember } ∷ [])
   kinds (suc (suc (suc (suc (suc (suc (suc zero))))))) member group a b c known =
@@ -297,7 +297,7 @@ module _ (t : Terminal) (payload : List ℕ) (elected : t.member.group.elected.0
       let fits = t.reset.inviting and t.reset.invited =? a in
       let last : List Question = record { yes = fits; refusal = Refusal.NotOfAttempt } ∷ [] in
       by_terminal t group step _ (record { yes = member <? t.member.group.n; refusal = Refusal.UnknownMember } ∷ last)
-      (ap (λ (o : Outcome). if member <? t.member.group.n then o else refused t Refusal.UnknownMember) (judged_ask (refused t) step fits Refusal.NotOfAttempt [])
+      (ap (λ (o : Outcome). when member <? t.member.group.n then o else refused t Refusal.UnknownMember) (judged_ask (refused t) step fits Refusal.NotOfAttempt [])
       ∙ judged_ask (refused t) step (member <? t.member.group.n) Refusal.UnknownMember last)
   kinds (suc (suc (suc (suc (suc (suc (suc (suc (suc (suc (suc zero))))))))))) member group a b c known =
       let step = accepted_step t (record { kind = 11; member = record { 0 = member }; group = group; a = a; b = b; c = c }) payload in
@@ -305,7 +305,7 @@ module _ (t : Terminal) (payload : List ℕ) (elected : t.member.group.elected.0
       let members = member <? t.member.group.n and is_within (survivors_in payload) (all_of t.member.group.n) in
       let last : List Question = record { yes = fits; refusal = Refusal.NotOfAttempt } ∷ [] in
       by_terminal t group step _ (record { yes = members; refusal = Refusal.UnknownMember } ∷ last)
-      (ap (λ (o : Outcome). if members then o else refused t Refusal.UnknownMember) (judged_ask (refused t) step fits Refusal.NotOfAttempt [])
+      (ap (λ (o : Outcome). when members then o else refused t Refusal.UnknownMember) (judged_ask (refused t) step fits Refusal.NotOfAttempt [])
       ∙ judged_ask (refused t) step members Refusal.UnknownMember last)
   kinds (suc (suc (suc (suc (suc (suc (suc (suc (suc (suc (suc (suc kind)))))))))))) member group a b c known =
       let z : suc (suc (suc (suc (suc (suc (suc (suc (suc (suc (suc (suc kind))))))))))) ≤ 11 = search says in
@@ -321,8 +321,8 @@ read_judged t (Verdict.Refused r) h payload = refl
 known_kind_lem : (p : List ℕ) → first_no (read_questions p) ≡ Verdict.Accepted → known_kind (header_of p).kind ≡ true
 unfolding first_no
 known_kind_lem p e =
-    let a = if_was _ _ _ Verdict.Accepted e (accepted≢ Refusal.PacketSize) in
-    (if_was _ _ _ Verdict.Accepted a.1 (accepted≢ Refusal.UnknownKind)).0
+    let a = when_was _ _ _ Verdict.Accepted e (accepted≢ Refusal.PacketSize) in
+    (when_was _ _ _ Verdict.Accepted a.1 (accepted≢ Refusal.UnknownKind)).0
 
 pub receive_first_no : ReceiveFirstNo
 unfolding receive_of

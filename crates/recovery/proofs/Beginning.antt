@@ -9,9 +9,9 @@ use native.Mathlib.Omega.{arith}
 use borrow.Author.Tests.{leb-true, leb-false, eqb-true}
 use lib.ListN.{length, get_or, set, replicate, get_or-replicate, length-set, length-replicate, get_or-eq_default}
 use lib.Seq.{get_or-set_same, get_or-set_other}
-use Rattle.group.proofs.Lists.{if_elim, eq_or, le_or}
+use Rattle.group.proofs.Lists.{when_elim, eq_or, le_or}
 use Rattle.group.proofs.Members.{Standing, survivor_lt}
-use Rattle.group.specs.Choice.{if◌then◌else◌, ◌≤?◌}
+use Rattle.group.specs.Choice.{when◌then◌else◌, ◌≤?◌}
 use Rattle.group.specs.Limits.{members_most, places_most, held_most, payload_most, largest_number}
 use Rattle.group.specs.Members.{is_in}
 use Rattle.group.specs.declared.Group.{Group}
@@ -34,7 +34,7 @@ use Rattle.recovery.proofs.Kept.{PastFacts, KeptSound, row_length, row_up, row_o
 
 -- the entry of a member in a table that begins with a floor
 abbrev entry_from : ℕ → ℕ → List ℕ → ℕ → ℕ → Acknowledgement
-entry_from survivors floor counts i j = record { taken = record { 0 = if is_in survivors j then floor else 0 }; count = get_or counts i 0; repeats = 0 }
+entry_from survivors floor counts i j = record { taken = record { 0 = when is_in survivors j then floor else 0 }; count = get_or counts i 0; repeats = 0 }
 
 module _ (survivors floor : ℕ) where
   pub table_length : (i : ℕ) (counts : List ℕ) → length (table_from survivors floor i counts) ≡ length counts
@@ -81,14 +81,14 @@ module _ (group : Group) (stands : Standing group) (number floor : ℕ) (counts 
   entry i h = table_entry group.survivors floor counts i (omega arith)
 
   taken_survivor : (i : ℕ) → is_in group.survivors i ≡ true → i < members_most → taken_in table i ≡ floor
-  unfolding if◌then◌else◌
+  unfolding when◌then◌else◌
   taken_survivor i e h = ap (λ (a : Acknowledgement). a.taken.0) (entry i h) ∙ rw e
 
   taken_le : (i : ℕ) → taken_in table i ≤ floor
   taken_le i =
       le_or members_most i
       (λ l. let z = ap (λ (a : Acknowledgement). a.taken.0) (get_or-eq_default table no_acknowledgement {n = i} (let s = size in omega arith)) in omega arith)
-      (λ l. subst (λ (a : Acknowledgement). a.taken.0 ≤ floor) (sym (entry i l)) (if_elim (λ (x : ℕ). x ≤ floor) (is_in group.survivors i) (λ _. le_refl floor) (λ _. omega arith)))
+      (λ l. subst (λ (a : Acknowledgement). a.taken.0 ≤ floor) (sym (entry i l)) (when_elim (λ (x : ℕ). x ≤ floor) (is_in group.survivors i) (λ _. le_refl floor) (λ _. omega arith)))
 
   count_is : (i : ℕ) → count_in table i ≡ get_or counts i 0
   count_is i =
@@ -114,7 +114,7 @@ module _ (group : Group) (stands : Standing group) (number floor : ℕ) (counts 
   out i h false e = refl
 
   lost_entry : (i : ℕ) → group.n ≤ i → entry_from group.survivors floor counts i i ≡ no_acknowledgement
-  unfolding if◌then◌else◌
+  unfolding when◌then◌else◌
   lost_entry i h =
       let e = out i h (is_in group.survivors i) refl in
       let c = unused i h in
@@ -136,7 +136,7 @@ module _ (group : Group) (stands : Standing group) (number floor : ℕ) (counts 
         lost = λ i h.
             le_or members_most i
             (λ l. rw (get_or-eq_default table no_acknowledgement {n = i} (let s = size in omega arith)) (record { taken = refl; repeats = refl }))
-            (λ l. subst Lost (sym (entry i l)) (record { taken = if_elim (λ (x : ℕ). x ≡ 0) (is_in group.survivors i) (λ t. absurd (false≢true (sym h ∙ t))) (λ _. refl); repeats = refl }));
+            (λ l. subst Lost (sym (entry i l)) (record { taken = when_elim (λ (x : ℕ). x ≡ 0) (is_in group.survivors i) (λ t. absurd (false≢true (sym h ∙ t))) (λ _. refl); repeats = refl }));
         unused = λ i h.
             le_or members_most i (λ l. get_or-eq_default table no_acknowledgement {n = i} (let s = size in omega arith))
             (λ l. entry i l ∙ lost_entry i h);
@@ -204,7 +204,7 @@ module _ (t : Terminal) (sound : member.Sound t.member) (kept : KeptSound t.memb
       let near = reach_near t.member in
       let least = reach_least t.member in
       let wide = reach_floor in
-      if_elim (λ (x : Message). PastFacts n counts x) (s ≤? taken)
+      when_elim (λ (x : Message). PastFacts n counts x) (s ≤? taken)
       (λ h.
       let f = kept.past s (omega arith) (leb-true s taken h) in
       record {

@@ -4,7 +4,7 @@ use mathlib.Core.List.{List, [], ◌∷◌}
 use Prim.Native.Nat.{ℕ, zero, suc, ◌+◌, ◌-◌, ◌≤◌, ◌<◌}
 use native.Mathlib.Omega.{arith}
 use lib.ListN.{length, get_or, set, drop, replicate}
-use Rattle.group.specs.Choice.{if◌then◌else◌}
+use Rattle.group.specs.Choice.{when◌then◌else◌}
 use Rattle.group.specs.Limits.{places_most, held_most, largest_number}
 use Rattle.message.specs.Message.{Message, blank, empty_message}
 use Rattle.store.specs.Places.{messages_in}
@@ -63,7 +63,7 @@ reach_as s most =
 
 pub reply_as : (s : Stored) → s.head.member.taken.0 ≤ largest_number → reply_in s.head s.held ≡ reply_number (terminal_of s)
 unfolding reply_in reply_number terminal_of sequencerView.view_of memberView.view_of
-reply_as s most = ap (λ (x : ℕ). if serves_in s.head then s.head.sequencer.top.0 else x) (reach_as s most)
+reply_as s most = ap (λ (x : ℕ). when serves_in s.head then s.head.sequencer.top.0 else x) (reach_as s most)
 
 pub floor_as : (s : Stored) → s.head.member.taken.0 ≤ largest_number → kept_floor_in s.head s.held ≡ kept_floor (terminal_of s)
 unfolding kept_floor_in kept_floor terminal_of memberView.view_of

@@ -10,10 +10,10 @@ use borrow.Author.Tests.{ltb-true, ltb-false, eqb-true, eq-eqb}
 use lib.Bits.{bit_or, or_lt, or_comm}
 use lib.ListN.{length, get_or}
 use lib.Pow.{pow_pos, pow-lt}
-use Rattle.group.proofs.Choice.{if_true, both_hold, both_first, both_then}
-use Rattle.group.proofs.Lists.{if_elim, eq_or}
+use Rattle.group.proofs.Choice.{when_true, both_hold, both_first, both_then}
+use Rattle.group.proofs.Lists.{when_elim, eq_or}
 use Rattle.group.proofs.Members.{in_or, in_only, in_zero, lowest_in}
-use Rattle.group.specs.Choice.{if◌then◌else◌, ◌and◌, ◌<?◌, ◌=?◌}
+use Rattle.group.specs.Choice.{when◌then◌else◌, ◌and◌, ◌<?◌, ◌=?◌}
 use Rattle.group.specs.Limits.{members_most}
 use Rattle.group.specs.Members.{is_in, lowest}
 use Rattle.window.proofs.Row.{larger_le}
@@ -25,7 +25,7 @@ use Rattle.recovery.proofs.Masks.{only_in, or_in}
 module _ (repliers : ℕ) where
   -- what is counted of a member: its reply, or 0
   abbrev counted_as : ℕ → ℕ → ℕ
-  counted_as i number = if is_in repliers i then number else 0
+  counted_as i number = when is_in repliers i then number else 0
 
   -- no reply is above the highest
   highest_most : (i : ℕ) (l : List ℕ) (j : ℕ) → j < length l → is_in repliers (i + j) ≡ true → get_or l j 0 ≤ highest_of repliers i l
@@ -33,7 +33,7 @@ module _ (repliers : ℕ) where
   highest_most i [] j h e = absurd (omega arith)
   highest_most i (x ∷ l) zero h e =
       let z : i + 0 ≡ i = omega arith in
-      let a : x ≡ counted_as i x = if_true (is_in repliers i) x x 0 (rw z at e) refl in
+      let a : x ≡ counted_as i x = when_true (is_in repliers i) x x 0 (rw z at e) refl in
       le_trans (omega arith) (larger_le (counted_as i x) (highest_of repliers (i + 1) l)).0
   highest_most i (x ∷ l) (suc j) h e =
       let z : i + suc j ≡ i + 1 + j = omega arith in
@@ -50,13 +50,13 @@ module _ (repliers : ℕ) where
 
   here : (i x : ℕ) (l : List ℕ) → 0 < counted_as i x → Somebody i (x ∷ l) (counted_as i x)
   here i x l =
-      if_elim (λ (k : ℕ). 0 < k → Somebody i (x ∷ l) k) (is_in repliers i)
+      when_elim (λ (k : ℕ). 0 < k → Somebody i (x ∷ l) k) (is_in repliers i)
       (λ t p. let z : i ≡ i + 0 = omega arith in (0, omega arith, rw z at t, refl))
       (λ t p. absurd (omega arith))
 
   larger_pick : (i x : ℕ) (l : List ℕ) (a b : ℕ) → (0 < a → Somebody i (x ∷ l) a) → (0 < b → Somebody i (x ∷ l) b) → 0 < larger_of a b → Somebody i (x ∷ l) (larger_of a b)
   unfolding larger_of
-  larger_pick i x l a b f g = if_elim (λ (k : ℕ). 0 < k → Somebody i (x ∷ l) k) (a <? b) (λ _. g) (λ _. f)
+  larger_pick i x l a b f g = when_elim (λ (k : ℕ). 0 < k → Somebody i (x ∷ l) k) (a <? b) (λ _. g) (λ _. f)
 
   highest_is : (i : ℕ) (l : List ℕ) → 0 < highest_of repliers i l → Somebody i l (highest_of repliers i l)
   unfolding highest_of
@@ -75,7 +75,7 @@ module _ (repliers : ℕ) where
   -- those that replied with a number
   module _ (highest : ℕ) where
     abbrev holder_as : ℕ → ℕ → ℕ
-    holder_as i number = if is_in repliers i and number =? highest then 2 ^ i else 0
+    holder_as i number = when is_in repliers i and number =? highest then 2 ^ i else 0
 
     pub holders_in : (i : ℕ) (l : List ℕ) (s : ℕ) → is_in (holders_of repliers highest i l) s ≡ true → (k : ℕ) × (s ≡ i + k) × (is_in repliers s ≡ true) × (get_or l k 0 ≡ highest)
     unfolding holders_of
@@ -86,7 +86,7 @@ module _ (repliers : ℕ) where
             → (is_in (holder_as i x) s ≡ true) ⊎ (is_in (holders_of repliers highest (i + 1) l) s ≡ true)
             → (k : ℕ) × (s ≡ i + k) × (is_in repliers s ≡ true) × (get_or (x ∷ l) k 0 ≡ highest)
         either rest (inl h) =
-            if_elim (λ (mask : ℕ). is_in mask s ≡ true → (k : ℕ) × (s ≡ i + k) × (is_in repliers s ≡ true) × (get_or (x ∷ l) k 0 ≡ highest)) (is_in repliers i and x =? highest)
+            when_elim (λ (mask : ℕ). is_in mask s ≡ true → (k : ℕ) × (s ≡ i + k) × (is_in repliers s ≡ true) × (get_or (x ∷ l) k 0 ≡ highest)) (is_in repliers i and x =? highest)
             (λ t y. let q = in_only i s y in (0, omega arith, rw q (both_first (is_in repliers i) _ t), eqb-true x highest (both_then (is_in repliers i) _ t)))
             (λ _ y. absurd (in_zero s y)) h
         either rest (inr h) = let y = rest h in let q = y.1 in (suc y.0, omega arith, y.2, y.3)
@@ -96,7 +96,7 @@ module _ (repliers : ℕ) where
     in_holders i [] k h e q = absurd (omega arith)
     in_holders i (x ∷ l) zero h e q =
         let z : i + 0 ≡ i = omega arith in
-        let a : 2 ^ i ≡ holder_as i x = if_true (is_in repliers i and x =? highest) (2 ^ i) (2 ^ i) 0 (both_hold _ _ (rw z at e) (eq-eqb x highest q)) refl in
+        let a : 2 ^ i ≡ holder_as i x = when_true (is_in repliers i and x =? highest) (2 ^ i) (2 ^ i) 0 (both_hold _ _ (rw z at e) (eq-eqb x highest q)) refl in
         rw z (or_in (holder_as i x) (holders_of repliers highest (i + 1) l) i (subst (λ (mask : ℕ). is_in mask i ≡ true) a (only_in i)))
     in_holders i (x ∷ l) (suc k) h e q =
         let z : i + suc k ≡ i + 1 + k = omega arith in
@@ -110,7 +110,7 @@ module _ (repliers : ℕ) where
         let z : i + suc (length l) ≡ i + 1 + length l = omega arith in
         rw z
         (or_lt (i + 1 + length l) (holder_as i x) (holders_of repliers highest (i + 1) l)
-        (if_elim (λ (mask : ℕ). mask < 2 ^ (i + 1 + length l)) (is_in repliers i and x =? highest) (λ _. pow-lt {i = i} {j = i + 1 + length l} (omega arith)) (λ _. pow_pos (i + 1 + length l)))
+        (when_elim (λ (mask : ℕ). mask < 2 ^ (i + 1 + length l)) (is_in repliers i and x =? highest) (λ _. pow-lt {i = i} {j = i + 1 + length l} (omega arith)) (λ _. pow_pos (i + 1 + length l)))
         (holders_lt (i + 1) l))
 
 -- no reply is above where the order ends

@@ -14,8 +14,8 @@ use lib.ListN.{length, get_or, set, replicate, length-set, length-replicate, get
 use lib.Pow.{pow-lt, pow_pos}
 use lib.Seq.{get_or-set_same, get_or-set_other}
 use Rattle.group.proofs.Choice.{both_first, both_then}
-use Rattle.group.proofs.Lists.{if_elim, judged_elim, eq_or, le_or}
-use Rattle.group.specs.Choice.{if◌then◌else◌, ◌and◌, ◌<?◌, ◌≤?◌, ◌=?◌}
+use Rattle.group.proofs.Lists.{when_elim, judged_elim, eq_or, le_or}
+use Rattle.group.specs.Choice.{when◌then◌else◌, ◌and◌, ◌<?◌, ◌≤?◌, ◌=?◌}
 use Rattle.group.specs.Limits.{members_most, places_most, held_most, largest_number}
 use Rattle.group.specs.Members.{is_in, is_within, only_of, all_of, expected_of}
 use Rattle.group.specs.Question.{judged}
@@ -68,7 +68,7 @@ pub copy_leaves : (s : Sequencer) (k : SequenceNumber) (room : ℕ) → (sequenc
 unfolding sequencer.copy_of sequencer.answered
 copy_leaves s k room =
     let P : sequencer.Outcome → Type 0 = λ x. x.sequencer ≡ s in
-    judged_elim P (sequencer.call_verdict s room) (λ _ _. refl) (λ _. if_elim P (s.floor.0 <? k.0 and k.0 ≤? s.top.0) (λ _. refl) (λ _. refl))
+    judged_elim P (sequencer.call_verdict s room) (λ _ _. refl) (λ _. when_elim P (s.floor.0 <? k.0 and k.0 ≤? s.top.0) (λ _. refl) (λ _. refl))
 
 pub poll_terminal : (t : Terminal) (room : ℕ) → (poll_of t room).terminal ≡ t
 unfolding poll_of
@@ -174,7 +174,7 @@ take_held : (m : Member) (room : ℕ) → memberLaws.Typed m → ((s : ℕ) → 
 unfolding calls.take_of calls.answered calls.took_of calls.with_taken
 take_held m room typed h =
     let P : calls.Outcome → Type 0 = λ o. (s : ℕ) → (window.message_at o.member.held s).count ≤ largest_number in
-    judged_elim P (calls.call_verdict m room) (λ _ _. h) (λ _. if_elim P (calls.is_ready m (m.taken.0 + 1)) (λ _. set_fit m.held (m.taken.0 + 1) empty_message typed.held empty_fit h) (λ _. h))
+    judged_elim P (calls.call_verdict m room) (λ _ _. h) (λ _. when_elim P (calls.is_ready m (m.taken.0 + 1)) (λ _. set_fit m.held (m.taken.0 + 1) empty_message typed.held empty_fit h) (λ _. h))
 
 pub take_holds : TakeHolds
 unfolding take_of refused kept_took
@@ -184,7 +184,7 @@ take_holds t room h =
     let typed = (memberProofs.take_keeps m room h.typed.member).0.typed in
     let held = take_held m room h.typed.member h.held in
     judged_elim Stays (call_verdict t room) (λ _ _. h)
-    (λ _. if_elim (λ (k : Kept). Holds (with_member t (calls.take_of m room).member k)) (calls.is_ready m next)
+    (λ _. when_elim (λ (k : Kept). Holds (with_member t (calls.take_of m room).member k)) (calls.is_ready m next)
     (λ _. member_holds t _ (kept_took t.kept next (window.message_at m.held next)) h typed (length-set t.kept.past (history.place_of next) _ ∙ h.typed.past) (counted_length t.kept.counts _ ∙ h.typed.counts) h.read
     (counted_fit t.kept.counts (window.message_at m.held next) h.counted (h.held next)) held)
     (λ _. member_holds t _ t.kept h typed h.typed.past h.typed.counts h.read h.counted held))
@@ -239,16 +239,16 @@ ContentFits p = (CountOf p ≤ largest_number) × (floor_in p ≤ largest_number
 content_fits : (h : Header) → Fits h → ContentFits (content_of h)
 unfolding content_of floor_in
 content_fits h f =
-    if_elim ContentFits (h.kind =? request_kind) (λ _. (omega arith, omega arith, tt))
-    (λ _. if_elim ContentFits (h.kind =? broadcast_kind) (λ _. (f.b, f.c, tt))
-    (λ _. if_elim ContentFits (h.kind =? gap_kind) (λ _. (omega arith, omega arith, tt))
-    (λ _. if_elim ContentFits (h.kind =? status_kind) (λ _. (omega arith, omega arith, tt))
-    (λ _. if_elim ContentFits (h.kind =? poll_kind) (λ _. (omega arith, f.c, tt))
-    (λ _. if_elim ContentFits (h.kind =? offer_kind) (λ _. (f.b, f.c, tt))
-    (λ _. if_elim ContentFits (h.kind =? confirm_kind) (λ _. (omega arith, omega arith, tt))
-    (λ _. if_elim ContentFits (h.kind =? accept_kind) (λ _. (omega arith, omega arith, tt))
-    (λ _. if_elim ContentFits (h.kind =? invitation_kind) (λ _. (omega arith, omega arith, f.a))
-    (λ _. if_elim ContentFits (h.kind =? reply_kind) (λ _. (omega arith, omega arith, f.b)) (λ _. (omega arith, omega arith, (f.a, f.c))))))))))))
+    when_elim ContentFits (h.kind =? request_kind) (λ _. (omega arith, omega arith, tt))
+    (λ _. when_elim ContentFits (h.kind =? broadcast_kind) (λ _. (f.b, f.c, tt))
+    (λ _. when_elim ContentFits (h.kind =? gap_kind) (λ _. (omega arith, omega arith, tt))
+    (λ _. when_elim ContentFits (h.kind =? status_kind) (λ _. (omega arith, omega arith, tt))
+    (λ _. when_elim ContentFits (h.kind =? poll_kind) (λ _. (omega arith, f.c, tt))
+    (λ _. when_elim ContentFits (h.kind =? offer_kind) (λ _. (f.b, f.c, tt))
+    (λ _. when_elim ContentFits (h.kind =? confirm_kind) (λ _. (omega arith, omega arith, tt))
+    (λ _. when_elim ContentFits (h.kind =? accept_kind) (λ _. (omega arith, omega arith, tt))
+    (λ _. when_elim ContentFits (h.kind =? invitation_kind) (λ _. (omega arith, omega arith, f.a))
+    (λ _. when_elim ContentFits (h.kind =? reply_kind) (λ _. (omega arith, omega arith, f.b)) (λ _. (omega arith, omega arith, (f.a, f.c))))))))))))
 
 -- what is held, with a packet's message
 abbrev HeldFit : calls.Outcome → Type 0
@@ -256,7 +256,7 @@ HeldFit o = (s : ℕ) → (window.message_at o.member.held s).count ≤ largest_
 
 gap_held : (m : Member) (last : ℕ) (gapped : Answer) (whole : calls.Outcome) → ((s : ℕ) → (window.message_at m.held s).count ≤ largest_number) → HeldFit whole → HeldFit (calls.gap_up_to m last gapped whole)
 unfolding calls.gap_up_to
-gap_held m last gapped whole h w = if_elim HeldFit (window.lowest_missing m.held m.taken.0 (last - m.taken.0) =? 0) (λ _. w) (λ _. h)
+gap_held m last gapped whole h w = when_elim HeldFit (window.lowest_missing m.held m.taken.0 (last - m.taken.0) =? 0) (λ _. w) (λ _. h)
 
 message_held : (m : Member) (originator : MemberNumber) (number count : ℕ) (payload : List ℕ) → length m.held ≡ held_most → count ≤ largest_number → ((s : ℕ) → (window.message_at m.held s).count ≤ largest_number)
     → HeldFit (calls.message_step m originator number count payload)
@@ -264,9 +264,9 @@ unfolding calls.message_step calls.kept_of calls.answered calls.with_held messag
 message_held m originator number count payload long fits h =
     let m' : Member = calls.with_held m number (message_of originator count payload) in
     let h' : (s : ℕ) → (window.message_at m'.held s).count ≤ largest_number = set_fit m.held number (message_of originator count payload) long fits h in
-    if_elim HeldFit (number ≤? m.taken.0) (λ _. h)
-    (λ _. if_elim HeldFit (number ≤? m.taken.0 + held_most)
-    (λ _. if_elim HeldFit (window.is_held m.held number) (λ _. h) (λ _. gap_held m' (number - 1) Answer.KeptGap _ h' h'))
+    when_elim HeldFit (number ≤? m.taken.0) (λ _. h)
+    (λ _. when_elim HeldFit (number ≤? m.taken.0 + held_most)
+    (λ _. when_elim HeldFit (window.is_held m.held number) (λ _. h) (λ _. gap_held m' (number - 1) Answer.KeptGap _ h' h'))
     (λ _. gap_held m (m.taken.0 + held_most) Answer.BeyondGap _ h h))
 
 content_held : (m : Member) (content : Packet) (payload : List ℕ) → length m.held ≡ held_most → CountOf content ≤ largest_number → ((s : ℕ) → (window.message_at m.held s).count ≤ largest_number)
@@ -274,14 +274,14 @@ content_held : (m : Member) (content : Packet) (payload : List ℕ) → length m
 unfolding calls.content_step calls.broadcast_of calls.offer_of calls.confirmed_of calls.poll_of calls.answered calls.with_accepted
 content_held m (Packet.Request sender taken count) payload long fits h = h
 content_held m (Packet.Broadcast originator number count floor) payload long fits h =
-    if_elim HeldFit (originator.0 <? m.group.n) (λ _. message_held (calls.with_accepted m number.0) originator number.0 count payload long fits h) (λ _. h)
+    when_elim HeldFit (originator.0 <? m.group.n) (λ _. message_held (calls.with_accepted m number.0) originator number.0 count payload long fits h) (λ _. h)
 content_held m (Packet.Gap sender taken first last) payload long fits h = h
 content_held m (Packet.Status sender taken) payload long fits h = h
 content_held m (Packet.Poll elected top floor) payload long fits h = gap_held m _ Answer.Gap _ h h
 content_held m (Packet.Offer originator number count floor) payload long fits h =
     let o : calls.Outcome = calls.message_step m originator number.0 count payload in
-    if_elim HeldFit (originator.0 <? m.group.n)
-    (λ _. if_elim HeldFit (calls.confirms o.answer and calls.none_missing o.member number.0 and is_in (expected_of o.member.group) o.member.number.0)
+    when_elim HeldFit (originator.0 <? m.group.n)
+    (λ _. when_elim HeldFit (calls.confirms o.answer and calls.none_missing o.member number.0 and is_in (expected_of o.member.group) o.member.number.0)
     (λ _. message_held m originator number.0 count payload long fits h) (λ _. message_held m originator number.0 count payload long fits h))
     (λ _. h)
 content_held m (Packet.Confirm sender number) payload long fits h = h
@@ -297,7 +297,7 @@ heard_holds t content payload h typed fits =
     let o : calls.Outcome = calls.content_step t.member content payload in
     let kept' : Kept = kept_read t.kept o.answer (floor_in content) in
     member_holds t o.member kept' h typed (ap length (read_past t.kept o.answer (floor_in content)) ∙ h.typed.past) (ap length (read_counts t.kept o.answer (floor_in content)) ∙ h.typed.counts)
-    (if_elim (λ (k : Kept). k.read.0 ≤ largest_number) (is_refusal o.answer) (λ _. h.read) (λ _. le_larger t.kept.read.0 (floor_in content) largest_number h.read fits.1))
+    (when_elim (λ (k : Kept). k.read.0 ≤ largest_number) (is_refusal o.answer) (λ _. h.read) (λ _. le_larger t.kept.read.0 (floor_in content) largest_number h.read fits.1))
     (λ i. subst (λ (l : List ℕ). get_or l i 0 ≤ largest_number) (sym (read_counts t.kept o.answer (floor_in content))) (h.counted i)) (content_held t.member content payload h.typed.member.held fits.0 h.held)
 
 -- a changed part in a reset
@@ -318,7 +318,7 @@ reset_holds t r f h long attempt number invited repliers replies =
 
 reply_fits : (t : Terminal) → Holds t → reply_number t ≤ largest_number
 unfolding reply_number
-reply_fits t h = if_elim (λ (x : ℕ). x ≤ largest_number) (serves t) (λ _. h.typed.sequencer.top) (λ _. reach_fits t.member h.typed.member.taken)
+reply_fits t h = when_elim (λ (x : ℕ). x ≤ largest_number) (serves t) (λ _. h.typed.sequencer.top) (λ _. reach_fits t.member h.typed.member.taken)
 
 none_replied : (i : ℕ) → get_or (replicate members_most 0) i 0 ≤ largest_number
 none_replied i =
@@ -365,7 +365,7 @@ elected_typed : (t : Terminal) (group : Group) (number : ℕ) → Holds t → gr
 unfolding elected_sequencer counts_of
 elected_typed t group number h g most =
     let s = t.sequencer in
-    if_elim sequencerLaws.Typed (serves t)
+    when_elim sequencerLaws.Typed (serves t)
     (λ _. begun_typed group number s.floor.0 (counts_in s.acknowledgements) s.history g most (counts_length s.acknowledgements ∙ h.typed.sequencer.table) h.typed.sequencer.history
     (λ i. subst (λ (k : ℕ). k ≤ largest_number) (sym (counts_at s.acknowledgements i)) (h.typed.sequencer.counts i)))
     (λ _. begun_typed group number (kept_floor t) (counted_row t.kept.counts t.member.held t.member.taken.0 (reach_of t.member - t.member.taken.0))
@@ -389,7 +389,7 @@ result_holds t attempt elected number survivors h a most =
                   queue = h.typed.member.queue;
                   held = dropped_length m.held number.0 m.taken.0 h.typed.member.held held_most;
                 };
-            sequencer = if_elim sequencerLaws.Typed (elected.0 =? m.number.0) (λ _. elected_typed t group number.0 h a most) (λ _. h.typed.sequencer);
+            sequencer = when_elim sequencerLaws.Typed (elected.0 =? m.number.0) (λ _. elected_typed t group number.0 h a most) (λ _. h.typed.sequencer);
             past = h.typed.past;
             counts = h.typed.counts;
             replies = length-replicate {A = ℕ} members_most 0;
@@ -417,26 +417,26 @@ module _ (t : Terminal) (h : Holds t) (sound : Sound t) where
   reset_step_holds (Packet.Confirm sender number) payload f = h
   reset_step_holds (Packet.Accept elected number) payload f = h
   reset_step_holds (Packet.Invitation sender attempt) payload f =
-      if_elim Stays (sender.0 <? t.member.group.n)
-      (λ _. if_elim (λ (r : Reset). Holds (with_reset t r (freezes t))) (sender.0 =? t.member.number.0)
+      when_elim Stays (sender.0 <? t.member.group.n)
+      (λ _. when_elim (λ (r : Reset). Holds (with_reset t r (freezes t))) (sender.0 =? t.member.number.0)
       (λ _. reset_holds t (replied t attempt) (freezes t) h h.typed.replies f (reply_fits t h) h.invited h.repliers h.replied)
       (λ _. reset_holds t (uninvited (replied t attempt)) (freezes t) h (length-replicate {A = ℕ} members_most 0) f (reply_fits t h) (omega arith) (pow_pos members_most) none_replied))
       (λ _. h)
   reset_step_holds (Packet.Reply sender attempt number) payload f =
-      if_elim Stays (sender.0 <? t.member.group.n)
-      (λ less. if_elim Stays (t.reset.inviting and t.reset.invited =? attempt)
+      when_elim Stays (sender.0 <? t.member.group.n)
+      (λ less. when_elim Stays (t.reset.inviting and t.reset.invited =? attempt)
       (λ _.
       let l = ltb-true sender.0 t.member.group.n less in
       let n = sound.member.n_most in
-      if_elim (λ (r : Reset). Holds (with_reset t r t.frozen)) (is_in t.reset.repliers sender.0) (λ _. h)
+      when_elim (λ (r : Reset). Holds (with_reset t r t.frozen)) (is_in t.reset.repliers sender.0) (λ _. h)
       (λ _.
       reset_holds t _ t.frozen h (length-set t.reset.replies sender.0 number.0 ∙ h.typed.replies) h.attempt h.number h.invited
       (or_lt members_most t.reset.repliers (only_of sender) h.repliers (pow-lt {i = sender.0} {j = members_most} (omega arith))) (set_replied t.reset.replies sender.0 number.0 f h.replied)))
       (λ _. h))
       (λ _. h)
   reset_step_holds (Packet.Result sender attempt elected number) payload f =
-      if_elim Stays (sender.0 <? t.member.group.n and is_within (survivors_in payload) (all_of t.member.group.n))
-      (λ _. if_elim Stays (result_fits t attempt elected number (survivors_in payload)) (λ _. result_holds t attempt elected number (survivors_in payload) h f.0 f.1) (λ _. h))
+      when_elim Stays (sender.0 <? t.member.group.n and is_within (survivors_in payload) (all_of t.member.group.n))
+      (λ _. when_elim Stays (result_fits t attempt elected number (survivors_in payload)) (λ _. result_holds t attempt elected number (survivors_in payload) h f.0 f.1) (λ _. h))
       (λ _. h)
 
   read_holds : (p : List ℕ) → Fits (header_of p) → (reading : Reading) → read_of p ≡ reading → Stays (read_step t reading (payload_at p))
@@ -447,10 +447,10 @@ module _ (t : Terminal) (h : Holds t) (sound : Sound t) where
       let payload = payload_at p in
       let is : x ≡ header_of p = (readable p x e).header in
       let f = content_fits x (subst Fits (sym is) fits) in
-      if_elim Stays (from_elected m.group (content_of x))
-      (λ u. if_elim Stays (of_reset (content_of x))
-      (λ _. if_elim Stays (terminal_sound t) (λ _. if_elim Stays (x.group =? m.group.number) (λ _. reset_step_holds (content_of x) payload f.2) (λ _. h)) (λ _. h))
-      (λ _. if_elim Stays (x.group =? m.group.number and (if t.reset.replied then false else true))
+      when_elim Stays (from_elected m.group (content_of x))
+      (λ u. when_elim Stays (of_reset (content_of x))
+      (λ _. when_elim Stays (terminal_sound t) (λ _. when_elim Stays (x.group =? m.group.number) (λ _. reset_step_holds (content_of x) payload f.2) (λ _. h)) (λ _. h))
+      (λ _. when_elim Stays (x.group =? m.group.number and (when t.reset.replied then false else true))
       (λ g. heard_holds t (content_of x) payload h (content_typed t h.typed sound p fits.a x e u (both_first (x.group =? m.group.number) _ g)) f) (λ _. h)))
       (λ _. h)
 
@@ -475,8 +475,8 @@ make_holds t demand room h e =
     let sound = sound_of_lem t e in
     let r : Reset = t.reset in
     judged_elim Stays (whole_verdict t room) (λ _ _. h)
-    (λ _. if_elim Stays r.inviting
-    (λ inviting. if_elim Stays (demand ≤? ones r.repliers)
+    (λ _. when_elim Stays r.inviting
+    (λ inviting. when_elim Stays (demand ≤? ones r.repliers)
     (λ _.
     let less = sound.member.number_lt in
     let most = sound.member.n_most in

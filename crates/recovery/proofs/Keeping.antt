@@ -12,12 +12,12 @@ use lib.Bits.{bit_and, bit_or, or_shr, or_step, or_comm}
 use lib.Pow.{pow_pos}
 use lib.ListN.{length, get_or, set, replicate, length-set, length-replicate, get_or-replicate, get_or-eq_default}
 use lib.Seq.{get_or-set_same, get_or-set_other}
-use Rattle.group.proofs.Choice.{if_true, if_false, if_was, both_hold, both_first, both_then, says}
+use Rattle.group.proofs.Choice.{when_true, when_false, when_was, both_hold, both_first, both_then, says}
 use Rattle.group.proofs.Fold.{all_at, at_all}
-use Rattle.group.proofs.Lists.{if_elim, judged_elim, eq_or, le_or}
+use Rattle.group.proofs.Lists.{when_elim, judged_elim, eq_or, le_or}
 use Rattle.group.proofs.Members.{Standing, survivor_lt, in_all, in_or, in_only, only_within, more_within}
 use Rattle.group.proofs.Question.{accepted≢}
-use Rattle.group.specs.Choice.{if◌then◌else◌, ◌and◌, ◌<?◌, ◌≤?◌, ◌=?◌}
+use Rattle.group.specs.Choice.{when◌then◌else◌, ◌and◌, ◌<?◌, ◌≤?◌, ◌=?◌}
 use Rattle.group.specs.Fold.{all}
 use Rattle.group.specs.Limits.{members_most, places_most, held_most, largest_number}
 use Rattle.group.specs.Members.{only_of, is_in, is_within, all_of}
@@ -56,7 +56,7 @@ pub record ResetSound (m : Member) (r : Reset) : Type 0 where
 
 module _ (m : Member) (r : Reset) where
   abbrev answered : ℕ → ℕ → Bool
-  answered i number = if is_in r.repliers i then true else number =? 0
+  answered i number = when is_in r.repliers i then true else number =? 0
 
   abbrev invites : Bool
   invites = r.replied and is_in r.repliers m.number.0 and get_or r.replies m.number.0 0 =? r.number.0 and is_within r.repliers (all_of m.group.n)
@@ -64,35 +64,35 @@ module _ (m : Member) (r : Reset) where
   pub reset_of : reset_sound m r ≡ true → ResetSound m r
   unfolding reset_sound
   reset_of e =
-      let first : (if r.replied then true else (r.attempt =? 0 and r.number.0 =? 0)) ≡ true = both_first _ _ e in
-      let rest = both_then (if r.replied then true else (r.attempt =? 0 and r.number.0 =? 0)) _ e in
-      let own : (if r.inviting then invites else (r.invited =? 0 and r.repliers =? 0)) ≡ true = both_first _ _ rest in
-      let each = all_at answered 0 r.replies (both_then (if r.inviting then invites else (r.invited =? 0 and r.repliers =? 0)) _ rest) in
-      let in-it : r.inviting ≡ true → invites ≡ true = λ t. if_true r.inviting _ _ _ t refl ∙ own in
+      let first : (when r.replied then true else (r.attempt =? 0 and r.number.0 =? 0)) ≡ true = both_first _ _ e in
+      let rest = both_then (when r.replied then true else (r.attempt =? 0 and r.number.0 =? 0)) _ e in
+      let own : (when r.inviting then invites else (r.invited =? 0 and r.repliers =? 0)) ≡ true = both_first _ _ rest in
+      let each = all_at answered 0 r.replies (both_then (when r.inviting then invites else (r.invited =? 0 and r.repliers =? 0)) _ rest) in
+      let in-it : r.inviting ≡ true → invites ≡ true = λ t. when_true r.inviting _ _ _ t refl ∙ own in
       record {
-        idle = λ f. let z : r.attempt =? 0 and r.number.0 =? 0 ≡ true = if_false r.replied _ _ _ f refl ∙ first in (search says, search says);
+        idle = λ f. let z : r.attempt =? 0 and r.number.0 =? 0 ≡ true = when_false r.replied _ _ _ f refl ∙ first in (search says, search says);
         open_reply = λ t. both_first r.replied _ (in-it t);
         itself = λ t. both_first (is_in r.repliers m.number.0) _ (both_then r.replied _ (in-it t));
         own_number = λ t.
             eqb-true _ _ (both_first (get_or r.replies m.number.0 0 =? r.number.0) _ (both_then (is_in r.repliers m.number.0) _ (both_then r.replied _ (in-it t))));
         members = λ t.
             eqb-true _ _ (both_then (get_or r.replies m.number.0 0 =? r.number.0) _ (both_then (is_in r.repliers m.number.0) _ (both_then r.replied _ (in-it t))));
-        closed = λ f. let z : r.invited =? 0 and r.repliers =? 0 ≡ true = if_false r.inviting _ _ _ f refl ∙ own in (search says, search says);
+        closed = λ f. let z : r.invited =? 0 and r.repliers =? 0 ≡ true = when_false r.inviting _ _ _ f refl ∙ own in (search says, search says);
         silent = λ i f.
             le_or (length r.replies) i (λ l. get_or-eq_default r.replies 0 {n = i} l)
-            (λ l. eqb-true _ 0 (if_false (is_in r.repliers i) _ _ _ f refl ∙ each i l));
+            (λ l. eqb-true _ 0 (when_false (is_in r.repliers i) _ _ _ f refl ∙ each i l));
       }
 
   pub of_reset_lem : ResetSound m r → reset_sound m r ≡ true
   unfolding reset_sound
   of_reset_lem f =
       both_hold _ _
-      (if_elim (λ (b : Bool). b ≡ true) r.replied (λ _. refl) (λ t. let z = f.idle t in both_hold _ _ (eq-eqb _ 0 z.0) (eq-eqb _ 0 z.1)))
+      (when_elim (λ (b : Bool). b ≡ true) r.replied (λ _. refl) (λ t. let z = f.idle t in both_hold _ _ (eq-eqb _ 0 z.0) (eq-eqb _ 0 z.1)))
       (both_hold _ _
-      (if_elim (λ (b : Bool). b ≡ true) r.inviting
+      (when_elim (λ (b : Bool). b ≡ true) r.inviting
       (λ t. both_hold _ _ (f.open_reply t) (both_hold _ _ (f.itself t) (both_hold _ _ (eq-eqb _ _ (f.own_number t)) (eq-eqb _ _ (f.members t)))))
       (λ t. let z = f.closed t in both_hold _ _ (eq-eqb _ 0 z.0) (eq-eqb _ 0 z.1)))
-      (at_all answered 0 r.replies (λ i l. if_elim (λ (b : Bool). b ≡ true) (is_in r.repliers i) (λ _. refl) (λ t. eq-eqb _ 0 (f.silent i t)))))
+      (at_all answered 0 r.replies (λ i l. when_elim (λ (b : Bool). b ≡ true) (is_in r.repliers i) (λ _. refl) (λ t. eq-eqb _ 0 (f.silent i t)))))
 
 -- the facts of a sound terminal
 pub record Sound (t : Terminal) : Type 0 where
@@ -125,15 +125,15 @@ module _ (t : Terminal) where
       let m = member_of (both_first (member_sound t) _ e) in
       let rest = both_then (member_sound t) _ e in
       let q = both_first (sequencer_sound t) _ rest in
-      let reply : (if t.reset.replied then (t.reset.number.0 =? reply_number t and (if serves t then t.frozen else true)) else true) ≡ true = both_then (sequencer_sound t) _ rest in
-      let opened : t.reset.replied ≡ true → (t.reset.number.0 =? reply_number t and (if serves t then t.frozen else true)) ≡ true = λ r. if_true t.reset.replied _ _ _ r refl ∙ reply in
+      let reply : (when t.reset.replied then (t.reset.number.0 =? reply_number t and (when serves t then t.frozen else true)) else true) ≡ true = both_then (sequencer_sound t) _ rest in
+      let opened : t.reset.replied ≡ true → (t.reset.number.0 =? reply_number t and (when serves t then t.frozen else true)) ≡ true = λ r. when_true t.reset.replied _ _ _ r refl ∙ reply in
       record {
         member = m.0;
         kept = m.1;
         reset = m.2;
         sequencer = q;
         number_is = λ r. eqb-true _ _ (both_first (t.reset.number.0 =? reply_number t) _ (opened r));
-        freezes = λ r s. if_true (serves t) _ _ _ s refl ∙ both_then (t.reset.number.0 =? reply_number t) _ (opened r);
+        freezes = λ r s. when_true (serves t) _ _ _ s refl ∙ both_then (t.reset.number.0 =? reply_number t) _ (opened r);
       }
 
   pub of_sound : Sound t → terminal_sound t ≡ true
@@ -141,18 +141,18 @@ module _ (t : Terminal) where
   of_sound f =
       both_hold _ _ (of_member_lem f.member f.kept f.reset)
       (both_hold _ _ f.sequencer
-      (if_elim (λ (b : Bool). b ≡ true) t.reset.replied
-      (λ r. both_hold _ _ (eq-eqb _ _ (f.number_is r)) (if_elim (λ (b : Bool). b ≡ true) (serves t) (λ s. f.freezes r s) (λ _. refl)))
+      (when_elim (λ (b : Bool). b ≡ true) t.reset.replied
+      (λ r. both_hold _ _ (eq-eqb _ _ (f.number_is r)) (when_elim (λ (b : Bool). b ≡ true) (serves t) (λ s. f.freezes r s) (λ _. refl)))
       (λ _. refl)))
 
 -- a reply is open from then on, and its group's sequencer is frozen
 module _ (t : Terminal) (sound : Sound t) where
   -- what a terminal would reply does not depend on its part in a reset
   frozen_now : (reset : Reset) → serves (with_reset t reset (freezes t)) ≡ true → freezes t ≡ true
-  frozen_now reset s = sym (if_true (serves t) _ _ _ s refl)
+  frozen_now reset s = sym (when_true (serves t) _ _ _ s refl)
 
   replying_sound : (reset : Reset) → reset.replied ≡ true → reset.number.0 ≡ reply_number t → ResetSound t.member reset → Sound (with_reset t reset (freezes t))
-  unfolding reply_number sequencer_sound if◌then◌else◌
+  unfolding reply_number sequencer_sound when◌then◌else◌
   replying_sound reset open_reply number r =
       record {
         member = sound.member;
@@ -221,7 +221,7 @@ module _ (t : Terminal) (sound : Sound t) where
       → Sound (with_reset t (with_reply t.reset sender number) t.frozen)
   unfolding with_reply reply_number sequencer_sound
   reply_sound_lem sender number less inviting long =
-      if_elim (λ (r : Reset). Sound (with_reset t r t.frozen)) (is_in t.reset.repliers sender.0) (λ _. sound)
+      when_elim (λ (r : Reset). Sound (with_reset t r t.frozen)) (is_in t.reset.repliers sender.0) (λ _. sound)
       (λ new.
       let r = sound.reset in
       let most = sound.member.n_most in
@@ -249,7 +249,7 @@ module _ (t : Terminal) (sound : Sound t) where
 -- the sequencer's end with a result: the elected one's, and another's, which stays
 elected_group : (t : Terminal) (group : Group) (number : ℕ) → (elected_sequencer t group number).group.n ≡ group.n
 unfolding elected_sequencer
-elected_group t group number = if_elim (λ (s : Sequencer). s.group.n ≡ group.n) (serves t) (λ _. refl) (λ _. refl)
+elected_group t group number = when_elim (λ (s : Sequencer). s.group.n ≡ group.n) (serves t) (λ _. refl) (λ _. refl)
 
 seat_elected : (t : Terminal) (group : Group) (number : ℕ) → sequencer.Sound (elected_sequencer t group number)
     → sequencer_sound
@@ -257,12 +257,12 @@ seat_elected : (t : Terminal) (group : Group) (number : ℕ) → sequencer.Sound
       member = member_in t.member group number;
       kept = t.kept;
       reset = no_reset;
-      sequencing = if true then true else t.sequencing;
-      frozen = if true then false else t.frozen;
-      sequencer = if true then elected_sequencer t group number else t.sequencer;
+      sequencing = when true then true else t.sequencing;
+      frozen = when true then false else t.frozen;
+      sequencer = when true then elected_sequencer t group number else t.sequencer;
     })
     ≡ true
-unfolding sequencer_sound if◌then◌else◌
+unfolding sequencer_sound when◌then◌else◌
 seat_elected t group number f =
     both_hold (sequencerCalls.sound_of (elected_sequencer t group number)) _ (sequencer.of_sound (elected_sequencer t group number) f) (eq-eqb _ _ (elected_group t group number))
 
@@ -272,12 +272,12 @@ seat_other : (t : Terminal) (group : Group) (number : ℕ) → group.n ≡ t.mem
       member = member_in t.member group number;
       kept = t.kept;
       reset = no_reset;
-      sequencing = if false then true else t.sequencing;
-      frozen = if false then false else t.frozen;
-      sequencer = if false then elected_sequencer t group number else t.sequencer;
+      sequencing = when false then true else t.sequencing;
+      frozen = when false then false else t.frozen;
+      sequencer = when false then elected_sequencer t group number else t.sequencer;
     })
     ≡ true
-unfolding sequencer_sound if◌then◌else◌
+unfolding sequencer_sound when◌then◌else◌
 seat_other t group number same e = rw same e
 
 -- a group that a result describes, of members among whom are the elected one and the receiver
@@ -299,7 +299,7 @@ module _ (t : Terminal) (typed : Typed t) (sound : Sound t) (attempt : ℕ) (ele
 
   ordered : serves t ≡ true → sequencerCalls.sound_of t.sequencer and t.sequencer.group.n =? t.member.group.n ≡ true
   unfolding sequencer_sound
-  ordered e = if_true t.sequencing _ _ _ (both_first t.sequencing _ e) refl ∙ sound.sequencer
+  ordered e = when_true t.sequencing _ _ _ (both_first t.sequencing _ e) refl ∙ sound.sequencer
 
   fits : kept_floor t ≤ largest_number
   fits = let z = floor_reach t sound.member sound.kept typed.counts in let y = reach_fits t.member typed.member.taken in omega arith
@@ -338,9 +338,9 @@ module _ (t : Terminal) (typed : Typed t) (sound : Sound t) (attempt : ℕ) (ele
             member = member_in t.member group number.0;
             kept = t.kept;
             reset = no_reset;
-            sequencing = if b then true else t.sequencing;
-            frozen = if b then false else t.frozen;
-            sequencer = if b then elected_sequencer t group number.0 else t.sequencer;
+            sequencing = when b then true else t.sequencing;
+            frozen = when b then false else t.frozen;
+            sequencer = when b then elected_sequencer t group number.0 else t.sequencer;
           })
           ≡ true
       seated true e = seat_elected t group number.0 (begins (eqb-true _ _ e))

@@ -8,10 +8,10 @@ use native.Mathlib.Omega.{arith}
 use borrow.Author.Tests.{leb-true, leb-false, le-leb, lt-leb, lt-ltb, ltb-false, le-ltb, eqb-true, eq-eqb}
 use lib.ListN.{length, get_or, set, length-set, get_or-eq_default}
 use lib.Seq.{get_or-set_same, get_or-set_other}
-use Rattle.group.proofs.Choice.{if_true, if_false, both_hold, both_first, both_then, says}
+use Rattle.group.proofs.Choice.{when_true, when_false, both_hold, both_first, both_then, says}
 use Rattle.group.proofs.Fold.{all_at, at_all, above_each, above_all}
-use Rattle.group.proofs.Lists.{if_elim, eq_or, le_or}
-use Rattle.group.specs.Choice.{if◌then◌else◌, ◌and◌, ◌<?◌, ◌≤?◌, ◌=?◌}
+use Rattle.group.proofs.Lists.{when_elim, eq_or, le_or}
+use Rattle.group.specs.Choice.{when◌then◌else◌, ◌and◌, ◌<?◌, ◌≤?◌, ◌=?◌}
 use Rattle.group.specs.Fold.{all, all_above}
 use Rattle.group.specs.Limits.{places_most, payload_most}
 use Rattle.message.specs.Message.{Message, zero_behind, is_empty, blank}
@@ -109,7 +109,7 @@ pub record KeptSound (n taken : ℕ) (kept : Kept) : Type 0 where
 
 module _ (n taken : ℕ) (kept : Kept) where
   abbrev count_sound : ℕ → ℕ → Bool
-  count_sound i c = if i <? n then true else c =? 0
+  count_sound i c = when i <? n then true else c =? 0
 
   pub kept_of : kept_sound n taken kept ≡ true → KeptSound n taken kept
   unfolding kept_sound past_place_sound
@@ -119,17 +119,17 @@ module _ (n taken : ℕ) (kept : Kept) where
       record {
         unused = λ i h.
             le_or (length kept.counts) i (λ l. get_or-eq_default kept.counts 0 {n = i} l)
-            (λ l. eqb-true _ 0 (if_false (i <? n) _ _ _ (le-ltb i n h) refl ∙ each i l));
-        past = λ s a b. past_facts n kept.counts (message_at kept.past s) (if_true (s ≤? taken) _ _ _ (le-leb s taken b) refl ∙ place s a (omega arith));
-        empty = λ s a b. if_false (s ≤? taken) _ _ _ (lt-leb s taken a) refl ∙ place s (omega arith) b;
+            (λ l. eqb-true _ 0 (when_false (i <? n) _ _ _ (le-ltb i n h) refl ∙ each i l));
+        past = λ s a b. past_facts n kept.counts (message_at kept.past s) (when_true (s ≤? taken) _ _ _ (le-leb s taken b) refl ∙ place s a (omega arith));
+        empty = λ s a b. when_false (s ≤? taken) _ _ _ (lt-leb s taken a) refl ∙ place s (omega arith) b;
       }
 
   pub of_kept : KeptSound n taken kept → kept_sound n taken kept ≡ true
   unfolding kept_sound past_place_sound
   of_kept f =
-      both_hold _ _ (at_all count_sound 0 kept.counts (λ i l. if_elim (λ (b : Bool). b ≡ true) (i <? n) (λ t. refl) (λ t. eq-eqb _ 0 (f.unused i (ltb-false i n t)))))
+      both_hold _ _ (at_all count_sound 0 kept.counts (λ i l. when_elim (λ (b : Bool). b ≡ true) (i <? n) (λ t. refl) (λ t. eq-eqb _ 0 (f.unused i (ltb-false i n t)))))
       (above_all (past_place_sound n taken kept) (taken - places_most) places_most
-      (λ s a b. if_elim (λ (x : Bool). x ≡ true) (s ≤? taken)
+      (λ s a b. when_elim (λ (x : Bool). x ≡ true) (s ≤? taken)
       (λ t. facts_past n kept.counts (message_at kept.past s) (f.past s a (leb-true s taken t)))
       (λ t. f.empty s (leb-false s taken t) b)))
 
@@ -161,12 +161,12 @@ took_kept n taken kept m long most originator least short zeros f =
 module _ (kept : Kept) (answer : Answer) (floor : ℕ) where
   pub read_kept : (n taken : ℕ) → KeptSound n taken kept → KeptSound n taken (kept_read kept answer floor)
   unfolding kept_read
-  read_kept n taken k = if_elim (KeptSound n taken) (is_refusal answer) (λ _. k) (λ _. record { unused = k.unused; past = k.past; empty = k.empty })
+  read_kept n taken k = when_elim (KeptSound n taken) (is_refusal answer) (λ _. k) (λ _. record { unused = k.unused; past = k.past; empty = k.empty })
 
   pub read_past : (kept_read kept answer floor).past ≡ kept.past
   unfolding kept_read
-  read_past = if_elim (λ (x : Kept). x.past ≡ kept.past) (is_refusal answer) (λ _. refl) (λ _. refl)
+  read_past = when_elim (λ (x : Kept). x.past ≡ kept.past) (is_refusal answer) (λ _. refl) (λ _. refl)
 
   pub read_counts : (kept_read kept answer floor).counts ≡ kept.counts
   unfolding kept_read
-  read_counts = if_elim (λ (x : Kept). x.counts ≡ kept.counts) (is_refusal answer) (λ _. refl) (λ _. refl)
+  read_counts = when_elim (λ (x : Kept). x.counts ≡ kept.counts) (is_refusal answer) (λ _. refl) (λ _. refl)

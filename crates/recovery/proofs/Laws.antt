@@ -9,10 +9,10 @@ use borrow.Author.Tests.{leb-true, ltb-true, eqb-true, eqb-false, eq-eqb}
 use lib.Bits.{bit_and}
 use lib.Count.{ones}
 use lib.ListN.{length, get_or}
-use Rattle.group.proofs.Choice.{if_true, both_first, both_then, says}
-use Rattle.group.proofs.Lists.{if_elim, judged_elim}
+use Rattle.group.proofs.Choice.{when_true, both_first, both_then, says}
+use Rattle.group.proofs.Lists.{when_elim, judged_elim}
 use Rattle.group.proofs.Members.{survivor_lt}
-use Rattle.group.specs.Choice.{if◌then◌else◌, ◌and◌, ◌<?◌, ◌≤?◌, ◌=?◌}
+use Rattle.group.specs.Choice.{when◌then◌else◌, ◌and◌, ◌<?◌, ◌≤?◌, ◌=?◌}
 use Rattle.group.specs.Limits.{members_most, held_most, header_size, largest_number}
 use Rattle.group.specs.Members.{is_in, is_within, all_of, expected_of}
 use Rattle.group.specs.Question.{judged}
@@ -66,8 +66,8 @@ make_keeps t demand room typed e =
     let r : Reset = t.reset in
     of_sound _
     (judged_elim Stays (whole_verdict t room) (λ q _. sound)
-    (λ _. if_elim Stays r.inviting
-    (λ inviting. if_elim Stays (demand ≤? ones r.repliers)
+    (λ _. when_elim Stays r.inviting
+    (λ inviting. when_elim Stays (demand ≤? ones r.repliers)
     (λ _.
     let s = sound.reset in
     let itself = s.itself inviting in
@@ -116,8 +116,8 @@ module _ (t : Terminal) (typed : Typed t) (sound : Sound t) where
   taken_next = window.message_at t.member.held next
 
   took_by : (b : Bool) → calls.is_ready t.member next ≡ b
-      → Stays (carried t (if b then kept_took t.kept next taken_next else t.kept) (if b then calls.took_of t.member taken_next else calls.answered t.member Answer.None))
-  unfolding if◌then◌else◌ calls.is_ready calls.took_of calls.answered calls.with_taken
+      → Stays (carried t (when b then kept_took t.kept next taken_next else t.kept) (when b then calls.took_of t.member taken_next else calls.answered t.member Answer.None))
+  unfolding when◌then◌else◌ calls.is_ready calls.took_of calls.answered calls.with_taken
   took_by true e =
       let m : Member = t.member in
       let held = ltb-true 0 taken_next.count (both_first (0 <? taken_next.count) _ e) in
@@ -154,13 +154,13 @@ submit_still m payload room =
     let P : calls.Outcome → Type 0 = λ o. Still m o.member in
     judged_elim P (calls.call_verdict m room) (λ _ _. still m)
     (λ _. judged_elim P (calls.submit_verdict m (length payload)) (λ _ _. still m)
-    (λ _. if_elim P (m.waiting =? 0) (λ _. record { group = refl; number = refl; taken = refl; held = refl }) (λ _. record { group = refl; number = refl; taken = refl; held = refl })))
+    (λ _. when_elim P (m.waiting =? 0) (λ _. record { group = refl; number = refl; taken = refl; held = refl }) (λ _. record { group = refl; number = refl; taken = refl; held = refl })))
 
 pub repeat_still : (m : Member) (room : ℕ) → Still m (calls.repeat_of m room).member
 unfolding calls.repeat_of calls.answered
 repeat_still m room =
     let P : calls.Outcome → Type 0 = λ o. Still m o.member in
-    judged_elim P (calls.call_verdict m room) (λ _ _. still m) (λ _. if_elim P (1 ≤? m.waiting) (λ _. still m) (λ _. still m))
+    judged_elim P (calls.call_verdict m room) (λ _ _. still m) (λ _. when_elim P (1 ≤? m.waiting) (λ _. still m) (λ _. still m))
 
 pub status_still : (m : Member) (room : ℕ) → Still m (calls.status_of m room).member
 unfolding calls.status_of calls.answered
@@ -205,15 +205,15 @@ module _ (m : Member) where
 
   gap_frame : (m' : Member) (last : ℕ) (gapped : Answer) (whole : calls.Outcome) → Frame m m' → Framed whole → Framed (calls.gap_up_to m' last gapped whole)
   unfolding calls.gap_up_to
-  gap_frame m' last gapped whole f w = if_elim Framed (window.lowest_missing m'.held m'.taken.0 (last - m'.taken.0) =? 0) (λ _. w) (λ _. f)
+  gap_frame m' last gapped whole f w = when_elim Framed (window.lowest_missing m'.held m'.taken.0 (last - m'.taken.0) =? 0) (λ _. w) (λ _. f)
 
   message_frame : (m' : Member) (originator : MemberNumber) (number count : ℕ) (payload : List ℕ) → Frame m m' → Framed (calls.message_step m' originator number count payload)
   unfolding calls.message_step calls.kept_of calls.answered calls.with_held
   message_frame m' originator number count payload f =
       let f' : Frame m (calls.with_held m' number (message_of originator count payload)) = record { group = f.group; number = f.number; taken = f.taken } in
-      if_elim Framed (number ≤? m'.taken.0) (λ _. f)
-      (λ _. if_elim Framed (number ≤? m'.taken.0 + held_most)
-      (λ _. if_elim Framed (window.is_held m'.held number) (λ _. f) (λ _. gap_frame _ (number - 1) Answer.KeptGap _ f' f'))
+      when_elim Framed (number ≤? m'.taken.0) (λ _. f)
+      (λ _. when_elim Framed (number ≤? m'.taken.0 + held_most)
+      (λ _. when_elim Framed (window.is_held m'.held number) (λ _. f) (λ _. gap_frame _ (number - 1) Answer.KeptGap _ f' f'))
       (λ _. gap_frame m' (m'.taken.0 + held_most) Answer.BeyondGap _ f f))
 
   same_frame : Frame m m
@@ -227,14 +227,14 @@ module _ (m : Member) where
   unfolding calls.content_step calls.broadcast_of calls.offer_of calls.confirmed_of calls.poll_of calls.answered
   content_frame (Packet.Request sender taken count) payload = same_frame
   content_frame (Packet.Broadcast originator number count floor) payload =
-      if_elim Framed (originator.0 <? m.group.n) (λ _. message_frame (calls.with_accepted m number.0) originator number.0 count payload (accepted_frame number.0)) (λ _. same_frame)
+      when_elim Framed (originator.0 <? m.group.n) (λ _. message_frame (calls.with_accepted m number.0) originator number.0 count payload (accepted_frame number.0)) (λ _. same_frame)
   content_frame (Packet.Gap sender taken first last) payload = same_frame
   content_frame (Packet.Status sender taken) payload = same_frame
   content_frame (Packet.Poll elected top floor) payload = gap_frame m _ Answer.Gap _ same_frame same_frame
   content_frame (Packet.Offer originator number count floor) payload =
       let o : calls.Outcome = calls.message_step m originator number.0 count payload in
-      if_elim Framed (originator.0 <? m.group.n)
-      (λ _. if_elim Framed (calls.confirms o.answer and calls.none_missing o.member number.0 and is_in (expected_of o.member.group) o.member.number.0)
+      when_elim Framed (originator.0 <? m.group.n)
+      (λ _. when_elim Framed (calls.confirms o.answer and calls.none_missing o.member number.0 and is_in (expected_of o.member.group) o.member.number.0)
       (λ _. message_frame m originator number.0 count payload same_frame) (λ _. message_frame m originator number.0 count payload same_frame))
       (λ _. same_frame)
   content_frame (Packet.Confirm sender number) payload = same_frame
@@ -248,8 +248,8 @@ read_content : (m : Member) (h : Header) (payload : List ℕ) → from_elected m
     → calls.read_step m (Reading.Fields h) payload ≡ calls.content_step m (content_of h) payload
 unfolding calls.read_step
 read_content m h payload u g =
-    sym (if_true (h.group =? m.group.number) (calls.content_step m (content_of h) payload) _ _ g refl
-    ∙ if_true (from_elected m.group (content_of h)) _ _ _ u refl)
+    sym (when_true (h.group =? m.group.number) (calls.content_step m (content_of h) payload) _ _ g refl
+    ∙ when_true (from_elected m.group (content_of h)) _ _ _ u refl)
 
 -- its types can hold what such a packet leaves
 pub content_typed : (t : Terminal) → Typed t → Sound t → (p : List ℕ) → (header_of p).a ≤ largest_number → (h : Header) → read_of p ≡ Reading.Fields h → from_elected t.member.group (content_of h) ≡ true
@@ -260,8 +260,8 @@ content_typed t typed sound p most h e u ours =
     let x = read_heard memberProofs.Right (λ m r. r.0) (λ m r. r.1) m right (Reading.Fields h) (payload_at p) (λ h' q. memberProofs.read_keepable m p most right h' (e ∙ q)) in
     subst (λ (o : calls.Outcome). memberLaws.Typed o.member) (read_content m h (payload_at p) u ours) x.state.0
 
-not_replied : (b : Bool) → (if b then false else true) ≡ true → b ≡ false
-unfolding if◌then◌else◌
+not_replied : (b : Bool) → (when b then false else true) ≡ true → b ≡ false
+unfolding when◌then◌else◌
 not_replied true e = sym e
 not_replied false e = refl
 
@@ -290,13 +290,13 @@ module _ (t : Terminal) (typed : Typed t) (sound : Sound t) where
       let last = both_then (t.reset.number.0 ≤? number.0) _ rest3 in
       result_sound t typed sound attempt elected number survivors within elected_in inside
       (λ q.
-      let high = leb-true number.0 t.reset.number.0 (if_true (elected.0 =? t.member.number.0) _ _ _ (eq-eqb _ _ q) refl ∙ last) in
+      let high = leb-true number.0 t.reset.number.0 (when_true (elected.0 =? t.member.number.0) _ _ _ (eq-eqb _ _ q) refl ∙ last) in
       let is = sound.number_is replied' in
       omega arith)
 
   -- a packet of a reset
   reset_stays : (g : ℕ) (content : Packet) (payload : List ℕ) → obeys (fields_of g content) payload ≡ true → Stays (reset_step t content payload)
-  unfolding reset_step refused invited_of result_fits obeys fields_of if◌then◌else◌
+  unfolding reset_step refused invited_of result_fits obeys fields_of when◌then◌else◌
   reset_stays g (Packet.Request sender taken count) payload o = sound
   reset_stays g (Packet.Broadcast originator number count floor) payload o = sound
   reset_stays g (Packet.Gap sender taken first last) payload o = sound
@@ -306,20 +306,20 @@ module _ (t : Terminal) (typed : Typed t) (sound : Sound t) where
   reset_stays g (Packet.Confirm sender number) payload o = sound
   reset_stays g (Packet.Accept elected number) payload o = sound
   reset_stays g (Packet.Invitation sender attempt) payload o =
-      if_elim Stays (sender.0 <? t.member.group.n)
-      (λ _. if_elim (λ (r : Reset). Sound (with_reset t r (freezes t))) (sender.0 =? t.member.number.0) (λ _. replied_sound t sound attempt) (λ _. closed_sound t sound attempt))
+      when_elim Stays (sender.0 <? t.member.group.n)
+      (λ _. when_elim (λ (r : Reset). Sound (with_reset t r (freezes t))) (sender.0 =? t.member.number.0) (λ _. replied_sound t sound attempt) (λ _. closed_sound t sound attempt))
       (λ _. sound)
   reset_stays g (Packet.Reply sender attempt number) payload o =
-      if_elim Stays (sender.0 <? t.member.group.n)
-      (λ less. if_elim Stays (t.reset.inviting and t.reset.invited =? attempt)
+      when_elim Stays (sender.0 <? t.member.group.n)
+      (λ less. when_elim Stays (t.reset.inviting and t.reset.invited =? attempt)
       (λ f. reply_sound_lem t sound sender number.0 (ltb-true sender.0 t.member.group.n less) (both_first t.reset.inviting _ f) typed.replies)
       (λ _. sound))
       (λ _. sound)
   reset_stays g (Packet.Result sender attempt elected number) payload o =
       let survivors = survivors_in payload in
       let n = t.member.group.n in
-      if_elim Stays (sender.0 <? n and is_within survivors (all_of n))
-      (λ w. if_elim Stays (result_fits t attempt elected number survivors)
+      when_elim Stays (sender.0 <? n and is_within survivors (all_of n))
+      (λ w. when_elim Stays (result_fits t attempt elected number survivors)
       (λ f. result_stays attempt elected number survivors (eqb-true _ _ (both_then (sender.0 <? n) _ w)) (both_then (is_in survivors sender.0) _ o) f)
       (λ _. sound))
       (λ _. sound)
@@ -335,12 +335,12 @@ module _ (t : Terminal) (typed : Typed t) (sound : Sound t) where
       let obey = (askable h (length p - header_size) payload a.fields).obey in
       let right : memberProofs.Right m = (typed.member, sound.member) in
       let x = read_heard memberProofs.Right (λ m r. r.0) (λ m r. r.1) m right (Reading.Fields h) payload (λ h' q. memberProofs.read_keepable m p most right h' (e ∙ q)) in
-      if_elim Stays (from_elected m.group (content_of h))
-      (λ u. if_elim Stays (of_reset (content_of h))
-      (λ _. if_elim Stays (terminal_sound t)
-      (λ _. if_elim Stays (h.group =? m.group.number) (λ _. reset_stays h.group (content_of h) payload (rw c obey)) (λ _. sound))
+      when_elim Stays (from_elected m.group (content_of h))
+      (λ u. when_elim Stays (of_reset (content_of h))
+      (λ _. when_elim Stays (terminal_sound t)
+      (λ _. when_elim Stays (h.group =? m.group.number) (λ _. reset_stays h.group (content_of h) payload (rw c obey)) (λ _. sound))
       (λ _. sound))
-      (λ _. if_elim Stays (h.group =? m.group.number and (if t.reset.replied then false else true))
+      (λ _. when_elim Stays (h.group =? m.group.number and (when t.reset.replied then false else true))
       (λ g.
       let ours = both_first (h.group =? m.group.number) _ g in
       heard_stays (content_of h) payload

@@ -6,7 +6,7 @@ use Prim.Native.Nat.{ℕ, ◌≤◌}
 use native.Mathlib.Omega.{arith}
 use borrow.Author.Tests.{leb-true, eqb-true, eqb-false, eq-eqb}
 use lib.ListN.{length}
-use Rattle.group.specs.Choice.{if◌then◌else◌, ◌and◌, ◌≤?◌, ◌=?◌}
+use Rattle.group.specs.Choice.{when◌then◌else◌, ◌and◌, ◌≤?◌, ◌=?◌}
 use Rattle.group.specs.Limits.{held_most, waiting_most, places_most}
 use Rattle.group.proofs.Choice.{both_first, both_then}
 use Rattle.group.proofs.Lists.{eq_or}
@@ -128,10 +128,10 @@ parts_in d (seen t) = d
 parts_in d (odd s) = s
 
 pub view_whole : ViewWhole
-unfolding view_of if◌then◌else◌ is_seen terminal_in parts_in
+unfolding view_of when◌then◌else◌ is_seen terminal_in parts_in
 view_whole s t a b e = go (flags_sound s.head) (flags_sound t.head) refl refl e
   where
-    go : (x y : Bool) → flags_sound s.head ≡ x → flags_sound t.head ≡ y → (if x then seen (terminal_of s) else odd s) ≡ (if y then seen (terminal_of t) else odd t) → s ≡ t
+    go : (x y : Bool) → flags_sound s.head ≡ x → flags_sound t.head ≡ y → (when x then seen (terminal_of s) else odd s) ≡ (when y then seen (terminal_of t) else odd t) → s ≡ t
     go true true f g h = whole_seen s t a b (flags_of s.head f) (flags_of t.head g) (ap (terminal_in (terminal_of s)) h)
     go true false f g h = absurd (false≢true (sym (ap is_seen h)))
     go false true f g h = absurd (false≢true (ap is_seen h))

@@ -7,10 +7,10 @@ use Prim.Native.Nat.{ℕ, ◌+◌, ◌-◌, ◌≤◌}
 use native.Mathlib.Omega.{arith}
 use borrow.Author.Tests.{eq-eqb}
 use lib.ListN.{length, drop}
-use Rattle.group.proofs.Choice.{if_true, if_false, if_was, both_hold, both_first, both_then}
-use Rattle.group.proofs.Lists.{if_elim, judged_elim}
+use Rattle.group.proofs.Choice.{when_true, when_false, when_was, both_hold, both_first, both_then}
+use Rattle.group.proofs.Lists.{when_elim, judged_elim}
 use Rattle.group.proofs.Question.{accepted≢, judged_ask, judged_append, judged_same}
-use Rattle.group.specs.Choice.{if◌then◌else◌, ask◌or◌then◌, ◌and◌, ◌<?◌, ◌≤?◌, ◌=?◌}
+use Rattle.group.specs.Choice.{when◌then◌else◌, ask◌or◌then◌, ◌and◌, ◌<?◌, ◌≤?◌, ◌=?◌}
 use Rattle.group.specs.Limits.{places_most, longest_packet, largest_number}
 use Rattle.group.specs.Question.{Question, first_no, judged}
 use Rattle.group.specs.declared.MemberNumber.{MemberNumber}
@@ -42,15 +42,15 @@ use Rattle.recovery.specs.State.{Terminal, serves, reply_number}
 use Rattle.recovery.proofs.Keeping.{Sound, sound_of_lem, of_sound}
 
 -- what follows a question need only be the same where its answer is yes
-ask_same : (b : Bool) {x y : sequencer.Outcome} (z : sequencer.Outcome) → (b ≡ true → x ≡ y) → (if b then x else z) ≡ (if b then y else z)
-unfolding if◌then◌else◌
+ask_same : (b : Bool) {x y : sequencer.Outcome} (z : sequencer.Outcome) → (b ≡ true → x ≡ y) → (when b then x else z) ≡ (when b then y else z)
+unfolding when◌then◌else◌
 ask_same true z f = f refl
 ask_same false z f = refl
 
 -- a packet of the sequencer's group goes down the questions behind 6 and 7
 content_asked : (s : Sequencer) (payload : List ℕ) (h : Header) → known_kind h.kind ≡ true → from_elected s.group (content_of h) ≡ true
     → sequencer.content_step s (content_of h) payload ≡ judged (first_no (drop 2 (sequencerLaws.fields_questions s h))) (sequencer.refused s) (accepted_step s (content_of h) payload)
-unfolding sequencer.read_step content_of first_no if◌then◌else◌
+unfolding sequencer.read_step content_of first_no when◌then◌else◌
 content_asked s payload h known named =
     let ours : Header = record { kind = h.kind; member = h.member; group = s.group.number; a = h.a; b = h.b; c = h.c } in
     rw (named, eq-eqb s.group.number s.group.number refl) at (fields_asked s payload ours known)
@@ -58,7 +58,7 @@ content_asked s payload h known named =
 abbrev last_questions : Terminal → Header → List Question
 last_questions t h =
     record { yes = from_elected t.sequencer.group (content_of h); refusal = Refusal.ForbiddenFields }
-    ∷ record { yes = h.group =? t.sequencer.group.number and (if t.frozen then of_reset (content_of h) else true); refusal = Refusal.OtherGroup }
+    ∷ record { yes = h.group =? t.sequencer.group.number and (when t.frozen then of_reset (content_of h) else true); refusal = Refusal.OtherGroup }
     ∷ drop 2 (sequencerLaws.fields_questions t.sequencer h)
 
 step_asked : (t : Terminal) (payload : List ℕ) (h : Header) → known_kind h.kind ≡ true
@@ -67,10 +67,10 @@ unfolding ordered_step
 step_asked t payload h known =
     let s : Sequencer = t.sequencer in
     let step = accepted_step s (content_of h) payload in
-    let ours = h.group =? s.group.number and (if t.frozen then of_reset (content_of h) else true) in
+    let ours = h.group =? s.group.number and (when t.frozen then of_reset (content_of h) else true) in
     let rest = drop 2 (sequencerLaws.fields_questions s h) in
     ask_same (from_elected s.group (content_of h)) (sequencer.refused s Refusal.ForbiddenFields)
-    (λ named. ap (λ (o : sequencer.Outcome). if ours then o else sequencer.refused s Refusal.OtherGroup) (content_asked s payload h known named)
+    (λ named. ap (λ (o : sequencer.Outcome). when ours then o else sequencer.refused s Refusal.OtherGroup) (content_asked s payload h known named)
     ∙ judged_ask (sequencer.refused s) step ours Refusal.OtherGroup rest)
     ∙ judged_ask (sequencer.refused s) step (from_elected s.group (content_of h)) Refusal.ForbiddenFields (record { yes = ours; refusal = Refusal.OtherGroup } ∷ rest)
 
@@ -78,8 +78,8 @@ step_asked t payload h known =
 known_kind_lem : (p : List ℕ) → first_no (read_questions p) ≡ Verdict.Accepted → known_kind (header_of p).kind ≡ true
 unfolding first_no
 known_kind_lem p e =
-    let a = if_was _ _ _ Verdict.Accepted e (accepted≢ Refusal.PacketSize) in
-    (if_was _ _ _ Verdict.Accepted a.1 (accepted≢ Refusal.UnknownKind)).0
+    let a = when_was _ _ _ Verdict.Accepted e (accepted≢ Refusal.PacketSize) in
+    (when_was _ _ _ Verdict.Accepted a.1 (accepted≢ Refusal.UnknownKind)).0
 
 read_judged : (t : Terminal) (v : Verdict) (h : Header) (payload : List ℕ)
     → ordered_step t (judged v Reading.Refused (Reading.Fields h)) payload ≡ judged v (sequencer.refused t.sequencer) (ordered_step t (Reading.Fields h) payload)
@@ -131,9 +131,9 @@ module _ (s : Sequencer) where
   request_group : (s' : Sequencer) → s'.group ≡ s.group → (m : MemberNumber) (count : ℕ) (payload : List ℕ) → Grouped (sequencer.request_of s' m count payload)
   unfolding sequencer.request_of sequencer.old_of sequencer.again_of sequencer.full_of sequencer.numbered_of sequencer.answered sequencer.repeated_of sequencer.with_message
   request_group s' e m count payload =
-      if_elim Grouped (count <? last_count s' m) (λ _. e)
-      (λ _. if_elim Grouped (count =? last_count s' m) (λ _. if_elim Grouped (find_of s'.history m count s'.floor.0 (s'.top.0 - s'.floor.0) =? 0) (λ _. e) (λ _. e))
-      (λ _. if_elim Grouped (s'.top.0 - s'.floor.0 =? places_most) (λ _. e) (λ _. e)))
+      when_elim Grouped (count <? last_count s' m) (λ _. e)
+      (λ _. when_elim Grouped (count =? last_count s' m) (λ _. when_elim Grouped (find_of s'.history m count s'.floor.0 (s'.top.0 - s'.floor.0) =? 0) (λ _. e) (λ _. e))
+      (λ _. when_elim Grouped (s'.top.0 - s'.floor.0 =? places_most) (λ _. e) (λ _. e)))
 
   content_group : (content : Packet) (payload : List ℕ) → Grouped (sequencer.content_step s content payload)
   unfolding sequencer.content_step sequencer.gap_of sequencer.confirm_of sequencer.settled_of sequencer.answered sequencer.with_mark sequencer.with_accepted note_of with_table
@@ -143,26 +143,26 @@ module _ (s : Sequencer) where
   content_group (Packet.Broadcast originator number count floor) payload = refl
   content_group (Packet.Gap sender taken first last) payload =
       judged_elim Grouped (sender_verdict s.group.survivors s.accepted.0 sender taken) (λ _ _. refl)
-      (λ _. judged_elim Grouped (wanted_verdict s.top.0 last) (λ _ _. refl) (λ _. if_elim Grouped (last.0 ≤? (note_of s sender taken).floor.0) (λ _. refl) (λ _. refl)))
+      (λ _. judged_elim Grouped (wanted_verdict s.top.0 last) (λ _ _. refl) (λ _. when_elim Grouped (last.0 ≤? (note_of s sender taken).floor.0) (λ _. refl) (λ _. refl)))
   content_group (Packet.Status sender taken) payload = judged_elim Grouped (sender_verdict s.group.survivors s.accepted.0 sender taken) (λ _ _. refl) (λ _. refl)
   content_group (Packet.Poll elected top floor) payload = refl
   content_group (Packet.Offer originator number count floor) payload = refl
   content_group (Packet.Confirm sender number) payload =
       judged_elim Grouped (sender_verdict s.group.survivors s.top.0 sender number) (λ _ _. refl)
       (λ _. judged_elim Grouped (expected_verdict s.group s.accepted.0 sender number) (λ _ _. refl)
-      (λ _. if_elim Grouped (number.0 ≤? s.accepted.0) (λ _. refl) (λ _. if_elim Grouped (sequencer.enough_in (sequencer.with_mark s sender number) =? 0) (λ _. refl) (λ _. refl))))
+      (λ _. when_elim Grouped (number.0 ≤? s.accepted.0) (λ _. refl) (λ _. when_elim Grouped (sequencer.enough_in (sequencer.with_mark s sender number) =? 0) (λ _. refl) (λ _. refl))))
   content_group (Packet.Accept elected number) payload = refl
   content_group (Packet.Invitation sender attempt) payload = refl
   content_group (Packet.Reply sender attempt number) payload = refl
   content_group (Packet.Result sender attempt elected number) payload = refl
 
 frozen_step : (t : Terminal) → t.frozen ≡ true → (r : Reading) (payload : List ℕ) → (ordered_step t r payload).sequencer ≡ t.sequencer
-unfolding ordered_step sequencer.answered if◌then◌else◌
+unfolding ordered_step sequencer.answered when◌then◌else◌
 frozen_step t f (Reading.Refused refusal) payload = refl
 frozen_step t f (Reading.Fields h) payload =
     let P : sequencer.Outcome → Type 0 = λ o. o.sequencer ≡ t.sequencer in
-    if_elim P (from_elected t.sequencer.group (content_of h))
-    (λ _. if_elim P (h.group =? t.sequencer.group.number and (if t.frozen then of_reset (content_of h) else true))
+    when_elim P (from_elected t.sequencer.group (content_of h))
+    (λ _. when_elim P (h.group =? t.sequencer.group.number and (when t.frozen then of_reset (content_of h) else true))
     (λ x.
     let y = both_then (h.group =? t.sequencer.group.number) _ x in
     ap (λ (o : sequencer.Outcome). o.sequencer) (reset_other t.sequencer (content_of h) payload (rw f at y))) (λ _. refl))
@@ -172,18 +172,18 @@ pub ordered_group : (t : Terminal) (r : Reading) (payload : List ℕ) → (order
 unfolding ordered_step sequencer.answered
 ordered_group t (Reading.Refused refusal) payload = refl
 ordered_group t (Reading.Fields h) payload =
-    if_elim (Grouped t.sequencer) (from_elected t.sequencer.group (content_of h))
-    (λ _. if_elim (Grouped t.sequencer) (h.group =? t.sequencer.group.number and (if t.frozen then of_reset (content_of h) else true)) (λ _. content_group t.sequencer (content_of h) payload) (λ _. refl))
+    when_elim (Grouped t.sequencer) (from_elected t.sequencer.group (content_of h))
+    (λ _. when_elim (Grouped t.sequencer) (h.group =? t.sequencer.group.number and (when t.frozen then of_reset (content_of h) else true)) (λ _. content_group t.sequencer (content_of h) payload) (λ _. refl))
     (λ _. refl)
 
 and_yes : (b : Bool) → (b and true) ≡ b
-unfolding if◌then◌else◌
+unfolding when◌then◌else◌
 and_yes true = refl
 and_yes false = refl
 
 awake_test : (t : Terminal) → t.frozen ≡ false → (h : Header)
-    → (h.group =? t.sequencer.group.number and (if t.frozen then of_reset (content_of h) else true)) ≡ (h.group =? t.sequencer.group.number)
-unfolding if◌then◌else◌
+    → (h.group =? t.sequencer.group.number and (when t.frozen then of_reset (content_of h) else true)) ≡ (h.group =? t.sequencer.group.number)
+unfolding when◌then◌else◌
 awake_test t f h = rw f (and_yes (h.group =? t.sequencer.group.number))
 
 pub awake_step : (t : Terminal) → t.frozen ≡ false → (r : Reading) (payload : List ℕ) → ordered_step t r payload ≡ sequencer.read_step t.sequencer r payload
@@ -191,7 +191,7 @@ unfolding ordered_step sequencer.read_step
 awake_step t f (Reading.Refused refusal) payload = refl
 awake_step t f (Reading.Fields h) payload =
     let s : Sequencer = t.sequencer in
-    ap (λ (b : Bool). if from_elected s.group (content_of h) then (if b then sequencer.content_step s (content_of h) payload else sequencer.refused s Refusal.OtherGroup) else sequencer.refused s Refusal.ForbiddenFields)
+    ap (λ (b : Bool). when from_elected s.group (content_of h) then (when b then sequencer.content_step s (content_of h) payload else sequencer.refused s Refusal.OtherGroup) else sequencer.refused s Refusal.ForbiddenFields)
     (awake_test t f h)
 
 -- what a terminal's sequencer is left as: frozen, as it was; else as the sequencer's own call leaves it
@@ -231,7 +231,7 @@ not_serving t sound f r false e = refl
 
 awake_keeps : (t : Terminal) (packet : List ℕ) (room : ℕ) → (header_of packet).b ≤ largest_number → Typed t → t.sequencing ≡ true → Sound t → t.frozen ≡ false
     → terminal_sound (with_sequencer t (left t packet room).sequencer) ≡ true
-unfolding sequencer_sound if◌then◌else◌ reply_number
+unfolding sequencer_sound when◌then◌else◌ reply_number
 awake_keeps t packet room most typed sequencing sound f =
     let s' : Sequencer = (left t packet room).sequencer in
     let group = group_left t packet room in
@@ -246,10 +246,10 @@ awake_keeps t packet room most typed sequencing sound f =
       member = sound.member;
       kept = sound.kept;
       reset = sound.reset;
-      sequencer = sym (if_true t.sequencing true _ _ sequencing (sym (both_hold (sequencerCalls.sound_of s') _ ok size)));
+      sequencer = sym (when_true t.sequencing true _ _ sequencing (sym (both_hold (sequencerCalls.sound_of s') _ ok size)));
       number_is = λ r.
           let out = not_serving t sound f r (serves t) refl in
-          sound.number_is r ∙ sym (if_false (serves t) _ t.sequencer.top.0 _ out refl) ∙ if_false (serves (with_sequencer t s')) _ s'.top.0 _ (same ∙ out) refl;
+          sound.number_is r ∙ sym (when_false (serves t) _ t.sequencer.top.0 _ out refl) ∙ when_false (serves (with_sequencer t s')) _ s'.top.0 _ (same ∙ out) refl;
       freezes = λ r x. absurd (false≢true (sym (not_serving t sound f r (serves t) refl) ∙ sym same ∙ x));
     })
 

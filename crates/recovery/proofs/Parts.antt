@@ -5,7 +5,7 @@ use mathlib.Core.Bool.{Bool, true, false, false≢true}
 use mathlib.Core.List.{List, []}
 use Prim.Native.Nat.{ℕ, ◌≤◌}
 use lib.ListN.{length}
-use Rattle.group.specs.Choice.{if◌then◌else◌, ◌and◌, ◌≤?◌}
+use Rattle.group.specs.Choice.{when◌then◌else◌, ◌and◌, ◌≤?◌}
 use Rattle.group.specs.Lent.{front}
 use Rattle.group.specs.Limits.{members_most, longest_packet}
 use Rattle.group.specs.Members.{group_sound}
@@ -13,7 +13,7 @@ use Rattle.group.specs.Question.{judged}
 use Rattle.group.specs.declared.Refusal.{Refusal}
 use Rattle.group.specs.declared.SequenceNumber.{SequenceNumber}
 use Rattle.group.specs.declared.Verdict.{Verdict}
-use Rattle.group.proofs.Choice.{if_true, if_false, both_hold, both_first, both_then}
+use Rattle.group.proofs.Choice.{when_true, when_false, both_hold, both_first, both_then}
 use Rattle.window.specs.Sound.{frame_sound}
 use Rattle.member.specs.Calls as member
 use Rattle.member.proofs.Leaving.{repeat_leaves, status_leaves}
@@ -40,7 +40,7 @@ use Rattle.recovery.specs.declared.Head.{Head}
 use Rattle.recovery.specs.View.{Stored, View, seen, odd, member_in, sequencer_in, kept_in, reset_in, terminal_of, flags_sound, view_of}
 
 and_true : (b x : Bool) → x ≡ true → b and x ≡ b
-unfolding if◌then◌else◌
+unfolding when◌then◌else◌
 and_true true x e = e
 and_true false x e = refl
 
@@ -91,11 +91,11 @@ module _ (s : Stored) where
   -- a terminal is seen where the flags are sound
   seen_as : flags_sound s.head ≡ true → view_of s ≡ seen (terminal_of s)
   unfolding view_of
-  seen_as f = sym (if_true (flags_sound s.head) _ _ _ f refl)
+  seen_as f = sym (when_true (flags_sound s.head) _ _ _ f refl)
 
   odd_as : flags_sound s.head ≡ false → view_of s ≡ odd s
   unfolding view_of
-  odd_as f = sym (if_false (flags_sound s.head) _ _ _ f refl)
+  odd_as f = sym (when_false (flags_sound s.head) _ _ _ f refl)
 
   flags_of : beside ≡ true → flags_sound s.head ≡ true
   unfolding beside_sound
@@ -106,7 +106,7 @@ module _ (s : Stored) where
   unfolding beside_sound call_verdict member_sound member.call_verdict terminal_of memberView.view_of reset_sound
   same_verdict room e =
       let rest = both_then (s.head.member.group.n ≤? members_most) _ (both_then (flags_sound s.head) _ e) in
-      ap (λ (b : Bool). if b then (if longest_packet ≤? room then Verdict.Accepted else Verdict.Refused Refusal.ShortOutput) else Verdict.Refused Refusal.UnsoundState)
+      ap (λ (b : Bool). when b then (when longest_packet ≤? room then Verdict.Accepted else Verdict.Refused Refusal.ShortOutput) else Verdict.Refused Refusal.UnsoundState)
       (and_true (memberSoundness.sound_of (memberView.view_of (member_in s))) _ rest)
 
   -- and else the end's say no
@@ -128,7 +128,7 @@ module _ (s : Stored) where
 pub unsound_judged : (t : Terminal) (room : ℕ) (o : Outcome) → member_sound t ≡ false → judged (call_verdict t room) (refused t) o ≡ refused t Refusal.UnsoundState
 unfolding call_verdict judged
 unsound_judged t room o e =
-    ap (λ (v : Verdict). judged v (refused t) o) (sym (if_false (member_sound t) _ _ _ e refl))
+    ap (λ (v : Verdict). judged v (refused t) o) (sym (when_false (member_sound t) _ _ _ e refl))
 
 member_left : (s : Stored) (m : memberView.Stored) (o : member.Outcome) → memberView.view_of m ≡ o.member
     → terminal_of (with_member_parts s m) ≡ (carried (terminal_of s) (terminal_of s).kept o).terminal

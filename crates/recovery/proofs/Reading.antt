@@ -6,12 +6,12 @@ use Prim.Native.Nat.{ℕ, zero, suc, ◌+◌, ◌-◌, ◌%◌, ◌≤◌, ◌<�
 use native.Mathlib.Omega.{arith}
 use borrow.Author.Tests.{le-ltb, lt-leb}
 use lib.ListN.{length, get_or}
-use Rattle.group.specs.Choice.{if◌then◌else◌, ◌and◌, ◌<?◌, ◌≤?◌, ◌=?◌}
+use Rattle.group.specs.Choice.{when◌then◌else◌, ◌and◌, ◌<?◌, ◌≤?◌, ◌=?◌}
 use Rattle.group.specs.Fold.{all, all_above}
 use Rattle.group.specs.Limits.{places_most, payload_most}
 use Rattle.group.specs.Members.{is_in}
 use Rattle.group.specs.declared.Group.{Group}
-use Rattle.group.proofs.Choice.{if_false, then_fails, if_eq, if_true_of, if_false_of}
+use Rattle.group.proofs.Choice.{when_false, then_fails, when_eq, when_true_of, when_false_of}
 use Rattle.group.proofs.Fold.{all_at, at_all, above_each, above_all}
 use Rattle.group.proofs.Lists.{eq_or}
 use Rattle.group.proofs.Members.{in_zero}
@@ -36,7 +36,7 @@ kept_past n counts m = rw (count_own counts m.originator.0)
 
 pub places_past : (n taken : ℕ) (kept : Kept) → place_sound n (counts_only kept.counts) kept.past taken ≡ past_place_sound n taken kept
 unfolding place_sound past_place_sound
-places_past n taken kept = λ i number. if number ≤? taken then kept_past n kept.counts (message_at kept.past number) i else is_empty (message_at kept.past number)
+places_past n taken kept = λ i number. when number ≤? taken then kept_past n kept.counts (message_at kept.past number) i else is_empty (message_at kept.past number)
 
 -- a test that holds exactly if another does
 both_ways : (a b : Bool) → (a ≡ true → b ≡ true) → (b ≡ true → a ≡ true) → a ≡ b
@@ -63,7 +63,7 @@ abbrev pub nobody : Group
 nobody = record { n = 0; resilience = 0; survivors = 0; elected = record { 0 = 0 }; number = 0 }
 
 swap : (a b c : Bool) → a and b and c ≡ a and c and b
-unfolding if◌then◌else◌
+unfolding when◌then◌else◌
 swap true true true = refl
 swap true true false = refl
 swap true false true = refl
@@ -73,8 +73,8 @@ swap false b c = refl
 no_entry : (i : ℕ) (a : Acknowledgement) → entry_sound nobody 0 i a ≡ (a.taken.0 =? 0 and a.count =? 0 and a.repeats =? 0)
 unfolding entry_sound
 no_entry i a =
-    sym (if_false (is_in 0 i) _ _ _ (nobody_in (is_in 0 i) (in_zero i)) refl)
-    ∙ ap (λ (x : Bool). a.taken.0 =? 0 and a.repeats =? 0 and x) (sym (if_false (i <? 0) _ true _ (le-ltb i 0 (omega arith)) refl))
+    sym (when_false (is_in 0 i) _ _ _ (nobody_in (is_in 0 i) (in_zero i)) refl)
+    ∙ ap (λ (x : Bool). a.taken.0 =? 0 and a.repeats =? 0 and x) (sym (when_false (i <? 0) _ true _ (le-ltb i 0 (omega arith)) refl))
     ∙ swap (a.taken.0 =? 0) (a.repeats =? 0) (a.count =? 0)
   where
     nobody_in : (b : Bool) → (b ≡ true → ⊥) → b ≡ false
@@ -86,11 +86,11 @@ no_entries table = ap (λ (test : ℕ → Acknowledgement → Bool). all test 0 
 
 empty_place : (table : List Acknowledgement) (history : List Message) (s : ℕ) → (s ≤? 0) ≡ false → place_sound 0 table history 0 s ≡ is_empty (message_at history s)
 unfolding place_sound
-empty_place table history s e = sym (if_false (s ≤? 0) _ _ _ e refl)
+empty_place table history s e = sym (when_false (s ≤? 0) _ _ _ e refl)
 
 no_mark : (marks : List ℕ) (s : ℕ) → (s ≤? 0) ≡ false → mark_sound 0 marks 0 0 s ≡ (get_or marks (place_of s) 0 =? 0)
 unfolding mark_sound
-no_mark marks s e = sym (if_false (0 <? s and s ≤? 0) _ _ _ (then_fails (0 <? s) (s ≤? 0) e) refl)
+no_mark marks s e = sym (when_false (0 <? s and s ≤? 0) _ _ _ (then_fails (0 <? s) (s ≤? 0) e) refl)
 
 pub no_history : (table : List Acknowledgement) (history : List Message) → length history ≡ places_most
     → all_above (place_sound 0 table history 0) 0 places_most ≡ all (λ i m. is_empty m) 0 history
@@ -102,7 +102,7 @@ no_marks marks size = places_each (λ mark. mark =? 0) 0 marks size (mark_sound 
 
 -- a sequencer that is not there, test by test as the code asks it
 five : (a b c d e r : Bool) → (a and b and c and d and e) and r ≡ a and b and c and d and e and r
-unfolding if◌then◌else◌
+unfolding when◌then◌else◌
 five true true true true true r = refl
 five true true true true false r = refl
 five true true true false e r = refl
@@ -143,20 +143,20 @@ module _ (head : Head) (taken counts repeats kept marks originators lengths payl
       (floor-zero : head.floor.0 ≡ 0) (e-is : e ≡ all (entry_sound nobody 0) 0 (table_in taken counts repeats)) where
     past_head : {r x : Bool} → e ≡ true → r ≡ x → r ≡ group_zero head.group and head.top.0 =? 0 and head.accepted.0 =? 0 and head.floor.0 =? 0 and all (entry_sound nobody 0) 0 (table_in taken counts repeats) and x
     past_head h d =
-        if_true_of _ g _ _ _ g-is g-holds (if_eq _ _ _ _ _ top-zero (if_eq _ _ _ _ _ accepted-zero (if_eq _ _ _ _ _ floor-zero (if_true_of _ e _ _ _ e-is h d))))
+        when_true_of _ g _ _ _ g-is g-holds (when_eq _ _ _ _ _ top-zero (when_eq _ _ _ _ _ accepted-zero (when_eq _ _ _ _ _ floor-zero (when_true_of _ e _ _ _ e-is h d))))
 
     pub zero_entries : e ≡ false → false ≡ zero_sequencer (view_of (whole head taken counts repeats kept marks originators lengths payloads))
     zero_entries h =
-        let z : false ≡ asks_zero head taken counts repeats kept marks originators lengths payloads = if_true_of _ g _ _ _ g-is g-holds (if_eq _ _ _ _ _ top-zero (if_eq _ _ _ _ _ accepted-zero (if_eq _ _ _ _ _ floor-zero (if_false_of _ e _ _ _ e-is h refl)))) in
+        let z : false ≡ asks_zero head taken counts repeats kept marks originators lengths payloads = when_true_of _ g _ _ _ g-is g-holds (when_eq _ _ _ _ _ top-zero (when_eq _ _ _ _ _ accepted-zero (when_eq _ _ _ _ _ floor-zero (when_false_of _ e _ _ _ e-is h refl)))) in
         z ∙ zero_as
 
     module _ {h : Bool} (e-holds : e ≡ true) (h-is : h ≡ all_above (place_sound 0 (counts_only counts) (messages_in kept originators lengths payloads) 0) 0 places_most) where
       pub zero_history : h ≡ false → false ≡ zero_sequencer (view_of (whole head taken counts repeats kept marks originators lengths payloads))
       zero_history f =
-          let z : false ≡ asks_zero head taken counts repeats kept marks originators lengths payloads = past_head e-holds (if_false_of _ h _ _ _ h-is f refl) in
+          let z : false ≡ asks_zero head taken counts repeats kept marks originators lengths payloads = past_head e-holds (when_false_of _ h _ _ _ h-is f refl) in
           z ∙ zero_as
 
       pub zero_marks : {r : Bool} → h ≡ true → r ≡ all_above (mark_sound 0 marks 0 0) 0 places_most → r ≡ zero_sequencer (view_of (whole head taken counts repeats kept marks originators lengths payloads))
       zero_marks {r} f d =
-          let z : r ≡ asks_zero head taken counts repeats kept marks originators lengths payloads = past_head e-holds (if_true_of _ h _ _ _ h-is f d) in
+          let z : r ≡ asks_zero head taken counts repeats kept marks originators lengths payloads = past_head e-holds (when_true_of _ h _ _ _ h-is f d) in
           z ∙ zero_as

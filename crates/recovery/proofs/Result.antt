@@ -10,11 +10,11 @@ use borrow.Author.Tests.{leb-true, leb-false, ltb-true, eqb-true, eq-eqb}
 use lib.Bits.{bit_and}
 use lib.ListN.{length, get_or, set, replicate, length-set, length-replicate, get_or-replicate, get_or-eq_default}
 use lib.Seq.{get_or-set_same, get_or-set_other}
-use Rattle.group.proofs.Choice.{if_true, if_false, both_hold, both_first, both_then, says}
+use Rattle.group.proofs.Choice.{when_true, when_false, both_hold, both_first, both_then, says}
 use Rattle.group.proofs.Fold.{at_all}
-use Rattle.group.proofs.Lists.{if_elim, eq_or, le_or}
+use Rattle.group.proofs.Lists.{when_elim, eq_or, le_or}
 use Rattle.group.proofs.Members.{Standing, survivor_lt}
-use Rattle.group.specs.Choice.{if◌then◌else◌, ◌and◌, ◌≤?◌, ◌=?◌}
+use Rattle.group.specs.Choice.{when◌then◌else◌, ◌and◌, ◌≤?◌, ◌=?◌}
 use Rattle.group.specs.Fold.{all}
 use Rattle.group.specs.Limits.{members_most, places_most, held_most, largest_number}
 use Rattle.group.specs.Members.{is_in, is_within, all_of}
@@ -51,7 +51,7 @@ module _ (held : List Message) (number t : ℕ) (long : length held ≡ held_mos
   unfolding dropped_of
   dropped_length zero = long
   dropped_length (suc k) =
-      if_elim (λ (l : List Message). length l ≡ held_most) (t + suc k ≤? number) (λ _. dropped_length k)
+      when_elim (λ (l : List Message). length l ≡ held_most) (t + suc k ≤? number) (λ _. dropped_length k)
       (λ _. length-set (dropped_of held number t k) (window.place_of (t + suc k)) empty_message ∙ dropped_length k)
 
   -- each place is as it was, or empty
@@ -60,7 +60,7 @@ module _ (held : List Message) (number t : ℕ) (long : length held ≡ held_mos
   dropped_each P zero most s here gone = here
   dropped_each P (suc k) most s here gone =
       let l = dropped_length k in
-      if_elim (λ (x : List Message). P (window.message_at x s)) (t + suc k ≤? number) (λ _. dropped_each P k (omega arith) s here gone)
+      when_elim (λ (x : List Message). P (window.message_at x s)) (t + suc k ≤? number) (λ _. dropped_each P k (omega arith) s here gone)
       (λ _. eq_or (window.place_of s) (window.place_of (t + suc k))
       (λ q. subst (λ (i : ℕ). P (get_or (set (dropped_of held number t k) (window.place_of (t + suc k)) empty_message) i blank)) (sym q)
       (subst P (sym (get_or-set_same (dropped_of held number t k) (window.place_of (t + suc k)) empty_message blank (omega arith))) gone))
@@ -99,13 +99,13 @@ module _ (t : Terminal) (typed : Typed t) (sound : member.Sound t.member) (kept 
     (floor_fits : kept_floor t ≤ largest_number) where
   pub elected_sound : sequencer.Sound (elected_sequencer t group number)
   unfolding elected_sequencer reply_number
-  elected_sound = if_elim sequencer.Sound (serves t) from_sequencer from_member
+  elected_sound = when_elim sequencer.Sound (serves t) from_sequencer from_member
     where
       reply_top : serves t ≡ true → reply_number t ≡ t.sequencer.top.0
-      reply_top e = sym (if_true (serves t) _ _ _ e refl)
+      reply_top e = sym (when_true (serves t) _ _ _ e refl)
 
       reply_reach : serves t ≡ false → reply_number t ≡ reach_of t.member
-      reply_reach e = sym (if_false (serves t) _ _ _ e refl)
+      reply_reach e = sym (when_false (serves t) _ _ _ e refl)
 
       from_sequencer : serves t ≡ true → sequencer.Sound (begun group number t.sequencer.floor.0 (counts_in t.sequencer.acknowledgements) t.sequencer.history)
       from_sequencer e =

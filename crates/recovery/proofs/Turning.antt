@@ -9,10 +9,10 @@ use borrow.Author.Tests.{le-leb, lt-leb}
 use lib.Bits.{bit_or}
 use lib.ListN.{length, get_or, set, drop, take, replicate, drop_of_length-le}
 use lib.Seq.{drop-cons}
-use Rattle.group.specs.Choice.{if◌then◌else◌, ◌and◌, ◌≤?◌, ◌=?◌}
+use Rattle.group.specs.Choice.{when◌then◌else◌, ◌and◌, ◌≤?◌, ◌=?◌}
 use Rattle.group.specs.Limits.{places_most, held_most, payload_most}
 use Rattle.group.specs.Members.{is_in}
-use Rattle.group.proofs.Choice.{if_true, if_false, if_le, if_nle}
+use Rattle.group.proofs.Choice.{when_true, when_false, when_le, when_nle}
 use Rattle.message.specs.Message.{Message, blank, empty_message, padded}
 use Rattle.store.specs.Places.{messages_in, message_in, part_of, laid_at, Lies}
 use Rattle.store.proofs.Places.{part_size, part_length, message_in_lem, messages_laid}
@@ -35,15 +35,15 @@ before l j h = rw (drop-cons l j 0 h, add-one)
 
 -- the highest reply, from the last member down to the first
 highest_step : (repliers : ℕ) (l : List ℕ) (j : ℕ) → j < length l
-    → highest_of repliers j (drop j l) ≡ larger_of (if is_in repliers j then get_or l j 0 else 0) (highest_of repliers (j + 1) (drop (j + 1) l))
+    → highest_of repliers j (drop j l) ≡ larger_of (when is_in repliers j then get_or l j 0 else 0) (highest_of repliers (j + 1) (drop (j + 1) l))
 unfolding highest_of
 highest_step repliers l j h = rw (before l j h)
 
 pub highest_turn : (repliers : ℕ) (l : List ℕ) (i : ℕ) {most number r : ℕ} → 0 < i → i ≤ length l → most ≡ highest_of repliers i (drop i l)
-    → number ≡ (if is_in repliers (i - 1) then get_or l (i - 1) 0 else 0) → r ≡ larger_of number most → r ≡ highest_of repliers (i - 1) (drop (i - 1) l)
+    → number ≡ (when is_in repliers (i - 1) then get_or l (i - 1) 0 else 0) → r ≡ larger_of number most → r ≡ highest_of repliers (i - 1) (drop (i - 1) l)
 highest_turn repliers l i {most} {number} {r} h k em en er =
     let e : i - 1 + 1 ≡ i = omega arith in
-    er ∙ (λ z. larger_of (en z) (em z)) ∙ sym (highest_step repliers l (i - 1) (omega arith) ∙ ap (λ (x : ℕ). larger_of (if is_in repliers (i - 1) then get_or l (i - 1) 0 else 0) (highest_of repliers x (drop x l))) e)
+    er ∙ (λ z. larger_of (en z) (em z)) ∙ sym (highest_step repliers l (i - 1) (omega arith) ∙ ap (λ (x : ℕ). larger_of (when is_in repliers (i - 1) then get_or l (i - 1) 0 else 0) (highest_of repliers x (drop x l))) e)
 
 pub highest_end : (repliers : ℕ) (l : List ℕ) (i : ℕ) → length l ≤ i → 0 ≡ highest_of repliers i (drop i l)
 unfolding highest_of
@@ -51,17 +51,17 @@ highest_end repliers l i h = rw (drop_of_length-le l h)
 
 -- those that replied with a number, likewise
 holders_step : (repliers highest : ℕ) (l : List ℕ) (j : ℕ) → j < length l
-    → holders_of repliers highest j (drop j l) ≡ bit_or (if is_in repliers j and get_or l j 0 =? highest then 2 ^ j else 0) (holders_of repliers highest (j + 1) (drop (j + 1) l))
+    → holders_of repliers highest j (drop j l) ≡ bit_or (when is_in repliers j and get_or l j 0 =? highest then 2 ^ j else 0) (holders_of repliers highest (j + 1) (drop (j + 1) l))
 unfolding holders_of
 holders_step repliers highest l j h = rw (before l j h)
 
 pub holders_turn : (repliers highest : ℕ) (l : List ℕ) (i : ℕ) {found one : ℕ} → 0 < i → i ≤ length l → found ≡ holders_of repliers highest i (drop i l)
-    → one ≡ (if is_in repliers (i - 1) and get_or l (i - 1) 0 =? highest then 2 ^ (i - 1) else 0)
+    → one ≡ (when is_in repliers (i - 1) and get_or l (i - 1) 0 =? highest then 2 ^ (i - 1) else 0)
     → bit_or one found ≡ holders_of repliers highest (i - 1) (drop (i - 1) l)
 holders_turn repliers highest l i {found} {one} h k ef eo =
     let e : i - 1 + 1 ≡ i = omega arith in
     (λ z. bit_or (eo z) (ef z))
-    ∙ sym (holders_step repliers highest l (i - 1) (omega arith) ∙ ap (λ (x : ℕ). bit_or (if is_in repliers (i - 1) and get_or l (i - 1) 0 =? highest then 2 ^ (i - 1) else 0) (holders_of repliers highest x (drop x l))) e)
+    ∙ sym (holders_step repliers highest l (i - 1) (omega arith) ∙ ap (λ (x : ℕ). bit_or (when is_in repliers (i - 1) and get_or l (i - 1) 0 =? highest then 2 ^ (i - 1) else 0) (holders_of repliers highest x (drop x l))) e)
 
 pub holders_end : (repliers highest : ℕ) (l : List ℕ) (i : ℕ) → length l ≤ i → 0 ≡ holders_of repliers highest i (drop i l)
 unfolding holders_of
@@ -96,7 +96,7 @@ unfolding counted_row
 counts_begun counts held t = let e : t - t ≡ 0 = omega arith in rw e
 
 -- acknowledgements start
-pub starts_on : (taken₀ taken : List ℕ) (survivors floor i r : ℕ) → taken ≡ starts_of taken₀ survivors floor i → r ≡ (if is_in survivors i then floor else 0)
+pub starts_on : (taken₀ taken : List ℕ) (survivors floor i r : ℕ) → taken ≡ starts_of taken₀ survivors floor i → r ≡ (when is_in survivors i then floor else 0)
     → set taken i r ≡ starts_of taken₀ survivors floor (i + 1)
 unfolding starts_of
 starts_on taken₀ taken survivors floor i r e d = let z : suc i ≡ i + 1 = omega arith in (λ k. set (e k) i (d k)) ∙ ap (starts_of taken₀ survivors floor) z
@@ -139,7 +139,7 @@ module _ (past originators lengths payloads : List ℕ) (held : List Message) (t
   unfolding message_from
   from_past {x} l at p h size e =
       let m = message_in_lem past originators lengths payloads at (omega arith) in
-      e ∙ ap (λ (y : Message). set l at y) (sym m ∙ ap (λ (i : ℕ). get_or (messages_in past originators lengths payloads) i blank) p ∙ if_le number t _ _ _ h refl) ∙ ap (λ (i : ℕ). set l i (message_from (messages_in past originators lengths payloads) held t number)) p
+      e ∙ ap (λ (y : Message). set l at y) (sym m ∙ ap (λ (i : ℕ). get_or (messages_in past originators lengths payloads) i blank) p ∙ when_le number t _ _ _ h refl) ∙ ap (λ (i : ℕ). set l i (message_from (messages_in past originators lengths payloads) held t number)) p
 
 module _ (past : List Message) (held originators lengths payloads : List ℕ) (t number : ℕ) where
   pub from_held : {x : List Message} (l : List Message) (at place : ℕ) → at ≡ place_of (number + 0) → place ≡ history.place_of number → t < number → length held ≡ held_most
@@ -149,7 +149,7 @@ module _ (past : List Message) (held originators lengths payloads : List ℕ) (t
   from_held {x} l at place p q h size e =
       let m = message_in_lem held originators lengths payloads at (omega arith) in
       let z : number + 0 ≡ number = omega arith in
-      e ∙ ap (λ (y : Message). set l place y) (sym m ∙ ap (λ (i : ℕ). get_or (messages_in held originators lengths payloads) i blank) (p ∙ ap place_of z) ∙ if_nle number t _ _ _ h refl) ∙ ap (λ (i : ℕ). set l i (message_from past (messages_in held originators lengths payloads) t number)) q
+      e ∙ ap (λ (y : Message). set l place y) (sym m ∙ ap (λ (i : ℕ). get_or (messages_in held originators lengths payloads) i blank) (p ∙ ap place_of z) ∙ when_nle number t _ _ _ h refl) ∙ ap (λ (i : ℕ). set l i (message_from past (messages_in held originators lengths payloads) t number)) q
 
 filled_more : (kept₀ past held : List Message) (t floor k : ℕ)
     → set (filled_of kept₀ past held t floor k) (history.place_of (floor + suc k)) (message_from past held t (floor + suc k)) ≡ filled_of kept₀ past held t floor (suc k)
@@ -171,11 +171,11 @@ filled_begun kept past held t floor = let e : floor - floor ≡ 0 = omega arith 
 
 drop_more : (held₀ : List Message) (number t k : ℕ) → number < t + suc k → set (dropped_of held₀ number t k) (place_of (t + suc k)) empty_message ≡ dropped_of held₀ number t (suc k)
 unfolding dropped_of
-drop_more held₀ number t k h = if_nle (t + suc k) number _ _ _ h refl
+drop_more held₀ number t k h = when_nle (t + suc k) number _ _ _ h refl
 
 drop_less : (held₀ : List Message) (number t k : ℕ) → t + suc k ≤ number → dropped_of held₀ number t k ≡ dropped_of held₀ number t (suc k)
 unfolding dropped_of
-drop_less held₀ number t k h = if_le (t + suc k) number _ _ _ h refl
+drop_less held₀ number t k h = when_le (t + suc k) number _ _ _ h refl
 
 -- a held number above a number is dropped, another stays
 module _ (held₀ : List Message) (number t k : ℕ) {held : List Message} (c : held ≡ dropped_of held₀ number t k) where

@@ -2,7 +2,7 @@
 -- survivor.
 use Rattle.std.specs.Prelude.{Bool, true, false, List, [], ◌∷◌, ℕ, zero, suc, ◌+◌, ◌-◌, ◌^◌, set, replicate}
 use Rattle.std.specs.Int.Bits.{bit_or}
-use Rattle.group.specs.Choice.{if◌then◌else◌, ◌and◌, ◌≤?◌, ◌=?◌}
+use Rattle.group.specs.Choice.{when◌then◌else◌, ◌and◌, ◌≤?◌, ◌=?◌}
 use Rattle.group.specs.Limits.{members_most, places_most, held_most}
 use Rattle.group.specs.Members.{is_in, lowest}
 use Rattle.group.specs.declared.Group.{Group}
@@ -21,13 +21,13 @@ use Rattle.recovery.specs.State.{Reset, Terminal, no_reset, serves, kept_floor, 
 unfoldable pub highest_of : ℕ → ℕ → List ℕ → ℕ
 highest_of repliers i [] = 0
 highest_of repliers i (number ∷ rest) =
-    larger_of (if is_in repliers i then number else 0) (highest_of repliers (i + 1) rest)
+    larger_of (when is_in repliers i then number else 0) (highest_of repliers (i + 1) rest)
 
 -- those that replied with it
 unfoldable pub holders_of : ℕ → ℕ → ℕ → List ℕ → ℕ
 holders_of repliers highest i [] = 0
 holders_of repliers highest i (number ∷ rest) =
-    bit_or (if is_in repliers i and number =? highest then 2 ^ i else 0) (holders_of repliers highest (i + 1) rest)
+    bit_or (when is_in repliers i and number =? highest then 2 ^ i else 0) (holders_of repliers highest (i + 1) rest)
 
 -- the order ends at the highest reply, and the lowest member number among equals becomes sequencer
 abbrev pub cut_of : Reset → ℕ
@@ -45,7 +45,7 @@ made_group group number elected survivors =
 unfoldable pub table_from : ℕ → ℕ → ℕ → List ℕ → List Acknowledgement
 table_from survivors floor i [] = []
 table_from survivors floor i (count ∷ rest) =
-    record { taken = record { 0 = if is_in survivors i then floor else 0 }; count = count; repeats = 0 } ∷ table_from survivors floor (i + 1) rest
+    record { taken = record { 0 = when is_in survivors i then floor else 0 }; count = count; repeats = 0 } ∷ table_from survivors floor (i + 1) rest
 
 -- the last counts of a table
 unfoldable pub counts_in : List Acknowledgement → List ℕ
@@ -73,7 +73,7 @@ begun group number floor counts kept =
 -- the elected terminal's: from its group's sequencer, or else from its member
 unfoldable pub elected_sequencer : Terminal → Group → ℕ → Sequencer
 elected_sequencer t group number =
-    if serves t
+    when serves t
     then begun group number t.sequencer.floor.0 (counts_in t.sequencer.acknowledgements) t.sequencer.history
     else begun group number (kept_floor t) (counts_of t) (history_from t (kept_floor t) (reach_of t.member - kept_floor t))
 
@@ -86,7 +86,7 @@ unfoldable pub dropped_of : List Message → ℕ → ℕ → ℕ → List Messag
 dropped_of held number t zero = held
 dropped_of held number t (suc k) =
     let rest : List Message = dropped_of held number t k in
-    if t + suc k ≤? number then rest else without rest (t + suc k)
+    when t + suc k ≤? number then rest else without rest (t + suc k)
 
 -- a survivor's member: the new group's, all up to the number and none above are accepted, held ones above are dropped
 abbrev pub member_in : Member → Group → ℕ → Member
@@ -110,7 +110,7 @@ result_of t attempt elected number survivors =
       member = member_in t.member group number.0;
       kept = t.kept;
       reset = no_reset;
-      sequencing = if elected.0 =? t.member.number.0 then true else t.sequencing;
-      frozen = if elected.0 =? t.member.number.0 then false else t.frozen;
-      sequencer = if elected.0 =? t.member.number.0 then elected_sequencer t group number.0 else t.sequencer;
+      sequencing = when elected.0 =? t.member.number.0 then true else t.sequencing;
+      frozen = when elected.0 =? t.member.number.0 then false else t.frozen;
+      sequencer = when elected.0 =? t.member.number.0 then elected_sequencer t group number.0 else t.sequencer;
     }

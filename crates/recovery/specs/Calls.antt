@@ -3,7 +3,7 @@
 use Rattle.std.specs.Prelude.{Bool, true, false, List, [], ℕ, ◌+◌, ◌≤◌, length, set, replicate}
 use Rattle.std.specs.Int.Bits.{bit_or}
 use Rattle.std.specs.Int.Count.{ones}
-use Rattle.group.specs.Choice.{if◌then◌else◌, ask◌or◌then◌, ◌and◌, ◌<?◌, ◌≤?◌, ◌=?◌}
+use Rattle.group.specs.Choice.{when◌then◌else◌, ask◌or◌then◌, ◌and◌, ◌<?◌, ◌≤?◌, ◌=?◌}
 use Rattle.group.specs.Limits.{members_most, longest_packet}
 use Rattle.group.specs.Members.{only_of, is_in, is_within, all_of}
 use Rattle.group.specs.Question.{judged}
@@ -39,7 +39,7 @@ fresh_terminal n number resilience i =
       reset = no_reset;
       sequencing = i =? 0;
       frozen = false;
-      sequencer = if i =? 0 then (sequencer.fresh_of n number resilience).sequencer else no_sequencer;
+      sequencer = when i =? 0 then (sequencer.fresh_of n number resilience).sequencer else no_sequencer;
     }
 
 -- what a call of the member's end comes to, and one of the sequencer's
@@ -112,7 +112,7 @@ take_of t room =
     let next : ℕ = t.member.taken.0 + 1 in
     judged (call_verdict t room) (refused t)
     (carried t
-    (if member.is_ready t.member next then kept_took t.kept next (window.message_at t.member.held next) else t.kept)
+    (when member.is_ready t.member next then kept_took t.kept next (window.message_at t.member.held next) else t.kept)
     (member.take_of t.member room))
 
 -- the floor that a packet says; 0: none
@@ -162,7 +162,7 @@ is_refusal (Answer.Took number originator count more) = false
 -- the highest floor read: of a packet that no question refused
 unfoldable pub kept_read : Kept → Answer → ℕ → Kept
 kept_read kept answer floor =
-    if is_refusal answer then kept else
+    when is_refusal answer then kept else
     record { read = record { 0 = larger_of kept.read.0 floor }; past = kept.past; counts = kept.counts }
 
 -- what a packet of our group says to the member
@@ -212,12 +212,12 @@ invitation t attempt =
 
 -- its group's sequencer is frozen with a reply
 abbrev pub freezes : Terminal → Bool
-freezes t = if serves t then true else t.frozen
+freezes t = when serves t then true else t.frozen
 
 -- one reply more; each one's first counts
 unfoldable pub with_reply : Reset → MemberNumber → ℕ → Reset
 with_reply r sender number =
-    if is_in r.repliers sender.0 then r else
+    when is_in r.repliers sender.0 then r else
     record {
       replied = r.replied;
       attempt = r.attempt;
@@ -235,7 +235,7 @@ noted t bytes = record { terminal = t; answer = Answer.Noted; bytes = bytes }
 unfoldable pub invited_of : Terminal → MemberNumber → ℕ → Outcome
 invited_of t sender attempt =
     noted
-    (with_reset t (if sender.0 =? t.member.number.0 then replied t attempt else uninvited (replied t attempt)) (freezes t))
+    (with_reset t (when sender.0 =? t.member.number.0 then replied t attempt else uninvited (replied t attempt)) (freezes t))
     (packet_of (fields_of t.member.group.number (Packet.Reply t.member.number attempt (record { 0 = reply_number t }))) [])
 
 -- a result is of the last invitation replied to, with the receiver among its survivors, not below its reply, and, if it is elected, not
@@ -246,7 +246,7 @@ result_fits t attempt elected number survivors =
     and t.reset.attempt =? attempt
     and is_in survivors t.member.number.0
     and t.reset.number.0 ≤? number.0
-    and (if elected.0 =? t.member.number.0 then number.0 ≤? t.reset.number.0 else true)
+    and (when elected.0 =? t.member.number.0 then number.0 ≤? t.reset.number.0 else true)
 
 -- a packet of a reset under our group's number: questions 9 and 27
 unfoldable pub reset_step : Terminal → Packet → List ℕ → Outcome
@@ -274,11 +274,11 @@ reset_step t (Packet.Result sender attempt elected number) payload =
 unfoldable pub read_step : Terminal → Reading → List ℕ → Outcome
 read_step t (Fields h) payload =
     ask from_elected t.member.group (content_of h) or refused t Refusal.ForbiddenFields then
-    (if of_reset (content_of h)
+    (when of_reset (content_of h)
     then (ask terminal_sound t or refused t Refusal.UnsoundState then
     ask h.group =? t.member.group.number or refused t Refusal.OtherGroup then
     reset_step t (content_of h) payload)
-    else (ask (h.group =? t.member.group.number and (if t.reset.replied then false else true)) or refused t Refusal.OtherGroup then
+    else (ask (h.group =? t.member.group.number and (when t.reset.replied then false else true)) or refused t Refusal.OtherGroup then
     heard_of t (content_of h) payload))
 read_step t (Reading.Refused refusal) payload = refused t refusal
 
@@ -321,7 +321,7 @@ unfoldable pub ordered_step : Terminal → Reading → List ℕ → sequencer.Ou
 ordered_step t (Fields h) payload =
     let s : Sequencer = t.sequencer in
     ask from_elected s.group (content_of h) or sequencer.refused s Refusal.ForbiddenFields then
-    ask (h.group =? s.group.number and (if t.frozen then of_reset (content_of h) else true)) or sequencer.refused s Refusal.OtherGroup then
+    ask (h.group =? s.group.number and (when t.frozen then of_reset (content_of h) else true)) or sequencer.refused s Refusal.OtherGroup then
     sequencer.content_step s (content_of h) payload
 ordered_step t (Reading.Refused refusal) payload = sequencer.refused t.sequencer refusal
 

@@ -1,7 +1,7 @@
 -- What is proved of a terminal's meaning. `proofs/` has a proof of each statement.
 use Rattle.std.specs.Prelude.{◌≡◌, Bool, true, false, List, [], ◌∷◌, ◌++◌, ℕ, ◌^◌, ◌≤◌, ◌<◌, length, get_or, drop}
 use Rattle.std.specs.Int.Count.{ones}
-use Rattle.group.specs.Choice.{if◌then◌else◌, ◌and◌, ◌<?◌, ◌≤?◌, ◌=?◌}
+use Rattle.group.specs.Choice.{when◌then◌else◌, ◌and◌, ◌<?◌, ◌≤?◌, ◌=?◌}
 use Rattle.group.specs.Limits.{members_most, places_most, payload_most, waiting_most, longest_packet, largest_number}
 use Rattle.group.specs.Members.{is_within, all_of}
 use Rattle.group.specs.Question.{Question, first_no}
@@ -50,18 +50,18 @@ is_reset kind = invitation_kind ≤? kind
 -- question 27 of a packet's fields: of a reply and of a result
 abbrev pub attempt_fits : Terminal → Header → List ℕ → Bool
 attempt_fits t h payload =
-    if h.kind =? reply_kind then (t.reset.inviting and t.reset.invited =? h.a) else
-    if h.kind =? result_kind then result_fits t h.a (record { 0 = h.b }) (record { 0 = h.c }) (survivors_in payload) else
+    when h.kind =? reply_kind then (t.reset.inviting and t.reset.invited =? h.a) else
+    when h.kind =? result_kind then result_fits t h.a (record { 0 = h.b }) (record { 0 = h.c }) (survivors_in payload) else
     true
 
 -- questions 6 of byte 1, of a reset 1 of the whole terminal, 7 to 9, and 27, of a packet's fields
 abbrev pub fields_questions : Terminal → Header → List ℕ → List Question
 fields_questions t h payload =
     record { yes = from_elected t.member.group (content_of h); refusal = Refusal.ForbiddenFields }
-    ∷ record { yes = if is_reset h.kind then terminal_sound t else true; refusal = Refusal.UnsoundState }
-    ∷ record { yes = if is_reset h.kind then h.group =? t.member.group.number else (h.group =? t.member.group.number and (if t.reset.replied then false else true)); refusal = Refusal.OtherGroup }
-    ∷ record { yes = if h.kind =? broadcast_kind then true else if h.kind =? poll_kind then true else if h.kind =? offer_kind then true else accept_kind ≤? h.kind; refusal = Refusal.OtherEnd }
-    ∷ record { yes = if h.kind =? result_kind then (h.member.0 <? t.member.group.n and is_within (survivors_in payload) (all_of t.member.group.n)) else h.member.0 <? t.member.group.n; refusal = Refusal.UnknownMember }
+    ∷ record { yes = when is_reset h.kind then terminal_sound t else true; refusal = Refusal.UnsoundState }
+    ∷ record { yes = when is_reset h.kind then h.group =? t.member.group.number else (h.group =? t.member.group.number and (when t.reset.replied then false else true)); refusal = Refusal.OtherGroup }
+    ∷ record { yes = when h.kind =? broadcast_kind then true else when h.kind =? poll_kind then true else when h.kind =? offer_kind then true else accept_kind ≤? h.kind; refusal = Refusal.OtherEnd }
+    ∷ record { yes = when h.kind =? result_kind then (h.member.0 <? t.member.group.n and is_within (survivors_in payload) (all_of t.member.group.n)) else h.member.0 <? t.member.group.n; refusal = Refusal.UnknownMember }
     ∷ record { yes = attempt_fits t h payload; refusal = Refusal.NotOfAttempt }
     ∷ []
 
@@ -115,7 +115,7 @@ order_questions t packet room =
     sequencer.call_questions s room
     ++ (read_questions packet
     ++ (record { yes = from_elected s.group (content_of h); refusal = Refusal.ForbiddenFields }
-    ∷ record { yes = h.group =? s.group.number and (if t.frozen then of_reset (content_of h) else true); refusal = Refusal.OtherGroup }
+    ∷ record { yes = h.group =? s.group.number and (when t.frozen then of_reset (content_of h) else true); refusal = Refusal.OtherGroup }
     ∷ drop 2 (sequencer.fields_questions s h)))
 
 pub record OrderFirst (t : Terminal) (questions : List Question) (o : SequencerOutcome) : Type 0 where

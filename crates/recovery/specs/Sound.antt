@@ -1,6 +1,6 @@
 -- When a state of a terminal is sound: question 1, sentence by sentence.
 use Rattle.std.specs.Prelude.{Bool, true, false, List, ℕ, ◌-◌, get_or}
-use Rattle.group.specs.Choice.{if◌then◌else◌, ◌and◌, ◌<?◌, ◌≤?◌, ◌=?◌}
+use Rattle.group.specs.Choice.{when◌then◌else◌, ◌and◌, ◌<?◌, ◌≤?◌, ◌=?◌}
 use Rattle.group.specs.Fold.{all, all_above}
 use Rattle.group.specs.Limits.{places_most, payload_most}
 use Rattle.group.specs.Members.{is_in, is_within, all_of}
@@ -26,27 +26,27 @@ past_sound n counts m =
 -- of the 32 numbers above t - 32, or above 0: one up to t lies in its place, and the place of another is zero
 unfoldable pub past_place_sound : ℕ → ℕ → Kept → ℕ → Bool
 past_place_sound n taken kept number =
-    if number ≤? taken then past_sound n kept.counts (history.message_at kept.past number) else
+    when number ≤? taken then past_sound n kept.counts (history.message_at kept.past number) else
     is_empty (history.message_at kept.past number)
 
 -- the counts from n on are zero, and the 32 places hold the last numbers up to t
 unfoldable pub kept_sound : ℕ → ℕ → Kept → Bool
 kept_sound n taken kept =
-    all (λ i c. if i <? n then true else c =? 0) 0 kept.counts
+    all (λ i c. when i <? n then true else c =? 0) 0 kept.counts
     and all_above (past_place_sound n taken kept) (taken - places_most) places_most
 
 -- its part in a reset: its own invitation is open only with a reply open, itself among the repliers with that number; repliers are
 -- members; who did not reply has no number; and what is not open is zero
 unfoldable pub reset_sound : Member → Reset → Bool
 reset_sound m r =
-    (if r.replied then true else (r.attempt =? 0 and r.number.0 =? 0))
-    and (if r.inviting
+    (when r.replied then true else (r.attempt =? 0 and r.number.0 =? 0))
+    and (when r.inviting
     then (r.replied
     and is_in r.repliers m.number.0
     and get_or r.replies m.number.0 0 =? r.number.0
     and is_within r.repliers (all_of m.group.n))
     else (r.invited =? 0 and r.repliers =? 0))
-    and all (λ i number. if is_in r.repliers i then true else number =? 0) 0 r.replies
+    and all (λ i number. when is_in r.repliers i then true else number =? 0) 0 r.replies
 
 -- the member's end: the member, what it keeps, and its part in a reset
 unfoldable pub member_sound : Terminal → Bool
@@ -73,14 +73,14 @@ zero_sequencer s =
 -- the sequencer's end: sound, of a group of as many members; or not there
 unfoldable pub sequencer_sound : Terminal → Bool
 sequencer_sound t =
-    if t.sequencing then (sequencer.sound_of t.sequencer and t.sequencer.group.n =? t.member.group.n) else
-    (zero_sequencer t.sequencer and (if t.frozen then false else true))
+    when t.sequencing then (sequencer.sound_of t.sequencer and t.sequencer.group.n =? t.member.group.n) else
+    (zero_sequencer t.sequencer and (when t.frozen then false else true))
 
 -- with a reply open its number is what it would reply now, and its group's sequencer is frozen
 unfoldable pub reply_sound : Terminal → Bool
 reply_sound t =
-    if t.reset.replied
-    then (t.reset.number.0 =? reply_number t and (if serves t then t.frozen else true))
+    when t.reset.replied
+    then (t.reset.number.0 =? reply_number t and (when serves t then t.frozen else true))
     else true
 
 -- both ends are, and they agree

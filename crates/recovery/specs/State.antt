@@ -1,6 +1,6 @@
 -- What a terminal holds: its member, what it keeps to begin a group with, its part in a reset, and its sequencer, if it has one.
 use Rattle.std.specs.Prelude.{Bool, false, List, ℕ, zero, suc, ◌+◌, ◌-◌, get_or, set, replicate}
-use Rattle.group.specs.Choice.{if◌then◌else◌, ◌and◌, ◌≤?◌, ◌=?◌}
+use Rattle.group.specs.Choice.{when◌then◌else◌, ◌and◌, ◌≤?◌, ◌=?◌}
 use Rattle.group.specs.Limits.{members_most, places_most}
 use Rattle.group.specs.Opening.{description_of}
 use Rattle.group.specs.declared.SequenceNumber.{SequenceNumber}
@@ -66,7 +66,7 @@ serves t = t.sequencing and t.sequencer.group.number =? t.member.group.number
 
 -- what it replies to an invitation with: its group's sequencer with top, else its member with its reach
 unfoldable pub reply_number : Terminal → ℕ
-reply_number t = if serves t then t.sequencer.top.0 else reach_of t.member
+reply_number t = when serves t then t.sequencer.top.0 else reach_of t.member
 
 -- the member's floor: the highest it read, but at least reach - 32 and at most reach
 unfoldable pub kept_floor : Terminal → ℕ
@@ -75,7 +75,7 @@ kept_floor t = smaller_of (larger_of t.kept.read.0 (reach_of t.member - places_m
 -- the message of a number above its floor, up to its reach: among the last 32 taken, or held
 unfoldable pub message_of_number : Terminal → ℕ → Message
 message_of_number t number =
-    if number ≤? t.member.taken.0 then history.message_at t.kept.past number else
+    when number ≤? t.member.taken.0 then history.message_at t.kept.past number else
     window.message_at t.member.held number
 
 -- counts with a message's: its originator's is the highest of both

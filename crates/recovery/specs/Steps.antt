@@ -1,6 +1,6 @@
 -- What the steps inside the code promise, in terms of the meaning. No call's promise speaks of these.
 use Rattle.std.specs.Prelude.{Bool, true, false, List, [], ◌∷◌, ℕ, zero, suc, ◌+◌, ◌-◌, ◌*◌, ◌≤◌, length, get_or, set, replicate, ◌≡◌}
-use Rattle.group.specs.Choice.{if◌then◌else◌, ◌and◌, ◌<?◌, ◌≤?◌, ◌=?◌}
+use Rattle.group.specs.Choice.{when◌then◌else◌, ◌and◌, ◌<?◌, ◌≤?◌, ◌=?◌}
 use Rattle.group.specs.Fold.{all}
 use Rattle.group.specs.Limits.{members_most, places_most, held_most, payload_most, largest_number}
 use Rattle.group.specs.Members.{is_in, is_within, all_of}
@@ -22,18 +22,18 @@ use Rattle.recovery.specs.declared.Head.{Head}
 
 -- the counts from n on are zero; who did not reply has no number
 abbrev pub highest_sound : ℕ → List ℕ → Bool
-highest_sound n highest = all (λ i c. if i <? n then true else c =? 0) 0 highest
+highest_sound n highest = all (λ i c. when i <? n then true else c =? 0) 0 highest
 
 abbrev pub replies_sound : ℕ → List ℕ → Bool
-replies_sound repliers replies = all (λ i number. if is_in repliers i then true else number =? 0) 0 replies
+replies_sound repliers replies = all (λ i number. when is_in repliers i then true else number =? 0) 0 replies
 
 -- what is not open of a reply is zero; its own invitation is open only with a reply open, itself among the repliers
 unfoldable pub idle_sound : Head → Bool
-idle_sound head = if head.replied =? 1 then true else (head.attempt =? 0 and head.number.0 =? 0)
+idle_sound head = when head.replied =? 1 then true else (head.attempt =? 0 and head.number.0 =? 0)
 
 unfoldable pub invitation_sound : Head → List ℕ → Bool
 invitation_sound head replies =
-    if head.inviting =? 1
+    when head.inviting =? 1
     then (head.replied =? 1
     and is_in head.repliers head.member.number.0
     and get_or replies head.member.number.0 0 =? head.number.0
@@ -67,7 +67,7 @@ serves_in head = head.sequencing =? 1 and head.sequencer.group.number =? head.me
 
 -- what it replies with, and the member's floor
 unfoldable pub reply_in : Head → List ℕ → ℕ
-reply_in head held = if serves_in head then head.sequencer.top.0 else reach_in head held
+reply_in head held = when serves_in head then head.sequencer.top.0 else reach_in head held
 
 unfoldable pub kept_floor_in : Head → List ℕ → ℕ
 kept_floor_in head held = smaller_of (larger_of head.read.0 (reach_in head held - places_most)) (reach_in head held)
@@ -75,18 +75,18 @@ kept_floor_in head held = smaller_of (larger_of head.read.0 (reach_in head held 
 -- with a reply open its number is what it would reply now, and its group's sequencer is frozen
 unfoldable pub reply_sound_in : Head → List ℕ → Bool
 reply_sound_in head held =
-    if head.replied =? 1
-    then (head.number.0 =? reply_in head held and (if serves_in head then head.frozen =? 1 else true))
+    when head.replied =? 1
+    then (head.number.0 =? reply_in head held and (when serves_in head then head.frozen =? 1 else true))
     else true
 
 -- the first k members' acknowledgements start at floor, or at zero for who is lost
 unfoldable pub starts_of : List ℕ → ℕ → ℕ → ℕ → List ℕ
 starts_of taken survivors floor zero = taken
-starts_of taken survivors floor (suc k) = set (starts_of taken survivors floor k) k (if is_in survivors k then floor else 0)
+starts_of taken survivors floor (suc k) = set (starts_of taken survivors floor k) k (when is_in survivors k then floor else 0)
 
 -- the message of a number above floor: among those taken up to t, or held
 unfoldable pub message_from : List Message → List Message → ℕ → ℕ → Message
-message_from past held t number = if number ≤? t then history.message_at past number else get_or held (place_of number) blank
+message_from past held t number = when number ≤? t then history.message_at past number else get_or held (place_of number) blank
 
 -- a history with those of the k numbers above floor in their places
 unfoldable pub filled_of : List Message → List Message → List Message → ℕ → ℕ → ℕ → List Message
@@ -97,8 +97,8 @@ filled_of kept past held t floor (suc k) =
 -- the sequencer's end, of a head and of a sequencer
 unfoldable pub sequencer_sound_in : Head → Sequencer → Bool
 sequencer_sound_in head s =
-    if head.sequencing =? 1 then (sound_of s and s.group.n =? head.member.group.n) else
-    (zero_sequencer s and (if head.frozen =? 1 then false else true))
+    when head.sequencing =? 1 then (sound_of s and s.group.n =? head.member.group.n) else
+    (zero_sequencer s and (when head.frozen =? 1 then false else true))
 
 -- arrays of the places of what is held
 pub record Held (held originators lengths payloads : List ℕ) : Type 0 where

@@ -1,7 +1,7 @@
 -- A terminal in parts, read as the state that the calls' meaning speaks of: numbers in its head, with its member's and its sequencer's
 -- heads among them, and arrays.
 use Rattle.std.specs.Prelude.{◌≡◌, Bool, List, ℕ, length}
-use Rattle.group.specs.Choice.{if◌then◌else◌, ◌and◌, ◌≤?◌, ◌=?◌}
+use Rattle.group.specs.Choice.{when◌then◌else◌, ◌and◌, ◌≤?◌, ◌=?◌}
 use Rattle.group.specs.Limits.{members_most}
 use Rattle.store.specs.Places.{messages_in}
 use Rattle.history.specs.View.{Places}
@@ -113,7 +113,7 @@ pub data View : Type 0 where
   odd : Stored → View
 
 unfoldable pub view_of : Stored → View
-view_of s = if flags_sound s.head then seen (terminal_of s) else odd s
+view_of s = when flags_sound s.head then seen (terminal_of s) else odd s
 
 -- arrays of the lengths that they are declared with
 pub record Sized (s : Stored) : Type 0 where

@@ -3,7 +3,7 @@
 #![tactic(auto)]
 
 ghost use Rattle.std.specs.Prelude.{◌≡◌, true, ◌+◌, ◌-◌, ◌*◌, ◌^◌, ◌≤◌, ◌<◌, length, get_or, set, replicate};
-ghost use Rattle.group.specs.Choice.{if◌then◌else◌, ◌and◌, ◌<?◌, ◌≤?◌, ◌=?◌};
+ghost use Rattle.group.specs.Choice.{when◌then◌else◌, ◌and◌, ◌<?◌, ◌≤?◌, ◌=?◌};
 ghost use Rattle.group.specs.Limits.{members_most, places_most, held_most, payload_most};
 ghost use Rattle.group.specs.Members.{is_in, is_within, all_of, lowest};
 ghost use Rattle.message.specs.Message.{empty_message};
@@ -58,7 +58,7 @@ pub fn flags_sound(head: Head) -> bool
 
 // Whether a count is zero where the group has no such member.
 fn count_sound(n: u8, i: usize, count: u32) -> bool
-    ensures { result ≡ (if i <? n then true else count =? 0) }
+    ensures { result ≡ (when i <? n then true else count =? 0) }
 {
     if i < (n as usize) {
         return true;
@@ -125,7 +125,7 @@ fn kept_sound(
 // Whether the number of who did not reply is zero.
 fn reply_silent(repliers: u16, i: usize, number: u32) -> bool
     requires { i < members_most }
-    ensures { result ≡ (if is_in repliers i then true else number =? 0) }
+    ensures { result ≡ (when is_in repliers i then true else number =? 0) }
 {
     if group::is_in(repliers, MemberNumber(i as u8)) {
         return true;
@@ -378,7 +378,7 @@ pub fn reply_sound(head: Head, held: &[u32]) -> bool
 // A replier's number; of another, 0.
 fn reply_counted(repliers: u16, i: usize, number: u32) -> u32
     requires { i < members_most }
-    ensures { result ≡ (if is_in repliers i then number else 0) }
+    ensures { result ≡ (when is_in repliers i then number else 0) }
 {
     if group::is_in(repliers, MemberNumber(i as u8)) {
         return number;
@@ -404,7 +404,7 @@ pub fn highest_reply(repliers: u16, replies: &[u32]) -> SequenceNumber
 // The mask of member i, if it replied with that number; else none.
 fn holder(repliers: u16, highest: SequenceNumber, i: usize, number: u32) -> u16
     requires { i < members_most }
-    ensures { result ≡ (if is_in repliers i and number =? highest.0 then 2 ^ i else 0) }
+    ensures { result ≡ (when is_in repliers i and number =? highest.0 then 2 ^ i else 0) }
 {
     if group::is_in(repliers, MemberNumber(i as u8)) {
         if number == highest.0 {
@@ -472,7 +472,7 @@ pub fn count_row(
 // A survivor's acknowledgement starts at floor; of one that is lost at 0.
 fn start(survivors: u16, floor: SequenceNumber, i: usize) -> u32
     requires { i < members_most }
-    ensures { result ≡ (if is_in survivors i then floor.0 else 0) }
+    ensures { result ≡ (when is_in survivors i then floor.0 else 0) }
 {
     reply_counted(survivors, i, floor.0)
 }

@@ -2,7 +2,7 @@
 use mathlib.Core.Path.{◌≡◌, refl}
 use mathlib.Core.Bool.{true, false}
 use mathlib.Core.List.{[], ◌∷◌, map}
-use Rattle.group.specs.Choice.{if◌then◌else◌}
+use Rattle.group.specs.Choice.{when◌then◌else◌}
 use Rattle.group.specs.declared.Refusal.TheVariants.{OtherEnd, Opening, Resilience}
 use Rattle.member.specs.declared.Answer.TheVariants as member
 use Rattle.member.specs.Wording as memberWording
@@ -23,7 +23,7 @@ schedule : line_of 1 (by_member member.Sent []) 0
     ∷ last_line 1 0 (0 ∷ 1 ∷ [])
     ∷ []
     ≡ map text_of ("1 sent 0\n" ∷ "2 numbered 1 1\n" ∷ "3 kept\n" ∷ "4 took 1 1 1 6162 last\n" ∷ "5 none\n" ∷ "top 1 floor 0 taken 0 1\n" ∷ [])
-unfolding answer_fields wording_fields values_text index_text sequencerWording.wording_of memberWording.wording_of spaced decimal_of decimal_digits glyph_of payload_text hex_of more_text if◌then◌else◌
+unfolding answer_fields wording_fields values_text index_text sequencerWording.wording_of memberWording.wording_of spaced decimal_of decimal_digits glyph_of payload_text hex_of more_text when◌then◌else◌
 schedule = refl
 
 -- every other answer
@@ -75,10 +75,10 @@ answers : map (λ (answer : Answer). line_of 10 answer 199)
     ∷ "10 status 199\n"
     ∷ "10 took 20 15 30 - more\n"
     ∷ [])
-unfolding answer_fields wording_fields values_text index_text sequencerWording.wording_of memberWording.wording_of spaced decimal_of decimal_digits glyph_of payload_text hex_of more_text if◌then◌else◌
+unfolding answer_fields wording_fields values_text index_text sequencerWording.wording_of memberWording.wording_of spaced decimal_of decimal_digits glyph_of payload_text hex_of more_text when◌then◌else◌
 answers = refl
 
 -- the lines without an answer
 notes : bad_line 7 ∷ no_space 201 ∷ bad_opening ∷ refused_opening Opening ∷ refused_opening Resilience ∷ [] ≡ map text_of ("7 bad line\n" ∷ "201 no space\n" ∷ "bad line\n" ∷ "refused 18\n" ∷ "refused 24\n" ∷ [])
-unfolding wording_fields spaced decimal_of decimal_digits glyph_of if◌then◌else◌
+unfolding wording_fields spaced decimal_of decimal_digits glyph_of when◌then◌else◌
 notes = refl

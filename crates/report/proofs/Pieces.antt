@@ -8,9 +8,9 @@ use native.Mathlib.Omega.{arith}
 use borrow.Author.Tests.{le-leb, lt-leb}
 use lib.ListN.{length, get_or, take}
 use lib.Seq.{take-suc}
-use Rattle.group.specs.Choice.{if◌then◌else◌, ◌≤?◌}
+use Rattle.group.specs.Choice.{when◌then◌else◌, ◌≤?◌}
 use Rattle.group.specs.Lent.{front}
-use Rattle.group.proofs.Choice.{if_le, if_nle}
+use Rattle.group.proofs.Choice.{when_le, when_nle}
 use Rattle.group.proofs.Lists.{le_or}
 use Rattle.text.specs.Text.{line_feed}
 use Rattle.text.specs.Written.{decimal_of, spaced, line}
@@ -31,14 +31,14 @@ module _ (asked : ℕ) (bytes lent : List ℕ) where
       → (size ≡ length (fitting asked (length lent) bytes)) × (after ≡ front (fitting asked (length lent) bytes) lent)
   unfolding fitting
   written size after h f =
-      let e : if asked ≤? length lent then bytes else [] ≡ bytes = sym (if_le asked (length lent) bytes bytes [] h refl) in
+      let e : when asked ≤? length lent then bytes else [] ≡ bytes = sym (when_le asked (length lent) bytes bytes [] h refl) in
       let z : 0 + length bytes ≡ length bytes = omega arith in
       (rw e (f.ends ∙ z), rw e (f.lays ∙ rw z))
 
   pub unwritten : length lent < asked → (◌≡◌ {A = ℕ} 0 (length (fitting asked (length lent) bytes))) × (lent ≡ front (fitting asked (length lent) bytes) lent)
   unfolding fitting
   unwritten h =
-      let e : if asked ≤? length lent then bytes else [] ≡ [] = sym (if_nle asked (length lent) [] bytes [] h refl) in
+      let e : when asked ≤? length lent then bytes else [] ≡ [] = sym (when_nle asked (length lent) [] bytes [] h refl) in
       (rw e, rw e)
 
 -- two tests that hold together are equal

@@ -1,6 +1,6 @@
 -- What is printed: event number, answer in lower case, its values, then the index of a packet written.
 use Rattle.std.specs.Prelude.{Bool, List, [], ◌∷◌, map, ℕ, ◌+◌, ◌*◌, length}
-use Rattle.group.specs.Choice.{if◌then◌else◌, ◌≤?◌, ◌=?◌}
+use Rattle.group.specs.Choice.{when◌then◌else◌, ◌≤?◌, ◌=?◌}
 use Rattle.group.specs.Wording.{Value, Wording, refused_wording}
 use Rattle.group.specs.declared.Refusal.{Refusal}
 use Rattle.member.specs.Wording as member
@@ -11,11 +11,11 @@ use Rattle.text.specs.Written.{decimal_of, payload_text, line, number_digits, co
 
 -- whether the following number is held
 unfoldable pub more_text : Bool → List ℕ
-more_text more = if more then text_of "more" else text_of "last"
+more_text more = when more then text_of "more" else text_of "last"
 
 -- the index of the next packet, where a call wrote `size` bytes of it; and then other fields
 unfoldable pub index_text : ℕ → ℕ → List (List ℕ) → List (List ℕ)
-index_text size index rest = if size =? 0 then rest else decimal_of index ∷ rest
+index_text size index rest = when size =? 0 then rest else decimal_of index ∷ rest
 
 -- the values of an answer, where `bytes` are those that the call wrote, and `index` is that of the next packet
 unfoldable pub values_text : List ℕ → ℕ → List Value → List (List ℕ)
@@ -78,4 +78,4 @@ last_room taken = line_room + (1 + number_digits) * length taken
 
 -- a line goes to an output that has the room asked; to any other goes nothing
 unfoldable pub fitting : ℕ → ℕ → List ℕ → List ℕ
-fitting asked room bytes = if asked ≤? room then bytes else []
+fitting asked room bytes = when asked ≤? room then bytes else []

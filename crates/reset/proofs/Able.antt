@@ -9,7 +9,7 @@ use borrow.Author.Tests.{leb-true, leb-false}
 use lib.ListN.{length, get_or, take, length-replicate}
 use lib.Pow.{pow_pos}
 use lib.Seq.{length-take-le}
-use Rattle.group.proofs.Lists.{none≢some, if_elim, at, at_taken}
+use Rattle.group.proofs.Lists.{none≢some, when_elim, at, at_taken}
 use Rattle.group.proofs.Members.{Standing}
 use Rattle.group.specs.Choice.{◌≤?◌}
 use Rattle.group.specs.Limits.{members_most, places_most, payload_most, largest_number}
@@ -95,7 +95,7 @@ module _ (t : Terminal) (i : ℕ) (order took : List Ordered) (submitted : ℕ �
   message_is_lem s m e a b =
       let wide = reach_floor t sound kept long in
       let least = reach_least t.member in
-      if_elim (λ (y : Message). y ≡ message_of (record { 0 = m.originator }) m.count m.payload) (s ≤? taken)
+      when_elim (λ (y : Message). y ≡ message_of (record { 0 = m.originator }) m.count m.payload) (s ≤? taken)
       (λ below. let x = mem.past_is s (omega arith) (leb-true s taken below) in subst (λ (y : Ordered). history.message_at t.kept.past s ≡ message_of (record { 0 = y.originator }) y.count y.payload) (one_of (sym x.1 ∙ e)) x.2)
       (λ above. let x = row_is s (leb-false s taken above) b in subst (λ (y : Ordered). window.message_at t.member.held s ≡ message_of (record { 0 = y.originator }) y.count y.payload) (one_of (sym x.1 ∙ e)) x.2)
 

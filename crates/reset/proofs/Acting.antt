@@ -9,8 +9,8 @@ use native.Mathlib.Nat.{le_refl}
 use borrow.Author.Tests.{eq-eqb}
 use lib.ListN.{length}
 use Rattle.group.proofs.Choice.{both_first}
-use Rattle.group.proofs.Lists.{if_elim, judged_elim, at}
-use Rattle.group.specs.Choice.{if◌then◌else◌, ◌and◌, ◌=?◌, ◌≤?◌}
+use Rattle.group.proofs.Lists.{when_elim, judged_elim, at}
+use Rattle.group.specs.Choice.{when◌then◌else◌, ◌and◌, ◌=?◌, ◌≤?◌}
 use Rattle.group.specs.Limits.{held_most, longest_packet}
 use Rattle.group.specs.Question.{judged}
 use Rattle.group.specs.declared.Group.{Group}
@@ -47,14 +47,14 @@ unfolding member.submit_of member.answered member.with_waiting
 submit_group m payload =
     let P : member.Outcome → Type 0 = λ o. o.member.group ≡ m.group in
     judged_elim P (member.call_verdict m longest_packet) (λ _ _. refl)
-    (λ _. judged_elim P (member.submit_verdict m (length payload)) (λ _ _. refl) (λ _. if_elim P (m.waiting =? 0) (λ _. refl) (λ _. refl)))
+    (λ _. judged_elim P (member.submit_verdict m (length payload)) (λ _ _. refl) (λ _. when_elim P (m.waiting =? 0) (λ _. refl) (λ _. refl)))
 
 -- a repeat and a status leave the member
 repeat_leaves : (m : Member) → (member.repeat_of m longest_packet).member ≡ m
 unfolding member.repeat_of member.answered
 repeat_leaves m =
     let P : member.Outcome → Type 0 = λ o. o.member ≡ m in
-    judged_elim P (member.call_verdict m longest_packet) (λ _ _. refl) (λ _. if_elim P (1 ≤? m.waiting) (λ _. refl) (λ _. refl))
+    judged_elim P (member.call_verdict m longest_packet) (λ _ _. refl) (λ _. when_elim P (1 ≤? m.waiting) (λ _. refl) (λ _. refl))
 
 status_leaves : (m : Member) → (member.status_of m longest_packet).member ≡ m
 unfolding member.status_of member.answered
@@ -65,7 +65,7 @@ take_group : (m : Member) → (member.take_of m longest_packet).member.group ≡
 unfolding member.take_of member.answered member.took_of member.with_taken
 take_group m =
     let P : member.Outcome → Type 0 = λ o. o.member.group ≡ m.group in
-    judged_elim P (member.call_verdict m longest_packet) (λ _ _. refl) (λ _. if_elim P (member.is_ready m (m.taken.0 + 1)) (λ _. refl) (λ _. refl))
+    judged_elim P (member.call_verdict m longest_packet) (λ _ _. refl) (λ _. when_elim P (member.is_ready m (m.taken.0 + 1)) (λ _. refl) (λ _. refl))
 
 module _ (group : Group) (cut i acknowledged accepted : ℕ) (order took : List Ordered) (submitted : List (List ℕ)) (t : Terminal) (sound : member_sound t ≡ true)
     (held-long : length t.member.held ≡ held_most) (h : memberInvariant.Terminal group i acknowledged accepted (member_of group cut t) order took submitted) where
@@ -78,14 +78,14 @@ module _ (group : Group) (cut i acknowledged accepted : ℕ) (order took : List 
   left : (t' : Terminal) (answer : Answer) → t'.member ≡ t.member → Owes t' answer took submitted []
   unfolding member_of
   left t' answer same =
-      let is : member_of group cut t' ≡ member_of group cut t = ap (λ (m : Member). if m.group.number =? group.number then m else member_in m group cut) same in
+      let is : member_of group cut t' ≡ member_of group cut t = ap (λ (m : Member). when m.group.number =? group.number then m else member_in m group cut) same in
       rw is (record { terminal = h; louder = record { row = le_refl _; reach = le_refl _; submitted = λ c p z. z }; known = tt })
 
   abbrev next : ℕ
   next = t.member.taken.0 + 1
 
   abbrev keeps : Kept
-  keeps = if member.is_ready t.member next then terminal.kept_took t.kept next (window.message_at t.member.held next) else t.kept
+  keeps = when member.is_ready t.member next then terminal.kept_took t.kept next (window.message_at t.member.held next) else t.kept
 
   own_sound : memberSoundness.sound_of t.member ≡ true
   unfolding member_sound
@@ -136,10 +136,10 @@ module _ (group : Group) (cut i acknowledged accepted : ℕ) (order took : List 
       ours = eq-eqb _ _ (fields_group group.number kn.content ∙ sym e)
 
       pub received_is : terminal.receive_of t p longest_packet
-          ≡ if from_elected t.member.group kn.content
-          then (if true and (if t.reset.replied then false else true) then terminal.heard_of t kn.content kn.payload else terminal.refused t Refusal.OtherGroup)
+          ≡ when from_elected t.member.group kn.content
+          then (when true and (when t.reset.replied then false else true) then terminal.heard_of t kn.content kn.payload else terminal.refused t Refusal.OtherGroup)
           else terminal.refused t Refusal.ForbiddenFields
-      unfolding terminal.receive_of judged terminal.read_step if◌then◌else◌
+      unfolding terminal.receive_of judged terminal.read_step when◌then◌else◌
       received_is = rw (called t sound, reads.0, reads.1, content_fields group.number kn.content, known_plain (facts_of group order accepted voice) kn.content kn.payload kn.says, ours)
 
       abbrev Received : terminal.Outcome → Type 0
@@ -167,8 +167,8 @@ module _ (group : Group) (cut i acknowledged accepted : ℕ) (order took : List 
       pub receive_here : Received (terminal.receive_of t p longest_packet)
       receive_here =
           subst Received (sym received_is)
-          (if_elim Received (from_elected t.member.group kn.content)
-          (λ named. if_elim Received (true and (if t.reset.replied then false else true)) (λ _. heard_owes named) (λ _. refused_owes Refusal.OtherGroup))
+          (when_elim Received (from_elected t.member.group kn.content)
+          (λ named. when_elim Received (true and (when t.reset.replied then false else true)) (λ _. heard_owes named) (λ _. refused_owes Refusal.OtherGroup))
           (λ _. refused_owes Refusal.ForbiddenFields))
 
     module _ (numbered : (k : ℕ) (x : Ordered) → at order k ≡ some x → x.number ≡ k) where

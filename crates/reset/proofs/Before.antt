@@ -11,10 +11,10 @@ use borrow.Author.Tests.{lt-ltb, ltb-true, eqb-true, eq-eqb}
 use lib.Count.{ones}
 use lib.ListN.{length, get_or, set, replicate, get_elem?, length-set, length-replicate}
 use lib.Seq.{get_or-set_same, get_or-set_other}
-use Rattle.group.proofs.Choice.{if_true, both_hold, both_first, both_then}
-use Rattle.group.proofs.Lists.{if_elim, judged_elim, All, all_get, get_last}
+use Rattle.group.proofs.Choice.{when_true, both_hold, both_first, both_then}
+use Rattle.group.proofs.Lists.{when_elim, judged_elim, All, all_get, get_last}
 use Rattle.group.proofs.Members.{in_only, in_or, in_zero}
-use Rattle.group.specs.Choice.{if◌then◌else◌, ◌and◌, ◌<?◌, ◌≤?◌, ◌=?◌}
+use Rattle.group.specs.Choice.{when◌then◌else◌, ◌and◌, ◌<?◌, ◌≤?◌, ◌=?◌}
 use Rattle.group.specs.Limits.{members_most, places_most, longest_packet, largest_number}
 use lib.Bits.{bit_or}
 use Rattle.group.specs.Members.{is_in, only_of}
@@ -91,7 +91,7 @@ written_covered at n number packets (x ∷ bytes) = (inl (length packets, get_la
 -- a terminal that did not reply, with another sound sequencer
 changed_sound : (t : Terminal) (s : Sequencer) → Sound t → sequencerCalls.sound_of s ≡ true → s.group.n ≡ t.member.group.n → t.reset.replied ≡ false → t.sequencing ≡ true
     → terminal_sound (terminal.with_sequencer t s) ≡ true
-unfolding sequencer_sound if◌then◌else◌
+unfolding sequencer_sound when◌then◌else◌
 changed_sound t s sound ok same closed sequencing =
     of_sound (terminal.with_sequencer t s)
     (record {
@@ -105,33 +105,33 @@ changed_sound t s sound ok same closed sequencing =
 
 -- what a terminal's sequencer makes of fields, where what it would say is a no
 ordered_refuses : (t : Terminal) (number : ℕ) (content : Packet) (payload : List ℕ) (P : sequencer.Outcome → Type 0) → ((r : Refusal) → P (sequencer.refused t.sequencer r))
-    → (((fields_of number content).group =? t.sequencer.group.number and (if t.frozen then terminal.of_reset content else true)) ≡ true → sequencer.content_step t.sequencer content payload ≡ sequencer.refused t.sequencer Refusal.OtherEnd)
+    → (((fields_of number content).group =? t.sequencer.group.number and (when t.frozen then terminal.of_reset content else true)) ≡ true → sequencer.content_step t.sequencer content payload ≡ sequencer.refused t.sequencer Refusal.OtherEnd)
     → P (terminal.ordered_step t (Reading.Fields (fields_of number content)) payload)
 unfolding terminal.ordered_step
 ordered_refuses t number content payload P refuse says =
     subst
     (λ (c : Packet).
-    P (if from_elected t.sequencer.group c
-    then (if (fields_of number content).group =? t.sequencer.group.number and (if t.frozen then terminal.of_reset c else true) then sequencer.content_step t.sequencer c payload else sequencer.refused t.sequencer Refusal.OtherGroup)
+    P (when from_elected t.sequencer.group c
+    then (when (fields_of number content).group =? t.sequencer.group.number and (when t.frozen then terminal.of_reset c else true) then sequencer.content_step t.sequencer c payload else sequencer.refused t.sequencer Refusal.OtherGroup)
     else sequencer.refused t.sequencer Refusal.ForbiddenFields))
     (sym (content_fields number content))
-    (if_elim P (from_elected t.sequencer.group content)
-    (λ _. if_elim P ((fields_of number content).group =? t.sequencer.group.number and (if t.frozen then terminal.of_reset content else true))
+    (when_elim P (from_elected t.sequencer.group content)
+    (λ _. when_elim P ((fields_of number content).group =? t.sequencer.group.number and (when t.frozen then terminal.of_reset content else true))
     (λ h. subst P (sym (says h)) (refuse Refusal.OtherEnd)) (λ _. refuse Refusal.OtherGroup))
     (λ _. refuse Refusal.ForbiddenFields))
 
-frozen_no : (a f r : Bool) → f ≡ true → r ≡ false → (a and (if f then r else true)) ≡ true → ⊥
-unfolding if◌then◌else◌
+frozen_no : (a f r : Bool) → f ≡ true → r ≡ false → (a and (when f then r else true)) ≡ true → ⊥
+unfolding when◌then◌else◌
 frozen_no true true false x y e = false≢true e
 frozen_no false true false x y e = false≢true e
 frozen_no a false r x y e = false≢true x
 frozen_no a true true x y e = false≢true (sym y)
 
 -- what is not there adds nothing
-pub if_either : {A : Type 0} (b : Bool) (x : A) → (if b then x else x) ≡ x
-unfolding if◌then◌else◌
-if_either true x = refl
-if_either false x = refl
+pub when_either : {A : Type 0} (b : Bool) (x : A) → (when b then x else x) ≡ x
+unfolding when◌then◌else◌
+when_either true x = refl
+when_either false x = refl
 
 ordered_absent : (e : Event) → ordered_by e absent ≡ []
 unfolding ordered_by numbered_in
@@ -150,7 +150,7 @@ took_absent : (e : Event) (j : ℕ) → took_at j e absent ≡ []
 unfolding took_at modelLog.took_in
 took_absent (submit i p) j = refl
 took_absent (repeat i) j = refl
-took_absent (take i) j = if_either (i =? j) []
+took_absent (take i) j = when_either (i =? j) []
 took_absent (status i) j = refl
 took_absent (poll i) j = refl
 took_absent (copy i k) j = refl
@@ -161,7 +161,7 @@ took_absent (make i demand) j = refl
 
 submitted_absent : (e : Event) (j : ℕ) → submitted_at j e absent ≡ []
 unfolding submitted_at modelLog.accepted_in
-submitted_absent (submit i p) j = if_either (i =? j) []
+submitted_absent (submit i p) j = when_either (i =? j) []
 submitted_absent (repeat i) j = refl
 submitted_absent (take i) j = refl
 submitted_absent (status i) j = refl
@@ -329,7 +329,7 @@ module _ (n number resilience : ℕ) (o : Opens n number resilience) (w : Group)
       member_ok = sound_member t stands.sound
 
       member_called : member.call_verdict m longest_packet ≡ Verdict.Accepted
-      unfolding member.call_verdict if◌then◌else◌
+      unfolding member.call_verdict when◌then◌else◌
       member_called = rw (inv.terminal i b).content.sound
 
       inside : (i <? length g.members) ≡ true
@@ -346,7 +346,7 @@ module _ (n number resilience : ℕ) (o : Opens n number resilience) (w : Group)
           subst (λ (z : terminal.Outcome). ordered_by e (by_member z.answer z.bytes) ≡ [] → terminal_sound z.terminal ≡ true → Next e (with_member w i z (written z.bytes))) (sym y)
           (λ eo s.
           member_next e e' (carried_by x') x' (written x'.bytes) (kept_acts (terminal.with_member t x'.member t.kept) s stands.past stands.counts refl refl stands.typed) refl refl refl refl
-          (happens ∙ sym (if_true (i <? length g.members) _ _ _ inside refl))
+          (happens ∙ sym (when_true (i <? length g.members) _ _ _ inside refl))
           (written_covered _ n number g.packets x'.bytes) eo et es) eo s
 
       submit_next : (payload : List ℕ) → Next (submit i payload) (with_member w i (terminal.submit_of t payload longest_packet) (written (terminal.submit_of t payload longest_packet).bytes))
@@ -369,15 +369,15 @@ module _ (n number resilience : ℕ) (o : Opens n number resilience) (w : Group)
 
       -- a take, which keeps what it hands out
       abbrev keeps : Bool → Kept
-      keeps ready = if ready then terminal.kept_took t.kept (t.member.taken.0 + 1) (window.message_at t.member.held (t.member.taken.0 + 1)) else t.kept
+      keeps ready = when ready then terminal.kept_took t.kept (t.member.taken.0 + 1) (window.message_at t.member.held (t.member.taken.0 + 1)) else t.kept
 
       took_past : (ready : Bool) → length (keeps ready).past ≡ places_most
-      unfolding if◌then◌else◌ terminal.kept_took
+      unfolding when◌then◌else◌ terminal.kept_took
       took_past true = length-set t.kept.past (place_of (t.member.taken.0 + 1)) _ ∙ stands.past
       took_past false = stands.past
 
       took_counts : (ready : Bool) → length (keeps ready).counts ≡ members_most
-      unfolding if◌then◌else◌ terminal.kept_took
+      unfolding when◌then◌else◌ terminal.kept_took
       took_counts true = counted_length t.kept.counts _ ∙ stands.counts
       took_counts false = stands.counts
 
@@ -394,7 +394,7 @@ module _ (n number resilience : ℕ) (o : Opens n number resilience) (w : Group)
           member_next (take i) (model.take i) (terminal.carried t (keeps ready) x') (member.take_of m longest_packet) []
           (kept_acts (terminal.with_member t x'.member (keeps ready)) s (took_past ready) (took_counts ready) refl refl stands.typed) refl
           (ap (λ (z : member.Outcome). z.member) y) (ap (λ (z : member.Outcome). z.answer) y) (ap (λ (z : member.Outcome). z.bytes) y)
-          (sym (if_true (i <? length g.members) _ _ _ inside refl)) tt refl (λ j a. refl) (λ j a. refl)) s
+          (sym (when_true (i <? length g.members) _ _ _ inside refl)) tt refl (λ j a. refl) (λ j a. refl)) s
 
       -- what waits on the member's end: the group's number is ours
       ours : t.member.group.number ≡ number
@@ -412,16 +412,16 @@ module _ (n number resilience : ℕ) (o : Opens n number resilience) (w : Group)
         group_ours = eq-eqb _ _ (fields_group number content ∙ sym ours)
 
         abbrev open_to : Bool
-        open_to = if t.reset.replied then false else true
+        open_to = when t.reset.replied then false else true
 
         plain_is : terminal.of_reset content ≡ false
             → terminal.receive_of t p longest_packet
-            ≡ if from_elected t.member.group content then (if true and open_to then terminal.heard_of t content payload else terminal.refused t Refusal.OtherGroup) else terminal.refused t Refusal.ForbiddenFields
-        unfolding terminal.receive_of judged terminal.read_step if◌then◌else◌
+            ≡ when from_elected t.member.group content then (when true and open_to then terminal.heard_of t content payload else terminal.refused t Refusal.OtherGroup) else terminal.refused t Refusal.ForbiddenFields
+        unfolding terminal.receive_of judged terminal.read_step when◌then◌else◌
         plain_is plain = rw (called t member_ok, reads.0, reads.1, content_fields number content, plain, group_ours)
 
         reset_is : terminal.of_reset content ≡ true → from_elected t.member.group content ≡ true → terminal.receive_of t p longest_packet ≡ terminal.reset_step t content payload
-        unfolding terminal.receive_of judged terminal.read_step if◌then◌else◌
+        unfolding terminal.receive_of judged terminal.read_step when◌then◌else◌
         reset_is of_reset named = rw (called t member_ok, reads.0, reads.1, content_fields number content, named, of_reset, stands.sound, group_ours)
 
       -- a packet of the group
@@ -457,7 +457,7 @@ module _ (n number resilience : ℕ) (o : Opens n number resilience) (w : Group)
             ap (λ (z : Member). member.content_step z content payload) stands.member_is
             ∙ sym (ap (λ (z : List ℕ). member.receive_of m z longest_packet) kn.bytes_are ∙ receive_named m group content payload h.content.sound h.seat.group_is (ap (λ (z : Member). from_elected z.group content) (sym stands.member_is) ∙ named) kn.allowed) in
             let happens : model.happen g (model.hand_member j i) ≡ model.with_member g i (member.receive_of m p longest_packet) (written (member.receive_of m p longest_packet).bytes) =
-            ap (λ (z : Option (List ℕ)). model.hand_to_member g i z) at ∙ sym (if_true (i <? length g.members) _ _ _ inside refl) in
+            ap (λ (z : Option (List ℕ)). model.hand_to_member g i z) at ∙ sym (when_true (i <? length g.members) _ _ _ inside refl) in
             subst (λ (z : terminal.Outcome). terminal_sound z.terminal ≡ true → Next (hand_member k i) (with_member w i z (written z.bytes))) (sym is)
             (λ s.
             subst (λ (l : List ℕ). Next (hand_member k i) (with_member w i (terminal.carried t kept x') (written l))) (sym (ap (λ (z : member.Outcome). z.bytes) y))
@@ -467,7 +467,7 @@ module _ (n number resilience : ℕ) (o : Opens n number resilience) (w : Group)
             (written_covered _ n number g.packets (member.receive_of m p longest_packet).bytes) refl (λ q a. refl) (λ q a. refl))) s
 
         hand_plain : Next (hand_member k i) (with_member w i received (written received.bytes))
-        unfolding if◌then◌else◌
+        unfolding when◌then◌else◌
         hand_plain = go (from_elected t.member.group kn.content) refl t.reset.replied refl
           where
             go : (a : Bool) → from_elected t.member.group kn.content ≡ a → (r : Bool) → t.reset.replied ≡ r → Next (hand_member k i) (with_member w i received (written received.bytes))
@@ -478,7 +478,7 @@ module _ (n number resilience : ℕ) (o : Opens n number resilience) (w : Group)
       -- what is replied fits
       pub reply_fits : reply_number t ≤ largest_number
       unfolding reply_number
-      reply_fits = if_elim (λ (x : ℕ). x ≤ largest_number) (serves t) (λ _. stands.typed.top) (λ _. reach_fits t.member typed.member.taken)
+      reply_fits = when_elim (λ (x : ℕ). x ≤ largest_number) (serves t) (λ _. stands.typed.top) (λ _. reach_fits t.member typed.member.taken)
 
       -- a terminal that replied, or counted a reply
       reset_acts : (r : Reset) (f : Bool) → terminal_sound (terminal.with_reset t r f) ≡ true → length r.replies ≡ members_most → r.invited ≤ largest_number → (t.reset.replied ≡ true → r.replied ≡ true)
@@ -576,7 +576,7 @@ module _ (n number resilience : ℕ) (o : Opens n number resilience) (w : Group)
       unfolding terminal.with_reply reply_number
       counted_acts sender number' less says inviting =
           let s = of_sound _ (reply_sound_lem t sound sender number' (let z = size in omega arith) inviting stands.replies) in
-          if_elim (λ (r : Reset). terminal_sound (terminal.with_reset t r t.frozen) ≡ true → Acts n w i (terminal.with_reset t r t.frozen)) (is_in t.reset.repliers sender.0)
+          when_elim (λ (r : Reset). terminal_sound (terminal.with_reset t r t.frozen) ≡ true → Acts n w i (terminal.with_reset t r t.frozen)) (is_in t.reset.repliers sender.0)
           (λ _ s. refused_acts)
           (λ new s.
           reset_acts (counted_in sender number') t.frozen s (length-set t.reset.replies sender.0 number' ∙ stands.replies) stands.invited (λ r. r)
@@ -644,7 +644,7 @@ module _ (n number resilience : ℕ) (o : Opens n number resilience) (w : Group)
         invited_hands : (sender : MemberNumber) (attempt : ℕ) → attempt ≤ largest_number → Hands (terminal.invited_of t sender attempt)
         unfolding terminal.invited_of
         invited_hands sender attempt fits =
-            if_elim
+            when_elim
             (λ (r : Reset). Hands (terminal.noted (terminal.with_reset t r (terminal.freezes t)) (packet_of (fields_of t.member.group.number (Packet.Reply t.member.number attempt (record { 0 = reply_number t }))) [])))
             (sender.0 =? t.member.number.0) (λ _. reply_hands (terminal.replied t attempt) attempt fits (replied_acts attempt) refl)
             (λ _. reply_hands (terminal.uninvited (terminal.replied t attempt)) attempt fits (closed_acts attempt) refl)
@@ -667,10 +667,10 @@ module _ (n number resilience : ℕ) (o : Opens n number resilience) (w : Group)
         reset_hands (Packet.Confirm sender number') says fits = absurd says
         reset_hands (Packet.Accept elected number') says fits = absurd says
         reset_hands (Packet.Invitation sender attempt) says fits =
-            if_elim Hands (sender.0 <? t.member.group.n) (λ _. invited_hands sender attempt fits) (λ _. refused_hands Refusal.UnknownMember)
+            when_elim Hands (sender.0 <? t.member.group.n) (λ _. invited_hands sender attempt fits) (λ _. refused_hands Refusal.UnknownMember)
         reset_hands (Packet.Reply sender attempt number') says fits =
-            if_elim Hands (sender.0 <? t.member.group.n)
-            (λ _. if_elim Hands (t.reset.inviting and t.reset.invited =? attempt) (λ e. counted_hands sender number'.0 says.0 says.1 (both_first t.reset.inviting _ e)) (λ _. refused_hands Refusal.NotOfAttempt))
+            when_elim Hands (sender.0 <? t.member.group.n)
+            (λ _. when_elim Hands (t.reset.inviting and t.reset.invited =? attempt) (λ e. counted_hands sender number'.0 says.0 says.1 (both_first t.reset.inviting _ e)) (λ _. refused_hands Refusal.NotOfAttempt))
             (λ _. refused_hands Refusal.UnknownMember)
         reset_hands (Packet.Result sender attempt elected number') says fits = absurd says
 
@@ -699,7 +699,7 @@ module _ (n number resilience : ℕ) (o : Opens n number resilience) (w : Group)
           let P : terminal.Outcome → Type 0 = λ x. (is_sent (by_member x.answer x.bytes) ≡ true → ⊥) → Next (make i demand) (with_member w i x (written x.bytes)) in
           let refuse : (r : Refusal) → P (terminal.refused t r) = λ r _. stutter (make i demand) (terminal.refused t r) [] refused_acts refl refl tt refl (λ j. refl) (λ j. refl) in
           judged_elim P (terminal.whole_verdict t longest_packet) (λ r _. refuse r)
-          (λ _. if_elim P t.reset.inviting (λ _. if_elim P (demand ≤? ones t.reset.repliers) (λ _ f. absurd (f refl)) (λ _. refuse Refusal.FewSurvivors)) (λ _. refuse Refusal.NotOfAttempt))
+          (λ _. when_elim P t.reset.inviting (λ _. when_elim P (demand ≤? ones t.reset.repliers) (λ _ f. absurd (f refl)) (λ _. refuse Refusal.FewSurvivors)) (λ _. refuse Refusal.NotOfAttempt))
 
     -- the sequencer, which is terminal 0's
     module _ (b : 0 < n) where
@@ -829,11 +829,11 @@ module _ (n number resilience : ℕ) (o : Opens n number resilience) (w : Group)
 
     at_terminal_lem : (e : Event) (i : ℕ) (call : Terminal → terminal.Outcome) → ((b : i < n) → Next e (with_member w i (call (terminal_at w i)) (written (call (terminal_at w i)).bytes))) → Next e (at_terminal w i call)
     at_terminal_lem e i call h =
-        if_elim (Next e) (i <? length w.terminals) (λ b. h (let z = ltb-true i (length w.terminals) b in let l = v.size in omega arith)) (λ _. absent_next e)
+        when_elim (Next e) (i <? length w.terminals) (λ b. h (let z = ltb-true i (length w.terminals) b in let l = v.size in omega arith)) (λ _. absent_next e)
 
     at_sequencer_lem : (e : ℕ → Event) (i : ℕ) (call : Terminal → terminal.SequencerOutcome) → ((b : 0 < n) → Next (e 0) (with_sequencer w 0 (call (terminal_at w 0)))) → Next (e i) (at_sequencer w i call)
     at_sequencer_lem e i call h =
-        if_elim (Next (e i)) (i <? length w.terminals and (terminal_at w i).sequencing)
+        when_elim (Next (e i)) (i <? length w.terminals and (terminal_at w i).sequencing)
         (λ x.
         let l = v.size in
         let b = ltb-true i (length w.terminals) (both_first (i <? length w.terminals) _ x) in
@@ -865,7 +865,7 @@ module _ (n number resilience : ℕ) (o : Opens n number resilience) (w : Group)
 
     make_at : (i demand : ℕ) → (is_sent (at_terminal w i (λ t. terminal.make_of t demand longest_packet)).answer ≡ true → ⊥) → Next (make i demand) (at_terminal w i (λ t. terminal.make_of t demand longest_packet))
     make_at i demand =
-        if_elim (λ (d : Happened). (is_sent d.answer ≡ true → ⊥) → Next (make i demand) d) (i <? length w.terminals)
+        when_elim (λ (d : Happened). (is_sent d.answer ≡ true → ⊥) → Next (make i demand) d) (i <? length w.terminals)
         (λ b f. make_next i (let z = ltb-true i (length w.terminals) b in let l = v.size in omega arith) demand f) (λ _ _. absent_next (make i demand))
 
     pub step_next : (e : Event) → Asked e → Next e (happen w e)
@@ -873,7 +873,7 @@ module _ (n number resilience : ℕ) (o : Opens n number resilience) (w : Group)
     step_next (submit i payload) a = at_terminal_lem (submit i payload) i (λ t. terminal.submit_of t payload longest_packet) (λ b. submit_next i b payload)
     step_next (repeat i) a = at_terminal_lem (repeat i) i (λ t. terminal.repeat_of t longest_packet) (λ b. repeat_next i b)
     step_next (take i) a =
-        if_elim (Next (take i)) (i <? length w.terminals) (λ b. take_next i (let z = ltb-true i (length w.terminals) b in let l = v.size in omega arith)) (λ _. absent_next (take i))
+        when_elim (Next (take i)) (i <? length w.terminals) (λ b. take_next i (let z = ltb-true i (length w.terminals) b in let l = v.size in omega arith)) (λ _. absent_next (take i))
     step_next (status i) a = at_terminal_lem (status i) i (λ t. terminal.status_of t longest_packet) (λ b. status_next i b)
     step_next (poll i) a = at_sequencer_lem poll i (λ t. terminal.poll_of t longest_packet) (λ b. poll_next b)
     step_next (copy i k) a = at_sequencer_lem (λ j. copy j k) i (λ t. terminal.copy_of t (record { 0 = k }) longest_packet) (λ b. copy_next b k)

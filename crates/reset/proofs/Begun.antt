@@ -9,9 +9,9 @@ use native.Mathlib.Omega.{arith}
 use borrow.Author.Tests.{le-leb, lt-leb, leb-false}
 use lib.ListN.{length, get_or, set}
 use lib.Seq.{get_or-set_same, get_or-set_other}
-use Rattle.group.proofs.Choice.{if_true, if_false}
-use Rattle.group.proofs.Lists.{if_elim, eq_or, le_or}
-use Rattle.group.specs.Choice.{if◌then◌else◌, ◌≤?◌}
+use Rattle.group.proofs.Choice.{when_true, when_false}
+use Rattle.group.proofs.Lists.{when_elim, eq_or, le_or}
+use Rattle.group.specs.Choice.{when◌then◌else◌, ◌≤?◌}
 use Rattle.group.specs.Limits.{held_most, places_most}
 use Rattle.group.specs.declared.Group.{Group}
 use Rattle.history.specs.State as history
@@ -37,12 +37,12 @@ from_member t group number = begun group number (kept_floor t) (counts_of t) (hi
 
 pub elected_member : (t : Terminal) (group : Group) (number : ℕ) → serves t ≡ false → elected_sequencer t group number ≡ from_member t group number
 unfolding elected_sequencer
-elected_member t group number e = sym (if_false (serves t) _ _ _ e refl)
+elected_member t group number e = sym (when_false (serves t) _ _ _ e refl)
 
 pub elected_own : (t : Terminal) (group : Group) (number : ℕ) → serves t ≡ true
     → elected_sequencer t group number ≡ begun group number t.sequencer.floor.0 (counts_in t.sequencer.acknowledgements) t.sequencer.history
 unfolding elected_sequencer
-elected_own t group number e = sym (if_true (serves t) _ _ _ e refl)
+elected_own t group number e = sym (when_true (serves t) _ _ _ e refl)
 
 -- two terminals that begin alike
 pub record Same (t t' : Terminal) : Type 0 where
@@ -145,21 +145,21 @@ module _ (t : Terminal) (typed : memberLaws.Typed t.member) (sound : memberSound
       let past' : List Message = set t.kept.past (history.place_of (k + 1)) next in
       le_or s k
       (λ l.
-      sym (if_true (s ≤? k + 1) (history.message_at past' s) _ _ (le-leb s (k + 1) (omega arith)) refl)
+      sym (when_true (s ≤? k + 1) (history.message_at past' s) _ _ (le-leb s (k + 1) (omega arith)) refl)
       ∙ get_or-set_other t.kept.past (history.place_of (k + 1)) (history.place_of s) next blank (omega arith)
-      ∙ if_true (s ≤? k) (history.message_at t.kept.past s) _ _ (le-leb s k l) refl)
-      (λ l. if_false (s ≤? k) _ _ _ (lt-leb s k l) (rest s a b l near up))
+      ∙ when_true (s ≤? k) (history.message_at t.kept.past s) _ _ (le-leb s k l) refl)
+      (λ l. when_false (s ≤? k) _ _ _ (lt-leb s k l) (rest s a b l near up))
     where
       rest : (s : ℕ) → reach_of m < s + places_most → s ≤ reach_of m → k < s → reach_of m ≤ k + held_most → k + 1 ≤ reach_of m
-          → (if s ≤? k + 1 then history.message_at (set t.kept.past (history.place_of (k + 1)) next) s else window.message_at cleared s) ≡ window.message_at m.held s
+          → (when s ≤? k + 1 then history.message_at (set t.kept.past (history.place_of (k + 1)) next) s else window.message_at cleared s) ≡ window.message_at m.held s
       rest s a b l near up =
           eq_or s (k + 1)
           (λ q.
-          sym (if_true (s ≤? k + 1) (history.message_at (set t.kept.past (history.place_of (k + 1)) next) s) _ _ (le-leb s (k + 1) (omega arith)) refl)
+          sym (when_true (s ≤? k + 1) (history.message_at (set t.kept.past (history.place_of (k + 1)) next) s) _ _ (le-leb s (k + 1) (omega arith)) refl)
           ∙ ap (λ (j : ℕ). get_or (set t.kept.past (history.place_of (k + 1)) next) (history.place_of j) blank) q
           ∙ get_or-set_same t.kept.past (history.place_of (k + 1)) next blank (omega arith)
           ∙ ap (window.message_at m.held) (sym q))
-          (λ q. sym (if_false (s ≤? k + 1) (window.message_at cleared s) _ _ (lt-leb s (k + 1) (omega arith)) refl) ∙ cleared_same s (omega arith) (omega arith))
+          (λ q. sym (when_false (s ≤? k + 1) (window.message_at cleared s) _ _ (lt-leb s (k + 1) (omega arith)) refl) ∙ cleared_same s (omega arith) (omega arith))
 
   pub taken_same : Same t after
   unfolding terminal.kept_took
@@ -187,7 +187,7 @@ cut_same t group cut long below =
           ap (λ (x : ℕ). counted_row t.kept.counts (dropped_of m.held cut m.taken.0 held_most) m.taken.0 (x - m.taken.0)) r
           ∙ row_same t.kept.counts m.held (dropped_of m.held cut m.taken.0 held_most) m.taken.0 (reach_of m - m.taken.0) (λ s a b. let least = reach_least m in same s a (omega arith));
       message = λ s a b.
-          let P : Message → Type 0 = λ y. (if s ≤? m.taken.0 then history.message_at t.kept.past s else window.message_at (dropped_of m.held cut m.taken.0 held_most) s) ≡ y in
-          if_elim P (s ≤? m.taken.0) (λ e. sym (if_true (s ≤? m.taken.0) _ _ _ e refl))
-          (λ e. sym (if_false (s ≤? m.taken.0) _ _ _ e refl) ∙ same s (leb-false s m.taken.0 e) b);
+          let P : Message → Type 0 = λ y. (when s ≤? m.taken.0 then history.message_at t.kept.past s else window.message_at (dropped_of m.held cut m.taken.0 held_most) s) ≡ y in
+          when_elim P (s ≤? m.taken.0) (λ e. sym (when_true (s ≤? m.taken.0) _ _ _ e refl))
+          (λ e. sym (when_false (s ≤? m.taken.0) _ _ _ e refl) ∙ same s (leb-false s m.taken.0 e) b);
     }

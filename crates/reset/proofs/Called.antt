@@ -10,8 +10,8 @@ use native.Mathlib.Omega.{arith}
 use borrow.Author.Tests.{ltb-true}
 use lib.ListN.{length, get_elem?, length-set}
 use Rattle.group.proofs.Choice.{both_first}
-use Rattle.group.proofs.Lists.{if_elim, eq_or, at as nth, All, all_map, all_get}
-use Rattle.group.specs.Choice.{if◌then◌else◌, ◌and◌}
+use Rattle.group.proofs.Lists.{when_elim, eq_or, at as nth, All, all_map, all_get}
+use Rattle.group.specs.Choice.{when◌then◌else◌, ◌and◌}
 use Rattle.group.specs.Limits.{places_most, members_most, held_most, longest_packet, largest_number}
 use Rattle.group.specs.Members.{is_in}
 use Rattle.group.specs.Question.{judged}
@@ -243,15 +243,15 @@ module _ (n resilience line : ℕ) (c : Course) (at : ℕ → Terminal) (packets
     own_sound = both_first (memberSoundOf m) _ member_sound_lem
 
     took_is : member.is_ready m next ≡ true → (terminal.take_of t longest_packet).terminal ≡ terminal.with_member t (member.with_taken m message) (terminal.kept_took t.kept next message)
-    unfolding terminal.take_of judged member.take_of member.call_verdict member.took_of if◌then◌else◌
+    unfolding terminal.take_of judged member.take_of member.call_verdict member.took_of when◌then◌else◌
     took_is r = rw (called t member_sound_lem, own_sound, r)
 
     none_is : member.is_ready m next ≡ false → (terminal.take_of t longest_packet).terminal ≡ t
-    unfolding terminal.take_of judged member.take_of member.call_verdict member.answered if◌then◌else◌
+    unfolding terminal.take_of judged member.take_of member.call_verdict member.answered when◌then◌else◌
     none_is r = rw (called t member_sound_lem, own_sound, r)
 
     took_member : member.is_ready m next ≡ true → (member.take_of m longest_packet).member ≡ member.with_taken m message
-    unfolding judged member.take_of member.call_verdict member.took_of if◌then◌else◌
+    unfolding judged member.take_of member.call_verdict member.took_of when◌then◌else◌
     took_member r = rw (own_sound, r)
 
     ready_held : member.is_ready m next ≡ true → 1 ≤ message.count
@@ -378,7 +378,7 @@ module _ (n resilience line : ℕ) (c : Course) (at : ℕ → Terminal) (packets
       read_after_lem : (answer : Answer) → Low n resilience c cut at (terminal.kept_read t.kept answer (terminal.floor_in known_is.content)).read.0
       unfolding terminal.kept_read
       read_after_lem answer =
-          if_elim (λ (x : Kept). Low n resilience c cut at x.read.0) (terminal.is_refusal answer) (λ _. h.read_low)
+          when_elim (λ (x : Kept). Low n resilience c cut at x.read.0) (terminal.is_refusal answer) (λ _. h.read_low)
           (λ _ j q. le_larger t.kept.read.0 (terminal.floor_in known_is.content) _ (h.read_low j q) (floor_is j q))
 
       heard_after : After (terminal.heard_of t known_is.content known_is.payload)
@@ -410,6 +410,6 @@ module _ (n resilience line : ℕ) (c : Course) (at : ℕ → Terminal) (packets
           let owes = acting.receive_here group cut i (taken_in view.acknowledgements i) view.accepted.0 c.order (tk i) (sb i) t member_sound_lem h.typed.member.held member_terminal e voice p known_is in
           let after : After received =
           subst After (sym is)
-          (if_elim After (from_elected t.member.group known_is.content)
-          (λ _. if_elim After (true and (if t.reset.replied then false else true)) (λ _. heard_after) (λ _. refused_after Refusal.OtherGroup)) (λ _. refused_after Refusal.ForbiddenFields)) in
+          (when_elim After (from_elected t.member.group known_is.content)
+          (λ _. when_elim After (true and (when t.reset.replied then false else true)) (λ _. heard_after) (λ _. refused_after Refusal.OtherGroup)) (λ _. refused_after Refusal.ForbiddenFields)) in
           after here (terminalProofs.receive_keeps t p longest_packet fits h.typed h.sound) (rw (et, es) owes) (receive_stays t p longest_packet plain).wrote

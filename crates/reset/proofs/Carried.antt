@@ -4,7 +4,7 @@ use mathlib.Core.Bool.{true}
 use mathlib.Core.List.{List}
 use Prim.Native.Nat.{ℕ, ◌+◌}
 use Rattle.group.proofs.Choice.{both_first}
-use Rattle.group.specs.Choice.{if◌then◌else◌}
+use Rattle.group.specs.Choice.{when◌then◌else◌}
 use Rattle.group.specs.Limits.{longest_packet}
 use Rattle.group.specs.Question.{judged}
 use Rattle.group.specs.declared.Verdict.{Verdict}
@@ -20,7 +20,7 @@ sound_member t sound = both_first (member_sound t) _ sound
 
 module _ (t : Terminal) (sound : member_sound t ≡ true) where
   pub called : terminal.call_verdict t longest_packet ≡ Verdict.Accepted
-  unfolding terminal.call_verdict if◌then◌else◌
+  unfolding terminal.call_verdict when◌then◌else◌
   called = rw sound
 
   pub submit_is : (payload : List ℕ) → terminal.submit_of t payload longest_packet ≡ terminal.carried t t.kept (member.submit_of t.member payload longest_packet)
@@ -40,7 +40,7 @@ module _ (t : Terminal) (sound : member_sound t ≡ true) where
   next = t.member.taken.0 + 1
 
   abbrev pub keeps_of : Kept
-  keeps_of = if member.is_ready t.member next then terminal.kept_took t.kept next (window.message_at t.member.held next) else t.kept
+  keeps_of = when member.is_ready t.member next then terminal.kept_took t.kept next (window.message_at t.member.held next) else t.kept
 
   pub take_is : terminal.take_of t longest_packet ≡ terminal.carried t keeps_of (member.take_of t.member longest_packet)
   unfolding terminal.take_of judged

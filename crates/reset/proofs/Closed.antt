@@ -4,8 +4,8 @@ use mathlib.Core.Path.{◌≡◌, refl, sym, ap, ◌∙◌, subst}
 use mathlib.Core.Bool.{true, false, false≢true}
 use mathlib.Core.List.{List, []}
 use Prim.Native.Nat.{ℕ}
-use Rattle.group.proofs.Lists.{if_elim, judged_elim}
-use Rattle.group.specs.Choice.{if◌then◌else◌, ◌and◌, ◌=?◌}
+use Rattle.group.proofs.Lists.{when_elim, judged_elim}
+use Rattle.group.specs.Choice.{when◌then◌else◌, ◌and◌, ◌=?◌}
 use Rattle.packet.specs.Packet.{read_of, payload_at, content_of, from_elected}
 use Rattle.packet.specs.declared.Header.{Header}
 use Rattle.packet.specs.declared.Reading.{Reading}
@@ -20,7 +20,7 @@ use Rattle.recovery.specs.State.{Terminal}
 abbrev pub Shut : Terminal → List ℕ → Type 0
 Shut t p =
     (h : Header) → read_of p ≡ Reading.Fields h
-    → (terminal.of_reset (content_of h) ≡ false) × ((h.group =? t.member.group.number and (if t.reset.replied then false else true)) ≡ false)
+    → (terminal.of_reset (content_of h) ≡ false) × ((h.group =? t.member.group.number and (when t.reset.replied then false else true)) ≡ false)
 
 abbrev pub Unmoved : Terminal → terminal.Outcome → Type 0
 Unmoved t x = (x.terminal ≡ t) × (x.bytes ≡ [])
@@ -33,16 +33,16 @@ shut_receives t p room shut = judged_elim (Unmoved t) (terminal.call_verdict t r
     go (Reading.Refused refusal) e = (refl, refl)
     go (Reading.Fields h) e =
         let s = shut h e in
-        if_elim (Unmoved t) (from_elected t.member.group (content_of h))
-        (λ _. if_elim (Unmoved t) (terminal.of_reset (content_of h)) (λ r. absurd (false≢true (sym s.0 ∙ r)))
-        (λ _. if_elim (Unmoved t) (h.group =? t.member.group.number and (if t.reset.replied then false else true)) (λ r. absurd (false≢true (sym s.1 ∙ r))) (λ _. (refl, refl))))
+        when_elim (Unmoved t) (from_elected t.member.group (content_of h))
+        (λ _. when_elim (Unmoved t) (terminal.of_reset (content_of h)) (λ r. absurd (false≢true (sym s.0 ∙ r)))
+        (λ _. when_elim (Unmoved t) (h.group =? t.member.group.number and (when t.reset.replied then false else true)) (λ r. absurd (false≢true (sym s.1 ∙ r))) (λ _. (refl, refl))))
         (λ _. (refl, refl))
 
 -- what the sequencer's end does not read
 abbrev pub SequencerShut : Terminal → List ℕ → Type 0
 SequencerShut t p =
     (h : Header) → read_of p ≡ Reading.Fields h
-    → (h.group =? t.sequencer.group.number and (if t.frozen then terminal.of_reset (content_of h) else true)) ≡ false
+    → (h.group =? t.sequencer.group.number and (when t.frozen then terminal.of_reset (content_of h) else true)) ≡ false
 
 abbrev pub SequencerUnmoved : Terminal → sequencer.Outcome → Type 0
 SequencerUnmoved t x = (x.sequencer ≡ t.sequencer) × (x.bytes ≡ []) × (numbered_by x.answer x.bytes ≡ [])
@@ -56,8 +56,8 @@ shut_orders t p room shut =
     go : (r : Reading) → read_of p ≡ r → SequencerUnmoved t (terminal.ordered_step t r (payload_at p))
     go (Reading.Refused refusal) e = (refl, refl, refl)
     go (Reading.Fields h) e =
-        if_elim (SequencerUnmoved t) (from_elected t.sequencer.group (content_of h))
-        (λ _. if_elim (SequencerUnmoved t) (h.group =? t.sequencer.group.number and (if t.frozen then terminal.of_reset (content_of h) else true)) (λ r. absurd (false≢true (sym (shut h e) ∙ r))) (λ _. (refl, refl, refl)))
+        when_elim (SequencerUnmoved t) (from_elected t.sequencer.group (content_of h))
+        (λ _. when_elim (SequencerUnmoved t) (h.group =? t.sequencer.group.number and (when t.frozen then terminal.of_reset (content_of h) else true)) (λ r. absurd (false≢true (sym (shut h e) ∙ r))) (λ _. (refl, refl, refl)))
         (λ _. (refl, refl, refl))
 
 -- a packet of a reset
@@ -70,7 +70,7 @@ reset_orders t p room h e of =
   where
     step : SequencerUnmoved t (terminal.ordered_step t (Reading.Fields h) (payload_at p))
     step =
-        if_elim (SequencerUnmoved t) (from_elected t.sequencer.group (content_of h))
-        (λ _. if_elim (SequencerUnmoved t) (h.group =? t.sequencer.group.number and (if t.frozen then terminal.of_reset (content_of h) else true))
+        when_elim (SequencerUnmoved t) (from_elected t.sequencer.group (content_of h))
+        (λ _. when_elim (SequencerUnmoved t) (h.group =? t.sequencer.group.number and (when t.frozen then terminal.of_reset (content_of h) else true))
         (λ _. subst (SequencerUnmoved t) (sym (reset_other t.sequencer (content_of h) (payload_at p) of)) (refl, refl, refl)) (λ _. (refl, refl, refl)))
         (λ _. (refl, refl, refl))

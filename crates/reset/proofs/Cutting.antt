@@ -10,9 +10,9 @@ use native.Mathlib.Omega.{arith}
 use borrow.Author.Tests.{leb-true, leb-false}
 use lib.ListN.{length, take, drop, length-append, take-append-drop}
 use lib.Seq.{get_or-set_same, get_or-set_other, take-take, take-append-le, take_all, length-take-le}
-use Rattle.group.proofs.Lists.{if_elim, eq_or, le_or, at, at_take}
+use Rattle.group.proofs.Lists.{when_elim, eq_or, le_or, at, at_take}
 use Rattle.group.proofs.Members.{Standing}
-use Rattle.group.specs.Choice.{if◌then◌else◌, ◌≤?◌, ◌=?◌}
+use Rattle.group.specs.Choice.{when◌then◌else◌, ◌≤?◌, ◌=?◌}
 use Rattle.group.specs.Limits.{held_most, largest_number}
 use Rattle.group.specs.Members.{is_in}
 use Rattle.group.specs.declared.Group.{Group}
@@ -28,16 +28,16 @@ use Rattle.window.specs.Places.{place_of, message_at}
 use Rattle.recovery.proofs.Result.{dropped_length, member_in_lem}
 use Rattle.recovery.specs.Begin.{dropped_of, member_in}
 
-if_append : (b : Bool) (m : Submission) (l r : List Submission) → (if b then m ∷ (l ++ r) else (l ++ r)) ≡ (if b then m ∷ l else l) ++ r
-unfolding if◌then◌else◌
-if_append true m l r = refl
-if_append false m l r = refl
+when_append : (b : Bool) (m : Submission) (l r : List Submission) → (when b then m ∷ (l ++ r) else (l ++ r)) ≡ (when b then m ∷ l else l) ++ r
+unfolding when◌then◌else◌
+when_append true m l r = refl
+when_append false m l r = refl
 
 -- own messages of a first part
 own_append : (i : ℕ) (l r : List Ordered) → own_of i (l ++ r) ≡ own_of i l ++ own_of i r
 unfolding own_of
 own_append i [] r = refl
-own_append i (m ∷ l) r = rw (own_append i l r) (if_append (m.originator =? i) (record { count = m.count; payload = m.payload }) (own_of i l) (own_of i r))
+own_append i (m ∷ l) r = rw (own_append i l r) (when_append (m.originator =? i) (record { count = m.count; payload = m.payload }) (own_of i l) (own_of i r))
 
 counted_take : (k count : ℕ) (l : List (List ℕ)) → take k (counted_from count l) ≡ counted_from count (take k l)
 unfolding counted_from
@@ -60,7 +60,7 @@ module _ (held : List Message) (number t : ℕ) (long : length held ≡ held_mos
   dropped_same zero s most a b c = refl
   dropped_same (suc k) s most a b c =
       let rest = dropped_same k s (omega arith) a b c in
-      if_elim (λ (l : List Message). message_at l s ≡ message_at held s) (t + suc k ≤? number) (λ _. rest)
+      when_elim (λ (l : List Message). message_at l s ≡ message_at held s) (t + suc k ≤? number) (λ _. rest)
       (λ h.
       let above = leb-false (t + suc k) number h in
       get_or-set_other (dropped_of held number t k) (place_of (t + suc k)) (place_of s) empty_message blank (omega arith) ∙ rest)
@@ -70,7 +70,7 @@ module _ (held : List Message) (number t : ℕ) (long : length held ≡ held_mos
   dropped_gone zero s most a b c = absurd (omega arith)
   dropped_gone (suc k) s most a b c =
       let l = dropped_length held number t long k in
-      if_elim (λ (x : List Message). message_at x s ≡ empty_message) (t + suc k ≤? number)
+      when_elim (λ (x : List Message). message_at x s ≡ empty_message) (t + suc k ≤? number)
       (λ h. let below = leb-true (t + suc k) number h in dropped_gone k s (omega arith) a (omega arith) c)
       (λ h. eq_or s (t + suc k) (λ q. rw q (get_or-set_same (dropped_of held number t k) (place_of (t + suc k)) empty_message blank (omega arith)))
       (λ q. get_or-set_other (dropped_of held number t k) (place_of (t + suc k)) (place_of s) empty_message blank (omega arith) ∙ dropped_gone k s (omega arith) a (omega arith) c))

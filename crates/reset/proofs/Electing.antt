@@ -8,10 +8,10 @@ use native.Mathlib.Nat.{le_refl, le_trans}
 use native.Mathlib.Omega.{arith}
 use borrow.Author.Tests.{eqb-true}
 use lib.ListN.{length, get_or, take, length-take}
-use Rattle.group.proofs.Choice.{if_true, if_false, both_first, both_then}
-use Rattle.group.proofs.Lists.{if_elim, eq_or}
+use Rattle.group.proofs.Choice.{when_true, when_false, both_first, both_then}
+use Rattle.group.proofs.Lists.{when_elim, eq_or}
 use Rattle.group.proofs.Members.{Standing}
-use Rattle.group.specs.Choice.{if◌then◌else◌, ◌=?◌}
+use Rattle.group.specs.Choice.{when◌then◌else◌, ◌=?◌}
 use Rattle.group.specs.Limits.{places_most, largest_number}
 use Rattle.group.specs.Members.{is_in}
 use Rattle.group.specs.declared.Group as description
@@ -50,13 +50,13 @@ unfolding own_of
 own_short o [] = le_refl 0
 own_short o (m ∷ l) =
     let z = own_short o l in
-    if_elim (λ (x : List Submission). length x ≤ suc (length l)) (m.originator =? o) (λ _. omega arith) (λ _. omega arith)
+    when_elim (λ (x : List Submission). length x ≤ suc (length l)) (m.originator =? o) (λ _. omega arith) (λ _. omega arith)
 
 -- its sequencer is of a group of as many
 serves_size : (t : Terminal) → sequencer_sound t ≡ true → t.sequencing ≡ true → t.sequencer.group.n ≡ t.member.group.n
 unfolding sequencer_sound
 serves_size t sound sequencing =
-    eqb-true _ _ (both_then (sequencerSpecs.sound_of t.sequencer) _ (if_true t.sequencing _ _ _ sequencing refl ∙ sound))
+    eqb-true _ _ (both_then (sequencerSpecs.sound_of t.sequencer) _ (when_true t.sequencing _ _ _ sequencing refl ∙ sound))
 
 module _ (n resilience line : ℕ) (c : Course) (at : ℕ → Terminal) (packets : List (List ℕ)) (tk : ℕ → List Ordered) (sb : ℕ → List (List ℕ)) (v : Inv n resilience line c at packets tk sb)
     (e : ℕ) (b : e < n) (inside : is_in c.survivors e ≡ true) where
@@ -87,11 +87,11 @@ module _ (n resilience line : ℕ) (c : Course) (at : ℕ → Terminal) (packets
 
   served : serves t ≡ true → reply_number t ≡ t.sequencer.top.0
   unfolding reply_number
-  served q = sym (if_true (serves t) _ _ _ q refl)
+  served q = sym (when_true (serves t) _ _ _ q refl)
 
   not_served : serves t ≡ false → reply_number t ≡ reach_of t.member
   unfolding reply_number
-  not_served q = sym (if_false (serves t) _ _ _ q refl)
+  not_served q = sym (when_false (serves t) _ _ _ q refl)
 
   view_same : serves t ≡ false → Same t seen_as
   view_same s =
@@ -114,11 +114,11 @@ module _ (n resilience line : ℕ) (c : Course) (at : ℕ → Terminal) (packets
 
   -- each one's submissions
   abbrev submitted : ℕ → List (List ℕ)
-  submitted o = if is_in c.survivors o then sb o else v.lost o
+  submitted o = when is_in c.survivors o then sb o else v.lost o
 
   owns : (o : ℕ) → o < n → Owns o c.order (submitted o)
   owns o less =
-      if_elim (λ (x : List (List ℕ)). Owns o c.order x) (is_in c.survivors o) (λ q. (v.seen.terminal o q).content.own_is) (λ q. v.seen.owns o less q)
+      when_elim (λ (x : List (List ℕ)). Owns o c.order x) (is_in c.survivors o) (λ q. (v.seen.terminal o q).content.own_is) (λ q. v.seen.owns o less q)
 
   view_size : view.group.n ≡ n
   view_size = ap (λ (g : description.Group). g.n) (v.seen.terminal e inside).seat.group_is
@@ -130,7 +130,7 @@ module _ (n resilience line : ℕ) (c : Course) (at : ℕ → Terminal) (packets
       (record { number_is = s.number_is; originator_ok = s.originator_ok; payload_ok = s.payload_ok; owns = owns })
 
   content : Content e view c.order (tk e) (submitted e)
-  content = subst (λ (x : List (List ℕ)). Content e view c.order (tk e) x) (if_true (is_in c.survivors e) _ _ _ inside refl) (v.seen.terminal e inside).content
+  content = subst (λ (x : List (List ℕ)). Content e view c.order (tk e) x) (when_true (is_in c.survivors e) _ _ _ inside refl) (v.seen.terminal e inside).content
 
   remembers : Remembers view.taken.0 t.kept c.order
   remembers = subst (λ (k : ℕ). Remembers k t.kept c.order) (sym (taken_same group cut t)) h.remembers
@@ -190,4 +190,4 @@ module _ (n resilience line : ℕ) (c : Course) (at : ℕ → Terminal) (packets
 
   pub elected_low : (group' : description.Group) (k : ℕ) → Low n resilience c cut at (elected_sequencer t group' k).floor.0
   unfolding elected_sequencer
-  elected_low group' k = if_elim (λ (y : Sequencer). Low n resilience c cut at y.floor.0) (serves t) (λ q. h.floor_low q) (λ _. member_low)
+  elected_low group' k = when_elim (λ (y : Sequencer). Low n resilience c cut at y.floor.0) (serves t) (λ q. h.floor_low q) (λ _. member_low)

@@ -7,9 +7,9 @@ use mathlib.Core.List.{List, [], ◌∷◌, ◌++◌}
 use Prim.Native.Nat.{ℕ, zero, suc, ◌+◌, ◌-◌, ◌≤◌, ◌<◌}
 use native.Mathlib.Omega.{arith}
 use lib.ListN.{length, get_or, get_elem?}
-use Rattle.group.proofs.Choice.{if_true, if_false}
+use Rattle.group.proofs.Choice.{when_true, when_false}
 use Rattle.group.proofs.Lists.{eq_or, get_last, at_some}
-use Rattle.group.specs.Choice.{if◌then◌else◌}
+use Rattle.group.specs.Choice.{when◌then◌else◌}
 use Rattle.group.specs.Limits.{longest_packet}
 use Rattle.group.specs.Members.{is_in}
 use Rattle.group.specs.declared.Group as description
@@ -245,7 +245,7 @@ module _ (n number resilience line : ℕ) (c : Course) (settled : c.attempt ≡ 
           → (x : Bool) → is_in c.survivors i ≡ x
           → Closes w
           (run w
-          (if x
+          (when x
           then take_row i ((acknowledged_of t.member).0 - t.member.taken.0)
           ++ close_member c.elected i (acknowledged_of t.member).0 ((sq w).accepted.0 - (acknowledged_of t.member).0) b
           ++ close_from c.survivors c.elected ts (i + 1) (sq w).accepted.0 (b + ((sq w).accepted.0 - (acknowledged_of t.member).0) + 1)
@@ -267,7 +267,7 @@ module _ (n number resilience line : ℕ) (c : Course) (settled : c.attempt ≡ 
           (λ e. let z = ha j y (omega arith) in subst (λ (k : ℕ). Has w1 k j) (sym accepted1) (ap (λ (u : Member). u.taken.0) (x.others_are j e) ∙ z.0, subst (λ (k : ℕ). last ≤ k) (sym (x.entry_other j e)) z.1))) in
           let d' : Closes w1 (run w1 rest) = subst (λ (k : ℕ). Closes w1 (run w1 (close_from c.survivors c.elected ts (i + 1) k (b + (last - a) + 1)))) accepted1 d in
           let all : List Event = row ++ es ++ rest in
-          subst (λ (l : List Event). Closes w (run w l)) (if_true true all all (close_from c.survivors c.elected ts (i + 1) last b) refl refl)
+          subst (λ (l : List Event). Closes w (run w l)) (when_true true all all (close_from c.survivors c.elected ts (i + 1) last b) refl refl)
           (subst (Closes w) (sym (run_append w (row ++ es) rest ∙ ap (λ (y : World). run y rest) (run_append w row es)))
           (record { here = d'.here; accepted_is = d'.accepted_is ∙ accepted1; each = λ j y. subst (λ (k : ℕ). Has (run w1 rest) k j) accepted1 (d'.each j y) }))
       go again false out =
@@ -275,7 +275,7 @@ module _ (n number resilience line : ℕ) (c : Course) (settled : c.attempt ≡ 
           let rest : List Event = close_from c.survivors c.elected ts (i + 1) last b in
           let d = again b w v eb (next_has w (λ j q. refl)) (λ j y. let z = hi j y in omega arith)
           (λ j y l. eq_or j i (λ e. absurd (false≢true (sym out ∙ subst (λ (k : ℕ). is_in c.survivors k ≡ true) e y))) (λ e. ha j y (omega arith))) in
-          subst (λ (l : List Event). Closes w (run w l)) (if_false false rest _ rest refl refl) d
+          subst (λ (l : List Event). Closes w (run w l)) (when_false false rest _ rest refl refl) d
 
   -- the closing round
   pub closes_all : (w : World) → H w → Closes w (run w (close_from c.survivors c.elected w.group.terminals 0 (sq w).accepted.0 (length w.group.packets)))

@@ -9,8 +9,8 @@ use native.Mathlib.Omega.{arith}
 use borrow.Author.Tests.{eqb-true, eqb-false, eq-eqb}
 use lib.ListN.{length, take, length-replicate}
 use lib.Seq.{take_all}
-use Rattle.group.proofs.Choice.{if_true, if_false, both_hold, both_first, both_then}
-use Rattle.group.proofs.Lists.{if_elim, eq_or}
+use Rattle.group.proofs.Choice.{when_true, when_false, both_hold, both_first, both_then}
+use Rattle.group.proofs.Lists.{when_elim, eq_or}
 use Rattle.group.specs.Choice.{◌=?◌}
 use Rattle.group.specs.Limits.{places_most, members_most, largest_number}
 use Rattle.group.specs.Members.{is_in}
@@ -52,11 +52,11 @@ module _ (t : Terminal) (attempt : ℕ) (elected : MemberNumber) (number : Seque
     where
       go : (x : Bool) → (elected.0 =? t.member.number.0) ≡ x → Begun elected.0 t.member.number.0 (elected_sequencer t (made_group t.member.group attempt elected survivors) number.0) t left
       go true e =
-          begins (sym (eqb-true elected.0 t.member.number.0 e)) (sym (if_true (elected.0 =? t.member.number.0) _ _ _ e refl)) (sym (if_true (elected.0 =? t.member.number.0) _ _ _ e refl))
-          (sym (if_true (elected.0 =? t.member.number.0) _ _ _ e refl))
+          begins (sym (eqb-true elected.0 t.member.number.0 e)) (sym (when_true (elected.0 =? t.member.number.0) _ _ _ e refl)) (sym (when_true (elected.0 =? t.member.number.0) _ _ _ e refl))
+          (sym (when_true (elected.0 =? t.member.number.0) _ _ _ e refl))
       go false e =
-          stays (λ q. eqb-false elected.0 t.member.number.0 e (sym q)) (sym (if_false (elected.0 =? t.member.number.0) _ _ _ e refl)) (sym (if_false (elected.0 =? t.member.number.0) _ _ _ e refl))
-          (sym (if_false (elected.0 =? t.member.number.0) _ _ _ e refl))
+          stays (λ q. eqb-false elected.0 t.member.number.0 e (sym q)) (sym (when_false (elected.0 =? t.member.number.0) _ _ _ e refl)) (sym (when_false (elected.0 =? t.member.number.0) _ _ _ e refl))
+          (sym (when_false (elected.0 =? t.member.number.0) _ _ _ e refl))
 
   pub left_member : left.member ≡ member_in t.member (made_group t.member.group attempt elected survivors) number.0
   unfolding result_of
@@ -102,7 +102,7 @@ module _ (n resilience : ℕ) (c : Course) (under cut : ℕ) (low : ℕ → Type
   reach_le : reach_of t'.member ≤ reply_number t'
   unfolding reply_number
   reach_le =
-      if_elim (λ (x : ℕ). reach_of t'.member ≤ x) (serves t')
+      when_elim (λ (x : ℕ). reach_of t'.member ≤ x) (serves t')
       (λ e. let s = (served which e).1 in let k = ap (λ (x : Sequencer). x.top.0) s in let top = inv.top_is in let r = reach_most content in omega arith) (λ _. le_refl _)
 
   sequencing_which : Begun c.elected i view t t' → i ≡ c.elected → (t'.sequencing ≡ true) × (t'.frozen ≡ false)

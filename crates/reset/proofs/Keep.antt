@@ -9,7 +9,7 @@ use native.Mathlib.Nat.{le_trans}
 use native.Mathlib.Omega.{arith}
 use lib.ListN.{length, take, length-take}
 use lib.Seq.{take-append-le}
-use Rattle.group.proofs.Lists.{if_elim, eq_or, All, all_append, all_map, get_append}
+use Rattle.group.proofs.Lists.{when_elim, eq_or, All, all_append, all_map, get_append}
 use Rattle.group.specs.Members.{is_in}
 use Rattle.group.specs.declared.Group as description
 use Rattle.message.specs.Order.{Ordered}
@@ -27,7 +27,7 @@ use Rattle.reset.proofs.View.{has_result, member_of, sequencer_of}
 -- what was taken is so in the view
 pub taken_same : (group : description.Group) (cut : ℕ) (t : Terminal) → (member_of group cut t).taken.0 ≡ t.member.taken.0
 unfolding member_of
-taken_same group cut t = if_elim (λ (m : Member). m.taken.0 ≡ t.member.taken.0) (has_result group t) (λ _. refl) (λ _. refl)
+taken_same group cut t = when_elim (λ (m : Member). m.taken.0 ≡ t.member.taken.0) (has_result group t) (λ _. refl) (λ _. refl)
 
 -- a sequencer that serves has numbered a first part of the order
 pub top_le : (group : description.Group) (s : Sequencer) (order : List Ordered) → SequencerInv group s (take s.top.0 order) → s.top.0 ≤ length order

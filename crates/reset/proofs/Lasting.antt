@@ -9,8 +9,8 @@ use lib.Count.{ones}
 use lib.ListN.{length, length-take}
 use lib.ListN as list
 use lib.Seq.{take-take, length-take-le}
-use Rattle.group.proofs.Choice.{if_true}
-use Rattle.group.proofs.Lists.{if_elim}
+use Rattle.group.proofs.Choice.{when_true}
+use Rattle.group.proofs.Lists.{when_elim}
 use Rattle.group.proofs.Members.{survivor_lt}
 use Rattle.group.specs.Members.{is_in}
 use Rattle.group.specs.declared.Group as description
@@ -95,7 +95,7 @@ module _ (n number resilience : ℕ) (w : World) (v : Led n number resilience 0 
   unfolding reply_number
   elected_replies e =
       let x = replies c.elected e in
-      let y : (at c.elected).sequencer.top.0 ≡ reply_number (at c.elected) = if_true (serves (at c.elected)) _ _ _ (serves_here n resilience 0 c at w.group.packets tk sb h elected_lt elected_here) refl in
+      let y : (at c.elected).sequencer.top.0 ≡ reply_number (at c.elected) = when_true (serves (at c.elected)) _ _ _ (serves_here n resilience 0 c at w.group.packets tk sb h elected_lt elected_here) refl in
       let z = ap (λ (s : Sequencer). s.top.0) real in
       omega arith
 
@@ -107,7 +107,7 @@ module _ (n number resilience : ℕ) (w : World) (v : Led n number resilience 0 
       let x = reach_view n resilience 0 c at w.group.packets tk sb h j less inside in
       let y = ((h.sits j less).survivor inside).reach_le in
       let z = replies j e in
-      if_elim (λ (o : Voice). o.reach ≤ last) (is_in c.survivors j) (λ _. le_larger (reach_of (member_of group h.cut (at j))) 0 last (omega arith) (omega arith)) (λ o. absurd (false≢true (sym o ∙ inside)))
+      when_elim (λ (o : Voice). o.reach ≤ last) (is_in c.survivors j) (λ _. le_larger (reach_of (member_of group h.cut (at j))) 0 last (omega arith) (omega arith)) (λ o. absurd (false≢true (sym o ∙ inside)))
 
   accepted_le : ones c.survivors ≤ ones r.repliers + resilience → view.accepted.0 ≤ last
   accepted_le few =

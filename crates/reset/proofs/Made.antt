@@ -8,9 +8,9 @@ use native.Mathlib.Omega.{arith}
 use borrow.Author.Tests.{le-leb}
 use lib.ListN.{length, get_or, take}
 use lib.Seq.{ext_get_or, length-take-le}
-use Rattle.group.proofs.Lists.{if_elim, le_or}
+use Rattle.group.proofs.Lists.{when_elim, le_or}
 use Rattle.group.proofs.Members.{Standing, survivor_lt, others_count}
-use Rattle.group.specs.Choice.{if◌then◌else◌, ◌≤?◌}
+use Rattle.group.specs.Choice.{when◌then◌else◌, ◌≤?◌}
 use Rattle.group.specs.Limits.{held_most, largest_number}
 use Rattle.group.specs.Members.{is_in}
 use Rattle.group.specs.declared.Group.{Group}
@@ -118,7 +118,7 @@ module _ (m : Member) (group : Group) (number : ℕ) (long : length m.held ≡ h
 
 -- who is lost with the making, and who was
 unfoldable pub lost_now : Group → (ℕ → List (List ℕ)) → (ℕ → List (List ℕ)) → ℕ → List (List ℕ)
-lost_now group sb lost i = if is_in group.survivors i then sb i else lost i
+lost_now group sb lost i = when is_in group.survivors i then sb i else lost i
 
 module _ (group : Group) (line : ℕ) (s : Sequencer) (members : ℕ → Member) (order : List Ordered) (tk : ℕ → List Ordered) (sb lost : ℕ → List (List ℕ)) (packets : List (List ℕ))
     (v : Seen group line s members order tk sb lost packets)
@@ -141,18 +141,18 @@ module _ (group : Group) (line : ℕ) (s : Sequencer) (members : ℕ → Member)
 
   reaches_line : (i : ℕ) → cut ≤ (voices group' cut members' sb lost' i).reach
   unfolding voices
-  reaches_line i = if_elim (λ (x : Voice). cut ≤ x.reach) (is_in group'.survivors i) (λ _. (larger_le (reach_of (members' i)) cut).1) (λ _. most)
+  reaches_line i = when_elim (λ (x : Voice). cut ≤ x.reach) (is_in group'.survivors i) (λ _. (larger_le (reach_of (members' i)) cut).1) (λ _. most)
 
   owns' : (i : ℕ) → i < group'.n → Owns i (take cut order) (lost' i)
   unfolding lost_now
   owns' i b =
-      if_elim (λ (x : List (List ℕ)). Owns i (take cut order) x) (is_in group.survivors i) (λ e. owns_cut i cut order (sb i) (v.terminal i e).content.own_is)
+      when_elim (λ (x : List (List ℕ)). Owns i (take cut order) x) (is_in group.survivors i) (λ e. owns_cut i cut order (sb i) (v.terminal i e).content.own_is)
       (λ e. owns_cut i cut order (lost i) (v.owns i (omega arith) e))
 
   sizes' : (i : ℕ) → length (lost' i) ≤ largest_number
   unfolding lost_now
   sizes' i =
-      if_elim (λ (x : List (List ℕ)). length x ≤ largest_number) (is_in group.survivors i)
+      when_elim (λ (x : List (List ℕ)). length x ≤ largest_number) (is_in group.survivors i)
       (λ e. let h = (v.terminal i e).content in let z = h.typed.submitted in let y = h.submitted_is in omega arith) (λ e. v.sizes i e)
 
   pub made_seen : Seen group' cut s' members' (take cut order) tk sb lost' []

@@ -13,8 +13,8 @@ use lib.Pow.{pow_mono}
 use lib.Seq.{take-take}
 use Rattle.big_endian.proofs.Number.{number_of_bytes}
 use Rattle.big_endian.specs.Number.{number_at, bytes_of}
-use Rattle.group.proofs.Choice.{if_true}
-use Rattle.group.proofs.Lists.{if_elim, eq_or, all_append, all_map, all_get}
+use Rattle.group.proofs.Choice.{when_true}
+use Rattle.group.proofs.Lists.{when_elim, eq_or, all_append, all_map, all_get}
 use Rattle.group.proofs.Members.{Standing, survivor_lt}
 use Rattle.group.specs.Limits.{members_most, longest_packet, largest_number}
 use Rattle.group.specs.Members.{is_in, all_of}
@@ -72,16 +72,16 @@ begun_table : (t : Terminal) (group : description.Group) (k j : ℕ) → termina
     → taken_in (elected_sequencer t group k).acknowledgements j ≡ (elected_sequencer t group k).floor.0
 unfolding elected_sequencer
 begun_table t group k j sound long table less e =
-    if_elim (λ (s : Sequencer). taken_in s.acknowledgements j ≡ s.floor.0) (serves t)
+    when_elim (λ (s : Sequencer). taken_in s.acknowledgements j ≡ s.floor.0) (serves t)
     (λ _. entry t.sequencer.floor.0 (counts_in t.sequencer.acknowledgements) (let z = counts_length t.sequencer.acknowledgements in omega arith))
     (λ _. entry (kept_floor t) (counts_of t) (let s = sound_of_lem t sound in let z = counts_size t s.member s.kept long in omega arith))
   where
     entry : (floor : ℕ) (counts : List ℕ) → j < length counts → taken_in (table_from group.survivors floor 0 counts) j ≡ floor
-    entry floor counts l = ap (λ (a : Acknowledgement). a.taken.0) (table_entry group.survivors floor counts j l) ∙ sym (if_true (is_in group.survivors j) _ _ _ e refl)
+    entry floor counts l = ap (λ (a : Acknowledgement). a.taken.0) (table_entry group.survivors floor counts j l) ∙ sym (when_true (is_in group.survivors j) _ _ _ e refl)
 
 begun_accepted : (t : Terminal) (group : description.Group) (k : ℕ) → (elected_sequencer t group k).accepted.0 ≡ k
 unfolding elected_sequencer
-begun_accepted t group k = if_elim (λ (s : Sequencer). s.accepted.0 ≡ k) (serves t) (λ _. refl) (λ _. refl)
+begun_accepted t group k = when_elim (λ (s : Sequencer). s.accepted.0 ≡ k) (serves t) (λ _. refl) (λ _. refl)
 
 module _ (n resilience line : ℕ) (c : Course) (at : ℕ → Terminal) (packets : List (List ℕ)) (tk : ℕ → List Ordered) (sb : ℕ → List (List ℕ)) (v : Inv n resilience line c at packets tk sb)
     (i : ℕ) (b : i < n) (mine : c.initiator ≡ i) (inviting : (at i).reset.inviting ≡ true) where
@@ -349,7 +349,7 @@ module _ (n resilience line : ℕ) (c : Course) (at : ℕ → Terminal) (packets
 
     served_top : (j : ℕ) → is_in mask j ≡ true → serves (at j) ≡ true → (at j).sequencer.top.0 ≤ last
     unfolding reply_number
-    served_top j q z = let x = reply_most j q in let y : (at j).sequencer.top.0 ≡ reply_number (at j) = if_true (serves (at j)) _ _ _ z refl in omega arith
+    served_top j q z = let x = reply_most j q in let y : (at j).sequencer.top.0 ≡ reply_number (at j) = when_true (serves (at j)) _ _ _ z refl in omega arith
 
     other_survivor : (j : ℕ) → is_in mask j ≡ true → Survivor n resilience c' t.member.group.number last (Low n resilience c' last at') j (at j)
     other_survivor j q =

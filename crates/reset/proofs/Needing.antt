@@ -9,7 +9,7 @@ use borrow.Author.Tests.{eqb-true, eqb-false}
 use lib.Bits.{bit_and, bit_or, and_step, and_self, or_comm}
 use lib.Count.{count_trailing_zeros, under}
 use Rattle.group.proofs.Counting.{one, count, one_mono, one_false, one_true, count_mono, half_lt, ones_count}
-use Rattle.group.proofs.Lists.{if_elim}
+use Rattle.group.proofs.Lists.{when_elim}
 use Rattle.group.proofs.Members.{in_less, less_in, lowest_in, lowest_lt, lowest_within, lowest_lt_all, without_lt, Standing, others_lt}
 use Rattle.group.specs.Choice.{◌=?◌}
 use Rattle.group.specs.Limits.{members_most}
@@ -76,7 +76,7 @@ lowest_count : (k mask j : ℕ) → mask < 2 ^ members_most → j ≤ k → j �
 unfolding lowest_of
 lowest_count zero mask j h a b = omega arith
 lowest_count (suc k) mask j h a b =
-    if_elim (λ (x : ℕ). j ≤ count members_most (is_in x)) (mask =? 0) (λ z. subst (λ (x : ℕ). j ≤ count members_most (is_in x)) (eqb-true mask 0 z) b) (λ z. more (λ le. lowest_count k (without_lowest mask) (j - 1) (without_lt mask h) (omega arith) le) (eqb-false mask 0 z))
+    when_elim (λ (x : ℕ). j ≤ count members_most (is_in x)) (mask =? 0) (λ z. subst (λ (x : ℕ). j ≤ count members_most (is_in x)) (eqb-true mask 0 z) b) (λ z. more (λ le. lowest_count k (without_lowest mask) (j - 1) (without_lt mask h) (omega arith) le) (eqb-false mask 0 z))
   where
     more : (j - 1 ≤ count members_most (is_in (without_lowest mask)) → j - 1 ≤ count members_most (is_in (lowest_of k (without_lowest mask)))) → mask ≢ 0
         → j ≤ count members_most (is_in (bit_or (2 ^ lowest mask) (lowest_of k (without_lowest mask))))

@@ -10,8 +10,8 @@ use native.Mathlib.Omega.{arith}
 use borrow.Author.Tests.{eq-eqb}
 use lib.ListN.{length, take, get_elem?, length-append}
 use lib.Seq.{take_all}
-use Rattle.group.proofs.Choice.{if_true, both_hold}
-use Rattle.group.proofs.Lists.{if_elim, judged_elim, eq_or, All, all_map, all_get}
+use Rattle.group.proofs.Choice.{when_true, both_hold}
+use Rattle.group.proofs.Lists.{when_elim, judged_elim, eq_or, All, all_map, all_get}
 use Rattle.group.specs.Choice.{◌and◌, ◌<?◌, ◌≤?◌}
 use Rattle.group.specs.Limits.{longest_packet, largest_number}
 use Rattle.group.specs.Members.{is_in}
@@ -54,7 +54,7 @@ pub copy_adds : (s : Sequencer) (k : SequenceNumber) (room : ℕ) → numbered_b
 unfolding sequencer.copy_of sequencer.answered numbered_by
 copy_adds s k room =
     let P : sequencer.Outcome → Type 0 = λ x. numbered_by x.answer x.bytes ≡ [] in
-    judged_elim P (sequencer.call_verdict s room) (λ _ _. refl) (λ _. if_elim P (s.floor.0 <? k.0 and k.0 ≤? s.top.0) (λ _. refl) (λ _. refl))
+    judged_elim P (sequencer.call_verdict s room) (λ _ _. refl) (λ _. when_elim P (s.floor.0 <? k.0 and k.0 ≤? s.top.0) (λ _. refl) (λ _. refl))
 
 -- no floor of the elected one's sequencer is above a survivor's reach
 pub seen_floor : (group : description.Group) (line : ℕ) (s : Sequencer) (members : ℕ → Member) (order : List Ordered) (tk : ℕ → List Ordered) (sb lost : ℕ → List (List ℕ)) (packets : List (List ℕ))
@@ -201,7 +201,7 @@ module _ (n resilience line : ℕ) (c : Course) (at : ℕ → Terminal) (packets
 
       reply_is : reply_number t' ≡ length (c.order ++ more)
       unfolding reply_number
-      reply_is = sym (if_true (serves t') _ _ _ serves' refl) ∙ inv'.top_is
+      reply_is = sym (when_true (serves t') _ _ _ serves' refl) ∙ inv'.top_is
 
       reach_le' : reach_of t.member ≤ reply_number t'
       reach_le' =

@@ -8,7 +8,7 @@ use native.Mathlib.Omega.{arith}
 use borrow.Author.Tests.{lt-ltb}
 use lib.ListN.{length, get_or, set, take, replicate, get_or-replicate, get_or-eq_default}
 use lib.Seq.{get_or-set_same, get_or-set_other, take-take, take-append-le}
-use Rattle.group.proofs.Choice.{if_true}
+use Rattle.group.proofs.Choice.{when_true}
 use Rattle.group.proofs.Lists.{eq_or, le_or, at, at_append, at_take, take_at_suc}
 use Rattle.group.specs.Choice.{◌<?◌}
 use Rattle.group.specs.Limits.{members_most, places_most}
@@ -33,7 +33,7 @@ pub record Remembers (taken : ℕ) (kept : Kept) (order : List Ordered) : Type 0
 
 larger_next : (a b : ℕ) → b ≡ a + 1 → larger_of a b ≡ b
 unfolding larger_of
-larger_next a b e = sym (if_true (a <? b) b b a (lt-ltb a b (omega arith)) refl)
+larger_next a b e = sym (when_true (a <? b) b b a (lt-ltb a b (omega arith)) refl)
 
 -- counts of the first k of an order, and of one more
 pub counted_next : (counts : List ℕ) (order : List Ordered) (k : ℕ) (m : Message) (x : Ordered) (submitted : List (List ℕ)) → at order (suc k) ≡ some x → message_is m x → x.originator < length counts

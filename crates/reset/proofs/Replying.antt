@@ -10,9 +10,9 @@ use borrow.Author.Tests.{eqb-false}
 use lib.Bits.{bit_or}
 use lib.ListN.{length, get_or, set, length-set, length-replicate}
 use lib.Seq.{get_or-set_same, get_or-set_other}
-use Rattle.group.proofs.Lists.{if_elim, eq_or, All}
+use Rattle.group.proofs.Lists.{when_elim, eq_or, All}
 use Rattle.group.proofs.Members.{in_or, in_only}
-use Rattle.group.specs.Choice.{if◌then◌else◌, ◌=?◌}
+use Rattle.group.specs.Choice.{when◌then◌else◌, ◌=?◌}
 use Rattle.group.specs.Limits.{members_most, longest_packet, largest_number}
 use Rattle.group.specs.Members.{is_in, only_of}
 use Rattle.group.specs.Question.{judged}
@@ -75,7 +75,7 @@ reset_survivor n resilience c c' under cut low low' up i t r f eo en ee ef s sou
 
 -- a frozen sequencer stays so
 pub freezes_not : (t : Terminal) → terminal.freezes t ≡ false → t.frozen ≡ false
-freezes_not t = if_elim (λ (x : Bool). x ≡ false → t.frozen ≡ false) (serves t) (λ _ e. absurd (false≢true (sym e))) (λ _ e. e)
+freezes_not t = when_elim (λ (x : Bool). x ≡ false → t.frozen ≡ false) (serves t) (λ _ e. absurd (false≢true (sym e))) (λ _ e. e)
 
 -- what such a packet is
 pub of_reset_lem : (c : Course) (at : ℕ → Terminal) (under cut number : ℕ) (content : Packet) (payload : List ℕ) → SaysReset c at under cut number content payload → terminal.of_reset content ≡ true
@@ -99,8 +99,8 @@ reset_reads c at under cut p x =
 
 -- a packet of a reset that is handed to a sound terminal
 pub reset_is : (t : Terminal) (p : List ℕ) (number : ℕ) (content : Packet) (payload : List ℕ) → terminal_sound t ≡ true → (read_of p ≡ Reading.Fields (fields_of number content)) × (payload_at p ≡ payload) → terminal.of_reset content ≡ true
-    → terminal.receive_of t p longest_packet ≡ (if number =? t.member.group.number then terminal.reset_step t content payload else terminal.refused t Refusal.OtherGroup)
-unfolding terminal.receive_of judged terminal.read_step if◌then◌else◌
+    → terminal.receive_of t p longest_packet ≡ (when number =? t.member.group.number then terminal.reset_step t content payload else terminal.refused t Refusal.OtherGroup)
+unfolding terminal.receive_of judged terminal.read_step when◌then◌else◌
 reset_is t p number content payload sound reads of =
     rw (called t (sound_member t sound), reads.0, reads.1, content_fields number content, reset_named t.member.group content of, of, sound, fields_group number content)
 
@@ -124,7 +124,7 @@ module _ (n resilience line : ℕ) (c : Course) (at : ℕ → Terminal) (packets
   -- what is replied fits
   pub reply_fits : reply_number t ≤ largest_number
   unfolding reply_number
-  reply_fits = if_elim (λ (x : ℕ). x ≤ largest_number) (serves t) (λ _. h.typed.sequencer.top) (λ _. reach_fits t.member h.typed.member.taken)
+  reply_fits = when_elim (λ (x : ℕ). x ≤ largest_number) (serves t) (λ _. h.typed.sequencer.top) (λ _. reach_fits t.member h.typed.member.taken)
 
   module _ (at' : ℕ → Terminal) (rest : (j : ℕ) → j ≢ i → at' j ≡ at j) where
     module _ (r : Reset) (f : Bool) (here : at' i ≡ terminal.with_reset t r f) where
@@ -215,10 +215,10 @@ module _ (n resilience line : ℕ) (c : Course) (at : ℕ → Terminal) (packets
           reset_next r (terminal.freezes t) here (reply ∷ []) sound' replies' invited' (λ e d. absurd (away e d)) (λ _. replied) (freezes_not t) (λ _ _ _. (replied, attempt-of ∙ a-is)) opens shuts
           (reply_covered r replied attempt-of here, tt)
 
-      pub invited_next : at' i ≡ terminal.with_reset t (if sender =? t.member.number.0 then terminal.replied t attempt else terminal.uninvited (terminal.replied t attempt)) (terminal.freezes t)
+      pub invited_next : at' i ≡ terminal.with_reset t (when sender =? t.member.number.0 then terminal.replied t attempt else terminal.uninvited (terminal.replied t attempt)) (terminal.freezes t)
           → Inv n resilience line c at' (packets ++ (reply ∷ [])) tk sb
       invited_next =
-          if_elim (λ (r : Reset). at' i ≡ terminal.with_reset t r (terminal.freezes t) → Inv n resilience line c at' (packets ++ (reply ∷ [])) tk sb) (sender =? t.member.number.0)
+          when_elim (λ (r : Reset). at' i ≡ terminal.with_reset t r (terminal.freezes t) → Inv n resilience line c at' (packets ++ (reply ∷ [])) tk sb) (sender =? t.member.number.0)
           (λ _.
           replies_next (terminal.replied t attempt) (of_sound _ (replied_sound t sound attempt)) h.typed.replies h.invited refl refl
           (λ e d.
@@ -269,7 +269,7 @@ module _ (n resilience line : ℕ) (c : Course) (at : ℕ → Terminal) (packets
       unfolding terminal.with_reply
       counted_next =
           let s = of_sound _ (reply_sound_lem t sound sender number less inviting h.typed.replies) in
-          if_elim (λ (r : Reset). terminal_sound (terminal.with_reset t r t.frozen) ≡ true → at' i ≡ terminal.with_reset t r t.frozen → Inv n resilience line c at' (packets ++ []) tk sb) (is_in t.reset.repliers sender.0)
+          when_elim (λ (r : Reset). terminal_sound (terminal.with_reset t r t.frozen) ≡ true → at' i ≡ terminal.with_reset t r t.frozen → Inv n resilience line c at' (packets ++ []) tk sb) (is_in t.reset.repliers sender.0)
           (λ _ s here. counts_next t.reset s h.typed.replies h.invited refl refl refl own_open here)
           (λ new s here.
           counts_next counted_in s (length-set t.reset.replies sender.0 number ∙ h.typed.replies) h.invited refl refl refl

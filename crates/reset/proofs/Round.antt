@@ -11,10 +11,10 @@ use native.Mathlib.Omega.{arith}
 use borrow.Author.Tests.{lt-ltb, eq-eqb}
 use lib.ListN.{length, get_or, set, get_elem?}
 use lib.Seq.{get_or-set_same, get_or-set_other}
-use Rattle.group.proofs.Choice.{if_true, both_hold}
-use Rattle.group.proofs.Lists.{if_elim, eq_or}
+use Rattle.group.proofs.Choice.{when_true, both_hold}
+use Rattle.group.proofs.Lists.{when_elim, eq_or}
 use Rattle.group.proofs.Members.{survivor_lt}
-use Rattle.group.specs.Choice.{if◌then◌else◌, ◌and◌, ◌<?◌}
+use Rattle.group.specs.Choice.{when◌then◌else◌, ◌and◌, ◌<?◌}
 use Rattle.group.specs.Limits.{longest_packet}
 use Rattle.group.specs.Members.{is_in}
 use Rattle.group.specs.Question.{judged}
@@ -79,7 +79,7 @@ module _ (t : Terminal) (sound : member_sound t ≡ true) where
     hand_member_lem : memberSpecs.sound_of t.member ≡ true → t.reset.replied ≡ false → Allowed (fields_of t.member.group.number content) payload
         → ((terminal.receive_of t packet longest_packet).terminal.member ≡ (member.receive_of t.member packet longest_packet).member) × ((terminal.receive_of t packet longest_packet).bytes ≡ (member.receive_of t.member packet longest_packet).bytes)
         × ((terminal.receive_of t packet longest_packet).terminal.sequencer ≡ t.sequencer)
-    unfolding terminal.receive_of judged terminal.read_step if◌then◌else◌ from_elected terminal.of_reset terminal.heard_of
+    unfolding terminal.receive_of judged terminal.read_step when◌then◌else◌ from_elected terminal.of_reset terminal.heard_of
     hand_member_lem own unsaid allowed =
         let reads = read_written (fields_of t.member.group.number content) payload allowed in
         let is = receive_named t.member t.member.group content payload own refl refl allowed in
@@ -180,8 +180,8 @@ module _ (n number resilience line : ℕ) (c : Course) (settled : c.attempt ≡ 
         others_are = λ j q. ap (λ (x : Terminal). x.member) (get_or-set_other g.terminals i j t'' no_terminal q);
       }
 
-  there : (P : Happened → Type 0) (g : Group) (i : ℕ) {x : Happened} → i < length g.terminals → P x → P (if i <? length g.terminals then x else missing g)
-  there P g i b p = if_elim P (i <? length g.terminals) (λ _. p) (λ f. absurd (false≢true (sym f ∙ lt-ltb i (length g.terminals) b)))
+  there : (P : Happened → Type 0) (g : Group) (i : ℕ) {x : Happened} → i < length g.terminals → P x → P (when i <? length g.terminals then x else missing g)
+  there P g i b p = when_elim P (i <? length g.terminals) (λ _. p) (λ f. absurd (false≢true (sym f ∙ lt-ltb i (length g.terminals) b)))
 
   -- a take
   pub record Takes (i : ℕ) (g : Group) (d : Happened) : Type 0 where
@@ -227,7 +227,7 @@ module _ (n number resilience line : ℕ) (c : Course) (settled : c.attempt ≡ 
       let bytes = packet_of (fields_of x content) payload in
       let P : Happened → Type 0 = Copies bytes g in
       let inside : (e <? length g.terminals and t.sequencing) ≡ true = both_hold (e <? length g.terminals) _ (lt-ltb e (length g.terminals) b) (elected_sequencing w v) in
-      if_elim P (e <? length g.terminals and t.sequencing)
+      when_elim P (e <? length g.terminals and t.sequencing)
       (λ _.
       rw is
       (record {
@@ -348,7 +348,7 @@ module _ (n number resilience line : ℕ) (c : Course) (settled : c.attempt ≡ 
         let t' : Terminal = terminal.with_sequencer t (note_of s i a) in
         let put : get_or (set g.terminals e t') e no_terminal ≡ t' = get_or-set_same g.terminals e t' no_terminal l in
         rw there-is
-        (if_elim (Notes i.0 a.0 g) (e <? length g.terminals and t.sequencing)
+        (when_elim (Notes i.0 a.0 g) (e <? length g.terminals and t.sequencing)
         (λ _.
         rw is
         (record {
@@ -364,8 +364,8 @@ module _ (n number resilience line : ℕ) (c : Course) (settled : c.attempt ≡ 
       where
         quiet_course : course_of c (hand_sequencer 0 c.elected) (by_sequencer sequencerAnswer.Answer.Noted []) ≡ c
         quiet_course =
-            let x : c.order ++ (if is_in c.survivors c.elected then [] else []) ≡ c.order =
-            ap (λ (l : List Ordered). c.order ++ l) (sym (if_true (is_in c.survivors c.elected) [] [] [] (elected_in w v) refl)) ∙ append-nil c.order in
+            let x : c.order ++ (when is_in c.survivors c.elected then [] else []) ≡ c.order =
+            ap (λ (l : List Ordered). c.order ++ l) (sym (when_true (is_in c.survivors c.elected) [] [] [] (elected_in w v) refl)) ∙ append-nil c.order in
             λ j. record { order = x j; survivors = c.survivors; elected = c.elected; number = c.number; attempt = c.attempt; initiator = c.initiator; used = c.used }
 
     pub note_here : Here (step w (hand_sequencer b c.elected))

@@ -9,9 +9,9 @@ use native.Mathlib.Omega.{arith}
 use borrow.Author.Tests.{lt-ltb, ltb-true, eq-eqb}
 use lib.ListN.{length, get_or, set, get_elem?, replicate, length-set, length-replicate, get_or-replicate, get_or-eq_default}
 use lib.Seq.{get_or-set_same, get_or-set_other}
-use Rattle.group.proofs.Choice.{if_true, both_first}
-use Rattle.group.proofs.Lists.{if_elim, judged_elim, le_or, set_each, all_get}
-use Rattle.group.specs.Choice.{if◌then◌else◌, ◌<?◌, ◌≤?◌, ◌=?◌}
+use Rattle.group.proofs.Choice.{when_true, both_first}
+use Rattle.group.proofs.Lists.{when_elim, judged_elim, le_or, set_each, all_get}
+use Rattle.group.specs.Choice.{when◌then◌else◌, ◌<?◌, ◌≤?◌, ◌=?◌}
 use Rattle.group.specs.Limits.{members_most, places_most, longest_packet, largest_number}
 use Rattle.group.specs.Opening.{description_of}
 use Rattle.group.specs.Question.{judged}
@@ -98,7 +98,7 @@ module _ (i : ℕ) (t : Terminal) (m : Member) (s : Sequencer) (q : Quiet i t m 
       of_member_lem t (rw q.member_is sound) (rw q.member_is q.kept) (subst (λ r. ResetSound t.member r) (sym q.reset_is) (no_reset_lem t.member))
 
   called : terminal.call_verdict t longest_packet ≡ Verdict.Accepted
-  unfolding terminal.call_verdict if◌then◌else◌
+  unfolding terminal.call_verdict when◌then◌else◌
   called = rw sounds
 
   -- a member's outcome that leaves group and taken as they are
@@ -148,7 +148,7 @@ unfolding terminal.kept_took
 took_counts kept number message l = counted_length kept.counts message ∙ l
 
 member_accepted : (m : Member) → memberSoundness.Sound m → member.call_verdict m longest_packet ≡ Verdict.Accepted
-unfolding member.call_verdict if◌then◌else◌
+unfolding member.call_verdict when◌then◌else◌
 member_accepted m sound = rw (memberSoundness.of_sound m sound)
 
 -- what the calls leave of a member
@@ -158,14 +158,14 @@ submit_frame m payload room =
     let P : member.Outcome → Type 0 = λ o. Frame m o.member in
     judged_elim P (member.call_verdict m room) (λ _ _. record { group = refl; number = refl; taken = refl })
     (λ _. judged_elim P (member.submit_verdict m (length payload)) (λ _ _. record { group = refl; number = refl; taken = refl })
-    (λ _. if_elim P (m.waiting =? 0) (λ _. record { group = refl; number = refl; taken = refl }) (λ _. record { group = refl; number = refl; taken = refl })))
+    (λ _. when_elim P (m.waiting =? 0) (λ _. record { group = refl; number = refl; taken = refl }) (λ _. record { group = refl; number = refl; taken = refl })))
 
 repeat_frame : (m : Member) (room : ℕ) → Frame m (member.repeat_of m room).member
 unfolding member.repeat_of member.answered
 repeat_frame m room =
     let P : member.Outcome → Type 0 = λ o. Frame m o.member in
     judged_elim P (member.call_verdict m room) (λ _ _. record { group = refl; number = refl; taken = refl })
-    (λ _. if_elim P (1 ≤? m.waiting) (λ _. record { group = refl; number = refl; taken = refl }) (λ _. record { group = refl; number = refl; taken = refl }))
+    (λ _. when_elim P (1 ≤? m.waiting) (λ _. record { group = refl; number = refl; taken = refl }) (λ _. record { group = refl; number = refl; taken = refl }))
 
 status_frame : (m : Member) (room : ℕ) → Frame m (member.status_of m room).member
 unfolding member.status_of member.answered
@@ -193,9 +193,9 @@ module _ (i : ℕ) (t : Terminal) (m : Member) (s : Sequencer) (q : Quiet i t m 
   message = window.message_at m.held next
 
   took_by : (b : Bool) → member.is_ready m next ≡ b
-      → Same i s (terminal.carried t (if b then terminal.kept_took t.kept next message else t.kept) (if b then member.took_of m message else member.answered m memberAnswer.Answer.None))
-      (if b then member.took_of m message else member.answered m memberAnswer.Answer.None)
-  unfolding if◌then◌else◌ member.is_ready member.took_of member.answered member.with_taken
+      → Same i s (terminal.carried t (when b then terminal.kept_took t.kept next message else t.kept) (when b then member.took_of m message else member.answered m memberAnswer.Answer.None))
+      (when b then member.took_of m message else member.answered m memberAnswer.Answer.None)
+  unfolding when◌then◌else◌ member.is_ready member.took_of member.answered member.with_taken
   took_by true e =
       let held = ltb-true 0 message.count (both_first (0 <? message.count) _ e) in
       let h = sound.places.holds next (omega arith) (omega arith) held in
@@ -214,8 +214,8 @@ module _ (i : ℕ) (t : Terminal) (m : Member) (s : Sequencer) (q : Quiet i t m 
   module _ (group : ℕ) (content : Packet) (payload bytes : List ℕ) (number : m.group.number ≡ group)
       (reads : (read_of bytes ≡ Reading.Fields (fields_of group content)) × (payload_at bytes ≡ payload)) (plain : terminal.of_reset content ≡ false) where
     heard_same : (b : Bool) → from_elected m.group content ≡ b
-        → Same i s (if b then terminal.heard_of t content payload else terminal.refused t Refusal.ForbiddenFields) (if b then member.content_step m content payload else member.refused m Refusal.ForbiddenFields)
-    unfolding if◌then◌else◌ terminal.heard_of
+        → Same i s (when b then terminal.heard_of t content payload else terminal.refused t Refusal.ForbiddenFields) (when b then member.content_step m content payload else member.refused m Refusal.ForbiddenFields)
+    unfolding when◌then◌else◌ terminal.heard_of
     heard_same true e =
         let f = content_frame m content payload in
         let o : member.Outcome = member.content_step m content payload in
@@ -226,17 +226,17 @@ module _ (i : ℕ) (t : Terminal) (m : Member) (s : Sequencer) (q : Quiet i t m 
     heard_same false e = refused_same i t m s q sound Refusal.ForbiddenFields
 
     -- the terminal reads it as the member does
-    read_same : terminal.receive_of t bytes longest_packet ≡ (if from_elected m.group content then terminal.heard_of t content payload else terminal.refused t Refusal.ForbiddenFields)
-    unfolding terminal.receive_of judged terminal.read_step if◌then◌else◌
+    read_same : terminal.receive_of t bytes longest_packet ≡ (when from_elected m.group content then terminal.heard_of t content payload else terminal.refused t Refusal.ForbiddenFields)
+    unfolding terminal.receive_of judged terminal.read_step when◌then◌else◌
     read_same =
         let e : ((fields_of group content).group =? m.group.number) ≡ true = eq-eqb (fields_of group content).group m.group.number (fields_group group content ∙ sym number) in
         rw (called i t m s q sound, reads.0, reads.1, content_fields group content, plain, q.reset_is, q.member_is, e)
 
-    pub receive_same : member.receive_of m bytes longest_packet ≡ (if from_elected m.group content then member.content_step m content payload else member.refused m Refusal.ForbiddenFields)
+    pub receive_same : member.receive_of m bytes longest_packet ≡ (when from_elected m.group content then member.content_step m content payload else member.refused m Refusal.ForbiddenFields)
         → Same i s (terminal.receive_of t bytes longest_packet) (member.receive_of m bytes longest_packet)
     receive_same is =
         subst (λ (o : member.Outcome). Same i s (terminal.receive_of t bytes longest_packet) o) (sym is)
-        (subst (λ (o : terminal.Outcome). Same i s o (if from_elected m.group content then member.content_step m content payload else member.refused m Refusal.ForbiddenFields)) (sym read_same)
+        (subst (λ (o : terminal.Outcome). Same i s o (when from_elected m.group content then member.content_step m content payload else member.refused m Refusal.ForbiddenFields)) (sym read_same)
         (heard_same (from_elected m.group content) refl))
 
 -- a packet that a group without a reset knows is of none
@@ -269,12 +269,12 @@ seated j t m s s' q =
     }
 
 -- a choice by the same test
-if_both : (b b' : Bool) → b ≡ b' → (x y : Happened) (x' y' : model.Happened) → (b' ≡ true → Both x x') → Both y y' → Both (if b then x else y) (if b' then x' else y')
-unfolding if◌then◌else◌
-if_both true true e x y x' y' f g = f refl
-if_both false false e x y x' y' f g = g
-if_both true false e x y x' y' f g = absurd (false≢true (sym e))
-if_both false true e x y x' y' f g = absurd (false≢true e)
+when_both : (b b' : Bool) → b ≡ b' → (x y : Happened) (x' y' : model.Happened) → (b' ≡ true → Both x x') → Both y y' → Both (when b then x else y) (when b' then x' else y')
+unfolding when◌then◌else◌
+when_both true true e x y x' y' f g = f refl
+when_both false false e x y x' y' f g = g
+when_both true false e x y x' y' f g = absurd (false≢true (sym e))
+when_both false true e x y x' y' f g = absurd (false≢true e)
 
 -- the world after a call of terminal i, and the group after one of its member
 module _ (w : Group) (g : model.Group) (v : Like w g) where
@@ -302,7 +302,7 @@ module _ (w : Group) (g : model.Group) (v : Like w g) where
   at_both : (i : ℕ) (call : Terminal → terminal.Outcome) (call' : Member → member.Outcome)
       → (i < length g.members → Same i g.sequencer (call (terminal_at w i)) (call' (get_or g.members i model.no_member))) → Both (at_terminal w i call) (model.at_member g i call')
   at_both i call call' h =
-      if_both (i <? length w.terminals) (i <? length g.members) (ap (λ (l : ℕ). i <? l) v.size) _ _ _ _
+      when_both (i <? length w.terminals) (i <? length g.members) (ap (λ (l : ℕ). i <? l) v.size) _ _ _ _
       (λ b.
       let o : terminal.Outcome = call (terminal_at w i) in
       let o' : member.Outcome = call' (get_or g.members i model.no_member) in
@@ -314,7 +314,7 @@ module _ (w : Group) (g : model.Group) (v : Like w g) where
   take_both : (i : ℕ) → (i < length g.members → Same i g.sequencer (terminal.take_of (terminal_at w i) longest_packet) (member.take_of (get_or g.members i model.no_member) longest_packet))
       → Both (take_at w i) (model.take_at g i)
   take_both i h =
-      if_both (i <? length w.terminals) (i <? length g.members) (ap (λ (l : ℕ). i <? l) v.size) _ _ _ _
+      when_both (i <? length w.terminals) (i <? length g.members) (ap (λ (l : ℕ). i <? l) v.size) _ _ _ _
       (λ b. let less = ltb-true i (length g.members) b in set_like i _ _ [] less (h less)) missing_both
 
   -- what a call of the sequencer leaves
@@ -340,7 +340,7 @@ module _ (w : Group) (g : model.Group) (v : Like w g) where
   -- a call of the sequencer, which is terminal 0's
   sequencer_both : (call : Terminal → terminal.SequencerOutcome) (o : sequencer.Outcome) → 0 < length g.members → call (terminal_at w 0) ≡ terminal.ordered (terminal_at w 0) o
       → Both (at_sequencer w 0 call) (model.with_sequencer g o)
-  unfolding if◌then◌else◌
+  unfolding when◌then◌else◌
   sequencer_both call o low e =
       let q = v.quiet 0 low in
       let l = v.size in
@@ -501,7 +501,7 @@ module _ (n number resilience : ℕ) (o : Opens n number resilience) where
       no_more k h = omega arith
 
       first_sequencer : (i : ℕ) → i ≡ 0 → (fresh_terminal n number resilience i).sequencer ≡ (sequencer.fresh_of n number resilience).sequencer
-      first_sequencer i e = sym (if_true (i =? 0) _ _ _ (eq-eqb i 0 e) refl)
+      first_sequencer i e = sym (when_true (i =? 0) _ _ _ (eq-eqb i 0 e) refl)
 
   fresh_goes : Goes (fresh n number resilience) (model.fresh n number resilience)
   unfolding fresh model.fresh entries_in

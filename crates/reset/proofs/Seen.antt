@@ -9,10 +9,10 @@ use Prim.Native.Nat.{ℕ, ◌≤◌, ◌<◌}
 use native.Mathlib.Nat.{le_refl, le_trans}
 use native.Mathlib.Omega.{arith}
 use lib.ListN.{length, length-take}
-use Rattle.group.proofs.Choice.{if_true, if_false}
-use Rattle.group.proofs.Lists.{if_elim, eq_or, at_append, All, all_append, all_map}
+use Rattle.group.proofs.Choice.{when_true, when_false}
+use Rattle.group.proofs.Lists.{when_elim, eq_or, at_append, All, all_append, all_map}
 use Rattle.group.proofs.Members.{Standing, survivor_lt}
-use Rattle.group.specs.Choice.{if◌then◌else◌}
+use Rattle.group.specs.Choice.{when◌then◌else◌}
 use Rattle.group.specs.Limits.{longest_packet, largest_number}
 use Rattle.group.specs.Members.{is_in, needed_of}
 use Rattle.group.specs.declared.Group.{Group}
@@ -46,7 +46,7 @@ abbrev pub lost_voice : List (List ℕ) → Voice
 lost_voice submitted = record { row = 0; reach = largest_number; submitted = submitted }
 
 unfoldable pub voices : Group → ℕ → (ℕ → Member) → (ℕ → List (List ℕ)) → (ℕ → List (List ℕ)) → ℕ → Voice
-voices group line members sb lost i = if is_in group.survivors i then voice_at line (members i) (sb i) else lost_voice (lost i)
+voices group line members sb lost i = when is_in group.survivors i then voice_at line (members i) (sb i) else lost_voice (lost i)
 
 -- the group under an order, what each survivor took and submitted, and the packets of its number
 pub record Seen (group : Group) (line : ℕ) (s : Sequencer) (members : ℕ → Member) (order : List Ordered) (tk : ℕ → List Ordered) (sb lost : ℕ → List (List ℕ)) (packets : List (List ℕ)) : Type 0 where
@@ -94,8 +94,8 @@ line_grows line m m' submitted submitted' l =
     let x = larger_le (reach_of m') line in
     record { row = l.row; reach = le_larger (reach_of m) line _ (le_trans l.reach x.0) x.1; submitted = l.submitted }
 
-if_none : {A : Type 0} (x y z : A) → (if false then x else z) ≡ (if false then y else z)
-unfolding if◌then◌else◌
+if_none : {A : Type 0} (x y z : A) → (when false then x else z) ≡ (when false then y else z)
+unfolding when◌then◌else◌
 if_none x y z = refl
 
 voice_same : (group : Group) (line : ℕ) (members : ℕ → Member) (sb lost : ℕ → List (List ℕ)) (i : ℕ) → (is_in group.survivors i ≡ true → larger_of (reach_of (members i)) line ≡ larger_of (reach_of (members i)) 0)
@@ -103,8 +103,8 @@ voice_same : (group : Group) (line : ℕ) (members : ℕ → Member) (sb lost : 
 unfolding voices
 voice_same group line members sb lost i same = go (is_in group.survivors i) refl
   where
-    go : (b : Bool) → is_in group.survivors i ≡ b → (if b then voice_at line (members i) (sb i) else lost_voice (lost i)) ≡ (if b then voice_at 0 (members i) (sb i) else lost_voice (lost i))
-    go true e = ap (λ (x : ℕ). if true then record { row = (acknowledged_of (members i)).0; reach = x; submitted = requested_by (members i) (sb i) } else lost_voice (lost i)) (same e)
+    go : (b : Bool) → is_in group.survivors i ≡ b → (when b then voice_at line (members i) (sb i) else lost_voice (lost i)) ≡ (when b then voice_at 0 (members i) (sb i) else lost_voice (lost i))
+    go true e = ap (λ (x : ℕ). when true then record { row = (acknowledged_of (members i)).0; reach = x; submitted = requested_by (members i) (sb i) } else lost_voice (lost i)) (same e)
     go false e = if_none (voice_at line (members i) (sb i)) (voice_at 0 (members i) (sb i)) (lost_voice (lost i))
 
 -- once every survivor has what the group began with, nothing is granted: as many as have to confirm have all that is accepted
@@ -140,28 +140,28 @@ module _ (group : Group) (line : ℕ) (s : Sequencer) (members : ℕ → Member)
 
   voice_is : (i : ℕ) → is_in group.survivors i ≡ true → voice i ≡ voice_at line (members i) (sb i)
   unfolding voices
-  voice_is i e = sym (if_true (is_in group.survivors i) _ _ _ e refl)
+  voice_is i e = sym (when_true (is_in group.survivors i) _ _ _ e refl)
 
   -- what the sequencer's contract asks of each member
   acked : (i : ℕ) → i < group.n → taken_in s.acknowledgements i ≤ (voice i).row
   unfolding voices
   acked i b =
-      if_elim (λ (x : Voice). taken_in s.acknowledgements i ≤ x.row) (is_in group.survivors i) (λ e. (v.terminal i e).seat.acknowledged_le)
+      when_elim (λ (x : Voice). taken_in s.acknowledgements i ≤ x.row) (is_in group.survivors i) (λ e. (v.terminal i e).seat.acknowledged_le)
       (λ e. let z = ((sequencerSoundness.sound_of_lem s v.sequencer.sound).lost i (rw v.sequencer.group_is e)).taken in omega arith)
 
   rows : (i : ℕ) → i < group.n → (voice i).row ≤ s.accepted.0
   unfolding voices
-  rows i b = if_elim (λ (x : Voice). x.row ≤ s.accepted.0) (is_in group.survivors i) (λ e. acknowledged_most (v.terminal i e)) (λ e. omega arith)
+  rows i b = when_elim (λ (x : Voice). x.row ≤ s.accepted.0) (is_in group.survivors i) (λ e. acknowledged_most (v.terminal i e)) (λ e. omega arith)
 
   sizes : (i : ℕ) → i < group.n → length (voice i).submitted ≤ largest_number
   unfolding voices
   sizes i b =
-      if_elim (λ (x : Voice). length x.submitted ≤ largest_number) (is_in group.survivors i)
+      when_elim (λ (x : Voice). length x.submitted ≤ largest_number) (is_in group.survivors i)
       (λ e. let h = (v.terminal i e).content in let z = h.typed.submitted in let y = h.submitted_is in simp length-take (omega arith)) (λ e. v.sizes i e)
 
   owns : (i : ℕ) → i < group.n → Owns i order (voice i).submitted
   unfolding voices
-  owns i b = if_elim (λ (x : Voice). Owns i order x.submitted) (is_in group.survivors i) (λ e. requested_owns (v.terminal i e).content) (λ e. v.owns i b e)
+  owns i b = when_elim (λ (x : Voice). Owns i order x.submitted) (is_in group.survivors i) (λ e. requested_owns (v.terminal i e).content) (λ e. v.owns i b e)
 
   -- a call of the sequencer
   module _ (o : sequencer.Outcome) (h : SequencerGood group order s.accepted.0 voice (written o.bytes) o) where
@@ -173,7 +173,7 @@ module _ (group : Group) (line : ℕ) (s : Sequencer) (members : ℕ → Member)
 
     own_out : (i : ℕ) → i < group.n → is_in group.survivors i ≡ false → Owns i (order ++ more) (lost i)
     unfolding voices
-    own_out i b e = subst (λ (x : Voice). Owns i (order ++ more) x.submitted) (sym (if_false (is_in group.survivors i) (lost_voice (lost i)) _ _ e refl)) (h.own i b)
+    own_out i b e = subst (λ (x : Voice). Owns i (order ++ more) x.submitted) (sym (when_false (is_in group.survivors i) (lost_voice (lost i)) _ _ e refl)) (h.own i b)
 
     row_in : (i : ℕ) → is_in group.survivors i ≡ true → taken_in o.sequencer.acknowledgements i ≤ (acknowledged_of (members i)).0
     row_in i e = subst (λ (x : Voice). taken_in o.sequencer.acknowledgements i ≤ x.row) (voice_is i e) (h.acknowledged i (survivor_lt group v.standing i e))
@@ -222,7 +222,7 @@ module _ (group : Group) (line : ℕ) (s : Sequencer) (members : ℕ → Member)
 
     voice_here : voice' i ≡ voice_at line o.member (sb' i)
     unfolding voices
-    voice_here = sym (if_true (is_in group.survivors i) _ _ _ inside refl) ∙ ap (λ (m : Member). voice_at line m (sb' i)) here
+    voice_here = sym (when_true (is_in group.survivors i) _ _ _ inside refl) ∙ ap (λ (m : Member). voice_at line m (sb' i)) here
 
     voice_other : (j : ℕ) → j ≢ i → voice' j ≡ voice j
     unfolding voices
@@ -265,7 +265,7 @@ voices_same : (group : Group) (line : ℕ) (members members' : ℕ → Member) (
 unfolding voices
 voices_same group line members members' sb sb' lost i em es = go (is_in group.survivors i) refl
   where
-    go : (b : Bool) → is_in group.survivors i ≡ b → (if b then voice_at line (members i) (sb i) else lost_voice (lost i)) ≡ (if b then voice_at line (members' i) (sb' i) else lost_voice (lost i))
+    go : (b : Bool) → is_in group.survivors i ≡ b → (when b then voice_at line (members i) (sb i) else lost_voice (lost i)) ≡ (when b then voice_at line (members' i) (sb' i) else lost_voice (lost i))
     go true e = rw (em e, es e)
     go false e = if_none (voice_at line (members i) (sb i)) (voice_at line (members' i) (sb' i)) (lost_voice (lost i))
 

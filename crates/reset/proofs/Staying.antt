@@ -10,7 +10,7 @@ use lib.Count.{ones}
 use lib.ListN.{length, get_or, set, get_elem?}
 use lib.Seq.{get_or-set_same, get_or-set_other}
 use Rattle.group.proofs.Choice.{both_first}
-use Rattle.group.proofs.Lists.{if_elim, judged_elim, eq_or, all_get}
+use Rattle.group.proofs.Lists.{when_elim, judged_elim, eq_or, all_get}
 use Rattle.group.specs.Choice.{◌and◌, ◌<?◌, ◌≤?◌, ◌=?◌}
 use Rattle.group.specs.Limits.{longest_packet}
 use Rattle.group.specs.Members.{is_in}
@@ -50,11 +50,11 @@ module _ (n resilience line : ℕ) (c : Course) (w : Group) (tk : ℕ → List O
 
   at_terminal_lem : (i : ℕ) (call : Terminal → terminal.Outcome) → ((b : i < length w.terminals) → Has (at i) → Has (call (at i)).terminal) → Stay (at_terminal w i call)
   at_terminal_lem i call h =
-      if_elim Stay (i <? length w.terminals) (λ l. let b = ltb-true i (length w.terminals) l in stays_at i (call (at i)).terminal [] b (h b)) (λ _. missing_stay)
+      when_elim Stay (i <? length w.terminals) (λ l. let b = ltb-true i (length w.terminals) l in stays_at i (call (at i)).terminal [] b (h b)) (λ _. missing_stay)
 
   at_sequencer_lem : (i : ℕ) (call : Terminal → terminal.SequencerOutcome) → ((t : Terminal) → (call t).terminal.member ≡ t.member) → Stay (at_sequencer w i call)
   at_sequencer_lem i call h =
-      if_elim Stay (i <? length w.terminals and (at i).sequencing)
+      when_elim Stay (i <? length w.terminals and (at i).sequencing)
       (λ l. stays_at i (call (at i)).terminal [] (ltb-true i (length w.terminals) (both_first (i <? length w.terminals) _ l)) (λ e. ap (λ (m : Member). m.group.number) (h (at i)) ∙ e)) (λ _. missing_stay)
 
   calm_has : (t t' : Terminal) → Calm t t' → Has t → Has t'
@@ -73,10 +73,10 @@ module _ (n resilience line : ℕ) (c : Course) (w : Group) (tk : ℕ → List O
   reset_has t number (Packet.Confirm sender m) payload says a is e = absurd says
   reset_has t number (Packet.Accept elected m) payload says a is e = absurd says
   reset_has t number (Packet.Invitation sender attempt) payload says a is e =
-      if_elim (λ (x : terminal.Outcome). Has x.terminal) (sender.0 <? t.member.group.n) (λ _. e) (λ _. e)
+      when_elim (λ (x : terminal.Outcome). Has x.terminal) (sender.0 <? t.member.group.n) (λ _. e) (λ _. e)
   reset_has t number (Packet.Reply sender attempt m) payload says a is e =
       let P : terminal.Outcome → Type 0 = λ x. Has x.terminal in
-      if_elim P (sender.0 <? t.member.group.n) (λ _. if_elim P (t.reset.inviting and t.reset.invited =? attempt) (λ _. e) (λ _. e)) (λ _. e)
+      when_elim P (sender.0 <? t.member.group.n) (λ _. when_elim P (t.reset.inviting and t.reset.invited =? attempt) (λ _. e) (λ _. e)) (λ _. e)
   reset_has t number (Packet.Result sender attempt elected m) payload says a is e = absurd (says.unlike a (is ∙ e))
 
   receive_has : (i : ℕ) (b : i < n) (p : List ℕ) → Covered c at v.under v.cut v.known p → OfAttempt c i (read_of p) → is_in c.survivors i ≡ true → Has (at i) → Has (terminal.receive_of (at i) p longest_packet).terminal
@@ -91,7 +91,7 @@ module _ (n resilience line : ℕ) (c : Course) (w : Group) (tk : ℕ → List O
       let of = of_reset_lem c at v.under v.cut x.number x.content x.payload x.says in
       let a : (fields_of x.number x.content).a ≡ c.attempt = (subst (OfAttempt c i) reads.0 limit (ap terminal.of_reset (content_fields x.number x.content) ∙ of)).0 in
       subst (λ (y : terminal.Outcome). Has y.terminal) (sym (reset_is t p x.number x.content x.payload s.sound reads of))
-      (if_elim (λ (y : terminal.Outcome). Has y.terminal) (x.number =? t.member.group.number) (λ q. reset_has t x.number x.content x.payload x.says a (eqb-true _ _ q) e) (λ _. e))
+      (when_elim (λ (y : terminal.Outcome). Has y.terminal) (x.number =? t.member.group.number) (λ q. reset_has t x.number x.content x.payload x.says a (eqb-true _ _ q) e) (λ _. e))
 
   -- who has the result survives
   has_inside : (i : ℕ) → i < n → Has (at i) → is_in c.survivors i ≡ true
@@ -110,11 +110,11 @@ module _ (n resilience line : ℕ) (c : Course) (w : Group) (tk : ℕ → List O
   make_has t demand =
       let P : terminal.Outcome → Type 0 = λ x. (is_sent (by_member x.answer x.bytes) ≡ true → ⊥) → x.terminal.member ≡ t.member in
       judged_elim P (terminal.whole_verdict t longest_packet) (λ _ _ _. refl)
-      (λ _. if_elim P t.reset.inviting (λ _. if_elim P (demand ≤? ones t.reset.repliers) (λ _ f. absurd (f refl)) (λ _ _. refl)) (λ _ _. refl))
+      (λ _. when_elim P t.reset.inviting (λ _. when_elim P (demand ≤? ones t.reset.repliers) (λ _ f. absurd (f refl)) (λ _ _. refl)) (λ _ _. refl))
 
   make_stay : (i demand : ℕ) → (is_sent (at_terminal w i (λ t. terminal.make_of t demand longest_packet)).answer ≡ true → ⊥) → Stay (at_terminal w i (λ t. terminal.make_of t demand longest_packet))
   make_stay i demand =
-      if_elim (λ (d : Happened). (is_sent d.answer ≡ true → ⊥) → Stay d) (i <? length w.terminals)
+      when_elim (λ (d : Happened). (is_sent d.answer ≡ true → ⊥) → Stay d) (i <? length w.terminals)
       (λ l f. stays_at i (terminal.make_of (at i) demand longest_packet).terminal [] (ltb-true i (length w.terminals) l) (λ e. ap (λ (m : Member). m.group.number) (make_has (at i) demand f) ∙ e)) (λ _ _. missing_stay)
 
   pub step_stays : (e : Event) → Asked n resilience line c w tk sb long v e → Stay (happen w e)
@@ -122,7 +122,7 @@ module _ (n resilience line : ℕ) (c : Course) (w : Group) (tk : ℕ → List O
   step_stays (submit i payload) a = at_terminal_lem i (λ t. terminal.submit_of t payload longest_packet) (λ b. calm_has (at i) _ (submit_calm (at i) longest_packet payload))
   step_stays (repeat i) a = at_terminal_lem i (λ t. terminal.repeat_of t longest_packet) (λ b. calm_has (at i) _ (repeat_calm (at i) longest_packet))
   step_stays (take i) a =
-      if_elim Stay (i <? length w.terminals) (λ l. stays_at i (terminal.take_of (at i) longest_packet).terminal [] (ltb-true i (length w.terminals) l) (calm_has (at i) _ (take_calm (at i) longest_packet))) (λ _. missing_stay)
+      when_elim Stay (i <? length w.terminals) (λ l. stays_at i (terminal.take_of (at i) longest_packet).terminal [] (ltb-true i (length w.terminals) l) (calm_has (at i) _ (take_calm (at i) longest_packet))) (λ _. missing_stay)
   step_stays (status i) a = at_terminal_lem i (λ t. terminal.status_of t longest_packet) (λ b. calm_has (at i) _ (status_calm (at i) longest_packet))
   step_stays (poll i) a = at_sequencer_lem i (λ t. terminal.poll_of t longest_packet) (λ t. refl)
   step_stays (copy i k) a = at_sequencer_lem i (λ t. terminal.copy_of t (record { 0 = k }) longest_packet) (λ t. refl)

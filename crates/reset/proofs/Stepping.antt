@@ -12,9 +12,9 @@ use lib.ListN.{length, get_or, set, get_elem?, length-set}
 use lib.ListN as list
 use lib.Seq.{get_or-set_same, get_or-set_other}
 use Rattle.big_endian.specs.Number.{bytes_of}
-use Rattle.group.proofs.Choice.{if_true, if_false, both_first, both_then}
-use Rattle.group.proofs.Lists.{if_elim, judged_elim, eq_or, All, all_map, all_get}
-use Rattle.group.specs.Choice.{if◌then◌else◌, ◌and◌, ◌<?◌, ◌≤?◌, ◌=?◌}
+use Rattle.group.proofs.Choice.{when_true, when_false, both_first, both_then}
+use Rattle.group.proofs.Lists.{when_elim, judged_elim, eq_or, All, all_map, all_get}
+use Rattle.group.specs.Choice.{when◌then◌else◌, ◌and◌, ◌<?◌, ◌≤?◌, ◌=?◌}
 use Rattle.group.specs.Limits.{longest_packet, largest_number}
 use Rattle.group.specs.Members.{is_in, is_within, all_of}
 use Rattle.group.specs.Question.{judged}
@@ -50,7 +50,7 @@ use Rattle.recovery.specs.State.{Reset, Terminal, reply_number}
 use Rattle.reset.specs.Course.{Course, invited, made, is_sent, bytes_in, course_of, took_at, submitted_at, Fresh, OfAttempt, Handed}
 use Rattle.reset.specs.World.{Event, submit, repeat, take, status, poll, copy, hand_member, hand_sequencer, invite, make, Group, Happened, happen, missing, with_member, with_sequencer, no_terminal, terminal_at, at_terminal, at_sequencer, hand_to_member, hand_to_sequencer}
 use Rattle.reset.proofs.Away.{inv_same, more_packets, away_next}
-use Rattle.reset.proofs.Before.{if_either}
+use Rattle.reset.proofs.Before.{when_either}
 use Rattle.reset.proofs.Called.{wrote_covered, submit_next, repeat_next, status_next, take_next, receive_next}
 use Rattle.reset.proofs.Closed.{Shut, shut_receives, shut_orders, reset_orders}
 use Rattle.reset.proofs.Following.{result_next}
@@ -100,19 +100,19 @@ module _ (t : Terminal) (room : ℕ) where
       judged_elim Left (terminal.call_verdict t room) (λ r _. refused_calm r)
       (λ _.
       record {
-        group = judged_elim P (member.call_verdict t.member room) (λ _ _. refl) (λ _. if_elim P (member.is_ready t.member (t.member.taken.0 + 1)) (λ _. refl) (λ _. refl));
+        group = judged_elim P (member.call_verdict t.member room) (λ _ _. refl) (λ _. when_elim P (member.is_ready t.member (t.member.taken.0 + 1)) (λ _. refl) (λ _. refl));
         reset = refl;
         sequencing = refl;
         sequencer = refl;
       })
 
 no_and : (a b : Bool) → b ≡ false → (a and b) ≡ false
-unfolding if◌then◌else◌
+unfolding when◌then◌else◌
 no_and true b e = e
 no_and false b e = refl
 
 first_no_lem : (a b : Bool) → a ≡ false → (a and b) ≡ false
-unfolding if◌then◌else◌
+unfolding when◌then◌else◌
 first_no_lem true b e = absurd (false≢true (sym e))
 first_no_lem false b e = refl
 
@@ -186,10 +186,10 @@ module _ (n resilience line : ℕ) (c : Course) (w : Group) (tk : ℕ → List O
     submit_step payload =
         let x = terminal.submit_of t payload longest_packet in
         let tk' : ℕ → List Ordered = λ j. tk j ++ [] in
-        let sb' : ℕ → List (List ℕ) = λ j. sb j ++ (if i =? j then accepted_by x.answer payload else []) in
+        let sb' : ℕ → List (List ℕ) = λ j. sb j ++ (when i =? j then accepted_by x.answer payload else []) in
         let et : (j : ℕ) → tk' j ≡ tk j = λ j. append-nil (tk j) in
-        let es : (j : ℕ) → j ≢ i → sb' j ≡ sb j = λ j q. ap (λ (l : List (List ℕ)). sb j ++ l) (sym (if_false (i =? j) _ _ _ (ne_eqb i j (λ z. q (sym z))) refl)) ∙ append-nil (sb j) in
-        let own : sb' i ≡ sb i ++ accepted_by x.answer payload = ap (λ (l : List (List ℕ)). sb i ++ l) (sym (if_true (i =? i) _ _ _ (eq-eqb i i refl) refl)) in
+        let es : (j : ℕ) → j ≢ i → sb' j ≡ sb j = λ j q. ap (λ (l : List (List ℕ)). sb j ++ l) (sym (when_false (i =? j) _ _ _ (ne_eqb i j (λ z. q (sym z))) refl)) ∙ append-nil (sb j) in
+        let own : sb' i ≡ sb i ++ accepted_by x.answer payload = ap (λ (l : List (List ℕ)). sb i ++ l) (sym (when_true (i =? i) _ _ _ (eq-eqb i i refl) refl)) in
         record {
           size = sized x.terminal;
           holds =
@@ -225,11 +225,11 @@ module _ (n resilience line : ℕ) (c : Course) (w : Group) (tk : ℕ → List O
     unfolding course_of took_at submitted_at took_in
     take_step =
         let x = terminal.take_of t longest_packet in
-        let tk' : ℕ → List Ordered = λ j. tk j ++ (if i =? j then took_by x.answer x.bytes else []) in
+        let tk' : ℕ → List Ordered = λ j. tk j ++ (when i =? j then took_by x.answer x.bytes else []) in
         let sb' : ℕ → List (List ℕ) = λ j. sb j ++ [] in
         let es : (j : ℕ) → sb' j ≡ sb j = λ j. append-nil (sb j) in
-        let et : (j : ℕ) → j ≢ i → tk' j ≡ tk j = λ j q. ap (λ (l : List Ordered). tk j ++ l) (sym (if_false (i =? j) _ _ _ (ne_eqb i j (λ z. q (sym z))) refl)) ∙ append-nil (tk j) in
-        let own : tk' i ≡ tk i ++ took_by x.answer x.bytes = ap (λ (l : List Ordered). tk i ++ l) (sym (if_true (i =? i) _ _ _ (eq-eqb i i refl) refl)) in
+        let et : (j : ℕ) → j ≢ i → tk' j ≡ tk j = λ j q. ap (λ (l : List Ordered). tk j ++ l) (sym (when_false (i =? j) _ _ _ (ne_eqb i j (λ z. q (sym z))) refl)) ∙ append-nil (tk j) in
+        let own : tk' i ≡ tk i ++ took_by x.answer x.bytes = ap (λ (l : List Ordered). tk i ++ l) (sym (when_true (i =? i) _ _ _ (eq-eqb i i refl) refl)) in
         record {
           size = sized x.terminal;
           holds =
@@ -295,8 +295,8 @@ module _ (n resilience line : ℕ) (c : Course) (w : Group) (tk : ℕ → List O
                   (λ e. no_and (h.group =? t.member.group.number) _ (closed t.reset.replied (s.waits e))),
             ))
           where
-            closed : (r : Bool) → r ≡ true → (if r then false else true) ≡ false
-            closed r e = sym (if_true r false false true e refl)
+            closed : (r : Bool) → r ≡ true → (when r then false else true) ≡ false
+            closed r e = sym (when_true r false false true e refl)
 
         counted : (sender : MemberNumber) (attempt number : ℕ) → GoodReply c at sender.0 attempt number → attempt ≡ c.attempt → sender.0 < t.member.group.n → t.reset.inviting ≡ true
             → Hands (terminal.noted (terminal.with_reset t (terminal.with_reply t.reset sender number) t.frozen) [])
@@ -325,22 +325,22 @@ module _ (n resilience line : ℕ) (c : Course) (w : Group) (tk : ℕ → List O
         reset_step_lem number (Packet.Confirm sender m) payload says a fits nf is sound = absurd says
         reset_step_lem number (Packet.Accept elected m) payload says a fits nf is sound = absurd says
         reset_step_lem number (Packet.Invitation sender attempt) payload says a fits nf is sound =
-            if_elim Hands (sender.0 <? t.member.group.n)
+            when_elim Hands (sender.0 <? t.member.group.n)
             (λ _.
-            let r : Reset = if sender.0 =? t.member.number.0 then terminal.replied t attempt else terminal.uninvited (terminal.replied t attempt) in
+            let r : Reset = when sender.0 =? t.member.number.0 then terminal.replied t attempt else terminal.uninvited (terminal.replied t attempt) in
             let t' : Terminal = terminal.with_reset t r (terminal.freezes t) in
             let bytes : List ℕ = packet_of (fields_of t.member.group.number (Packet.Reply t.member.number attempt (record { 0 = reply_number t }))) [] in
             subst (λ (l : List (List ℕ)). Inv n resilience line c (after t') (w.packets ++ l) tk sb) (sym (written_one bytes (packet_long (Packet.Reply t.member.number attempt (record { 0 = reply_number t })) t.member.group.number [])))
             (invited_next n resilience line c at w.packets tk sb v i b inside (after t') (rest t') number sender.0 attempt says a is fits nf (here t')))
             (λ _. no Refusal.UnknownMember)
         reset_step_lem number (Packet.Reply sender attempt m) payload says a fits nf is sound =
-            if_elim Hands (sender.0 <? t.member.group.n)
-            (λ l. if_elim Hands (t.reset.inviting and t.reset.invited =? attempt)
+            when_elim Hands (sender.0 <? t.member.group.n)
+            (λ l. when_elim Hands (t.reset.inviting and t.reset.invited =? attempt)
             (λ q. counted sender attempt m.0 says a (ltb-true sender.0 t.member.group.n l) (both_first t.reset.inviting _ q)) (λ _. no Refusal.NotOfAttempt))
             (λ _. no Refusal.UnknownMember)
         reset_step_lem number (Packet.Result sender attempt elected m) payload says a fits nf is sound =
-            if_elim (λ (x : terminal.Outcome). terminal_sound x.terminal ≡ true → Hands x) (sender.0 <? t.member.group.n and is_within (survivors_in payload) (all_of t.member.group.n))
-            (λ _. if_elim (λ (x : terminal.Outcome). terminal_sound x.terminal ≡ true → Hands x) (terminal.result_fits t attempt elected m (survivors_in payload))
+            when_elim (λ (x : terminal.Outcome). terminal_sound x.terminal ≡ true → Hands x) (sender.0 <? t.member.group.n and is_within (survivors_in payload) (all_of t.member.group.n))
+            (λ _. when_elim (λ (x : terminal.Outcome). terminal_sound x.terminal ≡ true → Hands x) (terminal.result_fits t attempt elected m (survivors_in payload))
             (λ _ sound. followed number attempt elected m (survivors_in payload) says a is sound) (λ _ _. no Refusal.NotOfAttempt))
             (λ _ _. no Refusal.UnknownMember) sound
 
@@ -359,7 +359,7 @@ module _ (n resilience line : ℕ) (c : Course) (w : Group) (tk : ℕ → List O
             let P : terminal.Outcome → Type 0 = λ y. terminal_sound y.terminal ≡ true → Hands y in
             let done : P received =
             subst P (sym is)
-            (if_elim P (x.number =? t.member.group.number) (λ q sound. reset_step_lem x.number x.content x.payload x.says a x.allowed.0.a fits (eqb-true _ _ q) sound) (λ _ _. no Refusal.OtherGroup)) in
+            (when_elim P (x.number =? t.member.group.number) (λ q sound. reset_step_lem x.number x.content x.payload x.says a x.allowed.0.a fits (eqb-true _ _ q) sound) (λ _ _. no Refusal.OtherGroup)) in
             done sound
 
       reset_inside : (x : Resets c at v.under v.cut p) → OfAttempt c i (read_of p) → is_in c.survivors i ≡ true
@@ -419,7 +419,7 @@ module _ (n resilience line : ℕ) (c : Course) (w : Group) (tk : ℕ → List O
         Orders = Next (hand_sequencer k i) (with_sequencer w i x)
 
         abbrev adds : List Ordered
-        adds = if is_in c.survivors i then numbered_by x.answer x.bytes else []
+        adds = when is_in c.survivors i then numbered_by x.answer x.bytes else []
 
         order_step_by : (order : List Ordered) → c.order ++ adds ≡ order → Inv n resilience line (with_order c order) (after x.terminal) (w.packets ++ written x.bytes) tk sb → Orders
         unfolding course_of took_at submitted_at numbered_in
@@ -430,7 +430,7 @@ module _ (n resilience line : ℕ) (c : Course) (w : Group) (tk : ℕ → List O
         quiet_order : (x.terminal ≡ t) × (x.bytes ≡ []) × (numbered_by x.answer x.bytes ≡ []) → Orders
         unfolding written
         quiet_order (same, silent, none-numbered) =
-            order_step_by c.order (ap (λ (l : List Ordered). c.order ++ (if is_in c.survivors i then l else [])) none-numbered ∙ ap (λ (l : List Ordered). c.order ++ l) (if_either (is_in c.survivors i) []) ∙ append-nil c.order)
+            order_step_by c.order (ap (λ (l : List Ordered). c.order ++ (when is_in c.survivors i then l else [])) none-numbered ∙ ap (λ (l : List Ordered). c.order ++ l) (when_either (is_in c.survivors i) []) ∙ append-nil c.order)
             (subst (λ (l : List ℕ). Inv n resilience line c (after x.terminal) (w.packets ++ written l) tk sb) (sym silent) (still x.terminal [] same tt))
 
         order_group : x.terminal.sequencer.group ≡ t.sequencer.group
@@ -447,7 +447,7 @@ module _ (n resilience line : ℕ) (c : Course) (w : Group) (tk : ℕ → List O
         order_away out =
             let f : Foreign c t.sequencer.group.number = (v.sits i b).old sequencing (λ q. false≢true (sym out ∙ subst (λ (j : ℕ). is_in c.survivors j ≡ true) (sym ((v.sits i b).only sequencing q).0) v.seen.standing.elected_in)) in
             let fr = order_frame in
-            order_step_by c.order (ap (λ (l : List Ordered). c.order ++ l) (sym (if_false (is_in c.survivors i) _ _ _ out refl)) ∙ append-nil c.order)
+            order_step_by c.order (ap (λ (l : List Ordered). c.order ++ l) (sym (when_false (is_in c.survivors i) _ _ _ out refl)) ∙ append-nil c.order)
             (away_next n resilience line c at w.packets tk sb v i b out x.terminal (after x.terminal) (here x.terminal) (rest x.terminal) (ap (λ (m : Member). m.group.number) fr.0) fr.1 fr.2
             (ap (λ (g : description.Group). g.number) order_group) tk sb (λ j _. refl) (λ j _. refl) (written x.bytes)
             (elsewheres (written x.bytes) t.sequencer.group.number f (all_map _ _ (λ p y. y.wrote) (written x.bytes) (order_sends t p longest_packet))))
@@ -459,7 +459,7 @@ module _ (n resilience line : ℕ) (c : Course) (w : Group) (tk : ℕ → List O
 
           order_frozen : ((h : Header) → read_of p ≡ Reading.Fields h → terminal.of_reset (content_of h) ≡ false) → t.frozen ≡ true → Orders
           order_frozen plain f =
-              quiet_order (shut_orders t p longest_packet (λ h e. no_and (h.group =? t.sequencer.group.number) _ (sym (if_true t.frozen false (terminal.of_reset (content_of h)) true f (sym (plain h e))))))
+              quiet_order (shut_orders t p longest_packet (λ h e. no_and (h.group =? t.sequencer.group.number) _ (sym (when_true t.frozen false (terminal.of_reset (content_of h)) true f (sym (plain h e))))))
 
           order_other : ((h : Header) → read_of p ≡ Reading.Fields h → h.group ≢ t.sequencer.group.number) → Orders
           order_other other = quiet_order (shut_orders t p longest_packet (λ h e. first_no_lem (h.group =? t.sequencer.group.number) _ (ne_eqb _ _ (other h e))))
@@ -474,7 +474,7 @@ module _ (n resilience line : ℕ) (c : Course) (w : Group) (tk : ℕ → List O
               subst (λ (y : terminal.SequencerOutcome). u c.elected ≡ y.terminal → Inv n resilience line (with_order c (c.order ++ numbered_by y.answer y.bytes)) u (w.packets ++ written y.bytes) tk sb) (sym same)
               (λ h. order_next n resilience line c at w.packets tk sb v l z p j q a u h g) h in
               let go : P i = subst P (sym first) base in
-              order_step_by (c.order ++ numbered_by x.answer x.bytes) (ap (λ (l : List Ordered). c.order ++ l) (sym (if_true (is_in c.survivors i) _ _ _ inside refl)))
+              order_step_by (c.order ++ numbered_by x.answer x.bytes) (ap (λ (l : List Ordered). c.order ++ l) (sym (when_true (is_in c.survivors i) _ _ _ inside refl)))
               (go b here_is awake (sym first) x refl (after x.terminal) (here x.terminal) (rest x.terminal))
 
           order_survivor : Covered c at v.under v.cut v.known p → Orders
@@ -499,11 +499,11 @@ module _ (n resilience line : ℕ) (c : Course) (w : Group) (tk : ℕ → List O
       stood = (v.sits i b).survivor inside
 
       whole : terminal.whole_verdict t longest_packet ≡ Verdict.Accepted
-      unfolding terminal.whole_verdict if◌then◌else◌
+      unfolding terminal.whole_verdict when◌then◌else◌
       whole = rw stood.sound
 
       invite_step_lem : (attempt : ℕ) → Fresh attempt c.used → attempt ≤ largest_number → Next (invite i attempt) (with_member w i (terminal.invite_of t attempt longest_packet) (written (terminal.invite_of t attempt longest_packet).bytes))
-      unfolding terminal.invite_of judged course_of took_at submitted_at is_sent if◌then◌else◌
+      unfolding terminal.invite_of judged course_of took_at submitted_at is_sent when◌then◌else◌
       invite_step_lem attempt new fits =
           let t' : Terminal = terminal.with_reset t (terminal.invitation t attempt) (terminal.freezes t) in
           let bytes : List ℕ = packet_of (fields_of t.member.group.number (Packet.Invitation t.member.number attempt)) [] in
@@ -515,17 +515,17 @@ module _ (n resilience line : ℕ) (c : Course) (w : Group) (tk : ℕ → List O
     -- a making that makes no group
     make_none : (demand : ℕ) → (is_sent (by_member (terminal.make_of t demand longest_packet).answer (terminal.make_of t demand longest_packet).bytes) ≡ true → ⊥)
         → Next (make i demand) (with_member w i (terminal.make_of t demand longest_packet) (written (terminal.make_of t demand longest_packet).bytes))
-    unfolding terminal.make_of terminal.refused course_of took_at submitted_at is_sent if◌then◌else◌ written
+    unfolding terminal.make_of terminal.refused course_of took_at submitted_at is_sent when◌then◌else◌ written
     make_none demand =
         let P : terminal.Outcome → Type 0 = λ x. (is_sent (by_member x.answer x.bytes) ≡ true → ⊥) → Next (make i demand) (with_member w i x (written x.bytes)) in
         let refuse : (r : Refusal) → P (terminal.refused t r) =
         λ r _. plain_next (make i demand) (with_member w i (terminal.refused t r) []) c refl (λ j. refl) (λ j. refl) (sized t) (still t [] refl tt) in
         judged_elim P (terminal.whole_verdict t longest_packet) (λ r _. refuse r)
-        (λ _. if_elim P t.reset.inviting (λ _. if_elim P (demand ≤? ones t.reset.repliers) (λ _ f. absurd (f refl)) (λ _. refuse Refusal.FewSurvivors)) (λ _. refuse Refusal.NotOfAttempt))
+        (λ _. when_elim P t.reset.inviting (λ _. when_elim P (demand ≤? ones t.reset.repliers) (λ _ f. absurd (f refl)) (λ _. refuse Refusal.FewSurvivors)) (λ _. refuse Refusal.NotOfAttempt))
 
   -- an event that names nothing that is there
   absent_course : (e : Event) → course_of c e absent ≡ c
-  unfolding course_of numbered_in is_sent if◌then◌else◌
+  unfolding course_of numbered_in is_sent when◌then◌else◌
   absent_course (submit i p) = refl
   absent_course (repeat i) = refl
   absent_course (take i) = refl
@@ -533,7 +533,7 @@ module _ (n resilience line : ℕ) (c : Course) (w : Group) (tk : ℕ → List O
   absent_course (poll i) = refl
   absent_course (copy i k) = refl
   absent_course (hand_member k i) = refl
-  absent_course (hand_sequencer k i) = ap (with_order c) (ap (λ (l : List Ordered). c.order ++ l) (if_either (is_in c.survivors i) []) ∙ append-nil c.order)
+  absent_course (hand_sequencer k i) = ap (with_order c) (ap (λ (l : List Ordered). c.order ++ l) (when_either (is_in c.survivors i) []) ∙ append-nil c.order)
   absent_course (invite i k) = refl
   absent_course (make i demand) = refl
 
@@ -541,7 +541,7 @@ module _ (n resilience line : ℕ) (c : Course) (w : Group) (tk : ℕ → List O
   unfolding took_at took_in
   absent_took (submit i p) j = refl
   absent_took (repeat i) j = refl
-  absent_took (take i) j = if_either (i =? j) []
+  absent_took (take i) j = when_either (i =? j) []
   absent_took (status i) j = refl
   absent_took (poll i) j = refl
   absent_took (copy i k) j = refl
@@ -552,7 +552,7 @@ module _ (n resilience line : ℕ) (c : Course) (w : Group) (tk : ℕ → List O
 
   absent_submitted : (e : Event) (j : ℕ) → submitted_at j e absent ≡ []
   unfolding submitted_at accepted_in
-  absent_submitted (submit i p) j = if_either (i =? j) []
+  absent_submitted (submit i p) j = when_either (i =? j) []
   absent_submitted (repeat i) j = refl
   absent_submitted (take i) j = refl
   absent_submitted (status i) j = refl
@@ -567,11 +567,11 @@ module _ (n resilience line : ℕ) (c : Course) (w : Group) (tk : ℕ → List O
   absent_next e = plain_next e (missing w) c (absent_course e) (absent_took e) (absent_submitted e) long v
 
   at_terminal_lem : (e : Event) (i : ℕ) (call : Terminal → terminal.Outcome) → ((b : i < n) → Next e (with_member w i (call (at i)) (written (call (at i)).bytes))) → Next e (at_terminal w i call)
-  at_terminal_lem e i call h = if_elim (Next e) (i <? length w.terminals) (λ b. h (let z = ltb-true i (length w.terminals) b in omega arith)) (λ _. absent_next e)
+  at_terminal_lem e i call h = when_elim (Next e) (i <? length w.terminals) (λ b. h (let z = ltb-true i (length w.terminals) b in omega arith)) (λ _. absent_next e)
 
   at_sequencer_lem : (e : Event) (i : ℕ) (call : Terminal → terminal.SequencerOutcome) → ((b : i < n) → (at i).sequencing ≡ true → Next e (with_sequencer w i (call (at i)))) → Next e (at_sequencer w i call)
   at_sequencer_lem e i call h =
-      if_elim (Next e) (i <? length w.terminals and (at i).sequencing)
+      when_elim (Next e) (i <? length w.terminals and (at i).sequencing)
       (λ x. h (let z = ltb-true i (length w.terminals) (both_first (i <? length w.terminals) _ x) in omega arith) (both_then (i <? length w.terminals) _ x)) (λ _. absent_next e)
 
   -- what is asked of an event: the limit, and that it makes no group
@@ -589,14 +589,14 @@ module _ (n resilience line : ℕ) (c : Course) (w : Group) (tk : ℕ → List O
 
   make_at : (i demand : ℕ) → (is_sent (at_terminal w i (λ t. terminal.make_of t demand longest_packet)).answer ≡ true → ⊥) → Next (make i demand) (at_terminal w i (λ t. terminal.make_of t demand longest_packet))
   make_at i demand =
-      if_elim (λ (d : Happened). (is_sent d.answer ≡ true → ⊥) → Next (make i demand) d) (i <? length w.terminals)
+      when_elim (λ (d : Happened). (is_sent d.answer ≡ true → ⊥) → Next (make i demand) d) (i <? length w.terminals)
       (λ b f. make_none i (let z = ltb-true i (length w.terminals) b in omega arith) demand f) (λ _ _. absent_next (make i demand))
 
   pub step_next : (e : Event) → Asked e → Next e (happen w e)
   unfolding happen Handed
   step_next (submit i payload) a = at_terminal_lem (submit i payload) i (λ t. terminal.submit_of t payload longest_packet) (λ b. submit_step i b payload)
   step_next (repeat i) a = at_terminal_lem (repeat i) i (λ t. terminal.repeat_of t longest_packet) (λ b. repeat_step i b)
-  step_next (take i) a = if_elim (Next (take i)) (i <? length w.terminals) (λ b. take_step i (let z = ltb-true i (length w.terminals) b in omega arith)) (λ _. absent_next (take i))
+  step_next (take i) a = when_elim (Next (take i)) (i <? length w.terminals) (λ b. take_step i (let z = ltb-true i (length w.terminals) b in omega arith)) (λ _. absent_next (take i))
   step_next (status i) a = at_terminal_lem (status i) i (λ t. terminal.status_of t longest_packet) (λ b. status_step i b)
   step_next (poll i) a = at_sequencer_lem (poll i) i (λ t. terminal.poll_of t longest_packet) (λ b s. poll_step i b s)
   step_next (copy i k) a = at_sequencer_lem (copy i k) i (λ t. terminal.copy_of t (record { 0 = k }) longest_packet) (λ b s. copy_step i b s k)
@@ -652,7 +652,7 @@ module _ (n resilience line : ℕ) (c : Course) (w : Group) (tk : ℕ → List O
         (make_next n resilience line c at w.packets tk sb v i b mine inviting (after i b t') (here i b t') (rest i b t') sound)
 
     sent_is : (demand ≤? ones r.repliers) ≡ true → terminal.whole_verdict (at i) longest_packet ≡ Verdict.Accepted → terminal.make_of (at i) demand longest_packet ≡ record { terminal = t'; answer = memberAnswer.Answer.Sent; bytes = bytes }
-    unfolding terminal.make_of judged if◌then◌else◌
+    unfolding terminal.make_of judged when◌then◌else◌
     sent_is d whole = rw (whole, inviting, d)
 
     make_sound : (demand ≤? ones r.repliers) ≡ true → terminal.whole_verdict (at i) longest_packet ≡ Verdict.Accepted → terminal_sound t' ≡ true
@@ -661,16 +661,16 @@ module _ (n resilience line : ℕ) (c : Course) (w : Group) (tk : ℕ → List O
         subst (λ (x : terminal.Outcome). terminal_sound x.terminal ≡ true) (sent_is d whole) (terminalProofs.make_keeps (at i) demand longest_packet s.typed s.sound)
 
   make_sent_at : (i demand : ℕ) → c.initiator ≡ i → is_sent (at_terminal w i (λ t. terminal.make_of t demand longest_packet)).answer ≡ true → MadeNext i demand (at_terminal w i (λ t. terminal.make_of t demand longest_packet))
-  unfolding terminal.make_of terminal.refused is_sent course_of bytes_in if◌then◌else◌
+  unfolding terminal.make_of terminal.refused is_sent course_of bytes_in when◌then◌else◌
   make_sent_at i demand mine =
       let t = at i in
-      if_elim (λ (d : Happened). is_sent d.answer ≡ true → MadeNext i demand d) (i <? length w.terminals)
+      when_elim (λ (d : Happened). is_sent d.answer ≡ true → MadeNext i demand d) (i <? length w.terminals)
       (λ l.
       let b : i < n = (let z = ltb-true i (length w.terminals) l in omega arith) in
       let P : terminal.Outcome → Type 0 = λ x. is_sent (by_member x.answer x.bytes) ≡ true → MadeNext i demand (with_member w i x (written x.bytes)) in
       judged_elim P (terminal.whole_verdict t longest_packet) (λ _ _ e. absurd (false≢true e))
-      (λ whole. if_elim P t.reset.inviting
-      (λ h. if_elim P (demand ≤? ones t.reset.repliers)
+      (λ whole. when_elim P t.reset.inviting
+      (λ h. when_elim P (demand ≤? ones t.reset.repliers)
       (λ d _.
       record {
         inside = b;

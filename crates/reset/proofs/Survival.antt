@@ -14,12 +14,12 @@ use lib.ListN.{length, get_or, get_elem?, length-take}
 use lib.Pow.{pow_mono}
 use lib.ListN as list
 use lib.Seq.{take-take, length-take-le}
-use Rattle.group.proofs.Choice.{if_true, if_false, both_first, both_then}
+use Rattle.group.proofs.Choice.{when_true, when_false, both_first, both_then}
 use Rattle.group.proofs.Counting.{one, count, count_more, one_true, ones_count}
 use Rattle.group.proofs.Expected.{needed_are}
-use Rattle.group.proofs.Lists.{if_elim, judged_elim}
+use Rattle.group.proofs.Lists.{when_elim, judged_elim}
 use Rattle.group.proofs.Members.{in_all, Standing, fresh_standing, others_in}
-use Rattle.group.specs.Choice.{if◌then◌else◌, ◌and◌, ◌<?◌, ◌≤?◌, ◌=?◌}
+use Rattle.group.specs.Choice.{when◌then◌else◌, ◌and◌, ◌<?◌, ◌≤?◌, ◌=?◌}
 use Rattle.group.specs.Limits.{members_most, longest_packet, largest_number}
 use Rattle.group.specs.Members.{is_in, all_of, others_of}
 use Rattle.group.specs.Opening.{description_of}
@@ -68,20 +68,20 @@ count_first (suc k) p h e = let z = one_true (p 0) e in omega arith
 
 -- neither the first nor a replier
 abbrev silent : ℕ → ℕ → Bool
-silent mask i = if is_in mask i then false else (if i =? 0 then false else true)
+silent mask i = when is_in mask i then false else (when i =? 0 then false else true)
 
 apart : (mask : ℕ) → is_in mask 0 ≡ false → (i : ℕ) → one (silent mask i) + one (is_in mask i) + one (i =? 0) ≤ 1
-unfolding one if◌then◌else◌
+unfolding one when◌then◌else◌
 apart mask out i = go (is_in mask i) (i =? 0) refl refl
   where
-    go : (a b : Bool) → is_in mask i ≡ a → (i =? 0) ≡ b → one (if a then false else (if b then false else true)) + one a + one b ≤ 1
+    go : (a b : Bool) → is_in mask i ≡ a → (i =? 0) ≡ b → one (when a then false else (when b then false else true)) + one a + one b ≤ 1
     go false false x y = omega arith
     go false true x y = omega arith
     go true false x y = omega arith
     go true true x y = absurd (false≢true (sym out ∙ subst (λ (k : ℕ). is_in mask k ≡ true) (eqb-true i 0 y) x))
 
-speaks : (a b : Bool) → b ≡ false → (if a then false else (if b then false else true)) ≡ false → a ≡ true
-unfolding if◌then◌else◌
+speaks : (a b : Bool) → b ≡ false → (when a then false else (when b then false else true)) ≡ false → a ≡ true
+unfolding when◌then◌else◌
 speaks true b x e = refl
 speaks false true x e = absurd (false≢true (sym x))
 speaks false false x e = absurd (false≢true (sym e))
@@ -99,7 +99,7 @@ some_replied n mask p low out others enough =
     heard j q e = speaks (is_in mask j) (j =? 0) (ne_eqb j 0 q) e
 
 not_serving : (a b : Bool) → a ≡ false → (a and b) ≡ false
-unfolding if◌then◌else◌
+unfolding when◌then◌else◌
 not_serving true b e = absurd (false≢true (sym e))
 not_serving false b e = refl
 
@@ -124,7 +124,7 @@ module _ (n number resilience : ℕ) (o : Opens n number resilience) (w : World)
       let s = v.like.each j b in
       let h = (v.holds.terminal j b).content in
       let m = get_or g.members j model.no_member in
-      if_elim (λ (x : ℕ). m.taken.0 ≤ x) (serves (at j))
+      when_elim (λ (x : ℕ). m.taken.0 ≤ x) (serves (at j))
       (λ e.
       let first : j ≡ 0 = eqb-true j 0 (sym s.sequencing_is ∙ both_first (at j).sequencing _ e) in
       let top = v.holds.sequencer.top_is in
@@ -137,13 +137,13 @@ module _ (n number resilience : ℕ) (o : Opens n number resilience) (w : World)
   unfolding reply_number
   reply_reach j b q =
       let s = v.like.each j b in
-      sym (if_false (serves (at j)) _ _ _ (not_serving (at j).sequencing _ (s.sequencing_is ∙ ne_eqb j 0 q)) refl) ∙ ap reach_of s.member_is
+      sym (when_false (serves (at j)) _ _ _ (not_serving (at j).sequencing _ (s.sequencing_is ∙ ne_eqb j 0 q)) refl) ∙ ap reach_of s.member_is
 
   reply_top : (b : 0 < n) → reply_number (at 0) ≡ g.sequencer.top.0
   unfolding reply_number
   reply_top b =
       let s = v.like.each 0 b in
-      sym (if_true (serves (at 0)) _ _ _ (serves0 n number resilience o w.group g c.order (λ j. taken j w.log) (λ j. submitted_in j w.log) v.holds v.like b) refl)
+      sym (when_true (serves (at 0)) _ _ _ (serves0 n number resilience o w.group g c.order (λ j. taken j w.log) (λ j. submitted_in j w.log) v.holds v.like b) refl)
       ∙ ap (λ (x : Sequencer). x.top.0) (s.sequencer_is refl)
 
   module _ (i : ℕ) (b : i < n) (inviting : (at i).reset.inviting ≡ true) where
@@ -294,12 +294,12 @@ module _ (n number resilience : ℕ) (o : Opens n number resilience) (w : World)
   unfolding happen is_sent bytes_in terminal.make_of terminal.refused
   makes i demand =
       let t = at i in
-      if_elim (λ (d : Happened). is_sent d.answer ≡ true → Makes i (bytes_in d.answer)) (i <? length w.group.terminals)
+      when_elim (λ (d : Happened). is_sent d.answer ≡ true → Makes i (bytes_in d.answer)) (i <? length w.group.terminals)
       (λ b.
       let less : i < n = (let z = ltb-true i (length w.group.terminals) b in let l = v.like.size in omega arith) in
       let P : terminal.Outcome → Type 0 = λ x. is_sent (by_member x.answer x.bytes) ≡ true → Makes i x.bytes in
       judged_elim P (terminal.whole_verdict t longest_packet) (λ _ _ e. absurd (false≢true e))
-      (λ _. if_elim P t.reset.inviting (λ h. if_elim P (demand ≤? ones t.reset.repliers) (λ _ _. record { inside = less; inviting = h; sent_is = refl }) (λ _ e. absurd (false≢true e))) (λ _ e. absurd (false≢true e))))
+      (λ _. when_elim P t.reset.inviting (λ h. when_elim P (demand ≤? ones t.reset.repliers) (λ _ _. record { inside = less; inviting = h; sent_is = refl }) (λ _ e. absurd (false≢true e))) (λ _ e. absurd (false≢true e))))
       (λ _ e. absurd (false≢true e))
 
 pub survives_first : SurvivesFirst
@@ -311,5 +311,5 @@ survives_first n number resilience o w u i demand sent =
     let c : Course = course_in n number w in
     survived n number resilience o w v i x.inside x.inviting (course_in n number (step w (make i demand)))
     (course_snoc (opened n number) w.log (record { event = make i demand; answer = a })
-    ∙ sym (if_true (is_sent a) (made c (bytes_in a)) _ _ sent refl)
+    ∙ sym (when_true (is_sent a) (made c (bytes_in a)) _ _ sent refl)
     ∙ ap (λ (p : List ℕ). made c p) x.sent_is)

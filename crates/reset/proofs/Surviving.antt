@@ -11,7 +11,7 @@ use lib.Count.{ones}
 use Rattle.group.proofs.Choice.{both_first, both_then}
 use Rattle.group.proofs.Counting.{one, count, count_within, count_more, ones_count}
 use Rattle.group.proofs.Members.{Standing, survivor_lt, survivors_lt, in_others, others_in}
-use Rattle.group.specs.Choice.{if◌then◌else◌}
+use Rattle.group.specs.Choice.{when◌then◌else◌}
 use Rattle.group.specs.Limits.{members_most}
 use Rattle.group.specs.Members.{is_in, elected_of, others_of, needed_of}
 use Rattle.group.specs.declared.Group.{Group}
@@ -29,20 +29,20 @@ count_both (suc k) p q r h =
 
 -- of the first and not of the second
 abbrev but : Bool → Bool → Bool
-but a b = if b then false else a
+but a b = when b then false else a
 
 but_first : (a b : Bool) → but a b ≡ true → a ≡ true
-unfolding if◌then◌else◌
+unfolding when◌then◌else◌
 but_first a true e = absurd (false≢true e)
 but_first a false e = e
 
 but_then : (a b : Bool) → a ≡ true → but a b ≡ false → b ≡ true
-unfolding if◌then◌else◌
+unfolding when◌then◌else◌
 but_then a true x e = refl
 but_then a false x e = absurd (false≢true (sym e ∙ x))
 
 but_apart : (a b : Bool) → (b ≡ true → a ≡ true) → one (but a b) + one b ≤ one a
-unfolding if◌then◌else◌ one
+unfolding when◌then◌else◌ one
 but_apart true true h = omega arith
 but_apart true false h = omega arith
 but_apart false true h = absurd (false≢true (h refl))

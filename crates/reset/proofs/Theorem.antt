@@ -10,11 +10,11 @@ use lib.Count.{ones}
 use lib.ListN.{length, get_or, length-append}
 use lib.ListN as list
 use lib.Seq.{length-take-le}
-use Rattle.group.proofs.Choice.{if_true, if_false}
+use Rattle.group.proofs.Choice.{when_true, when_false}
 use Rattle.group.proofs.Counting.{one, count, one_true, one_false, ones_count}
-use Rattle.group.proofs.Lists.{if_elim}
+use Rattle.group.proofs.Lists.{when_elim}
 use Rattle.group.proofs.Members.{all_in}
-use Rattle.group.specs.Choice.{if◌then◌else◌}
+use Rattle.group.specs.Choice.{when◌then◌else◌}
 use Rattle.group.specs.Limits.{places_most}
 use Rattle.group.specs.Members.{is_in}
 use Rattle.group.specs.declared.Group as description
@@ -44,23 +44,23 @@ use Rattle.reset.proofs.Unmade.{submitted_in, course_snoc}
 use Rattle.reset.proofs.View.{member_of, member_here}
 
 -- a sum over the chosen
-sum_chosen : (n x : ℕ) (p : ℕ → Bool) (f : ℕ → ℕ) → ((i : ℕ) → i < n → p i ≡ true → f i ≡ x) → sum n (λ i. if p i then f i else 0) ≡ count n p * x
+sum_chosen : (n x : ℕ) (p : ℕ → Bool) (f : ℕ → ℕ) → ((i : ℕ) → i < n → p i ≡ true → f i ≡ x) → sum n (λ i. when p i then f i else 0) ≡ count n p * x
 unfolding sum count
 sum_chosen zero x p f h = sym (zero-mul x)
 sum_chosen (suc n) x p f h =
     let rest = sum_chosen n x (λ i. p (suc i)) (λ i. f (suc i)) (λ i l. h (suc i) (omega arith)) in
-    sum_first n (λ i. if p i then f i else 0) ∙ go (p 0) refl rest
+    sum_first n (λ i. when p i then f i else 0) ∙ go (p 0) refl rest
   where
-    go : (b : Bool) → p 0 ≡ b → sum n (λ i. if p (suc i) then f (suc i) else 0) ≡ count n (λ i. p (suc i)) * x
-        → (if p 0 then f 0 else 0) + sum n (λ i. if p (suc i) then f (suc i) else 0) ≡ (one (p 0) + count n (λ i. p (suc i))) * x
+    go : (b : Bool) → p 0 ≡ b → sum n (λ i. when p (suc i) then f (suc i) else 0) ≡ count n (λ i. p (suc i)) * x
+        → (when p 0 then f 0 else 0) + sum n (λ i. when p (suc i) then f (suc i) else 0) ≡ (one (p 0) + count n (λ i. p (suc i))) * x
     go true e rest =
-        let y : (if p 0 then f 0 else 0) ≡ x = sym (if_true (p 0) _ _ _ e refl) ∙ h 0 (omega arith) e in
+        let y : (when p 0 then f 0 else 0) ≡ x = sym (when_true (p 0) _ _ _ e refl) ∙ h 0 (omega arith) e in
         let z : one (p 0) ≡ 1 = one_true (p 0) e in
         let s : suc (count n (λ i. p (suc i))) * x ≡ count n (λ i. p (suc i)) * x + x = suc-mul (count n (λ i. p (suc i))) x in
         let k : (one (p 0) + count n (λ i. p (suc i))) * x ≡ suc (count n (λ i. p (suc i))) * x = ap (λ (j : ℕ). j * x) (let t : one (p 0) + count n (λ i. p (suc i)) ≡ suc (count n (λ i. p (suc i))) = omega arith in t) in
         ap₂ (λ (a d : ℕ). a + d) y rest ∙ (let q : x + count n (λ i. p (suc i)) * x ≡ count n (λ i. p (suc i)) * x + x = omega arith in q) ∙ sym (k ∙ s)
     go false e rest =
-        let y : (if p 0 then f 0 else 0) ≡ 0 = sym (if_false (p 0) _ _ _ e refl) in
+        let y : (when p 0 then f 0 else 0) ≡ 0 = sym (when_false (p 0) _ _ _ e refl) in
         let z : one (p 0) ≡ 0 = one_false (p 0) (λ q. false≢true (sym e ∙ q)) in
         let k : (one (p 0) + count n (λ i. p (suc i))) * x ≡ count n (λ i. p (suc i)) * x = ap (λ (j : ℕ). j * x) (let t : one (p 0) + count n (λ i. p (suc i)) ≡ count n (λ i. p (suc i)) = omega arith in t) in
         ap₂ (λ (a d : ℕ). a + d) y rest ∙ zero-add _ ∙ sym k
@@ -86,7 +86,7 @@ from_length survivors e (t ∷ ts) i last b p hp h =
     let again : (b' : ℕ) → length (close_from survivors e ts (i + 1) last b') ≤ closing_most * count (length ts) (λ k. p (suc k)) =
     λ b'. from_length survivors e ts (i + 1) last b' (λ k. p (suc k)) (λ k l. hp (suc k) (omega arith) ∙ ap (is_in survivors) (let z : i + suc k ≡ i + 1 + k = omega arith in z))
     (λ k l q. h (suc k) (omega arith) (ap (is_in survivors) (let z : i + suc k ≡ i + 1 + k = omega arith in z) ∙ q)) in
-    if_elim (λ (l : List Event). length l ≤ closing_most * (one (p 0) + count (length ts) (λ k. p (suc k)))) (is_in survivors i)
+    when_elim (λ (l : List Event). length l ≤ closing_most * (one (p 0) + count (length ts) (λ k. p (suc k)))) (is_in survivors i)
     (λ q.
     let x = h 0 (omega arith) (ap (is_in survivors) (let z : i + 0 ≡ i = omega arith in z) ∙ q) in
     let near = acknowledged_near t.member in
@@ -236,9 +236,9 @@ stays c w (copy i k) m = (refl, refl)
 stays c w (hand_member k i) m = (refl, refl)
 stays c w (hand_sequencer k i) m = (refl, refl)
 stays c w (invite i k) m =
-    if_elim (λ (x : Course). (x.survivors ≡ c.survivors) × (x.number ≡ c.number)) (is_sent (happen w.group (invite i k)).answer) (λ _. (refl, refl)) (λ _. (refl, refl))
+    when_elim (λ (x : Course). (x.survivors ≡ c.survivors) × (x.number ≡ c.number)) (is_sent (happen w.group (invite i k)).answer) (λ _. (refl, refl)) (λ _. (refl, refl))
 stays c w (make i demand) m =
-    if_elim (λ (x : Course). (x.survivors ≡ c.survivors) × (x.number ≡ c.number)) (is_sent (happen w.group (make i demand)).answer) (λ e. absurd (m e)) (λ _. (refl, refl))
+    when_elim (λ (x : Course). (x.survivors ≡ c.survivors) × (x.number ≡ c.number)) (is_sent (happen w.group (make i demand)).answer) (λ e. absurd (m e)) (λ _. (refl, refl))
 
 on_firmly : (n number resilience : ℕ) (w : World) → Firmly n number resilience w → (e : Event) → Allowed w (course_in n number w) e → MakesNone w e → Firmly n number resilience (step w e)
 on_firmly n number resilience w v e a m =

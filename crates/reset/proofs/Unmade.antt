@@ -8,11 +8,11 @@ use native.Mathlib.Omega.{arith}
 use borrow.Author.Tests.{le-ltb, eq-eqb}
 use lib.ListN.{length, get_or, replicate, get_elem?, length-replicate, get_or-replicate, get_or-eq_default}
 use lib.Pow.{pow_pos}
-use Rattle.group.proofs.Choice.{if_true, if_false, both_hold, first_fails}
+use Rattle.group.proofs.Choice.{when_true, when_false, both_hold, first_fails}
 use Rattle.group.proofs.Fold.{at_all}
-use Rattle.group.proofs.Lists.{if_elim, le_or}
+use Rattle.group.proofs.Lists.{when_elim, le_or}
 use Rattle.group.proofs.Members.{in_all, in_zero}
-use Rattle.group.specs.Choice.{if◌then◌else◌, ◌and◌, ◌<?◌, ◌=?◌}
+use Rattle.group.specs.Choice.{when◌then◌else◌, ◌and◌, ◌<?◌, ◌=?◌}
 use Rattle.group.specs.Limits.{members_most, places_most}
 use Rattle.group.specs.Members.{is_in, all_of}
 use Rattle.group.specs.Opening.{description_of}
@@ -41,7 +41,7 @@ use Rattle.recovery.specs.State.{Terminal, no_sequencer}
 use Rattle.reset.specs.Claim.{Unmade, begun, next, MakesNone}
 use Rattle.reset.specs.Course.{Course, opened, is_sent, course_of, course_from, course_in, submitted_at, taken, Allowed}
 use Rattle.reset.specs.World.{Event, submit, repeat, take, status, poll, copy, hand_member, hand_sequencer, invite, make, Entry, Group, Happened, happen, missing, terminal_at, hand_to_sequencer, World, step, no_terminal, fresh_terminals, fresh}
-use Rattle.reset.proofs.Before.{if_either, ordered_by, Asked, step_next, inv_ext}
+use Rattle.reset.proofs.Before.{when_either, ordered_by, Asked, step_next, inv_ext}
 use Rattle.reset.proofs.First.{Stands, Rel}
 use Rattle.reset.proofs.Same.{Quiet, no_reset_lem, fresh_quiet, terminals_length, members_length, terminals_at}
 
@@ -87,7 +87,7 @@ module _ (n : ℕ) (w : Group) (size : length w.terminals ≡ n) (c : Course) (a
 
       go : (x : Option (List ℕ)) → (hand_to_sequencer w i x).answer ≡ absent
       go none = refl
-      go (some p) = ap (λ (d : Happened). d.answer) (sym (if_false (i <? length w.terminals and (terminal_at w i).sequencing) (missing w) _ (missing w) (first_fails (i <? length w.terminals) _ out) refl))
+      go (some p) = ap (λ (d : Happened). d.answer) (sym (when_false (i <? length w.terminals and (terminal_at w i).sequencing) (missing w) _ (missing w) (first_fails (i <? length w.terminals) _ out) refl))
 
   course_order : (e : Event) → MakesNone (record { group = w; log = [] }) e → (course_of c e (happen w e).answer).order ≡ c.order ++ ordered_by e (happen w e).answer
   unfolding course_of ordered_by
@@ -101,18 +101,18 @@ module _ (n : ℕ) (w : Group) (size : length w.terminals ≡ n) (c : Course) (a
   course_order (hand_sequencer k i) m =
       let a = (happen w (hand_sequencer k i)).answer in
       le_or n i
-      (λ h. ap (λ (x : Answer). c.order ++ (if is_in c.survivors i then numbered_in x else [])) (beyond k i h) ∙ ap (λ (l : List Ordered). c.order ++ l) (nothing (is_in c.survivors i)) ∙ sym (ap (λ (x : Answer). c.order ++ numbered_in x) (beyond k i h) ∙ ap (λ (l : List Ordered). c.order ++ l) absent_none))
-      (λ h. ap (λ (l : List Ordered). c.order ++ l) (sym (if_true (is_in c.survivors i) (numbered_in a) _ _ (subst (λ (s : ℕ). is_in s i ≡ true) (sym all-survive) (in_all n i h)) refl)))
+      (λ h. ap (λ (x : Answer). c.order ++ (when is_in c.survivors i then numbered_in x else [])) (beyond k i h) ∙ ap (λ (l : List Ordered). c.order ++ l) (nothing (is_in c.survivors i)) ∙ sym (ap (λ (x : Answer). c.order ++ numbered_in x) (beyond k i h) ∙ ap (λ (l : List Ordered). c.order ++ l) absent_none))
+      (λ h. ap (λ (l : List Ordered). c.order ++ l) (sym (when_true (is_in c.survivors i) (numbered_in a) _ _ (subst (λ (s : ℕ). is_in s i ≡ true) (sym all-survive) (in_all n i h)) refl)))
     where
       absent_none : numbered_in absent ≡ []
       absent_none = numbered_absent
 
-      nothing : (b : Bool) → (if b then numbered_in absent else []) ≡ []
-      nothing b = ap (λ (l : List Ordered). if b then l else []) numbered_absent ∙ if_either b []
+      nothing : (b : Bool) → (when b then numbered_in absent else []) ≡ []
+      nothing b = ap (λ (l : List Ordered). when b then l else []) numbered_absent ∙ when_either b []
   course_order (invite i k) m =
-      if_elim (λ (x : Course). x.order ≡ c.order ++ []) (is_sent (happen w (invite i k)).answer) (λ _. sym (append-nil c.order)) (λ _. sym (append-nil c.order))
+      when_elim (λ (x : Course). x.order ≡ c.order ++ []) (is_sent (happen w (invite i k)).answer) (λ _. sym (append-nil c.order)) (λ _. sym (append-nil c.order))
   course_order (make i demand) m =
-      if_elim (λ (x : Course). x.order ≡ c.order ++ []) (is_sent (happen w (make i demand)).answer) (λ e. absurd (m e)) (λ _. sym (append-nil c.order))
+      when_elim (λ (x : Course). x.order ≡ c.order ++ []) (is_sent (happen w (make i demand)).answer) (λ e. absurd (m e)) (λ _. sym (append-nil c.order))
 
   course_survivors : (e : Event) → MakesNone (record { group = w; log = [] }) e → ((course_of c e (happen w e).answer).survivors ≡ c.survivors) × ((course_of c e (happen w e).answer).elected ≡ c.elected)
   unfolding course_of
@@ -125,9 +125,9 @@ module _ (n : ℕ) (w : Group) (size : length w.terminals ≡ n) (c : Course) (a
   course_survivors (hand_member k i) m = (refl, refl)
   course_survivors (hand_sequencer k i) m = (refl, refl)
   course_survivors (invite i k) m =
-      if_elim (λ (x : Course). (x.survivors ≡ c.survivors) × (x.elected ≡ c.elected)) (is_sent (happen w (invite i k)).answer) (λ _. (refl, refl)) (λ _. (refl, refl))
+      when_elim (λ (x : Course). (x.survivors ≡ c.survivors) × (x.elected ≡ c.elected)) (is_sent (happen w (invite i k)).answer) (λ _. (refl, refl)) (λ _. (refl, refl))
   course_survivors (make i demand) m =
-      if_elim (λ (x : Course). (x.survivors ≡ c.survivors) × (x.elected ≡ c.elected)) (is_sent (happen w (make i demand)).answer) (λ e. absurd (m e)) (λ _. (refl, refl))
+      when_elim (λ (x : Course). (x.survivors ≡ c.survivors) × (x.elected ≡ c.elected)) (is_sent (happen w (make i demand)).answer) (λ e. absurd (m e)) (λ _. (refl, refl))
 
 -- such a world
 pub record Begun (n number resilience : ℕ) (w : World) : Type 0 where
@@ -173,7 +173,7 @@ next_begun n number resilience o w v e a m =
 
 -- a terminal without a sequencer has one that is all zero
 zero_none : zero_sequencer no_sequencer ≡ true
-unfolding zero_sequencer fresh_sequencer if◌then◌else◌
+unfolding zero_sequencer fresh_sequencer when◌then◌else◌
 zero_none =
     both_hold _ _ (at_all (λ i a. a.taken.0 =? 0 and a.count =? 0 and a.repeats =? 0) no_acknowledgement (replicate members_most no_acknowledgement)
     (λ i h. rw (get_or-replicate members_most i no_acknowledgement no_acknowledgement (rw (length-replicate members_most no_acknowledgement) at h))))
@@ -242,7 +242,7 @@ module _ (n number resilience : ℕ) (o : Opens n number resilience) where
     first_typed = start.sequencer.typed
 
     seats : (x : Bool) → (i =? 0) ≡ x → (sequencer_sound t ≡ true) × sequencerLaws.Typed t.sequencer
-    unfolding sequencer_sound if◌then◌else◌
+    unfolding sequencer_sound when◌then◌else◌
     seats true e = rw e (both_hold (sequencerCalls.sound_of (sequencer.fresh_of n number resilience).sequencer) _ first_sound (eq-eqb _ _ (first_size ∙ sym size_is)), first_typed)
     seats false e = rw e (both_hold (zero_sequencer no_sequencer) _ zero_none refl, none_typed)
 

@@ -7,8 +7,8 @@ use mathlib.Core.List.{List}
 use Prim.Native.Nat.{ℕ, zero, suc, ◌+◌, ◌-◌}
 use borrow.Author.Tests.{eq-eqb, ne_eqb}
 use lib.ListN.{set}
-use Rattle.group.proofs.Choice.{if_true, if_false}
-use Rattle.group.specs.Choice.{if◌then◌else◌, ◌=?◌}
+use Rattle.group.proofs.Choice.{when_true, when_false}
+use Rattle.group.specs.Choice.{when◌then◌else◌, ◌=?◌}
 use Rattle.group.specs.declared.Group.{Group}
 use Rattle.group.specs.declared.MemberNumber.{MemberNumber}
 use Rattle.group.specs.declared.SequenceNumber.{SequenceNumber}
@@ -26,30 +26,30 @@ has_result group t = t.member.group.number =? group.number
 
 -- its member in that group, which began with the first `cut` of the order; and, at the elected terminal, its sequencer
 unfoldable pub member_of : Group → ℕ → Terminal → Member
-member_of group cut t = if has_result group t then t.member else member_in t.member group cut
+member_of group cut t = when has_result group t then t.member else member_in t.member group cut
 
 unfoldable pub sequencer_of : Group → ℕ → Terminal → Sequencer
-sequencer_of group cut t = if has_result group t then t.sequencer else elected_sequencer t group cut
+sequencer_of group cut t = when has_result group t then t.sequencer else elected_sequencer t group cut
 
 module _ (group : Group) (cut : ℕ) (t : Terminal) where
   -- with the result, and without it
   module _ (e : t.member.group.number ≡ group.number) where
     pub member_here : member_of group cut t ≡ t.member
     unfolding member_of
-    member_here = sym (if_true (has_result group t) _ _ _ (eq-eqb _ _ e) refl)
+    member_here = sym (when_true (has_result group t) _ _ _ (eq-eqb _ _ e) refl)
 
     pub sequencer_here : sequencer_of group cut t ≡ t.sequencer
     unfolding sequencer_of
-    sequencer_here = sym (if_true (has_result group t) _ _ _ (eq-eqb _ _ e) refl)
+    sequencer_here = sym (when_true (has_result group t) _ _ _ (eq-eqb _ _ e) refl)
 
   module _ (e : t.member.group.number ≢ group.number) where
     pub member_there : member_of group cut t ≡ member_in t.member group cut
     unfolding member_of
-    member_there = sym (if_false (has_result group t) _ _ _ (ne_eqb _ _ e) refl)
+    member_there = sym (when_false (has_result group t) _ _ _ (ne_eqb _ _ e) refl)
 
     pub sequencer_there : sequencer_of group cut t ≡ elected_sequencer t group cut
     unfolding sequencer_of
-    sequencer_there = sym (if_false (has_result group t) _ _ _ (ne_eqb _ _ e) refl)
+    sequencer_there = sym (when_false (has_result group t) _ _ _ (ne_eqb _ _ e) refl)
 
 -- inviting, replying and noting a reply: the part in a reset, and whether the sequencer is frozen
 module _ (group : Group) (cut : ℕ) (t : Terminal) (reset : Reset) (frozen : Bool) where
@@ -66,8 +66,8 @@ module _ (group : Group) (cut : ℕ) (t : Terminal) (reset : Reset) (frozen : Bo
   unfolding sequencer_of elected_sequencer kept_floor counts_of
   sequencer_reset =
       ap (λ (l : List Message).
-      if has_result group t then t.sequencer else
-      (if serves t
+      when has_result group t then t.sequencer else
+      (when serves t
       then begun group cut t.sequencer.floor.0 (counts_in t.sequencer.acknowledgements) t.sequencer.history
       else begun group cut (kept_floor t) (counts_of t) l))
       (history_reset (kept_floor t) (reach_of t.member - kept_floor t))
@@ -86,5 +86,5 @@ module _ (t : Terminal) (attempt : ℕ) (elected : MemberNumber) (number : Seque
   unfolding result_of
   sequencer_result e =
       sequencer_here made number.0 (result_of t attempt elected number survivors) refl
-      ∙ sym (if_true (elected.0 =? t.member.number.0) _ _ _ (eq-eqb _ _ e) refl)
+      ∙ sym (when_true (elected.0 =? t.member.number.0) _ _ _ (eq-eqb _ _ e) refl)
       ∙ sym (sequencer_there made number.0 t old)

@@ -12,7 +12,7 @@ use lib.ListN.{length, get_or, set, length-set}
 use lib.Seq.{get_or-set_same, get_or-set_other, ext_get_or}
 use Rattle.group.proofs.Choice.{both_hold, both_first}
 use Rattle.group.proofs.Lists.{eq_or, le_or}
-use Rattle.group.specs.Choice.{if◌then◌else◌, ◌<?◌, ◌=?◌}
+use Rattle.group.specs.Choice.{when◌then◌else◌, ◌<?◌, ◌=?◌}
 use Rattle.group.specs.Limits.{held_most, longest_packet}
 use Rattle.group.specs.Question.{judged}
 use Rattle.group.specs.declared.Group.{Group}
@@ -45,9 +45,9 @@ module _ (m : Member) (group : Group) (cut : ℕ) (sound : sound_of m ≡ true) 
 
   module _ (payload : List ℕ) where
     submits_same : (b : Bool)
-        → Same (if b then record { member = member.with_waiting m payload; answer = Answer.Sent; bytes = member.request_packet (member.with_waiting m payload) } else member.answered (member.with_waiting m payload) (Answer.Queued (m.submitted + 1)))
-        (if b then record { member = member.with_waiting m' payload; answer = Answer.Sent; bytes = member.request_packet (member.with_waiting m' payload) } else member.answered (member.with_waiting m' payload) (Answer.Queued (m'.submitted + 1)))
-    unfolding if◌then◌else◌ member.with_waiting member.answered
+        → Same (when b then record { member = member.with_waiting m payload; answer = Answer.Sent; bytes = member.request_packet (member.with_waiting m payload) } else member.answered (member.with_waiting m payload) (Answer.Queued (m.submitted + 1)))
+        (when b then record { member = member.with_waiting m' payload; answer = Answer.Sent; bytes = member.request_packet (member.with_waiting m' payload) } else member.answered (member.with_waiting m' payload) (Answer.Queued (m'.submitted + 1)))
+    unfolding when◌then◌else◌ member.with_waiting member.answered
     submits_same true = (refl, refl)
     submits_same false = (refl, refl)
 
@@ -57,7 +57,7 @@ module _ (m : Member) (group : Group) (cut : ℕ) (sound : sound_of m ≡ true) 
     judged_same (Verdict.Refused r) o o' h = (refl, refl)
 
     pub submit_same : Same (member.submit_of m payload longest_packet) (member.submit_of m' payload longest_packet)
-    unfolding member.submit_of member.call_verdict member.submit_verdict judged if◌then◌else◌
+    unfolding member.submit_of member.call_verdict member.submit_verdict judged when◌then◌else◌
     submit_same = rw (sound, sound') (judged_same (member.submit_verdict m (length payload)) _ _ (submits_same (m.waiting =? 0)))
 
   -- its next message lies within the group's beginning
@@ -128,10 +128,10 @@ module _ (m : Member) (group : Group) (cut : ℕ) (sound : sound_of m ≡ true) 
     pub take_same : member.is_ready m (t + 1) ≡ true
         → (member_in (member.take_of m longest_packet).member group cut ≡ (member.take_of m' longest_packet).member)
         × (took_by (member.take_of m' longest_packet).answer (member.take_of m' longest_packet).bytes ≡ took_by (member.take_of m longest_packet).answer (member.take_of m longest_packet).bytes)
-    unfolding member.take_of member.call_verdict member.took_of judged if◌then◌else◌ took_by
+    unfolding member.take_of member.call_verdict member.took_of judged when◌then◌else◌ took_by
     take_same r = rw (sound, sound', r, ready_same r, next_same) (taken_same, refl)
 
   -- where none is ready a take leaves all
   pub take_none : member.is_ready m (t + 1) ≡ false → ((member.take_of m longest_packet).member ≡ m) × (took_by (member.take_of m longest_packet).answer (member.take_of m longest_packet).bytes ≡ [])
-  unfolding member.take_of member.call_verdict member.answered judged if◌then◌else◌ took_by
+  unfolding member.take_of member.call_verdict member.answered judged when◌then◌else◌ took_by
   take_none r = rw (sound, r) (refl, refl)

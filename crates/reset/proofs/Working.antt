@@ -8,8 +8,8 @@ use native.Mathlib.Nat.{le_refl}
 use native.Mathlib.Omega.{arith}
 use borrow.Author.Tests.{eqb-true}
 use lib.ListN.{length}
-use Rattle.group.proofs.Choice.{if_true, both_first, both_then}
-use Rattle.group.proofs.Lists.{if_elim, eq_or, All, all_map}
+use Rattle.group.proofs.Choice.{when_true, both_first, both_then}
+use Rattle.group.proofs.Lists.{when_elim, eq_or, All, all_map}
 use Rattle.group.specs.Choice.{◌and◌, ◌=?◌}
 use Rattle.group.specs.Limits.{places_most, members_most}
 use Rattle.group.specs.Members.{is_in}
@@ -45,7 +45,7 @@ module _ (n resilience : ℕ) (c : Course) (under cut : ℕ) (low low' : ℕ →
 
   reaches : (serves t ≡ true → reach_of m' ≤ t.sequencer.top.0) → serves t' ≡ serves t → reach_of m' ≤ reply_number t'
   unfolding reply_number
-  reaches reach' same = if_elim (λ (x : ℕ). reach_of m' ≤ x) (serves t') (λ e. reach' (sym same ∙ e)) (λ _. le_refl _)
+  reaches reach' same = when_elim (λ (x : ℕ). reach_of m' ≤ x) (serves t') (λ e. reach' (sym same ∙ e)) (λ _. le_refl _)
 
   pub member_survivor : Kin t.member m' → terminal_sound t' ≡ true → memberLaws.Typed m' → length kept'.past ≡ places_most → length kept'.counts ≡ members_most
       → Remembers m'.taken.0 kept' c.order → low' kept'.read.0 → (serves t ≡ true → reach_of m' ≤ t.sequencer.top.0) → Survivor n resilience c under cut low' i t'
@@ -166,7 +166,7 @@ module _ (n resilience line : ℕ) (c : Course) (at : ℕ → Terminal) (packets
           (λ e.
           let x = stays e in
           let y = stands.reach_le in
-          let z : t.sequencer.top.0 ≡ reply_number t = if_true (serves t) _ _ _ q refl in
+          let z : t.sequencer.top.0 ≡ reply_number t = when_true (serves t) _ _ _ q refl in
           omega arith)
 
       sits' : Sits n resilience c under cut (Low n resilience c cut at') i changed

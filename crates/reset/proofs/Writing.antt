@@ -9,8 +9,8 @@ use native.Mathlib.Omega.{arith}
 use lib.ListN.{length}
 use Rattle.big_endian.proofs.Number.{number_behind, number_of_bytes}
 use Rattle.big_endian.specs.Number.{bytes_of}
-use Rattle.group.proofs.Lists.{if_elim, judged_elim, All}
-use Rattle.group.specs.Choice.{if◌then◌else◌, ◌and◌, ◌<?◌, ◌≤?◌, ◌=?◌}
+use Rattle.group.proofs.Lists.{when_elim, judged_elim, All}
+use Rattle.group.specs.Choice.{when◌then◌else◌, ◌and◌, ◌<?◌, ◌≤?◌, ◌=?◌}
 use Rattle.group.specs.Limits.{held_most, places_most, largest_number}
 use Rattle.group.specs.Members.{is_in, expected_of}
 use Rattle.group.specs.declared.Group.{Group}
@@ -41,10 +41,10 @@ use Rattle.recovery.specs.Calls as terminal
 use Rattle.recovery.specs.State.{Terminal}
 
 -- a choice made twice alike
-if_both : {A : Type 0} (R : A → A → Type 0) (b : Bool) {x x' y y' : A} → R x x' → R y y' → R (if b then x else y) (if b then x' else y')
-unfolding if◌then◌else◌
-if_both R true h k = h
-if_both R false h k = k
+when_both : {A : Type 0} (R : A → A → Type 0) (b : Bool) {x x' y y' : A} → R x x' → R y y' → R (when b then x else y) (when b then x' else y')
+unfolding when◌then◌else◌
+when_both R true h k = h
+when_both R false h k = k
 
 -- two packets, both of a reset or neither
 abbrev Alike : Packet → Packet → Type 0
@@ -54,32 +54,32 @@ alike : (kind : ℕ) (m m' : MemberNumber) (g g' a a' b b' c c' : ℕ)
     → Alike (content_of (record { kind = kind; member = m; group = g; a = a; b = b; c = c })) (content_of (record { kind = kind; member = m'; group = g'; a = a'; b = b'; c = c' }))
 unfolding content_of terminal.of_reset
 alike kind m m' g g' a a' b b' c c' =
-    if_both Alike (kind =? request_kind) refl
-    (if_both Alike (kind =? broadcast_kind) refl
-    (if_both Alike (kind =? gap_kind) refl
-    (if_both Alike (kind =? status_kind) refl
-    (if_both Alike (kind =? poll_kind) refl
-    (if_both Alike (kind =? offer_kind) refl
-    (if_both Alike (kind =? confirm_kind) refl
-    (if_both Alike (kind =? accept_kind) refl
-    (if_both Alike (kind =? invitation_kind) refl
-    (if_both Alike (kind =? reply_kind) refl refl)))))))))
+    when_both Alike (kind =? request_kind) refl
+    (when_both Alike (kind =? broadcast_kind) refl
+    (when_both Alike (kind =? gap_kind) refl
+    (when_both Alike (kind =? status_kind) refl
+    (when_both Alike (kind =? poll_kind) refl
+    (when_both Alike (kind =? offer_kind) refl
+    (when_both Alike (kind =? confirm_kind) refl
+    (when_both Alike (kind =? accept_kind) refl
+    (when_both Alike (kind =? invitation_kind) refl
+    (when_both Alike (kind =? reply_kind) refl refl)))))))))
 
 -- a floor stands in C
 floor_c : (h : Header) → terminal.floor_in (content_of h) ≤ h.c
 unfolding content_of terminal.floor_in
 floor_c h =
     let P : Packet → Type 0 = λ p. terminal.floor_in p ≤ h.c in
-    if_elim P (h.kind =? request_kind) (λ _. omega arith)
-    (λ _. if_elim P (h.kind =? broadcast_kind) (λ _. le_refl _)
-    (λ _. if_elim P (h.kind =? gap_kind) (λ _. omega arith)
-    (λ _. if_elim P (h.kind =? status_kind) (λ _. omega arith)
-    (λ _. if_elim P (h.kind =? poll_kind) (λ _. le_refl _)
-    (λ _. if_elim P (h.kind =? offer_kind) (λ _. le_refl _)
-    (λ _. if_elim P (h.kind =? confirm_kind) (λ _. omega arith)
-    (λ _. if_elim P (h.kind =? accept_kind) (λ _. omega arith)
-    (λ _. if_elim P (h.kind =? invitation_kind) (λ _. omega arith)
-    (λ _. if_elim P (h.kind =? reply_kind) (λ _. omega arith) (λ _. omega arith))))))))))
+    when_elim P (h.kind =? request_kind) (λ _. omega arith)
+    (λ _. when_elim P (h.kind =? broadcast_kind) (λ _. le_refl _)
+    (λ _. when_elim P (h.kind =? gap_kind) (λ _. omega arith)
+    (λ _. when_elim P (h.kind =? status_kind) (λ _. omega arith)
+    (λ _. when_elim P (h.kind =? poll_kind) (λ _. le_refl _)
+    (λ _. when_elim P (h.kind =? offer_kind) (λ _. le_refl _)
+    (λ _. when_elim P (h.kind =? confirm_kind) (λ _. omega arith)
+    (λ _. when_elim P (h.kind =? accept_kind) (λ _. omega arith)
+    (λ _. when_elim P (h.kind =? invitation_kind) (λ _. omega arith)
+    (λ _. when_elim P (h.kind =? reply_kind) (λ _. omega arith) (λ _. omega arith))))))))))
 
 module _ (h : Header) (payload : List ℕ) where
   group_back : h.group ≤ largest_number → (header_of (packet_of h payload)).group ≡ h.group
@@ -140,10 +140,10 @@ unfolding member.message_step member.kept_of member.with_held member.gap_up_to m
 message_group m originator k count payload =
     let P : member.Outcome → Type 0 = λ o. o.member.group ≡ m.group in
     let m' : Member = member.with_held m k (message_of originator count payload) in
-    if_elim P (k ≤? m.taken.0) (λ _. refl)
-    (λ _. if_elim P (k ≤? m.taken.0 + held_most)
-    (λ _. if_elim P (window.is_held m.held k) (λ _. refl) (λ _. if_elim P (window.lowest_missing m'.held m'.taken.0 (k - 1 - m'.taken.0) =? 0) (λ _. refl) (λ _. refl)))
-    (λ _. if_elim P (window.lowest_missing m.held m.taken.0 (m.taken.0 + held_most - m.taken.0) =? 0) (λ _. refl) (λ _. refl)))
+    when_elim P (k ≤? m.taken.0) (λ _. refl)
+    (λ _. when_elim P (k ≤? m.taken.0 + held_most)
+    (λ _. when_elim P (window.is_held m.held k) (λ _. refl) (λ _. when_elim P (window.lowest_missing m'.held m'.taken.0 (k - 1 - m'.taken.0) =? 0) (λ _. refl) (λ _. refl)))
+    (λ _. when_elim P (window.lowest_missing m.held m.taken.0 (m.taken.0 + held_most - m.taken.0) =? 0) (λ _. refl) (λ _. refl)))
 
 -- the member's calls
 module _ (number : ℕ) where
@@ -162,7 +162,7 @@ module _ (number : ℕ) where
     gap_wrote : (last : ℕ) (gapped : Answer) (whole : member.Outcome) → MemberWrote whole → MemberWrote (member.gap_up_to m last gapped whole)
     unfolding member.gap_up_to member.gap_packet terminal.of_reset
     gap_wrote last gapped whole h =
-        if_elim MemberWrote (window.lowest_missing m.held m.taken.0 (last - m.taken.0) =? 0) (λ _. h) (λ _. one_wrote (Packet.Gap m.number _ _ _) _ refl)
+        when_elim MemberWrote (window.lowest_missing m.held m.taken.0 (last - m.taken.0) =? 0) (λ _. h) (λ _. one_wrote (Packet.Gap m.number _ _ _) _ refl)
 
     status_packet_lem : All (Wrote number) (written (member.status_packet m))
     unfolding member.status_packet terminal.of_reset
@@ -185,9 +185,9 @@ module _ (number : ℕ) where
   message_wrote : (m : Member) → m.group.number ≡ number → (originator : MemberNumber) (k count : ℕ) (payload : List ℕ) → MemberWrote (member.message_step m originator k count payload)
   unfolding member.message_step
   message_wrote m is originator k count payload =
-      if_elim MemberWrote (k ≤? m.taken.0) (λ _. nothing m is Answer.Old)
-      (λ _. if_elim MemberWrote (k ≤? m.taken.0 + held_most)
-      (λ _. if_elim MemberWrote (window.is_held m.held k) (λ _. nothing m is Answer.Old) (λ _. held_wrote m is k originator count payload))
+      when_elim MemberWrote (k ≤? m.taken.0) (λ _. nothing m is Answer.Old)
+      (λ _. when_elim MemberWrote (k ≤? m.taken.0 + held_most)
+      (λ _. when_elim MemberWrote (window.is_held m.held k) (λ _. nothing m is Answer.Old) (λ _. held_wrote m is k originator count payload))
       (λ _. gap_wrote m is (m.taken.0 + held_most) Answer.BeyondGap _ (nothing m is Answer.Beyond)))
 
   module _ (m : Member) (is : m.group.number ≡ number) where
@@ -195,14 +195,14 @@ module _ (number : ℕ) where
     unfolding member.content_step member.broadcast_of member.offer_of member.confirmed_of member.poll_of member.with_accepted
     content_wrote (Packet.Request sender taken count) payload = nothing m is _
     content_wrote (Packet.Broadcast originator k count floor) payload =
-        if_elim MemberWrote (originator.0 <? m.group.n) (λ _. message_wrote (member.with_accepted m k.0) is originator k.0 count payload) (λ _. nothing m is _)
+        when_elim MemberWrote (originator.0 <? m.group.n) (λ _. message_wrote (member.with_accepted m k.0) is originator k.0 count payload) (λ _. nothing m is _)
     content_wrote (Packet.Gap sender taken first last) payload = nothing m is _
     content_wrote (Packet.Status sender taken) payload = nothing m is _
     content_wrote (Packet.Poll elected top floor) payload = gap_wrote m is _ Answer.Gap _ (status_packet_lem m is)
     content_wrote (Packet.Offer originator k count floor) payload =
         let o : member.Outcome = member.message_step m originator k.0 count payload in
-        if_elim MemberWrote (originator.0 <? m.group.n)
-        (λ _. if_elim MemberWrote (member.confirms o.answer and member.none_missing o.member k.0 and is_in (expected_of o.member.group) o.member.number.0)
+        when_elim MemberWrote (originator.0 <? m.group.n)
+        (λ _. when_elim MemberWrote (member.confirms o.answer and member.none_missing o.member k.0 and is_in (expected_of o.member.group) o.member.number.0)
         (λ _. confirm_packet_lem o.member (ap (λ (x : Group). x.number) (message_group m originator k.0 count payload) ∙ is) k.0) (λ _. message_wrote m is originator k.0 count payload))
         (λ _. nothing m is _)
     content_wrote (Packet.Confirm sender k) payload = nothing m is _
@@ -216,12 +216,12 @@ module _ (number : ℕ) where
     submit_wrote payload room =
         judged_elim MemberWrote (member.call_verdict m room) (λ _ _. nothing m is _)
         (λ _. judged_elim MemberWrote (member.submit_verdict m (length payload)) (λ _ _. nothing m is _)
-        (λ _. if_elim MemberWrote (m.waiting =? 0) (λ _. request_wrote (member.with_waiting m payload) is) (λ _. nothing (member.with_waiting m payload) is _)))
+        (λ _. when_elim MemberWrote (m.waiting =? 0) (λ _. request_wrote (member.with_waiting m payload) is) (λ _. nothing (member.with_waiting m payload) is _)))
 
     repeat_wrote : (room : ℕ) → MemberWrote (member.repeat_of m room)
     unfolding member.repeat_of
     repeat_wrote room =
-        judged_elim MemberWrote (member.call_verdict m room) (λ _ _. nothing m is _) (λ _. if_elim MemberWrote (1 ≤? m.waiting) (λ _. request_wrote m is) (λ _. nothing m is _))
+        judged_elim MemberWrote (member.call_verdict m room) (λ _ _. nothing m is _) (λ _. when_elim MemberWrote (1 ≤? m.waiting) (λ _. request_wrote m is) (λ _. nothing m is _))
 
     status_wrote : (room : ℕ) → MemberWrote (member.status_of m room)
     unfolding member.status_of
@@ -250,7 +250,7 @@ module _ (number floor : ℕ) where
     broadcast_sends : (k : ℕ) → All SequencerWrote (written (sequencer.broadcast_of s k))
     unfolding sequencer.broadcast_of sequencer.announced terminal.of_reset fields_of
     broadcast_sends k =
-        if_elim (λ (x : Packet). All SequencerWrote (written (packet_of (fields_of s.group.number x) (payload_of (history.message_at s.history k))))) (k ≤? s.accepted.0)
+        when_elim (λ (x : Packet). All SequencerWrote (written (packet_of (fields_of s.group.number x) (payload_of (history.message_at s.history k))))) (k ≤? s.accepted.0)
         (λ _. sends (Packet.Broadcast _ _ _ s.floor) _ refl low) (λ _. sends (Packet.Offer _ _ _ s.floor) _ refl low)
 
     poll_sends : All SequencerWrote (written (sequencer.poll_packet s))
@@ -268,10 +268,10 @@ module _ (number floor : ℕ) where
   message_sends : (s : Sequencer) → s.group.number ≡ number → s.floor.0 ≤ floor → (m : MemberNumber) (count : ℕ) (payload : List ℕ) → AllWrote (sequencer.request_of s m count payload)
   unfolding sequencer.request_of sequencer.old_of sequencer.again_of sequencer.full_of sequencer.numbered_of sequencer.repeated_of sequencer.with_message
   message_sends s is low m count payload =
-      if_elim AllWrote (count <? last_count s m) (λ _. none_sent (sequencer.repeated_of s m) is low _)
-      (λ _. if_elim AllWrote (count =? last_count s m)
-      (λ _. if_elim AllWrote (find_of s.history m count s.floor.0 (s.top.0 - s.floor.0) =? 0) (λ _. none_sent (sequencer.repeated_of s m) is low _) (λ _. broadcast_sends s is low _))
-      (λ _. if_elim AllWrote (s.top.0 - s.floor.0 =? places_most) (λ _. poll_sends s is low) (λ _. broadcast_sends (sequencer.with_message s m count payload) is low _)))
+      when_elim AllWrote (count <? last_count s m) (λ _. none_sent (sequencer.repeated_of s m) is low _)
+      (λ _. when_elim AllWrote (count =? last_count s m)
+      (λ _. when_elim AllWrote (find_of s.history m count s.floor.0 (s.top.0 - s.floor.0) =? 0) (λ _. none_sent (sequencer.repeated_of s m) is low _) (λ _. broadcast_sends s is low _))
+      (λ _. when_elim AllWrote (s.top.0 - s.floor.0 =? places_most) (λ _. poll_sends s is low) (λ _. broadcast_sends (sequencer.with_message s m count payload) is low _)))
 
 -- whose state a call leaves
 abbrev Sends : Sequencer → sequencer.Outcome → Type 0
@@ -286,9 +286,9 @@ module _ (s : Sequencer) where
   unfolding sequencer.request_of sequencer.old_of sequencer.again_of sequencer.full_of sequencer.numbered_of sequencer.answered sequencer.repeated_of sequencer.with_message
   request_floor s' m count payload =
       let P : sequencer.Outcome → Type 0 = λ o. o.sequencer.floor ≡ s'.floor in
-      if_elim P (count <? last_count s' m) (λ _. refl)
-      (λ _. if_elim P (count =? last_count s' m) (λ _. if_elim P (find_of s'.history m count s'.floor.0 (s'.top.0 - s'.floor.0) =? 0) (λ _. refl) (λ _. refl))
-      (λ _. if_elim P (s'.top.0 - s'.floor.0 =? places_most) (λ _. refl) (λ _. refl)))
+      when_elim P (count <? last_count s' m) (λ _. refl)
+      (λ _. when_elim P (count =? last_count s' m) (λ _. when_elim P (find_of s'.history m count s'.floor.0 (s'.top.0 - s'.floor.0) =? 0) (λ _. refl) (λ _. refl))
+      (λ _. when_elim P (s'.top.0 - s'.floor.0 =? places_most) (λ _. refl) (λ _. refl)))
 
   content_sends : (content : Packet) (payload : List ℕ) → Sends s (sequencer.content_step s content payload)
   unfolding sequencer.content_step sequencer.gap_of sequencer.confirm_of sequencer.settled_of sequencer.with_mark sequencer.with_accepted sequencer.answered note_of with_table written
@@ -302,15 +302,15 @@ module _ (s : Sequencer) where
   content_sends (Packet.Broadcast originator k count floor) payload = tt
   content_sends (Packet.Gap sender taken first last) payload =
       judged_elim (Sends s) (sender_verdict s.group.survivors s.accepted.0 sender taken) (λ _ _. tt)
-      (λ _. judged_elim (Sends s) (wanted_verdict s.top.0 last) (λ _ _. tt) (λ _. if_elim (Sends s) (last.0 ≤? (note_of s sender taken).floor.0) (λ _. tt) (λ _. tt)))
+      (λ _. judged_elim (Sends s) (wanted_verdict s.top.0 last) (λ _ _. tt) (λ _. when_elim (Sends s) (last.0 ≤? (note_of s sender taken).floor.0) (λ _. tt) (λ _. tt)))
   content_sends (Packet.Status sender taken) payload = judged_elim (Sends s) (sender_verdict s.group.survivors s.accepted.0 sender taken) (λ _ _. tt) (λ _. tt)
   content_sends (Packet.Poll elected top floor) payload = tt
   content_sends (Packet.Offer originator k count floor) payload = tt
   content_sends (Packet.Confirm sender k) payload =
       judged_elim (Sends s) (sender_verdict s.group.survivors s.top.0 sender k) (λ _ _. tt)
       (λ _. judged_elim (Sends s) (expected_verdict s.group s.accepted.0 sender k) (λ _ _. tt)
-      (λ _. if_elim (Sends s) (k.0 ≤? s.accepted.0) (λ _. tt)
-      (λ _. if_elim (Sends s) (sequencer.enough_in (sequencer.with_mark s sender k) =? 0) (λ _. tt)
+      (λ _. when_elim (Sends s) (k.0 ≤? s.accepted.0) (λ _. tt)
+      (λ _. when_elim (Sends s) (sequencer.enough_in (sequencer.with_mark s sender k) =? 0) (λ _. tt)
       (λ _. accept_sends s.group.number s.floor.0 (sequencer.with_accepted (sequencer.with_mark s sender k) (sequencer.enough_in (sequencer.with_mark s sender k))) refl (le_refl _)))))
   content_sends (Packet.Accept elected k) payload = tt
   content_sends (Packet.Invitation sender attempt) payload = tt
@@ -325,7 +325,7 @@ module _ (s : Sequencer) where
   unfolding sequencer.copy_of sequencer.answered written
   copy_sends_own k room =
       judged_elim (Sends s) (sequencer.call_verdict s room) (λ _ _. tt)
-      (λ _. if_elim (Sends s) (s.floor.0 <? k.0 and k.0 ≤? s.top.0) (λ _. broadcast_sends s.group.number s.floor.0 s refl (le_refl _) k.0) (λ _. tt))
+      (λ _. when_elim (Sends s) (s.floor.0 <? k.0 and k.0 ≤? s.top.0) (λ _. broadcast_sends s.group.number s.floor.0 s refl (le_refl _) k.0) (λ _. tt))
 
 -- a terminal's sequencer's call for packets
 pub order_sends : (t : Terminal) (p : List ℕ) (room : ℕ) → let o = terminal.order_of t p room in
@@ -339,8 +339,8 @@ order_sends t p room =
     go (Reading.Refused refusal) = refused_sends t.sequencer refusal
     go (Reading.Fields h) =
         let s = t.sequencer in
-        if_elim (Sends s) (from_elected s.group (content_of h))
-        (λ _. if_elim (Sends s) (h.group =? s.group.number and (if t.frozen then terminal.of_reset (content_of h) else true)) (λ _. content_sends s (content_of h) (payload_at p)) (λ _. refused_sends s _))
+        when_elim (Sends s) (from_elected s.group (content_of h))
+        (λ _. when_elim (Sends s) (h.group =? s.group.number and (when t.frozen then terminal.of_reset (content_of h) else true)) (λ _. content_sends s (content_of h) (payload_at p)) (λ _. refused_sends s _))
         (λ _. refused_sends s _)
 
 -- a terminal's member's calls; and of packets that are not of a reset
@@ -385,9 +385,9 @@ module _ (t : Terminal) where
         go : (r : Reading) → read_of p ≡ r → Stays (terminal.read_step t r (payload_at p))
         go (Reading.Refused refusal) e = no_stays refusal
         go (Reading.Fields h) e =
-            if_elim Stays (from_elected t.member.group (content_of h))
-            (λ _. if_elim Stays (terminal.of_reset (content_of h)) (λ r. absurd (false≢true (sym (plain h e) ∙ r)))
-            (λ _. if_elim Stays (h.group =? t.member.group.number and (if t.reset.replied then false else true))
+            when_elim Stays (from_elected t.member.group (content_of h))
+            (λ _. when_elim Stays (terminal.of_reset (content_of h)) (λ r. absurd (false≢true (sym (plain h e) ∙ r)))
+            (λ _. when_elim Stays (h.group =? t.member.group.number and (when t.reset.replied then false else true))
             (λ _. record { wrote = content_wrote t.member.group.number t.member refl (content_of h) (payload_at p); group = (content_frame t.member (content_of h) (payload_at p)).group; reset = refl; sequencing = refl; sequencer = refl })
             (λ _. no_stays _)))
             (λ _. no_stays _)

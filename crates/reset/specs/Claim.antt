@@ -2,7 +2,7 @@
 use Rattle.std.specs.Prelude.{◌≡◌, true, List, ◌++◌, ℕ, ◌+◌, ◌*◌, ◌≤◌, length}
 use Rattle.std.specs.Int.Count.{ones}
 use Rattle.std.proofs.Math.ListN as list
-use Rattle.group.specs.Choice.{if◌then◌else◌}
+use Rattle.group.specs.Choice.{when◌then◌else◌}
 use Rattle.group.specs.Limits.{waiting_most}
 use Rattle.group.specs.Members.{is_in}
 use Rattle.message.specs.Order.{Ordered, own_of}
@@ -35,7 +35,7 @@ pub record Claim (n number : ℕ) (w : World) : Type 0 where
       (i : ℕ) → is_in c.survivors i ≡ true → taken i w.log ++ owed w c i ≡ accepted_order w c
   -- so taken + owed, summed over all survivors, = survivors × accepted
   pub total : let c : Course = course_in n number w in
-      sum n (λ i. if is_in c.survivors i then length (taken i w.log) + length (owed w c i) else 0)
+      sum n (λ i. when is_in c.survivors i then length (taken i w.log) + length (owed w c i) else 0)
       ≡ ones c.survivors * (sequencer_of w c).accepted.0
   -- each survivor's own messages in the whole order are exactly its accepted submissions, once each, in its order, without the last few,
   -- five at most

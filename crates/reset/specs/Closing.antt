@@ -1,7 +1,7 @@
 -- A closing round goes through the survivors, at the elected one's terminal. One take for each number of the member's row. For each number
 -- above the row to the last accepted: copy, hand the copy to the member, take. Then: status call, hand it to the sequencer.
 use Rattle.std.specs.Prelude.{List, [], ◌∷◌, ◌++◌, ℕ, zero, suc, ◌+◌, ◌-◌, length}
-use Rattle.group.specs.Choice.{if◌then◌else◌}
+use Rattle.group.specs.Choice.{when◌then◌else◌}
 use Rattle.group.specs.Members.{is_in}
 use Rattle.member.specs.State.{acknowledged_of}
 use Rattle.recovery.specs.State.{Terminal}
@@ -23,7 +23,7 @@ close_member e i t (suc k) b = copy e (t + 1) ∷ hand_member b i ∷ take i ∷
 unfoldable pub close_from : ℕ → ℕ → List Terminal → ℕ → ℕ → ℕ → List Event
 close_from survivors e [] i last b = []
 close_from survivors e (t ∷ rest) i last b =
-    if is_in survivors i
+    when is_in survivors i
     then take_row i ((acknowledged_of t.member).0 - t.member.taken.0)
     ++ close_member e i (acknowledged_of t.member).0 (last - (acknowledged_of t.member).0) b
     ++ close_from survivors e rest (i + 1) last (b + (last - (acknowledged_of t.member).0) + 1)

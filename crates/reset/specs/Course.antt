@@ -4,7 +4,7 @@ use Rattle.std.specs.Prelude.{◌≡◌, Bool, true, false, List, [], ◌∷◌,
 use Rattle.std.proofs.Math.Option.{Option, none, some}
 use Rattle.std.proofs.Math.ListN.{get_elem?}
 use Rattle.std.proofs.Math.ListN as list
-use Rattle.group.specs.Choice.{if◌then◌else◌, ◌=?◌}
+use Rattle.group.specs.Choice.{when◌then◌else◌, ◌=?◌}
 use Rattle.group.specs.Limits.{largest_number}
 use Rattle.group.specs.Members.{is_in, all_of}
 use Rattle.message.specs.Order.{Ordered, Submission, counted_from}
@@ -43,7 +43,7 @@ opened n number =
 abbrev pub numbering : Course → ℕ → Answer → Course
 numbering c i answer =
     record {
-      order = c.order ++ (if is_in c.survivors i then numbered_in answer else []);
+      order = c.order ++ (when is_in c.survivors i then numbered_in answer else []);
       survivors = c.survivors;
       elected = c.elected;
       number = c.number;
@@ -111,8 +111,8 @@ course_of c (poll i) answer = c
 course_of c (copy i number) answer = c
 course_of c (hand_member k i) answer = c
 course_of c (hand_sequencer k i) answer = numbering c i answer
-course_of c (invite i number) answer = if is_sent answer then invited c i number else c
-course_of c (make i demand) answer = if is_sent answer then made c (bytes_in answer) else c
+course_of c (invite i number) answer = when is_sent answer then invited c i number else c
+course_of c (make i demand) answer = when is_sent answer then made c (bytes_in answer) else c
 
 -- the course of a list of entries
 unfoldable pub course_from : Course → List Entry → Course
@@ -123,7 +123,7 @@ course_from c (entry ∷ rest) = course_from (course_of c entry.event entry.answ
 unfoldable pub took_at : ℕ → Event → Answer → List Ordered
 took_at i (submit j payload) answer = []
 took_at i (repeat j) answer = []
-took_at i (take j) answer = if j =? i then took_in answer else []
+took_at i (take j) answer = when j =? i then took_in answer else []
 took_at i (status j) answer = []
 took_at i (poll j) answer = []
 took_at i (copy j number) answer = []
@@ -133,7 +133,7 @@ took_at i (invite j number) answer = []
 took_at i (make j demand) answer = []
 
 unfoldable pub submitted_at : ℕ → Event → Answer → List (List ℕ)
-submitted_at i (submit j payload) answer = if j =? i then accepted_in payload answer else []
+submitted_at i (submit j payload) answer = when j =? i then accepted_in payload answer else []
 submitted_at i (repeat j) answer = []
 submitted_at i (take j) answer = []
 submitted_at i (status j) answer = []

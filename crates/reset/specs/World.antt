@@ -3,7 +3,7 @@
 use Rattle.std.specs.Prelude.{false, List, [], ◌∷◌, ◌++◌, ℕ, zero, suc, ◌+◌, length, get_or, set}
 use Rattle.std.proofs.Math.Option.{Option, none, some}
 use Rattle.std.proofs.Math.ListN.{get_elem?}
-use Rattle.group.specs.Choice.{if◌then◌else◌, ◌and◌, ◌<?◌}
+use Rattle.group.specs.Choice.{when◌then◌else◌, ◌and◌, ◌<?◌}
 use Rattle.group.specs.Limits.{longest_packet}
 use Rattle.group.specs.Opening.{description_of}
 use Rattle.member.specs.State.{fresh_member}
@@ -73,19 +73,19 @@ with_sequencer g i o =
 -- a call of terminal i that writes packets, if there is such a terminal
 abbrev pub at_terminal : Group → ℕ → (Terminal → terminal.Outcome) → Happened
 at_terminal g i call =
-    if i <? length g.terminals then with_member g i (call (terminal_at g i)) (written (call (terminal_at g i)).bytes) else
+    when i <? length g.terminals then with_member g i (call (terminal_at g i)) (written (call (terminal_at g i)).bytes) else
     missing g
 
 -- a take writes a payload and no packet
 abbrev pub take_at : Group → ℕ → Happened
 take_at g i =
-    if i <? length g.terminals then with_member g i (terminal.take_of (terminal_at g i) longest_packet) [] else
+    when i <? length g.terminals then with_member g i (terminal.take_of (terminal_at g i) longest_packet) [] else
     missing g
 
 -- a call of terminal i's sequencer, if there is one
 abbrev pub at_sequencer : Group → ℕ → (Terminal → terminal.SequencerOutcome) → Happened
 at_sequencer g i call =
-    if i <? length g.terminals and (terminal_at g i).sequencing then with_sequencer g i (call (terminal_at g i)) else
+    when i <? length g.terminals and (terminal_at g i).sequencing then with_sequencer g i (call (terminal_at g i)) else
     missing g
 
 -- a packet handed over, if there is such a packet

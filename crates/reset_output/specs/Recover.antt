@@ -2,7 +2,7 @@
 -- its sequencer, if it has one. First lines, event numbers, an event's line and its limits are those of `play`.
 use Rattle.std.specs.Prelude.{List, [], ◌∷◌, ◌++◌, ℕ, ◌+◌, length}
 use Rattle.std.proofs.Math.Option.{Option, none, some}
-use Rattle.group.specs.Choice.{if◌then◌else◌, ◌<?◌}
+use Rattle.group.specs.Choice.{when◌then◌else◌, ◌<?◌}
 use Rattle.group.specs.Members.{elected_of}
 use Rattle.group.specs.Question.{judged}
 use Rattle.group.specs.declared.Refusal.{Refusal}
@@ -45,7 +45,7 @@ open_told (Opening.Group n number resilience) =
 unfoldable pub event_told : Group → ℕ → Option Event → Told
 event_told g number none = record { text = bad_line number; stage = ended g }
 event_told g number (some event) =
-    if length g.packets <? packets_most
+    when length g.packets <? packets_most
     then record { text = line_of number (happen g event).answer (length g.packets); stage = running (happen g event).group (next_number number) }
     else record { text = no_space number; stage = ended g }
 
@@ -63,7 +63,7 @@ member_told i t =
 -- its sequencer's line, if it has one: group number, top and floor, and whether it is frozen
 unfoldable pub sequencer_told : ℕ → Terminal → List ℕ
 sequencer_told i t =
-    if t.sequencing
+    when t.sequencing
     then sequencer_line i t.sequencer.group.number t.sequencer.top.0 t.sequencer.floor.0 t.frozen
     else []
 

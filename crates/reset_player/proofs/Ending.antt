@@ -3,7 +3,7 @@ use mathlib.Core.Path.{◌≡◌, refl, sym, ap, ◌∙◌, subst}
 use mathlib.Core.List.{List, []}
 use Prim.Native.Nat.{ℕ}
 use lib.ListN.{length, get_or}
-use Rattle.group.proofs.Choice.{if_eq, if_ne}
+use Rattle.group.proofs.Choice.{when_eq, when_ne}
 use Rattle.group.specs.Choice.{◌=?◌}
 use Rattle.group.specs.Lent.{front, Laid}
 use Rattle.member.specs.View as member
@@ -39,12 +39,12 @@ module _ (h : Head) (i : ℕ) (lent : List ℕ) (small masks numbers : List (Lis
   unfolding terminal_at terminal_of sequencer.view_of sequencer_told
   lays_sequencer size after e q t s a rows =
       let head = head_in (get_or small i []) (get_or masks i []) (get_or numbers i []) in
-      let f = t ∙ ap (sequencer_text i) e ∙ if_eq head.sequencing 1 (sequencer_text i head) (sequencer_text i head) [] (sym (ap (λ (x : Head). x.sequencing) e) ∙ q) refl in
+      let f = t ∙ ap (sequencer_text i) e ∙ when_eq head.sequencing 1 (sequencer_text i head) (sequencer_text i head) [] (sym (ap (λ (x : Head). x.sequencing) e) ∙ q) refl in
       record { size = s ∙ ap length f; lent = a ∙ ap (λ (bytes : List ℕ). front bytes lent) f }
 
   pub lays_none : Its → (h.sequencing ≡ 1 → ⊥) → LaysLast sequencer_told small masks numbers i 0 lent lent
   unfolding terminal_at terminal_of sequencer.view_of sequencer_told
   lays_none e q rows =
       let head = head_in (get_or small i []) (get_or masks i []) (get_or numbers i []) in
-      let f = if_ne head.sequencing 1 [] (sequencer_text i head) [] (λ z. q (ap (λ (x : Head). x.sequencing) e ∙ z)) refl in
+      let f = when_ne head.sequencing 1 [] (sequencer_text i head) [] (λ z. q (ap (λ (x : Head). x.sequencing) e ∙ z)) refl in
       record { size = ap length f; lent = ap (λ (bytes : List ℕ). front bytes lent) f }

@@ -6,7 +6,7 @@ use Prim.Native.Nat.{ℕ, ◌+◌, ◌-◌, ◌≤◌, ◌<◌}
 use native.Mathlib.Omega.{arith}
 use lib.ListN.{length, take, drop}
 use lib.Seq.{length-take-le, take_all}
-use Rattle.group.proofs.Choice.{if_nle}
+use Rattle.group.proofs.Choice.{when_nle}
 use Rattle.group.proofs.Lists.{le_or}
 use Rattle.player.proofs.Laws.{opening_kept}
 use Rattle.player.proofs.Parts as parts
@@ -25,7 +25,7 @@ event_kept line =
     (λ h. ap event_of (take_all kept_most line h))
     (λ h.
     let n = length-take-le kept_most line (omega arith) in
-    sym (if_nle (length (kept_of line)) line_most none _ _ (omega arith) refl) ∙ if_nle (length line) line_most none _ _ (omega arith) refl)
+    sym (when_nle (length (kept_of line)) line_most none _ _ (omega arith) refl) ∙ when_nle (length line) line_most none _ _ (omega arith) refl)
 
 told_kept : ToldKept line_told
 unfolding line_told

@@ -4,7 +4,7 @@ use mathlib.Core.List.{List, [], ◌++◌}
 use Prim.Native.Nat.{ℕ, ◌+◌, ◌≤◌, ◌<◌}
 use native.Mathlib.Omega.{arith}
 use lib.ListN.{length, take}
-use Rattle.group.proofs.Choice.{if_lt, if_nlt}
+use Rattle.group.proofs.Choice.{when_lt, when_nlt}
 use Rattle.group.proofs.Lists.{le_or}
 use Rattle.group.specs.Limits.{members_most}
 use Rattle.group.specs.Question.{judged}
@@ -65,9 +65,9 @@ pub told_degree : (n number resilience d : ℕ) → n ≤ members_most → d ≡
 unfolding degree_of
 told_degree n number resilience d h is =
     le_or members_most resilience
-    (λ k. let e : d ≡ members_most = is ∙ sym (if_nlt resilience members_most members_most resilience members_most k refl) in
+    (λ k. let e : d ≡ members_most = is ∙ sym (when_nlt resilience members_most members_most resilience members_most k refl) in
     rw e (sym (told_refused n number members_most (first n number) (degree_refused n number members_most h)) ∙ told_refused n number resilience (first n number) (degree_refused n number resilience (omega arith))))
-    (λ k. ap (λ (r : ℕ). open_told (Opening.Group n number r)) (is ∙ sym (if_lt resilience members_most resilience resilience members_most k refl)))
+    (λ k. ap (λ (r : ℕ). open_told (Opening.Group n number r)) (is ∙ sym (when_lt resilience members_most resilience resilience members_most k refl)))
 
 -- the end of the input, and a part of it
 module _ (s : State) (r : Fed) (w : Whole) (bytes lent after : List ℕ) where

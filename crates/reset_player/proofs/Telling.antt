@@ -7,7 +7,7 @@ use Prim.Native.Nat.{ℕ, ◌+◌, ◌≤◌, ◌<◌, zero-le}
 use native.Mathlib.Omega.{arith}
 use types.Run.{OneOf}
 use lib.ListN.{length, take, length-append, length-drop}
-use Rattle.group.proofs.Choice.{if_lt, if_nlt}
+use Rattle.group.proofs.Choice.{when_lt, when_nlt}
 use Rattle.group.specs.Lent.{front}
 use Rattle.group.specs.Limits.{longest_packet}
 use Rattle.model.specs.World.{Answer, answer_of}
@@ -154,7 +154,7 @@ module _ (w : Whole) (number : ℕ) (event : Option Event) where
       go : (event : Option Event) → (command_of event ≡ Command.Other → ⊥) → packets_most ≤ length g.packets
           → record { text = no_space number; stage = ended g } ≡ event_told g number event
       go none o h = absurd (o refl)
-      go (some e) o h = if_nlt (length g.packets) packets_most _ _ _ h refl
+      go (some e) o h = when_nlt (length g.packets) packets_most _ _ _ h refl
 
   pub told_event : (command_of event ≡ Command.Other → ⊥) → (w₀ : World) → Fits w₀ → w₀.count ≡ length g.packets → w₀.count < packets_most → (h : Happening) (w' : Whole) (before bytes : List ℕ)
       → Performed event w₀ w h w' before bytes → (r : Told) (lent after : List ℕ) → Happens h bytes number w₀.count r lent after → Tells (event_told g number event) r w' lent after
@@ -181,7 +181,7 @@ module _ (w : Whole) (number : ℕ) (event : Option Event) where
             output = t.output ∙ ap (λ (bytes : List ℕ). front bytes lent) line;
           } in
           let is : record { text = line_of number (happen g e).answer (length g.packets); stage = running (happen g e).group (next_number number) } ≡ event_told g number (some e) =
-          if_lt (length g.packets) packets_most _ _ _ (omega arith) refl in
+          when_lt (length g.packets) packets_most _ _ _ (omega arith) refl in
           subst (λ (x : recover.Told). Tells x r w' lent after) is told
 
 -- a command other than the first is not the first

@@ -2,7 +2,7 @@
 use mathlib.Core.Path.{◌≡◌, refl}
 use mathlib.Core.Bool.{true, false}
 use mathlib.Core.List.{[], ◌∷◌, map}
-use Rattle.group.specs.Choice.{if◌then◌else◌}
+use Rattle.group.specs.Choice.{when◌then◌else◌}
 use Rattle.text.specs.Text.{text_of, glyph_of}
 use Rattle.text.specs.Written.{decimal_digits, decimal_of, spaced}
 use Rattle.reset_report.specs.Print.{listed_at, members_below, terminal_line, frozen_text, sequencer_line}
@@ -22,5 +22,5 @@ lines : terminal_line 0 7 0 0 7
     ∷ "terminal 15 group 300 taken 20 elected 12 survivors 0 1 2 3 4 5 6 7 8 9 10 11 12 13 14 15\n"
     ∷ "terminal 3 group 9 taken 1 elected 3 survivors 3\n"
     ∷ [])
-unfolding spaced decimal_of decimal_digits glyph_of listed_at members_below frozen_text if◌then◌else◌
+unfolding spaced decimal_of decimal_digits glyph_of listed_at members_below frozen_text when◌then◌else◌
 lines = refl

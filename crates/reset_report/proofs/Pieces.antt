@@ -4,7 +4,7 @@ use mathlib.Core.Bool.{true, false}
 use mathlib.Core.List.{List, [], ◌∷◌, ◌++◌, map, map-append, append_assoc}
 use Prim.Native.Nat.{ℕ, ◌+◌}
 use native.Mathlib.Numerals.{add-one}
-use Rattle.group.specs.Choice.{if◌then◌else◌}
+use Rattle.group.specs.Choice.{when◌then◌else◌}
 use Rattle.group.specs.Members.{is_in}
 use Rattle.text.specs.LaidAt.{LaidAt}
 use Rattle.text.specs.Written.{decimal_of, spaced}
@@ -17,11 +17,11 @@ module _ (mask i : ℕ) where
   members_on = rw (add-one i) (map-append decimal_of (members_below mask i) (listed_at mask i))
 
   pub listed : is_in mask i ≡ true → map decimal_of (listed_at mask i) ≡ decimal_of i ∷ []
-  unfolding listed_at if◌then◌else◌
+  unfolding listed_at when◌then◌else◌
   listed e = rw e
 
   pub unlisted : is_in mask i ≡ false → map decimal_of (listed_at mask i) ≡ []
-  unfolding listed_at if◌then◌else◌
+  unfolding listed_at when◌then◌else◌
   unlisted e = rw e
 
 pub laid_more : {x y : ℕ} {lent between after : List ℕ} (name : List ℕ) (fields others : List (List ℕ)) → LaidAt 0 (name ++ spaced fields) lent between x

@@ -1,6 +1,6 @@
 -- What is printed at the end of a schedule with resets: a line for each terminal, and one for its sequencer.
 use Rattle.std.specs.Prelude.{Bool, List, [], ◌∷◌, ◌++◌, map, ℕ, zero, suc, ◌+◌, ◌*◌, length}
-use Rattle.group.specs.Choice.{if◌then◌else◌}
+use Rattle.group.specs.Choice.{when◌then◌else◌}
 use Rattle.group.specs.Limits.{members_most}
 use Rattle.group.specs.Members.{is_in}
 use Rattle.text.specs.Text.{text_of}
@@ -8,7 +8,7 @@ use Rattle.text.specs.Written.{decimal_of, line, number_digits}
 
 -- member i, if it is in the mask
 unfoldable pub listed_at : ℕ → ℕ → List ℕ
-listed_at mask i = if is_in mask i then i ∷ [] else []
+listed_at mask i = when is_in mask i then i ∷ [] else []
 
 -- the members of a mask below k, in their order
 unfoldable pub members_below : ℕ → ℕ → List ℕ
@@ -28,7 +28,7 @@ terminal_line i group taken elected survivors =
 
 -- `sequencer I group G top T floor F`, with `frozen` behind it where it is
 unfoldable pub frozen_text : Bool → List (List ℕ)
-frozen_text frozen = if frozen then text_of "frozen" ∷ [] else []
+frozen_text frozen = when frozen then text_of "frozen" ∷ [] else []
 
 abbrev pub sequencer_line : ℕ → ℕ → ℕ → ℕ → Bool → List ℕ
 sequencer_line i group top floor frozen =

@@ -5,25 +5,25 @@ use mathlib.Core.List.{List}
 use mathlib.Core.Option.{Option, none, some}
 use Prim.Native.Char.{code}
 use Prim.Native.Nat.{ℕ}
-use Rattle.group.specs.Choice.{if◌then◌else◌}
-use Rattle.group.proofs.Choice.{if_eq, if_ne}
+use Rattle.group.specs.Choice.{when◌then◌else◌}
+use Rattle.group.proofs.Choice.{when_eq, when_ne}
 use Rattle.reset.specs.World.{Event, submit}
 use Rattle.text.specs.Field.{number_in, is_hex, hex_bytes, hex_in}
 use Rattle.reset_schedule.specs.Line.{submitted, with_numbers, with_two, command_of}
 
-pub command_if : (t : Bool) (a b : Option Event) → command_of (if t then a else b) ≡ if t then command_of a else command_of b
-unfolding if◌then◌else◌
+pub command_if : (t : Bool) (a b : Option Event) → command_of (when t then a else b) ≡ when t then command_of a else command_of b
+unfolding when◌then◌else◌
 command_if true a b = refl
 command_if false a b = refl
 
 -- a submit: both fields are read, or one is of another form
 module _ (a b : List ℕ) where
   pub submit_read : (i : ℕ) → number_in a ≡ some i → is_hex b ≡ true → submitted (number_in a) (hex_in b) ≡ some (submit i (hex_bytes b))
-  unfolding submitted if◌then◌else◌
+  unfolding submitted when◌then◌else◌
   submit_read i e h = rw (e, h)
 
   pub submit_no_payload : (i : ℕ) → number_in a ≡ some i → is_hex b ≡ false → submitted (number_in a) (hex_in b) ≡ none
-  unfolding submitted if◌then◌else◌
+  unfolding submitted when◌then◌else◌
   submit_no_payload i e h = rw (e, h)
 
   pub submit_no_number : number_in a ≡ none → submitted (number_in a) (hex_in b) ≡ none
@@ -34,8 +34,8 @@ module _ (a b : List ℕ) where
 module _ (letter : ℕ) (a b : List ℕ) where
   pub two_submit : letter ≡ code "S" → with_two letter a b ≡ submitted (number_in a) (hex_in b)
   unfolding with_two
-  two_submit e = sym (if_eq letter (code "S") _ (submitted (number_in a) (hex_in b)) _ e refl)
+  two_submit e = sym (when_eq letter (code "S") _ (submitted (number_in a) (hex_in b)) _ e refl)
 
   pub two_numbers : (letter ≡ code "S" → ⊥) → with_two letter a b ≡ with_numbers letter (number_in a) (number_in b)
   unfolding with_two
-  two_numbers n = sym (if_ne letter (code "S") _ _ _ n refl)
+  two_numbers n = sym (when_ne letter (code "S") _ _ _ n refl)

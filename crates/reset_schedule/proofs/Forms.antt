@@ -6,8 +6,8 @@ use mathlib.Core.Option.{Option, none, some}
 use Prim.Native.Char.{code}
 use Prim.Native.Nat.{ℕ, ◌+◌, ◌≤◌, ◌<◌}
 use lib.ListN.{length, drop}
-use Rattle.group.specs.Choice.{if◌then◌else◌, ◌=?◌}
-use Rattle.group.proofs.Choice.{if_le, if_nle}
+use Rattle.group.specs.Choice.{when◌then◌else◌, ◌=?◌}
+use Rattle.group.proofs.Choice.{when_le, when_nle}
 use Rattle.reset.specs.World.{Event, repeat, take, status, poll, copy, hand_member, hand_sequencer, invite, make}
 use Rattle.schedule.specs.Line.{line_most}
 use Rattle.schedule.specs.Parts.{parts_at}
@@ -21,11 +21,11 @@ use Rattle.reset_schedule.specs.Line.{with_number, with_numbers, form_of, event_
 module _ (line : List ℕ) where
   pub event_by : (p : Parts) → length line ≤ line_most → fields_of line ≡ parts_at p line → event_of line ≡ form_of (parts_at p line)
   unfolding event_of
-  event_by p h e = sym (if_le (length line) line_most (form_of (parts_at p line)) (form_of (fields_of line)) none h (ap form_of (sym e)))
+  event_by p h e = sym (when_le (length line) line_most (form_of (parts_at p line)) (form_of (fields_of line)) none h (ap form_of (sym e)))
 
   pub event_long : line_most < length line → event_of line ≡ none
   unfolding event_of
-  event_long h = sym (if_nle (length line) line_most none (form_of (fields_of line)) none h refl)
+  event_long h = sym (when_nle (length line) line_most none (form_of (fields_of line)) none h refl)
 
   -- one field, or four or more, are no event
   pub one_event : form_of (parts_at One line) ≡ none
@@ -37,8 +37,8 @@ module _ (line : List ℕ) where
   more_event a b c = rw (fields_some (drop (c + 1) line)).2
 
 -- what lays no payload, chosen from what lays none
-payload_if : (t : Bool) (a b : Option Event) → payload_of a ≡ [] → payload_of b ≡ [] → payload_of (if t then a else b) ≡ []
-unfolding if◌then◌else◌
+payload_if : (t : Bool) (a b : Option Event) → payload_of a ≡ [] → payload_of b ≡ [] → payload_of (when t then a else b) ≡ []
+unfolding when◌then◌else◌
 payload_if true a b e f = e
 payload_if false a b e f = f
 

@@ -9,7 +9,7 @@ use native.Mathlib.Omega.{arith}
 use lib.ListN.{length, drop}
 use lib.Seq.{take_at}
 use Rattle.group.specs.Choice.{◌≤?◌, ◌=?◌}
-use Rattle.group.proofs.Lists.{if_elim}
+use Rattle.group.proofs.Lists.{when_elim}
 use borrow.Author.Tests.{leb-true}
 use Rattle.reset.specs.World.{Event, submit, repeat, take, status, poll, copy, hand_member, hand_sequencer, invite, make}
 use Rattle.schedule.specs.Line.{line_most, payload_room}
@@ -40,13 +40,13 @@ submit_half : (i : Option ℕ) (field : List ℕ) → length (payload_of (submit
 unfolding submitted payload_of
 submit_half none field = zero-le
 submit_half (some i) field =
-    if_elim (λ (payload : Option (List ℕ)). length (payload_of (submitted (some i) payload)) ≤ length field / 2) (is_hex field) (λ t. hex_half field) (λ t. zero-le)
+    when_elim (λ (payload : Option (List ℕ)). length (payload_of (submitted (some i) payload)) ≤ length field / 2) (is_hex field) (λ t. hex_half field) (λ t. zero-le)
 
 two_half : (letter : ℕ) (a b : List ℕ) → length (payload_of (with_two letter a b)) ≤ length b / 2
 unfolding with_two
 two_half letter a b =
     let half : Option Event → Type 0 = λ event. length (payload_of event) ≤ length b / 2 in
-    if_elim half (letter =? code "S") (λ t. submit_half (number_in a) b)
+    when_elim half (letter =? code "S") (λ t. submit_half (number_in a) b)
     (λ t. rw (numbers_payload letter (number_in a) (number_in b)) zero-le)
 
 form_half : (fields : List (List ℕ)) → length (payload_of (form_of fields)) ≤ total fields / 2
@@ -62,7 +62,7 @@ unfolding event_of payload_of
 payload_fits_lem line =
     let h = form_half (fields_of line) in
     let f = fields_total line in
-    if_elim (λ (event : Option Event). length (payload_of event) ≤ payload_room) (length line ≤? line_most)
+    when_elim (λ (event : Option Event). length (payload_of event) ≤ payload_room) (length line ≤? line_most)
     (λ t. let n = leb-true (length line) line_most t in omega arith)
     (λ t. zero-le)
 

@@ -3,7 +3,7 @@
 use Rattle.std.specs.Prelude.{List, [], ◌∷◌, ℕ, length}
 use Rattle.std.proofs.Math.Option.{Option, none, some}
 use Prim.Native.Char.{code}
-use Rattle.group.specs.Choice.{if◌then◌else◌, ask◌or◌then◌, ◌≤?◌, ◌=?◌}
+use Rattle.group.specs.Choice.{when◌then◌else◌, ask◌or◌then◌, ◌≤?◌, ◌=?◌}
 use Rattle.reset.specs.World.{Event, submit, repeat, take, status, poll, copy, hand_member, hand_sequencer, invite, make}
 use Rattle.schedule.specs.Line.{line_most}
 use Rattle.text.specs.Field.{fields_of, letter_of, number_in, hex_in}
@@ -14,10 +14,10 @@ use Rattle.reset_schedule.specs.declared.Command.TheVariants.{Submit, Repeat, Ta
 unfoldable pub with_number : ℕ → Option ℕ → Option Event
 with_number letter none = none
 with_number letter (some i) =
-    if letter =? code "R" then some (repeat i) else
-    if letter =? code "T" then some (take i) else
-    if letter =? code "A" then some (status i) else
-    if letter =? code "P" then some (poll i) else
+    when letter =? code "R" then some (repeat i) else
+    when letter =? code "T" then some (take i) else
+    when letter =? code "A" then some (status i) else
+    when letter =? code "P" then some (poll i) else
     none
 
 -- `S i hex` submit
@@ -31,16 +31,16 @@ unfoldable pub with_numbers : ℕ → Option ℕ → Option ℕ → Option Event
 with_numbers letter none y = none
 with_numbers letter (some x) none = none
 with_numbers letter (some x) (some y) =
-    if letter =? code "M" then some (hand_member x y) else
-    if letter =? code "Q" then some (hand_sequencer x y) else
-    if letter =? code "C" then some (copy x y) else
-    if letter =? code "I" then some (invite x y) else
-    if letter =? code "G" then some (make x y) else
+    when letter =? code "M" then some (hand_member x y) else
+    when letter =? code "Q" then some (hand_sequencer x y) else
+    when letter =? code "C" then some (copy x y) else
+    when letter =? code "I" then some (invite x y) else
+    when letter =? code "G" then some (make x y) else
     none
 
 unfoldable pub with_two : ℕ → List ℕ → List ℕ → Option Event
 with_two letter a b =
-    if letter =? code "S" then submitted (number_in a) (hex_in b) else
+    when letter =? code "S" then submitted (number_in a) (hex_in b) else
     with_numbers letter (number_in a) (number_in b)
 
 -- the event of a line's fields: its letter, and one or two fields behind it

@@ -7,7 +7,7 @@ use native.Mathlib.Omega.{arith}
 use borrow.Author.Tests.{lt-ltb, le-ltb}
 use lib.ListN.{length, take, set}
 use lib.Seq.{take-append_seam, take_all, get_or-set_same, get_or-set_other}
-use Rattle.group.proofs.Choice.{if_true, if_false}
+use Rattle.group.proofs.Choice.{when_true, when_false}
 use Rattle.group.specs.Choice.{◌=?◌}
 use Rattle.group.specs.Lent.{front}
 use Rattle.group.specs.Limits.{longest_packet}
@@ -61,7 +61,7 @@ module _ (call : Call) (bytes : List ℕ) (i : ℕ) (small masks numbers : List 
       → CallsAt call i bytes t r (stored i small masks numbers rows rows' r.head) before after
   unfolding terminal_at came_at
   can_call a b c can k =
-      let is : came_of call bytes (length before) (terminal_at t i) ≡ came_at call bytes (length before) (terminal_at t i) = if_true _ _ _ _ can refl in
+      let is : came_of call bytes (length before) (terminal_at t i) ≡ came_at call bytes (length before) (terminal_at t i) = when_true _ _ _ _ can refl in
       record {
         answer = k.own.answer ∙ ap (λ (o : Came). o.reply) is;
         size = k.own.size ∙ ap (λ (o : Came). length o.bytes) is;
@@ -88,7 +88,7 @@ pub calls_not : (call : Call) (bytes : List ℕ) (i : ℕ) (t : Terminals) (head
 unfolding came_at terminal_at terminal_of
 calls_not call bytes i t head lent b h e cannot =
     let refused : admits_of call (terminal_at t i).sequencing ≡ false = ap (λ (h : Head). admits_of call (h.sequencing =? 1)) (sym h) ∙ sym e ∙ cannot in
-    let is : absent_at (terminal_at t i) ≡ came_at call bytes (length lent) (terminal_at t i) = if_false _ _ _ _ refused refl in
+    let is : absent_at (terminal_at t i) ≡ came_at call bytes (length lent) (terminal_at t i) = when_false _ _ _ _ refused refl in
     record {
       answer = ap (λ (o : Came). o.reply) is;
       size = ap (λ (o : Came). length o.bytes) is;
@@ -135,7 +135,7 @@ module _ (c : Call) (i : ℕ) (bytes : List ℕ) (world : World) (t t' : Termina
       let m : terminal_at t i ≡ reset.terminal_at g i = sym (lists_get (terminal_at t) no_terminal world.n i h) in
       let happens : leads g i c o ≡ happened_at c i bytes g =
       (λ x. leads g i c (came_at c bytes (room x) (m x)))
-      ∙ if_true _ _ _ _ (lt-ltb i (length g.terminals) (rw (length_list (terminal_at t) 0 world.n) h)) refl
+      ∙ when_true _ _ _ _ (lt-ltb i (length g.terminals) (rw (length_list (terminal_at t) 0 world.n) h)) refl
       in
       let ts : list_of (terminal_at t') 0 world.n ≡ set (list_of (terminal_at t) 0 world.n) i o.terminal =
       lists_set (terminal_at t) (terminal_at t') o.terminal world.n i h k.state k.others
@@ -174,7 +174,7 @@ plays_not happens world w lent e =
 -- there is no terminal i
 pub no_terminal_lem : (c : Call) (i : ℕ) (bytes : List ℕ) (w : Whole) → w.n ≤ i → missing (group_of w) ≡ happened_at c i bytes (group_of w)
 unfolding happened_at
-no_terminal_lem c i bytes w h = if_false _ _ _ _ (le-ltb i (length (group_of w).terminals) (rw (length_list (terminal_at w.terminals) 0 w.n) h)) refl
+no_terminal_lem c i bytes w h = when_false _ _ _ _ (le-ltb i (length (group_of w).terminals) (rw (length_list (terminal_at w.terminals) 0 w.n) h)) refl
 
 -- what happens by another name
 pub plays_as : (happens happens' : Group → Happened) (world : World) (w w' : Whole) (r : Happening) (before after : List ℕ)

@@ -4,8 +4,8 @@ use mathlib.Core.Bool.{true}
 use mathlib.Core.List.{List}
 use Prim.Native.Nat.{ℕ}
 use lib.ListN.{length}
-use Rattle.group.proofs.Choice.{if_true}
-use Rattle.group.proofs.Lists.{if_elim}
+use Rattle.group.proofs.Choice.{when_true}
+use Rattle.group.proofs.Lists.{when_elim}
 use Rattle.group.specs.Lent.{front}
 use Rattle.member.specs.declared.Reply as memberReply
 use Rattle.model.specs.declared.Reply.{Reply}
@@ -27,7 +27,7 @@ in_view t (odd s) = t
 
 seen_in : (s : Stored) → terminal_of s ≡ in_view (terminal_of s) (view_of s)
 unfolding view_of in_view
-seen_in s = if_elim (λ (v : View). terminal_of s ≡ in_view (terminal_of s) v) (flags_sound s.head) (λ _. refl) (λ _. refl)
+seen_in s = when_elim (λ (v : View). terminal_of s ≡ in_view (terminal_of s) v) (flags_sound s.head) (λ _. refl) (λ _. refl)
 
 seen_is : (s : Stored) (t : Terminal) → view_of s ≡ seen t → terminal_of s ≡ t
 unfolding in_view
@@ -36,7 +36,7 @@ seen_is s t e = seen_in s ∙ ap (in_view (terminal_of s)) e
 module _ (s : Stored) (sound : flags_sound s.head ≡ true) where
   view_is : view_of s ≡ seen (terminal_of s)
   unfolding view_of
-  view_is = sym (if_true _ _ _ _ sound refl)
+  view_is = sym (when_true _ _ _ _ sound refl)
 
   pub changed_on : (call : Terminal → Outcome) (head : Head) (reply : memberReply.Reply) (left : Stored) (before after : List ℕ)
       → Changed (called call (view_of s)) reply left before after

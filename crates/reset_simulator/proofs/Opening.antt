@@ -7,9 +7,9 @@ use native.Mathlib.Omega.{arith}
 use borrow.Author.Tests.{leb-true}
 use lib.ListN.{length, replicate}
 use Rattle.group.proofs.Choice.{both_then}
-use Rattle.group.proofs.Lists.{if_elim, eq_or}
+use Rattle.group.proofs.Lists.{when_elim, eq_or}
 use Rattle.group.proofs.Question.{accepted≢}
-use Rattle.group.specs.Choice.{if◌then◌else◌, ◌and◌, ◌<?◌, ◌≤?◌, ◌=?◌}
+use Rattle.group.specs.Choice.{when◌then◌else◌, ◌and◌, ◌<?◌, ◌≤?◌, ◌=?◌}
 use Rattle.group.specs.Limits.{members_most, places_most, payload_most}
 use Rattle.group.specs.Opening.{open_of}
 use Rattle.group.specs.declared.Opened as answer
@@ -45,14 +45,14 @@ module _ (n number resilience : ℕ) where
   -- one terminal more
   pub begun_on : (t t' : Terminals) (i : ℕ) (bytes : List ℕ) (r : Called) (before after : List ℕ) → Begun n number resilience t i
       → CallsAt (call.Open n number resilience i) i bytes t r t' before after → Begun n number resilience t' (i + 1)
-  unfolding came_at came_of admits_of if◌then◌else◌
+  unfolding came_at came_of admits_of when◌then◌else◌
   begun_on t t' i bytes r before after b c j h =
       eq_or j i (λ e. ap (terminal_at t') e ∙ c.state ∙ ap (fresh_terminal n number resilience) (sym e)) (λ d. c.others j d ∙ b j (omega arith))
 
   -- an opening writes nothing
   pub begun_lent : (i : ℕ) (t t' : Terminals) (bytes : List ℕ) (r : Called) (before after : List ℕ)
       → CallsAt (call.Open n number resilience i) i bytes t r t' before after → after ≡ before
-  unfolding came_at came_of admits_of if◌then◌else◌
+  unfolding came_at came_of admits_of when◌then◌else◌
   begun_lent i t t' bytes r before after c = c.lent
 
   -- all of them
@@ -68,8 +68,8 @@ module _ (n number resilience : ℕ) where
   few : opened_with (sequencer.fresh_of n number resilience).verdict n ≤ members_most
   unfolding opened_with sequencer.fresh_of sequencer.opened_of open_of
   few =
-      if_elim (λ (o : answer.Opened). opened_with (sequencer.opened_of o).verdict n ≤ members_most) (1 ≤? n and n ≤? members_most)
-      (λ t. if_elim (λ (o : answer.Opened). opened_with (sequencer.opened_of o).verdict n ≤ members_most) (resilience <? n)
+      when_elim (λ (o : answer.Opened). opened_with (sequencer.opened_of o).verdict n ≤ members_most) (1 ≤? n and n ≤? members_most)
+      (λ t. when_elim (λ (o : answer.Opened). opened_with (sequencer.opened_of o).verdict n ≤ members_most) (resilience <? n)
       (λ _. leb-true n members_most (both_then (1 ≤? n) (n ≤? members_most) t))
       (λ _. omega arith))
       (λ _. omega arith)
@@ -98,20 +98,20 @@ module _ (n number resilience : ℕ) where
 
 module _ (n number resilience i : ℕ) where
   -- a terminal without a sequencer has one that was refused
-  served_is : (b : Bool) → (sequencer.fresh_of (if b then n else 0) number resilience).sequencer ≡ (if b then (sequencer.fresh_of n number resilience).sequencer else no_sequencer)
-  unfolding if◌then◌else◌ sequencer.fresh_of sequencer.opened_of open_of
+  served_is : (b : Bool) → (sequencer.fresh_of (when b then n else 0) number resilience).sequencer ≡ (when b then (sequencer.fresh_of n number resilience).sequencer else no_sequencer)
+  unfolding when◌then◌else◌ sequencer.fresh_of sequencer.opened_of open_of
   served_is true = refl
   served_is false = refl
 
-  flag_is : ((if i =? 0 then 1 else 0) =? 1) ≡ (i =? 0)
-  flag_is = if_elim (λ (x : ℕ). (x =? 1) ≡ (i =? 0)) (i =? 0) (λ yes. sym yes) (λ no. sym no)
+  flag_is : ((when i =? 0 then 1 else 0) =? 1) ≡ (i =? 0)
+  flag_is = when_elim (λ (x : ℕ). (x =? 1) ≡ (i =? 0)) (i =? 0) (λ yes. sym yes) (λ no. sym no)
 
   -- a terminal whose ends were opened, with all else zero
   pub opened_on : (m : memberHead.Head) (s : sequencerHead.Head) (most sequencing : ℕ) (queued held queued_originators queued_lengths held_originators held_lengths queued_payloads held_payloads taken counts repeats kept marks originators lengths payloads : List ℕ)
       → memberView.view_of (memberView.whole m queued held queued_originators queued_lengths held_originators held_lengths queued_payloads held_payloads) ≡ (member.fresh_of n (record { 0 = i }) number resilience).member
-      → most ≡ (if i =? 0 then n else 0)
+      → most ≡ (when i =? 0 then n else 0)
       → sequencerView.view_of (sequencerView.whole s taken counts repeats kept marks originators lengths payloads) ≡ (sequencer.fresh_of most number resilience).sequencer
-      → sequencing ≡ (if i =? 0 then 1 else 0)
+      → sequencing ≡ (when i =? 0 then 1 else 0)
       → terminal_of (whole (fresh_head m s sequencing) queued held queued_originators queued_lengths held_originators held_lengths queued_payloads held_payloads (replicate places_most 0) (replicate places_most 0) (replicate places_most 0) (replicate (places_most * payload_most) 0) (replicate members_most 0) (replicate members_most 0) taken counts repeats kept marks originators lengths payloads)
       ≡ fresh_terminal n number resilience i
   unfolding terminal_of

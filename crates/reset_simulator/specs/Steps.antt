@@ -2,7 +2,7 @@
 use Rattle.std.specs.Prelude.{◌≡◌, List, [], ◌++◌, ℕ, ◌<◌, length, take, set}
 use Rattle.std.proofs.Math.Option.{Option, none, some}
 use Rattle.std.proofs.Math.ListN.{get_elem?}
-use Rattle.group.specs.Choice.{if◌then◌else◌, ◌<?◌}
+use Rattle.group.specs.Choice.{when◌then◌else◌, ◌<?◌}
 use Rattle.group.specs.Lent.{front}
 use Rattle.group.specs.Limits.{members_most, longest_packet}
 use Rattle.model.specs.World.{answer_of}
@@ -55,7 +55,7 @@ came_of (Open n number resilience i) bytes room t = absent_at (fresh_terminal n 
 
 -- the same, if the terminal can be called so
 unfoldable pub came_at : Call → List ℕ → ℕ → Terminal → Came
-came_at call bytes room t = if admits_of call t.sequencing then came_of call bytes room t else absent_at t
+came_at call bytes room t = when admits_of call t.sequencing then came_of call bytes room t else absent_at t
 
 -- there are arrays for every terminal
 pub record FullRows (rows : Rows) : Type 0 where
@@ -128,7 +128,7 @@ leads g i call o =
 -- an event of terminal i, if there is such a terminal
 unfoldable pub happened_at : Call → ℕ → List ℕ → Group → Happened
 happened_at call i bytes g =
-    if i <? length g.terminals then leads g i call (came_at call bytes longest_packet (reset.terminal_at g i)) else
+    when i <? length g.terminals then leads g i call (came_at call bytes longest_packet (reset.terminal_at g i)) else
     missing g
 
 -- a packet handed over, if there is such a packet

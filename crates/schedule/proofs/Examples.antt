@@ -5,7 +5,7 @@ use mathlib.Core.Option.{none, some}
 use Prim.Native.Char.{code}
 use Prim.Native.String.{String}
 use lib.ListN.{replicate}
-use Rattle.group.specs.Choice.{if◌then◌else◌}
+use Rattle.group.specs.Choice.{when◌then◌else◌}
 use Rattle.group.specs.Fold.{all}
 use Rattle.model.specs.World.{submit, repeat, take, status, poll, copy, hand_member, hand_sequencer}
 use Rattle.text.specs.Text.{text_of, digit_of}
@@ -29,7 +29,7 @@ forms : map (λ (line : String). event_of (text_of line))
     ∷ some (repeat 4294967295)
     ∷ some (repeat 7)
     ∷ []
-unfolding event_of form_of fields_of before letter_of alone with_number submitted handed with_two number_in up_to_largest value_from digit_of all is_hex hex_bytes pairs_of if◌then◌else◌
+unfolding event_of form_of fields_of before letter_of alone with_number submitted handed with_two number_in up_to_largest value_from digit_of all is_hex hex_bytes pairs_of when◌then◌else◌
 forms = refl
 
 -- of another form: no line, a space too many or too few, a field missing or too many, a number over the largest or of other
@@ -38,16 +38,16 @@ others : map (λ (line : String). event_of (text_of line))
     ("" ∷ " " ∷ " P" ∷ "P " ∷ "R  1" ∷ "R1" ∷ "R" ∷ "R 1 2" ∷ "S 1" ∷ "M 1" ∷ "M 1 2 3" ∷ "R " ∷ "R 4294967296" ∷ "R 99999999999999999999999999999999999999999" ∷ "R -1" ∷ "R +1" ∷ "R a"
     ∷ "S 1 6A" ∷ "S 1 616" ∷ "S 1 " ∷ "S 1 --" ∷ "S 1 6g" ∷ "R 1\r" ∷ "r 1" ∷ "X 1" ∷ "N 2 7" ∷ [])
     ≡ replicate 26 none
-unfolding event_of form_of fields_of before letter_of alone with_number submitted handed with_two number_in up_to_largest value_from digit_of all is_hex hex_bytes pairs_of if◌then◌else◌
+unfolding event_of form_of fields_of before letter_of alone with_number submitted handed with_two number_in up_to_largest value_from digit_of all is_hex hex_bytes pairs_of when◌then◌else◌
 others = refl
 
 -- 1,000 characters, and one more
 long : (event_of (text_of "R " ++ replicate 998 (code "0")) ≡ some (repeat 0)) × (event_of (text_of "R " ++ replicate 999 (code "0")) ≡ none)
-unfolding event_of form_of fields_of before letter_of with_number number_in up_to_largest value_from digit_of all if◌then◌else◌
+unfolding event_of form_of fields_of before letter_of with_number number_in up_to_largest value_from digit_of all when◌then◌else◌
 long = (refl, refl)
 
 -- the first line
 openings : map (λ (line : String). opening_of (text_of line)) ("N 2 7" ∷ "N 0 7" ∷ "N 300 4294967295" ∷ "N 2 7 0" ∷ "N 4 7 3" ∷ "N 1 2 4294967295" ∷ "N 1" ∷ "N 1 2 3 4" ∷ "N 1 x" ∷ "N 1 2 x" ∷ "N 1 2 " ∷ "N 1 2 3 " ∷ "P" ∷ "" ∷ [])
     ≡ Opening.Group 2 7 0 ∷ Opening.Group 0 7 0 ∷ Opening.Group 300 4294967295 0 ∷ Opening.Group 2 7 0 ∷ Opening.Group 4 7 3 ∷ Opening.Group 1 2 4294967295 ∷ replicate 8 Opening.Other
-unfolding opening_of opening_form opening_with opened fields_of before letter_of number_in up_to_largest value_from digit_of all if◌then◌else◌
+unfolding opening_of opening_form opening_with opened fields_of before letter_of number_in up_to_largest value_from digit_of all when◌then◌else◌
 openings = refl

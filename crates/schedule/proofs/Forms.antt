@@ -9,8 +9,8 @@ use native.Mathlib.Omega.{arith}
 use lib.ListN as list
 use lib.ListN.{length, drop, length-drop}
 use lib.Seq.{take_all}
-use Rattle.group.specs.Choice.{if◌then◌else◌, ◌=?◌}
-use Rattle.group.proofs.Choice.{if_le, if_nle}
+use Rattle.group.specs.Choice.{when◌then◌else◌, ◌=?◌}
+use Rattle.group.proofs.Choice.{when_le, when_nle}
 use Rattle.model.specs.World.{repeat, take, status, poll, copy, hand_sequencer}
 use Rattle.text.specs.Text.{space}
 use Rattle.schedule.specs.Line.{line_most, alone, with_number, form_of, event_of, payload_of, opening_form, opening_of}
@@ -29,27 +29,27 @@ to_end l k = take_all (length l - k) (drop k l) (simp length-drop (omega arith))
 module _ (line : List ℕ) where
   pub event_by : (p : Parts) → length line ≤ line_most → fields_of line ≡ parts_at p line → event_of line ≡ form_of (parts_at p line)
   unfolding event_of
-  event_by p h e = sym (if_le (length line) line_most (form_of (parts_at p line)) (form_of (fields_of line)) none h (ap form_of (sym e)))
+  event_by p h e = sym (when_le (length line) line_most (form_of (parts_at p line)) (form_of (fields_of line)) none h (ap form_of (sym e)))
 
   pub event_long : line_most < length line → event_of line ≡ none
   unfolding event_of
-  event_long h = sym (if_nle (length line) line_most none (form_of (fields_of line)) none h refl)
+  event_long h = sym (when_nle (length line) line_most none (form_of (fields_of line)) none h refl)
 
   pub opening_by : (p : Parts) → length line ≤ line_most → fields_of line ≡ parts_at p line → opening_of line ≡ opening_form (parts_at p line)
   unfolding opening_of
-  opening_by p h e = sym (if_le (length line) line_most (opening_form (parts_at p line)) (opening_form (fields_of line)) Opening.Other h (ap opening_form (sym e)))
+  opening_by p h e = sym (when_le (length line) line_most (opening_form (parts_at p line)) (opening_form (fields_of line)) Opening.Other h (ap opening_form (sym e)))
 
   pub opening_long : line_most < length line → opening_of line ≡ Opening.Other
   unfolding opening_of
-  opening_long h = sym (if_nle (length line) line_most Opening.Other (opening_form (fields_of line)) Opening.Other h refl)
+  opening_long h = sym (when_nle (length line) line_most Opening.Other (opening_form (fields_of line)) Opening.Other h refl)
 
 -- there is a field, so four or more are no event
 pub fields_some : (l : List ℕ) → (field : List ℕ) × (rest : List (List ℕ)) × (fields_of l ≡ field ∷ rest)
-unfolding fields_of if◌then◌else◌ before
+unfolding fields_of when◌then◌else◌ before
 fields_some [] = ([], [], refl)
 fields_some (c ∷ l) = go (c =? space) (fields_of l)
   where
-    go : (t : Bool) (r : List (List ℕ)) → (field : List ℕ) × (rest : List (List ℕ)) × (if t then [] ∷ r else before c r ≡ field ∷ rest)
+    go : (t : Bool) (r : List (List ℕ)) → (field : List ℕ) × (rest : List (List ℕ)) × (when t then [] ∷ r else before c r ≡ field ∷ rest)
     go true r = ([], r, refl)
     go false [] = (c ∷ [], [], refl)
     go false (f ∷ r) = (c ∷ f, r, refl)
@@ -72,19 +72,19 @@ module _ (line : List ℕ) (a b c : ℕ) where
 
 -- a line of one or two fields lays no payload
 pub alone_payload : (letter : ℕ) → payload_of (alone letter) ≡ []
-unfolding alone payload_of if◌then◌else◌
+unfolding alone payload_of when◌then◌else◌
 alone_payload letter = go (letter =? code "P")
   where
-    go : (t : Bool) → payload_of (if t then some poll else none) ≡ []
+    go : (t : Bool) → payload_of (when t then some poll else none) ≡ []
     go true = refl
     go false = refl
 
 pub number_payload : (letter : ℕ) (x : Option ℕ) → payload_of (with_number letter x) ≡ []
-unfolding with_number payload_of if◌then◌else◌
+unfolding with_number payload_of when◌then◌else◌
 number_payload letter none = refl
 number_payload letter (some x) = go (letter =? code "R") (letter =? code "T") (letter =? code "A") (letter =? code "C") (letter =? code "Q")
   where
-    go : (r t a c q : Bool) → payload_of (if r then some (repeat x) else if t then some (take x) else if a then some (status x) else if c then some (copy x) else if q then some (hand_sequencer x) else none) ≡ []
+    go : (r t a c q : Bool) → payload_of (when r then some (repeat x) else when t then some (take x) else when a then some (status x) else when c then some (copy x) else when q then some (hand_sequencer x) else none) ≡ []
     go true t a c q = refl
     go false true a c q = refl
     go false false true c q = refl

@@ -2,7 +2,7 @@
 use Rattle.std.specs.Prelude.{List, [], ◌∷◌, ℕ, ◌/◌, length}
 use Rattle.std.proofs.Math.Option.{Option, none, some}
 use Prim.Native.Char.{code}
-use Rattle.group.specs.Choice.{if◌then◌else◌, ask◌or◌then◌, ◌≤?◌, ◌=?◌}
+use Rattle.group.specs.Choice.{when◌then◌else◌, ask◌or◌then◌, ◌≤?◌, ◌=?◌}
 use Rattle.model.specs.World.{Event, submit, repeat, take, status, poll, copy, hand_member, hand_sequencer}
 use Rattle.text.specs.Field.{fields_of, letter_of, number_in, hex_in}
 use Rattle.schedule.specs.declared.Command.{Command}
@@ -19,17 +19,17 @@ payload_room = line_most / 2
 
 -- `P` poll
 unfoldable pub alone : ℕ → Option Event
-alone letter = if letter =? code "P" then some poll else none
+alone letter = when letter =? code "P" then some poll else none
 
 -- `R i` repeat, `T i` take, `A i` status, `C s` copy, `Q k` hand to sequencer
 unfoldable pub with_number : ℕ → Option ℕ → Option Event
 with_number letter none = none
 with_number letter (some x) =
-    if letter =? code "R" then some (repeat x) else
-    if letter =? code "T" then some (take x) else
-    if letter =? code "A" then some (status x) else
-    if letter =? code "C" then some (copy x) else
-    if letter =? code "Q" then some (hand_sequencer x) else
+    when letter =? code "R" then some (repeat x) else
+    when letter =? code "T" then some (take x) else
+    when letter =? code "A" then some (status x) else
+    when letter =? code "C" then some (copy x) else
+    when letter =? code "Q" then some (hand_sequencer x) else
     none
 
 -- `S i hex` submit
@@ -46,8 +46,8 @@ handed (some k) (some i) = some (hand_member k i)
 
 unfoldable pub with_two : ℕ → List ℕ → List ℕ → Option Event
 with_two letter a b =
-    if letter =? code "S" then submitted (number_in a) (hex_in b) else
-    if letter =? code "M" then handed (number_in a) (number_in b) else
+    when letter =? code "S" then submitted (number_in a) (hex_in b) else
+    when letter =? code "M" then handed (number_in a) (number_in b) else
     none
 
 -- the event of a line's fields: its letter, and one or two fields behind it
@@ -94,7 +94,7 @@ opened (some n) (some group) (some resilience) = Opening.Group n group resilienc
 
 unfoldable pub opening_with : List ℕ → List ℕ → List ℕ → Option ℕ → Opening
 opening_with name a b resilience =
-    if letter_of name =? code "N" then opened (number_in a) (number_in b) resilience else Opening.Other
+    when letter_of name =? code "N" then opened (number_in a) (number_in b) resilience else Opening.Other
 
 unfoldable pub opening_form : List (List ℕ) → Opening
 opening_form [] = Opening.Other

@@ -11,7 +11,7 @@ use native.Mathlib.Omega.{arith}
 use borrow.Author.Tests.{ltb-false, leb-false, eqb-false}
 use lib.Count.{ones}
 use lib.ListN.{length, length-append}
-use Rattle.group.proofs.Lists.{if_elim, eq_or, at, at_le, at_last, All}
+use Rattle.group.proofs.Lists.{when_elim, eq_or, at, at_le, at_last, All}
 use Rattle.group.specs.Choice.{◌<?◌, ◌≤?◌, ◌=?◌}
 use Rattle.group.proofs.Counting as counting
 use Rattle.group.proofs.Members.{in_zero, none_expected}
@@ -214,7 +214,7 @@ module _ (group : Group) (order : List Ordered) (before : ℕ) (voice : ℕ → 
     again_good : (m : MemberNumber) → m.0 < group.n → is_in group.survivors m.0 ≡ true → (number : ℕ) → (number ≢ 0 → (s.floor.0 < number) × (number ≤ s.floor.0 + (s.top.0 - s.floor.0))) → Good (again_of s m number)
     unfolding again_of old_of repeated_of numbered_by
     again_good m member survives number found =
-        if_elim Good (number =? 0) (λ c. silent (repeated_of s m) (repeated_ready s r m member survives) Old refl)
+        when_elim Good (number =? 0) (λ c. silent (repeated_of s m) (repeated_ready s r m member survives) Old refl)
         (λ c.
         let f = found (eqb-false number 0 c) in
         let g = (sound s r).floor_le in
@@ -228,10 +228,10 @@ module _ (group : Group) (order : List Ordered) (before : ℕ) (voice : ℕ → 
     unfolding request_of old_of full_of numbered_by
     request_good m count payload member survives submission sizes short next left =
         let wide = s.top.0 - s.floor.0 in
-        if_elim Good (count <? last_count s m) (λ a. silent (repeated_of s m) (repeated_ready s r m member survives) Old refl)
-        (λ a. if_elim Good (count =? last_count s m)
+        when_elim Good (count <? last_count s m) (λ a. silent (repeated_of s m) (repeated_ready s r m member survives) Old refl)
+        (λ a. when_elim Good (count =? last_count s m)
         (λ b. again_good m member survives (find_of s.history m count s.floor.0 wide) (found_in s.history m count s.floor.0 wide))
-        (λ b. if_elim Good (wide =? places_most) (λ c. writing s r Full (poll_packet s) refl (poll_known s r))
+        (λ b. when_elim Good (wide =? places_most) (λ c. writing s r Full (poll_packet s) refl (poll_known s r))
         (λ c.
         let p = ltb-false count (last_count s m) a in
         let q = eqb-false count (last_count s m) b in
@@ -246,7 +246,7 @@ module _ (group : Group) (order : List Ordered) (before : ℕ) (voice : ℕ → 
     pub gap_good : (first last : SequenceNumber) → Good (gap_of s first last)
     unfolding gap_of numbered_by
     gap_good first last =
-        if_elim Good (last.0 ≤? s.floor.0) (λ a. silent s r Noted refl)
+        when_elim Good (last.0 ≤? s.floor.0) (λ a. silent s r Noted refl)
         (λ a. silent s r (Wanted (record { 0 = larger_of first.0 (s.floor.0 + 1) }) last) refl)
 
     -- an unaccepted number with enough marks is accepted
@@ -277,7 +277,7 @@ module _ (group : Group) (order : List Ordered) (before : ℕ) (voice : ℕ → 
     accept_good : 1 ≤ needed_of group → Good (settled_of s (enough_in s))
     unfolding settled_of numbered_by
     accept_good some-needed =
-        if_elim Good (enough_in s =? 0) (λ t. silent s r Marked refl)
+        when_elim Good (enough_in s =? 0) (λ t. silent s r Marked refl)
         (λ t.
         let z = enough_in_lem s.marks (needed_of s.group) s.accepted.0 (s.top.0 - s.accepted.0) (eqb-false (enough_in s) 0 t) in
         let f = (sound s r).accepted_le in
@@ -287,7 +287,7 @@ module _ (group : Group) (order : List Ordered) (before : ℕ) (voice : ℕ → 
       → (s.accepted.0 < number.0 → is_in (expected_of s.group) m.0 ≡ true) → Good (confirm_of s m number)
   unfolding confirm_of with_mark numbered_by
   confirm_good s r m number member below has expected =
-      if_elim Good (number.0 ≤? s.accepted.0) (λ t. silent s r Old refl)
+      when_elim Good (number.0 ≤? s.accepted.0) (λ t. silent s r Old refl)
       (λ t.
       let above = leb-false number.0 s.accepted.0 t in
       let v = r.inv in

@@ -7,9 +7,9 @@ use Prim.Native.Nat.{ℕ, zero, suc, ◌+◌, ◌-◌, ◌≤◌}
 use native.Mathlib.Omega.{arith}
 use borrow.Author.Tests.{le-leb, lt-leb, eq-eqb, ne_eqb}
 use Rattle.group.proofs.Choice.{says}
-use Rattle.group.proofs.Lists.{if_elim, eq_or, le_or}
+use Rattle.group.proofs.Lists.{when_elim, eq_or, le_or}
 use Rattle.group.proofs.Question.{judged_ask, judged_append}
-use Rattle.group.specs.Choice.{if◌then◌else◌, ◌<?◌, ◌≤?◌, ◌=?◌}
+use Rattle.group.specs.Choice.{when◌then◌else◌, ◌<?◌, ◌≤?◌, ◌=?◌}
 use Rattle.group.specs.Limits.{places_most, largest_number}
 use Rattle.group.specs.Members.{is_in, expected_of}
 use Rattle.group.specs.Question.{Question, first_no, judged}
@@ -49,22 +49,22 @@ request_answers : (s : Sequencer) (m : MemberNumber) (count : ℕ) (payload : Li
 unfolding request_of old_of again_of full_of numbered_of answered
 request_answers s m count payload =
     let P : Outcome → Type 0 = λ o. Answers o.answer in
-    if_elim P (count <? last_count s m) (λ a. tt)
-    (λ a. if_elim P (count =? last_count s m) (λ b. if_elim P (find_of s.history m count s.floor.0 (s.top.0 - s.floor.0) =? 0) (λ c. tt) (λ c. tt))
-    (λ b. if_elim P (s.top.0 - s.floor.0 =? places_most) (λ c. tt) (λ c. tt)))
+    when_elim P (count <? last_count s m) (λ a. tt)
+    (λ a. when_elim P (count =? last_count s m) (λ b. when_elim P (find_of s.history m count s.floor.0 (s.top.0 - s.floor.0) =? 0) (λ c. tt) (λ c. tt))
+    (λ b. when_elim P (s.top.0 - s.floor.0 =? places_most) (λ c. tt) (λ c. tt)))
 
 confirm_answers : (s : Sequencer) (m : MemberNumber) (number : SequenceNumber) → Answers (confirm_of s m number).answer
 unfolding confirm_of settled_of answered
 confirm_answers s m number =
     let P : Outcome → Type 0 = λ o. Answers o.answer in
-    if_elim P (number.0 ≤? s.accepted.0) (λ a. tt) (λ a. if_elim P (enough_in (with_mark s m number) =? 0) (λ b. tt) (λ b. tt))
+    when_elim P (number.0 ≤? s.accepted.0) (λ a. tt) (λ a. when_elim P (enough_in (with_mark s m number) =? 0) (λ b. tt) (λ b. tt))
 
 pub accepted_answers : (s : Sequencer) (content : Packet) (payload : List ℕ) → Answers (accepted_step s content payload).answer
 unfolding accepted_step gap_of answered
 accepted_answers s (Request sender taken count) payload = request_answers (note_of s sender taken) sender count payload
 accepted_answers s (Broadcast originator number count floor) payload = tt
 accepted_answers s (Gap sender taken first last) payload =
-    if_elim (λ (o : Outcome). Answers o.answer) (last.0 ≤? (note_of s sender taken).floor.0) (λ t. tt) (λ t. tt)
+    when_elim (λ (o : Outcome). Answers o.answer) (last.0 ≤? (note_of s sender taken).floor.0) (λ t. tt) (λ t. tt)
 accepted_answers s (Status sender taken) payload = tt
 accepted_answers s (Poll elected top floor) payload = tt
 accepted_answers s (Offer originator number count floor) payload = tt
@@ -78,11 +78,11 @@ accepted_answers s (Result sender attempt elected number) payload = tt
 abbrev count_questions : ℕ → ℕ → ℕ → List Question
 count_questions last top count =
     record { yes = count ≤? last + 1; refusal = Refusal.CountAhead }
-    ∷ record { yes = if count =? last + 1 then top <? largest_number else true; refusal = Refusal.NumbersUsedUp }
+    ∷ record { yes = when count =? last + 1 then top <? largest_number else true; refusal = Refusal.NumbersUsedUp }
     ∷ []
 
 count_asked : (last top count : ℕ) → count_verdict last top count ≡ first_no (count_questions last top count)
-unfolding count_verdict first_no if◌then◌else◌
+unfolding count_verdict first_no when◌then◌else◌
 count_asked last top count =
     le_or count last
     (λ h. rw (le-leb count last h, le-leb count (last + 1) (omega arith), ne_eqb count (last + 1) (omega arith)))
@@ -103,11 +103,11 @@ other_end = record { yes = false; refusal = Refusal.OtherEnd } ∷ []
 module _ (s : Sequencer) (payload : List ℕ) where
   -- of a poll and an acceptance byte 1 is asked first
   by_elected : (member group : ℕ)
-      → (if member =? s.group.elected.0 then (if group =? s.group.number then refused s Refusal.OtherEnd else refused s Refusal.OtherGroup) else refused s Refusal.ForbiddenFields)
+      → (when member =? s.group.elected.0 then (when group =? s.group.number then refused s Refusal.OtherEnd else refused s Refusal.OtherGroup) else refused s Refusal.ForbiddenFields)
       ≡ judged (first_no (record { yes = member =? s.group.elected.0; refusal = Refusal.ForbiddenFields } ∷ record { yes = group =? s.group.number; refusal = Refusal.OtherGroup } ∷ other_end)) (refused s) (answered s Noted)
-  unfolding first_no judged if◌then◌else◌
+  unfolding first_no judged when◌then◌else◌
   by_elected member group =
-      ap (λ (o : Outcome). if member =? s.group.elected.0 then o else refused s Refusal.ForbiddenFields)
+      ap (λ (o : Outcome). when member =? s.group.elected.0 then o else refused s Refusal.ForbiddenFields)
       (judged_ask (refused s) (answered s Noted) (group =? s.group.number) Refusal.OtherGroup other_end)
       ∙ judged_ask (refused s) (answered s Noted) (member =? s.group.elected.0) Refusal.ForbiddenFields
       (record { yes = group =? s.group.number; refusal = Refusal.OtherGroup } ∷ other_end)
@@ -115,14 +115,14 @@ module _ (s : Sequencer) (payload : List ℕ) where
   -- kind by kind
   asked : (kind member group a b c : ℕ) → let h : Header = record { kind = kind; member = record { 0 = member }; group = group; a = a; b = b; c = c } in
       known_kind kind ≡ true → read_step s (Reading.Fields h) payload ≡ judged (first_no (fields_questions s h)) (refused s) (accepted_step s (content_of h) payload)
-  unfolding read_step from_elected content_of content_step accepted_step sender_verdict wanted_verdict expected_verdict known_kind first_no judged if◌then◌else◌
+  unfolding read_step from_elected content_of content_step accepted_step sender_verdict wanted_verdict expected_verdict known_kind first_no judged when◌then◌else◌
   asked zero member group a b c k = let z : false ≡ true = k in cc
   asked (suc zero) member group a b c k =
       let m : MemberNumber = record { 0 = member } in
       let step = request_of (note_of s m (record { 0 = a })) m b payload in
       let sender = sender_questions s.group.survivors s.accepted.0 m a in
       let count = count_questions (last_count s m) s.top.0 b in
-      ap (λ (o : Outcome). if group =? s.group.number then o else refused s Refusal.OtherGroup)
+      ap (λ (o : Outcome). when group =? s.group.number then o else refused s Refusal.OtherGroup)
       (ap (λ (v : Verdict). judged (first_no sender) (refused s) (judged v (refused s) step)) (count_asked (last_count s m) s.top.0 b)
       ∙ judged_append (refused s) step sender count)
       ∙ judged_ask (refused s) step (group =? s.group.number) Refusal.OtherGroup (sender ++ count)
@@ -132,7 +132,7 @@ module _ (s : Sequencer) (payload : List ℕ) where
       let step = gap_of (note_of s m (record { 0 = a })) (record { 0 = b }) (record { 0 = c }) in
       let sender = sender_questions s.group.survivors s.accepted.0 m a in
       let wanted : List Question = record { yes = c ≤? s.top.0; refusal = Refusal.WantedAhead } ∷ [] in
-      ap (λ (o : Outcome). if group =? s.group.number then o else refused s Refusal.OtherGroup) (judged_append (refused s) step sender wanted)
+      ap (λ (o : Outcome). when group =? s.group.number then o else refused s Refusal.OtherGroup) (judged_append (refused s) step sender wanted)
       ∙ judged_ask (refused s) step (group =? s.group.number) Refusal.OtherGroup (sender ++ wanted)
   asked (suc (suc (suc (suc zero)))) member group a b c k =
       let m : MemberNumber = record { 0 = member } in
@@ -144,8 +144,8 @@ module _ (s : Sequencer) (payload : List ℕ) where
       let m : MemberNumber = record { 0 = member } in
       let step = confirm_of s m (record { 0 = a }) in
       let sender = sender_questions s.group.survivors s.top.0 m a in
-      let expected : List Question = record { yes = if a ≤? s.accepted.0 then true else is_in (expected_of s.group) member; refusal = Refusal.NotExpected } ∷ [] in
-      ap (λ (o : Outcome). if group =? s.group.number then o else refused s Refusal.OtherGroup) (judged_append (refused s) step sender expected)
+      let expected : List Question = record { yes = when a ≤? s.accepted.0 then true else is_in (expected_of s.group) member; refusal = Refusal.NotExpected } ∷ [] in
+      ap (λ (o : Outcome). when group =? s.group.number then o else refused s Refusal.OtherGroup) (judged_append (refused s) step sender expected)
       ∙ judged_ask (refused s) step (group =? s.group.number) Refusal.OtherGroup (sender ++ expected)
   asked (suc (suc (suc (suc (suc (suc (suc (suc zero)))))))) member group a b c k = by_elected member group
   asked (suc (suc (suc (suc (suc (suc (suc (suc (suc zero))))))))) member group a b c k = judged_ask (refused s) (answered s Noted) (group =? s.group.number) Refusal.OtherGroup other_end

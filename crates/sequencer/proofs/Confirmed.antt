@@ -6,14 +6,14 @@ use mathlib.Core.Bool.{true, false}
 use mathlib.Core.List.{List, []}
 use Prim.Native.Nat.{ℕ, ◌-◌, ◌≤◌, ◌<◌}
 use borrow.Author.Tests.{le-leb, lt-leb, eq-eqb, ne_eqb}
-use Rattle.group.specs.Choice.{if◌then◌else◌, ◌≤?◌, ◌=?◌}
+use Rattle.group.specs.Choice.{when◌then◌else◌, ◌≤?◌, ◌=?◌}
 use lib.ListN.{length}
 use Rattle.group.specs.Lent.{Laid}
 use Rattle.group.specs.Limits.{members_most}
 use Rattle.group.specs.declared.MemberNumber.{MemberNumber}
 use Rattle.group.specs.declared.SequenceNumber.{SequenceNumber}
 use Rattle.group.specs.Members.{needed_of}
-use Rattle.group.proofs.Choice.{if_true, if_false}
+use Rattle.group.proofs.Choice.{when_true, when_false}
 use Rattle.packet.specs.Packet.{fields_of, packet_of}
 use Rattle.packet.specs.declared.Packet.{Packet}
 use Rattle.packet.specs.declared.Packet.TheVariants.{Request, Broadcast, Gap, Status, Poll, Offer, Confirm, Accept, Invitation, Result}
@@ -51,7 +51,7 @@ module _ (head : Head) (marks : List ℕ) (m : MemberNumber) (number : SequenceN
       → Changed (confirm_of state m number) r (marks_only head marks) x x
   unfolding confirm_of view_of
   confirm_old h r e x =
-      changed_as (if_true (number.0 ≤? head.accepted.0) _ _ _ (le-leb number.0 head.accepted.0 h) refl) (answered_changed (marks_only head marks) Old r e x)
+      changed_as (when_true (number.0 ≤? head.accepted.0) _ _ _ (le-leb number.0 head.accepted.0 h) refl) (answered_changed (marks_only head marks) Old r e x)
 
   module _ (ahead : head.accepted.0 < number.0) (marks' : List ℕ) (marked : marks' ≡ marked_of marks m head.accepted.0 (number.0 - head.accepted.0))
       (needed : ℕ) (counted : needed ≡ needed_of head.group) (found : SequenceNumber) (enough : found.0 ≡ enough_of marks' needed head.accepted.0 (head.top.0 - head.accepted.0)) where
@@ -64,7 +64,7 @@ module _ (head : Head) (marks : List ℕ) (m : MemberNumber) (number : SequenceN
     unfolding confirm_of view_of
     settled =
         (λ i. settled_of (sym with_mark_lem i) (step i))
-        ∙ if_false (number.0 ≤? head.accepted.0) _ _ _ (lt-leb number.0 head.accepted.0 ahead) refl
+        ∙ when_false (number.0 ≤? head.accepted.0) _ _ _ (lt-leb number.0 head.accepted.0 ahead) refl
       where
         step : found.0 ≡ enough_in (with_mark state m number)
         step =
@@ -77,7 +77,7 @@ module _ (head : Head) (marks : List ℕ) (m : MemberNumber) (number : SequenceN
         → Changed (confirm_of state m number) r (marks_only head marks') x x
     unfolding settled_of
     confirm_marked none r e x =
-        changed_as (if_true (found.0 =? 0) _ _ _ (eq-eqb found.0 0 none) refl ∙ settled) (answered_changed (marks_only head marks') Marked r e x)
+        changed_as (when_true (found.0 =? 0) _ _ _ (eq-eqb found.0 0 none) refl ∙ settled) (answered_changed (marks_only head marks') Marked r e x)
 
     -- Accepted
     pub confirm_accepted : found.0 ≢ 0 → (marks'' : List ℕ) → marks'' ≡ unmarked_of marks' head.accepted.0 (found.0 - head.accepted.0)
@@ -87,7 +87,7 @@ module _ (head : Head) (marks : List ℕ) (m : MemberNumber) (number : SequenceN
     unfolding settled_of with_accepted accept_packet view_of
     confirm_accepted some marks'' cleared written x y l =
         let s = view_of (marks_only head marks') in
-        changed_as (if_false (found.0 =? 0) _ _ _ (ne_eqb found.0 0 some) refl ∙ settled)
+        changed_as (when_false (found.0 =? 0) _ _ _ (ne_eqb found.0 0 some) refl ∙ settled)
         (changed_laid (record { sequencer = with_accepted s found.0; answer = Answer.Accepted; bytes = accept_packet (with_accepted s found.0) })
         (marks_only (record { group = head.group; top = head.top; accepted = found; floor = head.floor }) marks'') written x y
         (λ i. record { group = head.group; acknowledgements = s.acknowledgements; top = head.top; accepted = found; floor = head.floor; history = s.history; marks = cleared i }) l)

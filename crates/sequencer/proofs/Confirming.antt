@@ -13,7 +13,7 @@ use lib.Count.{ones}
 use lib.ListN.{length, get_or}
 use Rattle.group.proofs.Choice.{both_hold, both_first, both_then}
 use Rattle.group.proofs.Counting.{count, count_within, count_mono, ones_count}
-use Rattle.group.proofs.Lists.{if_elim, le_or}
+use Rattle.group.proofs.Lists.{when_elim, le_or}
 use Rattle.group.specs.Choice.{◌≤?◌, ◌=?◌}
 use Rattle.group.proofs.Members.{in_or, in_only, within_in, more_within, others_in, expected_others, survivor_lt}
 use Rattle.group.specs.Limits.{members_most, places_most}
@@ -218,7 +218,7 @@ few_accepted : (s : Sequencer) → Typed s → Sound s → (k : ℕ) → let o =
     o.sequencer.accepted.0 < k → k ≤ o.sequencer.top.0 → ones (mark_at o.sequencer.marks k) < needed_of s.group
 unfolding settled_of answered
 few_accepted s typed sound k =
-    if_elim (λ (o : Outcome). o.sequencer.accepted.0 < k → k ≤ o.sequencer.top.0 → ones (mark_at o.sequencer.marks k) < needed_of s.group) (enough_in s =? 0)
+    when_elim (λ (o : Outcome). o.sequencer.accepted.0 < k → k ≤ o.sequencer.top.0 → ones (mark_at o.sequencer.marks k) < needed_of s.group) (enough_in s =? 0)
     (λ t a b. enough_highest s.marks (needed_of s.group) s.accepted.0 (s.top.0 - s.accepted.0) k (let z = eqb-true (enough_in s) 0 t in omega arith) a (omega arith))
     (λ t. let z = enough_in_lem s.marks (needed_of s.group) s.accepted.0 (s.top.0 - s.accepted.0) (eqb-false (enough_in s) 0 t) in
     let h = sound.accepted_le in
@@ -229,6 +229,6 @@ pub few_marks : FewMarks
 unfolding confirm_of with_mark
 few_marks s m number typed sound member expected above below k =
     let f = sound_of_lem s sound in
-    if_elim (λ (o : Outcome). o.sequencer.accepted.0 < k → k ≤ o.sequencer.top.0 → ones (mark_at o.sequencer.marks k) < needed_of s.group) (number.0 ≤? s.accepted.0)
+    when_elim (λ (o : Outcome). o.sequencer.accepted.0 < k → k ≤ o.sequencer.top.0 → ones (mark_at o.sequencer.marks k) < needed_of s.group) (number.0 ≤? s.accepted.0)
     (λ t. let z = leb-true number.0 s.accepted.0 t in absurd (omega arith))
     (λ t. few_accepted (with_mark s m number) (mark_typed s typed f m number member above below) (mark_sound_lem s typed f m number member above below expected) k)

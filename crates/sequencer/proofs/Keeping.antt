@@ -9,8 +9,8 @@ use native.Mathlib.Omega.{arith}
 use borrow.Author.Tests.{ltb-false, leb-false, eqb-false}
 use lib.ListN.{length, get_or, set, length-set}
 use Rattle.group.proofs.Choice.{says}
-use Rattle.group.proofs.Lists.{if_elim, judged_elim}
-use Rattle.group.specs.Choice.{if◌then◌else◌, ◌<?◌, ◌≤?◌, ◌=?◌}
+use Rattle.group.proofs.Lists.{when_elim, judged_elim}
+use Rattle.group.specs.Choice.{when◌then◌else◌, ◌<?◌, ◌≤?◌, ◌=?◌}
 use Rattle.group.specs.Limits.{places_most, payload_most, largest_number}
 use Rattle.group.specs.Members.{is_in, expected_of, needed_of}
 use Rattle.group.specs.declared.MemberNumber.{MemberNumber}
@@ -131,7 +131,7 @@ module _ (s : Sequencer) (typed : Typed s) (sound : Sound s) (m : MemberNumber) 
   again_stays : (number : ℕ) → (number ≢ 0 → (s.floor.0 < number) × (number ≤ s.floor.0 + (s.top.0 - s.floor.0))) → Stays (again_of s m number)
   unfolding again_of old_of answered
   again_stays number found =
-      if_elim Stays (number =? 0) (λ t. record { typed = repeated_typed s typed sound m member; sound = repeated_sound s typed sound m member survives; bytes = inl refl })
+      when_elim Stays (number =? 0) (λ t. record { typed = repeated_typed s typed sound m member; sound = repeated_sound s typed sound m member survives; bytes = inl refl })
       (λ t.
       let f = found (eqb-false number 0 t) in
       let g = sound.floor_le in
@@ -155,10 +155,10 @@ module _ (s : Sequencer) (typed : Typed s) (sound : Sound s) (m : MemberNumber) 
   unfolding request_of old_of answered full_of
   request_stays count payload least most short next left =
       let wide = s.top.0 - s.floor.0 in
-      if_elim Stays (count <? last_count s m) (λ a. record { typed = repeated_typed s typed sound m member; sound = repeated_sound s typed sound m member survives; bytes = inl refl })
-      (λ a. if_elim Stays (count =? last_count s m)
+      when_elim Stays (count <? last_count s m) (λ a. record { typed = repeated_typed s typed sound m member; sound = repeated_sound s typed sound m member survives; bytes = inl refl })
+      (λ a. when_elim Stays (count =? last_count s m)
       (λ b. again_stays (find_of s.history m count s.floor.0 wide) (found_in s.history m count s.floor.0 wide))
-      (λ b. if_elim Stays (wide =? places_most) (λ c. record { typed = typed; sound = sound; bytes = inr (poll_reads s typed sound) })
+      (λ b. when_elim Stays (wide =? places_most) (λ c. record { typed = typed; sound = sound; bytes = inr (poll_reads s typed sound) })
       (λ c.
       let p = ltb-false count (last_count s m) a in
       let q = eqb-false count (last_count s m) b in
@@ -177,7 +177,7 @@ settled_stays : (s : Sequencer) → Typed s → Sound s → Stays (settled_of s 
 unfolding settled_of with_accepted
 settled_stays s typed sound =
     let number = enough_in s in
-    if_elim Stays (number =? 0) (λ t. answered_stays s typed sound Marked)
+    when_elim Stays (number =? 0) (λ t. answered_stays s typed sound Marked)
     (λ t.
     let f = enough_in_lem s.marks (needed_of s.group) s.accepted.0 (s.top.0 - s.accepted.0) (eqb-false number 0 t) in
     let a = f.0 in
@@ -191,7 +191,7 @@ confirm_stays : (s : Sequencer) → Typed s → Sound s → (m : MemberNumber) (
     → (s.accepted.0 < number.0 → is_in (expected_of s.group) m.0 ≡ true) → Stays (confirm_of s m number)
 unfolding confirm_of
 confirm_stays s typed sound m number member below expected =
-    if_elim Stays (number.0 ≤? s.accepted.0) (λ t. answered_stays s typed sound Old)
+    when_elim Stays (number.0 ≤? s.accepted.0) (λ t. answered_stays s typed sound Old)
     (λ t. let above = leb-false number.0 s.accepted.0 t in
     settled_stays (with_mark s m number) (mark_typed s typed sound m number member above below) (mark_sound_lem s typed sound m number member above below (expected above)))
 
@@ -230,11 +230,11 @@ module _ (s : Sequencer) (typed : Typed s) (sound : Sound s) (g : ℕ) (payload 
     gap_stays : (first last : SequenceNumber) → Stays (gap_of (note_of s sender taken) first last)
     unfolding gap_of
     gap_stays first last =
-        if_elim Stays (last.0 ≤? (note_of s sender taken).floor.0) (λ t. noted_stays Noted)
+        when_elim Stays (last.0 ≤? (note_of s sender taken).floor.0) (λ t. noted_stays Noted)
         (λ t. noted_stays (Wanted (record { 0 = larger_of first.0 ((note_of s sender taken).floor.0 + 1) }) last))
 
   pub content_stays : (content : Packet) → obeys (fields_of g content) payload ≡ true → (fields_of g content).b ≤ largest_number → Stays (content_step s content payload)
-  unfolding content_step fields_of obeys if◌then◌else◌
+  unfolding content_step fields_of obeys when◌then◌else◌
   content_stays (Request sender taken count) o most =
       judged_elim Stays (sender_verdict s.group.survivors s.accepted.0 sender taken) (λ r e. refused_stays r)
       (λ e. judged_elim Stays (count_verdict (last_count s sender) s.top.0 count) (λ r f. refused_stays r)

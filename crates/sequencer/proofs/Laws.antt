@@ -7,8 +7,8 @@ use mathlib.Core.List.{List, [], ◌∷◌, ◌++◌}
 use Prim.Native.Nat.{ℕ, ◌-◌, ◌≤◌}
 use borrow.Author.Tests.{ltb-true, leb-true}
 use lib.ListN.{length}
-use Rattle.group.proofs.Choice.{if_was, both_first, both_then}
-use Rattle.group.proofs.Lists.{if_elim, judged_elim}
+use Rattle.group.proofs.Choice.{when_was, both_first, both_then}
+use Rattle.group.proofs.Lists.{when_elim, judged_elim}
 use Rattle.group.proofs.Question.{accepted≢, judged_ask, judged_append}
 use Rattle.group.specs.Choice.{◌and◌, ◌<?◌, ◌≤?◌, ◌=?◌}
 use Rattle.group.specs.Limits.{header_size, largest_number}
@@ -58,8 +58,8 @@ copy_first_no s number room =
 known_kind_lem : (p : List ℕ) → first_no (read_questions p) ≡ Verdict.Accepted → known_kind (header_of p).kind ≡ true
 unfolding first_no
 known_kind_lem p e =
-    let a = if_was _ _ _ Verdict.Accepted e (accepted≢ PacketSize) in
-    (if_was _ _ _ Verdict.Accepted a.1 (accepted≢ UnknownKind)).0
+    let a = when_was _ _ _ Verdict.Accepted e (accepted≢ PacketSize) in
+    (when_was _ _ _ Verdict.Accepted a.1 (accepted≢ UnknownKind)).0
 
 module _ (s : Sequencer) (p : List ℕ) where
   abbrev step : Outcome
@@ -95,7 +95,7 @@ module _ (s : Sequencer) (typed : Typed s) where
 
   called_sound : (room : ℕ) → call_verdict s room ≡ Verdict.Accepted → sound_of s ≡ true
   unfolding call_verdict
-  called_sound room e = (if_was (sound_of s) _ _ Verdict.Accepted e (accepted≢ UnsoundState)).0
+  called_sound room e = (when_was (sound_of s) _ _ Verdict.Accepted e (accepted≢ UnsoundState)).0
 
   -- a packet that was read
   keeps_read : sound_of s ≡ true → (p : List ℕ) → (header_of p).b ≤ largest_number → (reading : Reading) → read_of p ≡ reading
@@ -106,8 +106,8 @@ module _ (s : Sequencer) (typed : Typed s) where
       let f = askable h (length p - header_size) (payload_at p) a.fields in
       let c = fields_content h (length p - header_size) (payload_at p) a.fields in
       let most : h.b ≤ largest_number = rw a.header fits in
-      if_elim (Keeps s) (from_elected s.group (content_of h))
-      (λ u. if_elim (Keeps s) (h.group =? s.group.number)
+      when_elim (Keeps s) (from_elected s.group (content_of h))
+      (λ u. when_elim (Keeps s) (h.group =? s.group.number)
       (λ t. keeps_stays _ (content_stays s typed (sound_of_lem s sound) h.group (payload_at p) a.payload (content_of h) (rw c f.obey) (rw c most)))
       (λ t. keeps_refused OtherGroup))
       (λ u. keeps_refused ForbiddenFields)
@@ -131,7 +131,7 @@ copy_keeps s number room typed =
     let above = s.floor.0 <? number.0 in
     let below = number.0 ≤? s.top.0 in
     judged_elim (Keeps s) (call_verdict s room) (λ r e. keeps_refused s typed r)
-    (λ e. if_elim (Keeps s) (above and below)
+    (λ e. when_elim (Keeps s) (above and below)
     (λ t.
     let a = ltb-true s.floor.0 number.0 (both_first above below t) in
     let b = leb-true number.0 s.top.0 (both_then above below t) in

@@ -6,7 +6,7 @@ use Rattle.group.specs.Choice.{◌and◌, ◌<?◌, ◌≤?◌}
 use Rattle.group.specs.Question.{first_no}
 use Rattle.group.specs.declared.Refusal.{Refusal}
 use Rattle.group.specs.declared.Verdict.{Verdict}
-use Rattle.group.proofs.Lists.{if_elim, judged_elim}
+use Rattle.group.proofs.Lists.{when_elim, judged_elim}
 use Rattle.sequencer.specs.Calls.{Outcome, answered, refused, call_verdict, receive_of, poll_of, copy_of}
 use Rattle.sequencer.specs.Laws.{FirstNo, receive_questions, PollLeaves, CopyLeaves}
 use Rattle.sequencer.specs.State.{Sequencer}
@@ -36,4 +36,4 @@ pub copy_leaves : CopyLeaves
 unfolding copy_of answered
 copy_leaves s number room =
     judged_elim (Leaves s) (call_verdict s room) (λ r e. refl)
-    (λ e. if_elim (Leaves s) (s.floor.0 <? number.0 and number.0 ≤? s.top.0) (λ t. refl) (λ t. refl))
+    (λ e. when_elim (Leaves s) (s.floor.0 <? number.0 and number.0 ≤? s.top.0) (λ t. refl) (λ t. refl))

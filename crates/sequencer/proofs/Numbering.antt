@@ -10,7 +10,7 @@ use borrow.Author.Tests.{eqb-true, eqb-false}
 use lib.Bits.{bit_and, and_zero_r}
 use lib.ListN.{length, set, length-set}
 use lib.Seq.{get_or-set_same, get_or-set_other}
-use Rattle.group.proofs.Lists.{eq_or, le_or, if_elim}
+use Rattle.group.proofs.Lists.{eq_or, le_or, when_elim}
 use Rattle.group.proofs.Members.{expected_none}
 use Rattle.group.specs.Choice.{◌=?◌}
 use Rattle.group.specs.Limits.{places_most, payload_most, largest_number}
@@ -60,7 +60,7 @@ module _ (s : Sequencer) (m : MemberNumber) (count : ℕ) (payload : List ℕ) (
       → P (with_message s m count payload).accepted.0
   unfolding with_message
   accepted_each P all same =
-      if_elim (λ (x : SequenceNumber). P x.0) (needed_of s.group =? 0) (λ e. all (eqb-true _ 0 e)) (λ e. same (eqb-false _ 0 e))
+      when_elim (λ (x : SequenceNumber). P x.0) (needed_of s.group =? 0) (λ e. all (eqb-true _ 0 e)) (λ e. same (eqb-false _ 0 e))
 
   module _ (up : count_in table m.0 ≤ count) (fits : count ≤ largest_number) (left : s.top.0 < largest_number) where
     pub numbered_typed : Typed (with_message s m count payload)

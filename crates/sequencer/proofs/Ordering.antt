@@ -11,8 +11,8 @@ use native.Mathlib.Omega.{arith}
 use borrow.Author.Tests.{ltb-true, leb-true, eq-eqb, lt-ltb, le-leb}
 use lib.ListN.{length}
 use Rattle.group.proofs.Choice.{both_first, both_then}
-use Rattle.group.proofs.Lists.{if_elim, judged_elim, at, at_le}
-use Rattle.group.specs.Choice.{if◌then◌else◌, ◌and◌, ◌<?◌, ◌≤?◌}
+use Rattle.group.proofs.Lists.{when_elim, judged_elim, at, at_le}
+use Rattle.group.specs.Choice.{when◌then◌else◌, ◌and◌, ◌<?◌, ◌≤?◌}
 use Rattle.group.specs.Limits.{payload_most, longest_packet, largest_number}
 use Rattle.group.specs.Question.{judged}
 use Rattle.group.specs.declared.Group.{Group}
@@ -51,14 +51,14 @@ use Rattle.sequencer.proofs.Answering.{Good, Ready, silent, writing, note_ready,
 -- a state with its invariant
 module _ (group : Group) (order : List Ordered) (s : Sequencer) (v : SequencerInv group s order) where
   called : call_verdict s longest_packet ≡ Verdict.Accepted
-  unfolding call_verdict if◌then◌else◌
+  unfolding call_verdict when◌then◌else◌
   called = rw v.sound
 
   -- a packet of the group that may be written reaches its step
   pub received : (content : Packet) (payload : List ℕ) → Allowed (fields_of group.number content) payload
       → receive_of s (packet_of (fields_of group.number content) payload) longest_packet
-      ≡ if from_elected s.group content then content_step s content payload else refused s ForbiddenFields
-  unfolding receive_of judged read_step if◌then◌else◌
+      ≡ when from_elected s.group content then content_step s content payload else refused s ForbiddenFields
+  unfolding receive_of judged read_step when◌then◌else◌
   received content payload allowed =
       let r = read_written (fields_of group.number content) payload allowed in
       let e = eq-eqb (fields_of group.number content).group s.group.number (fields_group group.number content ∙ sym (ap (λ (x : Group). x.number) v.group_is)) in
@@ -68,7 +68,7 @@ module _ (group : Group) (order : List Ordered) (s : Sequencer) (v : SequencerIn
   pub copy_ok : (k : ℕ) (m : Ordered) → at order k ≡ some m → s.floor.0 < k
       → let broadcast : Packet = announced s.accepted (record { 0 = m.originator }) (record { 0 = k }) m.count s.floor in
       copy_of s (record { 0 = k }) longest_packet ≡ record { sequencer = s; answer = Sent; bytes = packet_of (fields_of group.number broadcast) m.payload }
-  unfolding copy_of judged if◌then◌else◌
+  unfolding copy_of judged when◌then◌else◌
   copy_ok k m e above =
       let l = at_le order k e in
       let z = v.top_is in
@@ -77,7 +77,7 @@ module _ (group : Group) (order : List Ordered) (s : Sequencer) (v : SequencerIn
   -- a member's status is noted
   pub status_ok : (sender : MemberNumber) (taken : SequenceNumber) → Allowed (fields_of group.number (Status sender taken)) [] → is_in group.survivors sender.0 ≡ true → taken.0 ≤ s.accepted.0
       → receive_of s (packet_of (fields_of group.number (Status sender taken)) []) longest_packet ≡ answered (note_of s sender taken) Noted
-  unfolding content_step sender_verdict judged if◌then◌else◌ from_elected
+  unfolding content_step sender_verdict judged when◌then◌else◌ from_elected
   status_ok sender taken allowed member known =
       received (Status sender taken) [] allowed
       ∙ rw (v.group_is, member, le-leb taken.0 s.accepted.0 known)
@@ -188,7 +188,7 @@ module _ (group : Group) (order : List Ordered) (s : Sequencer) (v : SequencerIn
         let e = received k.content k.payload k.allowed in
         subst (λ (p : List ℕ). Owes (receive_of s p longest_packet)) (sym k.bytes_are)
         (subst Owes (sym e)
-        (if_elim Owes (from_elected s.group k.content) (λ t. content_good k.content k.payload w.short k.says) (λ t. refused_good ForbiddenFields)))
+        (when_elim Owes (from_elected s.group k.content) (λ t. content_good k.content k.payload w.short k.says) (λ t. refused_good ForbiddenFields)))
 
     pub poll_good : SequencerGood group order before voice (written (poll_of s longest_packet).bytes) (poll_of s longest_packet)
     unfolding poll_of numbered_by
@@ -202,7 +202,7 @@ module _ (group : Group) (order : List Ordered) (s : Sequencer) (v : SequencerIn
     copy_good number =
         let inside = s.floor.0 <? number.0 and number.0 ≤? s.top.0 in
         judged_elim Owes (call_verdict s longest_packet) (λ r e. refused_good r)
-        (λ e. if_elim Owes inside
+        (λ e. when_elim Owes inside
         (λ h.
         let a = ltb-true s.floor.0 number.0 (both_first (s.floor.0 <? number.0) (number.0 ≤? s.top.0) h) in
         let b = leb-true number.0 s.top.0 (both_then (s.floor.0 <? number.0) (number.0 ≤? s.top.0) h) in

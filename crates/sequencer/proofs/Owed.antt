@@ -12,7 +12,7 @@ use Rattle.group.specs.declared.Group.{Group}
 use Rattle.group.specs.declared.Refusal.TheVariants.{UnsoundState, ShortOutput, OtherEnd}
 use Rattle.group.specs.declared.SequenceNumber.{SequenceNumber}
 use Rattle.group.specs.declared.Verdict.TheVariants.{Accepted}
-use Rattle.group.proofs.Choice.{if_was}
+use Rattle.group.proofs.Choice.{when_was}
 use Rattle.group.proofs.Question.{accepted≢}
 use Rattle.packet.specs.declared.Packet.{Packet}
 use Rattle.packet.specs.declared.Packet.TheVariants.{Request, Broadcast, Gap, Status, Poll, Offer, Confirm, Accept, Invitation, Result}
@@ -30,8 +30,8 @@ use Rattle.sequencer.specs.State.{Sequencer}
 pub call_asked : (s : Sequencer) (room : ℕ) → call_verdict s room ≡ Accepted → (sound_of s ≡ true) × (longest_packet ≤ room)
 unfolding call_verdict
 call_asked s room e =
-    let a = if_was (sound_of s) _ _ Accepted e (accepted≢ UnsoundState) in
-    let b = if_was (longest_packet ≤? room) _ _ Accepted a.1 (accepted≢ ShortOutput) in
+    let a = when_was (sound_of s) _ _ Accepted e (accepted≢ UnsoundState) in
+    let b = when_was (longest_packet ≤? room) _ _ Accepted a.1 (accepted≢ ShortOutput) in
     (a.0, leb-true longest_packet room b.0)
 
 -- questions 9, 10, 11 and 16, of a packet that was accepted: its sender is a survivor, which has taken a number up to the last accepted,

@@ -6,7 +6,7 @@ use Prim.Native.Nat.{ℕ, ◌≤◌, ◌<◌}
 use native.Mathlib.Omega.{arith}
 use borrow.Author.Tests.{leb-true, leb-false}
 use lib.ListN.{length}
-use Rattle.group.proofs.Lists.{if_elim}
+use Rattle.group.proofs.Lists.{when_elim}
 use Rattle.group.specs.Choice.{◌≤?◌}
 use Rattle.group.specs.Limits.{longest_packet}
 use Rattle.group.specs.declared.MemberNumber.{MemberNumber}
@@ -32,7 +32,7 @@ pub announced_each : (P : Packet → Type 0) (accepted : SequenceNumber) (origin
     → P (announced accepted originator number count floor)
 unfolding announced
 announced_each P accepted originator number count floor f g =
-    if_elim P (number.0 ≤? accepted.0) (λ t. f (leb-true number.0 accepted.0 t)) (λ t. g (leb-false number.0 accepted.0 t))
+    when_elim P (number.0 ≤? accepted.0) (λ t. f (leb-true number.0 accepted.0 t)) (λ t. g (leb-false number.0 accepted.0 t))
 
 -- a broadcast, where its number is accepted
 pub announced_accepted : (accepted : SequenceNumber) (originator : MemberNumber) (number : SequenceNumber) (count : ℕ) (floor : SequenceNumber)

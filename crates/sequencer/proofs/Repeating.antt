@@ -6,10 +6,10 @@ use mathlib.Core.List.{List}
 use Prim.Native.Nat.{ℕ, ◌-◌, ◌≤◌, ◌<◌}
 use native.Mathlib.Omega.{arith}
 use lib.ListN.{length}
-use Rattle.group.proofs.Choice.{if_was}
-use Rattle.group.proofs.Lists.{if_elim, judged_elim}
+use Rattle.group.proofs.Choice.{when_was}
+use Rattle.group.proofs.Lists.{when_elim, judged_elim}
 use Rattle.group.proofs.Question.{accepted≢}
-use Rattle.group.specs.Choice.{if◌then◌else◌, ◌and◌, ◌<?◌, ◌≤?◌, ◌=?◌}
+use Rattle.group.specs.Choice.{when◌then◌else◌, ◌and◌, ◌<?◌, ◌≤?◌, ◌=?◌}
 use Rattle.group.specs.Limits.{members_most, places_most}
 use Rattle.group.specs.Opening.{open_of}
 use Rattle.group.specs.declared.MemberNumber.{MemberNumber}
@@ -54,36 +54,36 @@ module _ (s : Sequencer) (m : MemberNumber) (inside : m.0 < length s.acknowledge
   noted_same taken = repeats_same s.acknowledgements m.0 _ inside refl
 
   again_count : (number : ℕ) → OldCount s true (again_of s m number)
-  unfolding again_of old_of answered is_repeat if◌then◌else◌
-  again_count number = if_elim (OldCount s true) (number =? 0) (λ t. repeated_more) (λ t. repeated_more)
+  unfolding again_of old_of answered is_repeat when◌then◌else◌
+  again_count number = when_elim (OldCount s true) (number =? 0) (λ t. repeated_more) (λ t. repeated_more)
 
   -- a request, once A is noted
   request_count : (count : ℕ) (payload : List ℕ) → OldCount s true (request_of s m count payload)
-  unfolding request_of old_of answered full_of numbered_of is_repeat if◌then◌else◌
+  unfolding request_of old_of answered full_of numbered_of is_repeat when◌then◌else◌
   request_count count payload =
-      if_elim (OldCount s true) (count <? last_count s m) (λ a. repeated_more)
-      (λ a. if_elim (OldCount s true) (count =? last_count s m) (λ b. again_count _)
-      (λ b. if_elim (OldCount s true) (s.top.0 - s.floor.0 =? places_most) (λ c. refl) (λ c. numbered_same count payload)))
+      when_elim (OldCount s true) (count <? last_count s m) (λ a. repeated_more)
+      (λ a. when_elim (OldCount s true) (count =? last_count s m) (λ b. again_count _)
+      (λ b. when_elim (OldCount s true) (s.top.0 - s.floor.0 =? places_most) (λ c. refl) (λ c. numbered_same count payload)))
 
   -- what moves the old count of the noted state so moves that of the state
   noted_count : (taken : SequenceNumber) (request : Bool) (o : Outcome) → OldCount (note_of s m taken) request o → OldCount s request o
   noted_count taken request o =
-      subst (λ (k : ℕ). repeats_of o.sequencer.acknowledgements ≡ (if request and is_repeat o.answer then one_more k else k)) (noted_same taken)
+      subst (λ (k : ℕ). repeats_of o.sequencer.acknowledgements ≡ (when request and is_repeat o.answer then one_more k else k)) (noted_same taken)
 
 gap_count : (s : Sequencer) (first last : SequenceNumber) → OldCount s false (gap_of s first last)
-unfolding gap_of answered is_repeat if◌then◌else◌
-gap_count s first last = if_elim (OldCount s false) (last.0 ≤? s.floor.0) (λ t. refl) (λ t. refl)
+unfolding gap_of answered is_repeat when◌then◌else◌
+gap_count s first last = when_elim (OldCount s false) (last.0 ≤? s.floor.0) (λ t. refl) (λ t. refl)
 
 -- a confirmation notes nothing
 confirm_count : (s : Sequencer) (m : MemberNumber) (number : SequenceNumber) → OldCount s false (confirm_of s m number)
-unfolding confirm_of settled_of with_mark with_accepted answered is_repeat if◌then◌else◌
+unfolding confirm_of settled_of with_mark with_accepted answered is_repeat when◌then◌else◌
 confirm_count s m number =
-    if_elim (OldCount s false) (number.0 ≤? s.accepted.0) (λ t. refl)
-    (λ t. if_elim (OldCount s false) (enough_in (with_mark s m number) =? 0) (λ e. refl) (λ e. refl))
+    when_elim (OldCount s false) (number.0 ≤? s.accepted.0) (λ t. refl)
+    (λ t. when_elim (OldCount s false) (enough_in (with_mark s m number) =? 0) (λ e. refl) (λ e. refl))
 
 -- a refusal changes nothing
 refused_count : (s : Sequencer) (request : Bool) (refusal : Refusal) → OldCount s request (refused s refusal)
-unfolding answered is_repeat if◌then◌else◌
+unfolding answered is_repeat when◌then◌else◌
 refused_count s true refusal = refl
 refused_count s false refusal = refl
 
@@ -105,16 +105,16 @@ request_kind_lem : (h : Header) → is_request (content_of h) ≡ (h.kind =? req
 unfolding content_of
 request_kind_lem h =
     let P : Packet → Type 0 = λ p. is_request p ≡ (h.kind =? request_kind) in
-    if_elim P (h.kind =? request_kind) (λ a. sym a)
-    (λ a. if_elim P (h.kind =? broadcast_kind) (λ b. sym a)
-    (λ b. if_elim P (h.kind =? gap_kind) (λ c. sym a)
-    (λ c. if_elim P (h.kind =? status_kind) (λ d. sym a)
-    (λ d. if_elim P (h.kind =? poll_kind) (λ e. sym a)
-    (λ e. if_elim P (h.kind =? offer_kind) (λ f. sym a)
-    (λ f. if_elim P (h.kind =? confirm_kind) (λ g. sym a)
-    (λ g. if_elim P (h.kind =? accept_kind) (λ i. sym a)
-    (λ i. if_elim P (h.kind =? invitation_kind) (λ j. sym a)
-    (λ j. if_elim P (h.kind =? reply_kind) (λ k. sym a) (λ k. sym a))))))))))
+    when_elim P (h.kind =? request_kind) (λ a. sym a)
+    (λ a. when_elim P (h.kind =? broadcast_kind) (λ b. sym a)
+    (λ b. when_elim P (h.kind =? gap_kind) (λ c. sym a)
+    (λ c. when_elim P (h.kind =? status_kind) (λ d. sym a)
+    (λ d. when_elim P (h.kind =? poll_kind) (λ e. sym a)
+    (λ e. when_elim P (h.kind =? offer_kind) (λ f. sym a)
+    (λ f. when_elim P (h.kind =? confirm_kind) (λ g. sym a)
+    (λ g. when_elim P (h.kind =? accept_kind) (λ i. sym a)
+    (λ i. when_elim P (h.kind =? invitation_kind) (λ j. sym a)
+    (λ j. when_elim P (h.kind =? reply_kind) (λ k. sym a) (λ k. sym a))))))))))
 
 module _ (s : Sequencer) (typed : Typed s) (sound : Sound s) where
   -- an accepted sender has an entry, in the noted table too
@@ -133,7 +133,7 @@ module _ (s : Sequencer) (typed : Typed s) (sound : Sound s) where
     once_noted = noted_count s sender inside taken
 
   content_count : (packet : Packet) (payload : List ℕ) → OldCount s (is_request packet) (content_step s packet payload)
-  unfolding content_step answered is_repeat if◌then◌else◌
+  unfolding content_step answered is_repeat when◌then◌else◌
   content_count (Request sender taken count) payload =
       judged_elim (OldCount s true) (sender_verdict s.group.survivors s.accepted.0 sender taken) (λ r e. refl)
       (λ e. judged_elim (OldCount s true) (count_verdict (last_count s sender) s.top.0 count) (λ r f. refl)
@@ -163,8 +163,8 @@ module _ (s : Sequencer) (typed : Typed s) (sound : Sound s) where
   read_count p (Reading.Fields h) e =
       let request = (header_of p).kind =? request_kind in
       let same : is_request (content_of h) ≡ request = request_kind_lem h ∙ ap (λ (x : Header). x.kind =? request_kind) (readable p h e).header in
-      if_elim (OldCount s request) (from_elected s.group (content_of h))
-      (λ u. if_elim (OldCount s request) (h.group =? s.group.number)
+      when_elim (OldCount s request) (from_elected s.group (content_of h))
+      (λ u. when_elim (OldCount s request) (h.group =? s.group.number)
       (λ t. subst (λ (b : Bool). OldCount s b (content_step s (content_of h) (payload_at p))) same (content_count (content_of h) (payload_at p)))
       (λ t. refused_count s request OtherGroup))
       (λ u. refused_count s request ForbiddenFields)
@@ -176,18 +176,18 @@ receive_old_count s packet room typed =
     let request = (header_of packet).kind =? request_kind in
     judged_elim (OldCount s request) (call_verdict s room) (λ r e. refused_count s request r)
     (λ e.
-    let sound = sound_of_lem s (if_was (sound_of s) _ _ Verdict.Accepted e (accepted≢ UnsoundState)).0 in
+    let sound = sound_of_lem s (when_was (sound_of s) _ _ Verdict.Accepted e (accepted≢ UnsoundState)).0 in
     read_count s typed sound packet (read_of packet) refl)
 
 pub poll_old_count : PollOldCount
-unfolding poll_of answered is_repeat if◌then◌else◌
+unfolding poll_of answered is_repeat when◌then◌else◌
 poll_old_count s room = judged_elim (OldCount s false) (call_verdict s room) (λ r e. refl) (λ e. refl)
 
 pub copy_old_count : CopyOldCount
-unfolding copy_of answered is_repeat if◌then◌else◌
+unfolding copy_of answered is_repeat when◌then◌else◌
 copy_old_count s number room =
     judged_elim (OldCount s false) (call_verdict s room) (λ r e. refl)
-    (λ e. if_elim (OldCount s false) (s.floor.0 <? number.0 and number.0 ≤? s.top.0) (λ t. refl) (λ t. refl))
+    (λ e. when_elim (OldCount s false) (s.floor.0 <? number.0 and number.0 ≤? s.top.0) (λ t. refl) (λ t. refl))
 
 opened_none : (opened : Opened) → repeats_of (opened_of opened).sequencer.acknowledgements ≡ 0
 unfolding opened_of fresh_sequencer

@@ -9,7 +9,7 @@ use native.Mathlib.Nat.{le_trans}
 use native.Mathlib.Omega.{arith}
 use borrow.Author.Tests.{leb-true, leb-false, ltb-false, eqb-false}
 use lib.ListN.{length}
-use Rattle.group.proofs.Lists.{if_elim}
+use Rattle.group.proofs.Lists.{when_elim}
 use Rattle.group.proofs.Members.{survivor_lt}
 use Rattle.group.specs.Choice.{◌<?◌, ◌≤?◌, ◌=?◌}
 use Rattle.group.specs.Limits.{members_most, places_most, payload_most}
@@ -41,13 +41,13 @@ module _ (s : Sequencer) (sound : Sound s) (m : MemberNumber) (payload : List �
       → Sends (again_change number last s.top s.accepted repeats)
   unfolding again_change laid_of
   again_sends number last repeats found =
-      if_elim Sends (number =? 0) (λ t. tt)
+      when_elim Sends (number =? 0) (λ t. tt)
       (λ t.
       let f = found (eqb-false number 0 t) in
       let g = sound.floor_le in
       let h = sound.accepted_le in
       let k = sound.kept number f.0 (omega arith) in
-      if_elim (λ (x : Message). MayBroadcast (record { 0 = number }) s.floor x) (number ≤? s.top.0) (λ u. (k.short, k.count_least, f.0))
+      when_elim (λ (x : Message). MayBroadcast (record { 0 = number }) s.floor x) (number ≤? s.top.0) (λ u. (k.short, k.count_least, f.0))
       (λ u. let z = leb-false number s.top.0 u in absurd (omega arith)))
 
   request_sends : (sender : MemberNumber) (count last needed repeats : ℕ)
@@ -55,16 +55,16 @@ module _ (s : Sequencer) (sound : Sound s) (m : MemberNumber) (payload : List �
   unfolding request_change laid_of message_of
   request_sends sender count last needed repeats =
       let wide = s.top.0 - s.floor.0 in
-      if_elim Sends (count <? last) (λ a. tt)
-      (λ a. if_elim Sends (count =? last)
+      when_elim Sends (count <? last) (λ a. tt)
+      (λ a. when_elim Sends (count =? last)
       (λ b. again_sends (find_of s.history sender count s.floor.0 wide) last repeats (found_in s.history sender count s.floor.0 wide))
-      (λ b. if_elim Sends (wide =? places_most) (λ c. le_trans sound.floor_le sound.accepted_le)
+      (λ b. when_elim Sends (wide =? places_most) (λ c. le_trans sound.floor_le sound.accepted_le)
       (λ c.
       let p = ltb-false count last a in
       let q = eqb-false count last b in
       let g = sound.floor_le in
       let h = sound.accepted_le in
-      if_elim (λ (x : Message). MayBroadcast (record { 0 = s.top.0 + 1 }) s.floor x) (s.top.0 + 1 ≤? s.top.0)
+      when_elim (λ (x : Message). MayBroadcast (record { 0 = s.top.0 + 1 }) s.floor x) (s.top.0 + 1 ≤? s.top.0)
       (λ u. let z = leb-true (s.top.0 + 1) s.top.0 u in absurd (omega arith))
       (λ u. (short, omega arith, omega arith)))))
 
@@ -74,7 +74,7 @@ module _ (s : Sequencer) (sound : Sound s) (m : MemberNumber) (payload : List �
   change_sends (Request sender taken count) last needed repeats = request_sends sender count last needed repeats
   change_sends (Broadcast originator number count floor) last needed repeats = tt
   change_sends (Gap sender taken first to) last needed repeats =
-      if_elim (λ (answer : Answer). Sends (quiet last s.top s.accepted repeats answer)) (to.0 ≤? s.floor.0) (λ t. tt) (λ t. tt)
+      when_elim (λ (answer : Answer). Sends (quiet last s.top s.accepted repeats answer)) (to.0 ≤? s.floor.0) (λ t. tt) (λ t. tt)
   change_sends (Status sender taken) last needed repeats = tt
   change_sends (Poll elected top floor) last needed repeats = tt
   change_sends (Offer originator number count floor) last needed repeats = tt

@@ -10,7 +10,7 @@ use native.Mathlib.Omega.{arith}
 use borrow.Author.Tests.{le-leb, lt-leb, eqb-false}
 use lib.ListN.{length, get_or, set}
 use lib.Seq.{get_or-set_same}
-use Rattle.group.specs.Choice.{if◌then◌else◌, ◌<?◌, ◌≤?◌, ◌=?◌}
+use Rattle.group.specs.Choice.{when◌then◌else◌, ◌<?◌, ◌≤?◌, ◌=?◌}
 use Rattle.group.specs.Limits.{places_most}
 use Rattle.group.specs.Members.{needed_of}
 use Rattle.group.specs.Question.{judged}
@@ -20,7 +20,7 @@ use Rattle.group.specs.declared.Refusal.{Refusal}
 use Rattle.group.specs.declared.Refusal.TheVariants.{ForbiddenFields, OtherGroup, OtherEnd}
 use Rattle.group.specs.declared.SequenceNumber.{SequenceNumber}
 use Rattle.group.specs.declared.Verdict.{Verdict}
-use Rattle.group.proofs.Choice.{if_true, if_false, if_was}
+use Rattle.group.proofs.Choice.{when_true, when_false, when_was}
 use Rattle.group.proofs.Question.{accepted≢}
 use Rattle.message.specs.Message.{Message, message_of, blank}
 use Rattle.packet.specs.Packet.{content_of, from_elected}
@@ -50,8 +50,8 @@ set_own (x ∷ l) (suc i) d = ap (λ r. x ∷ r) (set_own l i d)
 
 -- a choice of two, each of which a function leads to
 pub choose : {A B : Type 0} (f : A → B) (t : Bool) (x y : A) (x' y' : B) → (t ≡ true → x' ≡ f x) → (t ≡ false → y' ≡ f y)
-    → (if t then x' else y') ≡ f (if t then x else y)
-unfolding if◌then◌else◌
+    → (when t then x' else y') ≡ f (when t then x else y)
+unfolding when◌then◌else◌
 choose f true x y x' y' g h = g refl
 choose f false x y x' y' g h = h refl
 
@@ -85,7 +85,7 @@ module _ (s : Sequencer) (m : MemberNumber) (payload : List ℕ) where
   laid_own : (number : SequenceNumber) (repeats : ℕ) (answer : Answer) → number.0 ≤ s.top.0
       → laid_of s m (kept number repeats answer) payload ≡ message_at s.history number.0
   unfolding laid_of
-  laid_own number repeats answer h = sym (if_true (number.0 ≤? s.top.0) _ _ _ (le-leb number.0 s.top.0 h) refl)
+  laid_own number repeats answer h = sym (when_true (number.0 ≤? s.top.0) _ _ _ (le-leb number.0 s.top.0 h) refl)
 
   stays : (number : SequenceNumber) (repeats : ℕ) (answer : Answer) → number.0 ≤ s.top.0
       → changed s m (kept number repeats answer) (laid_of s m (kept number repeats answer) payload)
@@ -142,7 +142,7 @@ module _ (s : Sequencer) (m : MemberNumber) (payload : List ℕ) where
         record {
           number = record { 0 = s.top.0 + 1 };
           top = record { 0 = s.top.0 + 1 };
-          accepted = if needed_of s.group =? 0 then record { 0 = s.top.0 + 1 } else s.accepted;
+          accepted = when needed_of s.group =? 0 then record { 0 = s.top.0 + 1 } else s.accepted;
           count = count;
           repeats = repeat_count s m;
           answer = Numbered (record { 0 = s.top.0 + 1 });
@@ -150,7 +150,7 @@ module _ (s : Sequencer) (m : MemberNumber) (payload : List ℕ) where
 
     laid_new : laid_of s m next payload ≡ message_of m count payload
     unfolding laid_of
-    laid_new = sym (if_false (s.top.0 + 1 ≤? s.top.0) _ _ _ (lt-leb (s.top.0 + 1) s.top.0 (omega arith)) refl)
+    laid_new = sym (when_false (s.top.0 + 1 ≤? s.top.0) _ _ _ (lt-leb (s.top.0 + 1) s.top.0 (omega arith)) refl)
 
     numbered_is : numbered_of s m count payload ≡ outcome_of s m payload next
     unfolding numbered_of with_message changed broadcast_of sent_of
@@ -212,8 +212,8 @@ judged_turn Verdict.Accepted w f x = refl
 judged_turn (Verdict.Refused r) w f x = refl
 
 judged_if : {A : Type 0} (t : Bool) (r : Refusal) (v : Verdict) (f : Refusal → A) (x : A)
-    → (if t then judged v f x else f r) ≡ judged (if t then v else Verdict.Refused r) f x
-unfolding judged if◌then◌else◌
+    → (when t then judged v f x else f r) ≡ judged (when t then v else Verdict.Refused r) f x
+unfolding judged when◌then◌else◌
 judged_if true r v f x = refl
 judged_if false r v f x = refl
 
@@ -241,7 +241,7 @@ pub read_is : (s : Sequencer) (h : Header) (payload : List ℕ)
 unfolding read_step packet_verdict
 read_is s h payload =
     rw (content_is s (content_of h) payload)
-    (ap (λ (o : Outcome). if from_elected s.group (content_of h) then o else refused s ForbiddenFields)
+    (ap (λ (o : Outcome). when from_elected s.group (content_of h) then o else refused s ForbiddenFields)
     (judged_if (h.group =? s.group.number) OtherGroup _ (refused s) _)
     ∙ judged_if (from_elected s.group (content_of h)) ForbiddenFields _ (refused s) _)
 
@@ -250,5 +250,5 @@ pub content_was : (group : Group) (table : List Acknowledgement) (accepted top n
     → packet_verdict group table accepted top number packet ≡ Verdict.Accepted → content_verdict group table accepted top packet ≡ Verdict.Accepted
 unfolding packet_verdict
 content_was group table accepted top number packet e =
-    let f = if_was (from_elected group packet) _ _ Verdict.Accepted e (accepted≢ ForbiddenFields) in
-    (if_was (number =? group.number) _ _ Verdict.Accepted f.1 (accepted≢ OtherGroup)).1
+    let f = when_was (from_elected group packet) _ _ Verdict.Accepted e (accepted≢ ForbiddenFields) in
+    (when_was (number =? group.number) _ _ Verdict.Accepted f.1 (accepted≢ OtherGroup)).1

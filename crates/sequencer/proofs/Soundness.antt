@@ -7,9 +7,9 @@ use lib.Bits.{bit_and}
 use native.Mathlib.Omega.{arith}
 use borrow.Author.Tests.{leb-true, leb-false, le-leb, lt-leb}
 use lib.ListN.{length, get_or, get_or-eq_default}
-use Rattle.group.proofs.Choice.{if_true, if_false, both_hold, both_first, both_then, says, tests}
+use Rattle.group.proofs.Choice.{when_true, when_false, both_hold, both_first, both_then, says, tests}
 use Rattle.group.proofs.Fold.{all_at, at_all, above_each, above_all}
-use Rattle.group.proofs.Lists.{if_elim, le_or}
+use Rattle.group.proofs.Lists.{when_elim, le_or}
 use Rattle.group.proofs.Members.{Standing, standing_of, of_standing, survivor_lt}
 use Rattle.group.specs.Choice.{◌≤?◌}
 use Rattle.group.specs.Fold.{all, all_above}
@@ -99,8 +99,8 @@ module _ (s : Sequencer) where
             le_or (length table) i (λ l. get_or-eq_default table no_acknowledgement l)
             (λ l. entry_unused s.group s.top.0 i (get_or table i no_acknowledgement) (out_of s.group stand i h) h (entry i l));
         kept = λ k a b.
-            kept_facts n table (message_at s.history k) (if_true (k ≤? s.top.0) _ _ _ (le-leb k s.top.0 b) refl ∙ place k a (omega arith));
-        empty = λ k a b. if_false (k ≤? s.top.0) _ _ _ (lt-leb k s.top.0 a) refl ∙ place k (omega arith) b;
+            kept_facts n table (message_at s.history k) (when_true (k ≤? s.top.0) _ _ _ (le-leb k s.top.0 b) refl ∙ place k a (omega arith));
+        empty = λ k a b. when_false (k ≤? s.top.0) _ _ _ (lt-leb k s.top.0 a) refl ∙ place k (omega arith) b;
         marks_in = λ k a b. mark_inside expected s.marks accepted top k a b (mark k (omega arith) (omega arith));
         marks_below = λ k a b. mark_below expected s.marks accepted top k b (mark k a (omega arith));
         marks_above = λ k a b. mark_above expected s.marks accepted top k a (mark k (omega arith) b);
@@ -123,7 +123,7 @@ module _ (s : Sequencer) where
       (at_all (entry_sound s.group s.top.0) no_acknowledgement table (λ i h. entry_sound_lem s.group s.top.0 i (get_or table i no_acknowledgement) (entry-most i) (f.lost i) (f.unused i)))
       (both_hold (all_above (place_sound n table s.history s.top.0) s.floor.0 places_most) _
       (above_all (place_sound n table s.history s.top.0) s.floor.0 places_most
-      (λ k a b. if_elim (λ (x : Bool). x ≡ true) (k ≤? s.top.0)
+      (λ k a b. when_elim (λ (x : Bool). x ≡ true) (k ≤? s.top.0)
       (λ t. facts_kept n table (message_at s.history k) (f.kept k a (leb-true k s.top.0 t)))
       (λ t. f.empty k (leb-false k s.top.0 t) b)))
       (above_all (mark_sound (expected_of s.group) s.marks s.accepted.0 s.top.0) s.floor.0 places_most

@@ -7,12 +7,12 @@ use native.Mathlib.Nat.{lt_of_lt_of_le}
 use native.Mathlib.Omega.{arith}
 use lib.ListN.{length, get_or, set, take, drop, replicate, length-set}
 use lib.Seq.{get_or-set_same, take-take}
-use Rattle.group.specs.Choice.{if◌then◌else◌, ◌and◌, ◌≤?◌}
+use Rattle.group.specs.Choice.{when◌then◌else◌, ◌and◌, ◌≤?◌}
 use Rattle.group.specs.Fold.{all, all_above}
 use Rattle.group.specs.Lent.{Laid}
 use Rattle.group.specs.Limits.{members_most, places_most, payload_most, longest_packet}
 use Rattle.group.specs.Members.{needed_of, expected_of}
-use Rattle.group.proofs.Lists.{if_elim}
+use Rattle.group.proofs.Lists.{when_elim}
 use Rattle.group.proofs.Members.{survivor_lt}
 use Rattle.group.specs.declared.Group.{Group}
 use Rattle.group.specs.declared.MemberNumber.{MemberNumber}
@@ -174,7 +174,7 @@ module _ (head : Head) (taken counts repeats kept marks originators lengths payl
     module _ (kept'' originators'' lengths'' payloads'' : List ℕ)
         (laid : messages_in kept'' originators'' lengths'' payloads''
         ≡ set (messages_in kept' originators' lengths' payloads') (place_of change.number.0)
-        (if change.number.0 ≤? head.top.0 then message_at (messages_in kept' originators' lengths' payloads') change.number.0 else message_of m change.count payload)) where
+        (when change.number.0 ≤? head.top.0 then message_at (messages_in kept' originators' lengths' payloads') change.number.0 else message_of m change.count payload)) where
       abbrev message : Message
       message = laid_of (view_of next) m change payload
 
@@ -250,7 +250,7 @@ module _ (head : Head) (taken counts repeats kept marks originators lengths payl
     abbrev laid_by : Sender → Change → List Message
     laid_by x c =
         set (messages_in kept' originators' lengths' payloads') (place_of c.number.0)
-        (if c.number.0 ≤? head.top.0 then message_at (messages_in kept' originators' lengths' payloads') c.number.0 else message_of x.member c.count payload)
+        (when c.number.0 ≤? head.top.0 then message_at (messages_in kept' originators' lengths' payloads') c.number.0 else message_of x.member c.count payload)
 
     module _ (c : Change) (changes : c ≡ change_by from) (kept'' originators'' lengths'' payloads'' : List ℕ)
         (laid : messages_in kept'' originators'' lengths'' payloads'' ≡ laid_by from c) (at : ℕ) (place : at ≡ place_of c.number.0) where
@@ -314,7 +314,7 @@ announced_fields : (group : ℕ) (accepted : SequenceNumber) (originator : Membe
     → fields_verdict (fields_of group (announced accepted originator number count floor)) (length payload) payload ≡ Verdict.Accepted
 unfolding announced
 announced_fields group accepted originator number floor count payload a b =
-    if_elim (λ (packet : Packet). fields_verdict (fields_of group packet) (length payload) payload ≡ Verdict.Accepted) (number.0 ≤? accepted.0)
+    when_elim (λ (packet : Packet). fields_verdict (fields_of group packet) (length payload) payload ≡ Verdict.Accepted) (number.0 ≤? accepted.0)
     (λ t. broadcast_fields group originator number floor count payload a b) (λ t. offer_fields group originator number floor count payload a b)
 
 -- the packet of the message in a place

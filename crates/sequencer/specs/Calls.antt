@@ -1,6 +1,6 @@
 -- The sequencer's calls: each goes down its questions in their order, and then takes its step.
 use Rattle.std.specs.Prelude.{List, [], ℕ, ◌+◌, ◌-◌, set}
-use Rattle.group.specs.Choice.{if◌then◌else◌, ask◌or◌then◌, ◌and◌, ◌<?◌, ◌≤?◌, ◌=?◌}
+use Rattle.group.specs.Choice.{when◌then◌else◌, ask◌or◌then◌, ◌and◌, ◌<?◌, ◌≤?◌, ◌=?◌}
 use Rattle.group.specs.Limits.{places_most, longest_packet}
 use Rattle.group.specs.Members.{needed_of}
 use Rattle.group.specs.Opening.{description_of, open_of}
@@ -46,7 +46,7 @@ refused s refusal = answered s (Answer.Refused refusal)
 -- a message goes out as a broadcast if its number is accepted, else as an offer, with the same fields
 unfoldable pub announced : SequenceNumber → MemberNumber → SequenceNumber → ℕ → SequenceNumber → Packet
 announced accepted originator number count floor =
-    if number.0 ≤? accepted.0 then Broadcast originator number count floor else
+    when number.0 ≤? accepted.0 then Broadcast originator number count floor else
     Offer originator number count floor
 
 -- the packet of a number, with today's floor
@@ -86,7 +86,7 @@ old_of s m = answered (repeated_of s m) Old
 -- the last count again: Old if no history message has it, else Again with its packet
 unfoldable pub again_of : Sequencer → MemberNumber → ℕ → Outcome
 again_of s m number =
-    if number =? 0 then old_of s m else
+    when number =? 0 then old_of s m else
     record { sequencer = repeated_of s m; answer = Again (record { 0 = number }); bytes = broadcast_of s number }
 
 -- Full, with a poll packet; nothing but the noting changes
@@ -101,7 +101,7 @@ with_message s m count payload =
       group = s.group;
       acknowledgements = set s.acknowledgements m.0 (with_counts (acknowledgement_of s.acknowledgements m) count (repeat_count s m));
       top = record { 0 = s.top.0 + 1 };
-      accepted = if needed_of s.group =? 0 then record { 0 = s.top.0 + 1 } else s.accepted;
+      accepted = when needed_of s.group =? 0 then record { 0 = s.top.0 + 1 } else s.accepted;
       floor = s.floor;
       history = set s.history (place_of (s.top.0 + 1)) (message_of m count payload);
       marks = s.marks;
@@ -119,15 +119,15 @@ numbered_of s m count payload =
 -- request with a count from m, once A is noted
 unfoldable pub request_of : Sequencer → MemberNumber → ℕ → List ℕ → Outcome
 request_of s m count payload =
-    if count <? last_count s m then old_of s m else
-    if count =? last_count s m then again_of s m (find_of s.history m count s.floor.0 (s.top.0 - s.floor.0)) else
-    if s.top.0 - s.floor.0 =? places_most then full_of s else
+    when count <? last_count s m then old_of s m else
+    when count =? last_count s m then again_of s m (find_of s.history m count s.floor.0 (s.top.0 - s.floor.0)) else
+    when s.top.0 - s.floor.0 =? places_most then full_of s else
     numbered_of s m count payload
 
 -- gap, once A is noted: Noted if C ≤ floor, else Wanted, from the larger of B and floor + 1, to C
 unfoldable pub gap_of : Sequencer → SequenceNumber → SequenceNumber → Outcome
 gap_of s first last =
-    if last.0 ≤? s.floor.0 then answered s Noted else
+    when last.0 ≤? s.floor.0 then answered s Noted else
     answered s (Wanted (record { 0 = larger_of first.0 (s.floor.0 + 1) }) last)
 
 -- m confirmed all unaccepted numbers up to A
@@ -163,13 +163,13 @@ enough_in s = enough_of s.marks (needed_of s.group) s.accepted.0 (s.top.0 - s.ac
 -- Accepted, with the packet that says so, if there is such a number; else Marked
 unfoldable pub settled_of : Sequencer → ℕ → Outcome
 settled_of s number =
-    if number =? 0 then answered s Marked else
+    when number =? 0 then answered s Marked else
     record { sequencer = with_accepted s number; answer = Answer.Accepted; bytes = accept_packet (with_accepted s number) }
 
 -- confirmation of A from m: Old for an accepted number; else m's marks are set, and then it may be accepted
 unfoldable pub confirm_of : Sequencer → MemberNumber → SequenceNumber → Outcome
 confirm_of s m number =
-    if number.0 ≤? s.accepted.0 then answered s Old else
+    when number.0 ≤? s.accepted.0 then answered s Old else
     settled_of (with_mark s m number) (enough_in (with_mark s m number))
 
 -- what a packet of our group says: kinds 1, 3, 4 and 7 are for this end (question 8); each is asked its questions; then of kinds 1, 3

@@ -1,7 +1,7 @@
 -- What is proved of the sequencer's meaning. `proofs/` has a proof of each statement.
 use Rattle.std.specs.Prelude.{◌≡◌, Bool, true, false, List, [], ◌∷◌, ◌++◌, ◌⊎◌, ℕ, ◌+◌, ◌^◌, ◌≤◌, ◌<◌, length, get_or}
 use Rattle.std.specs.Int.Count.{ones}
-use Rattle.group.specs.Choice.{if◌then◌else◌, ◌and◌, ◌<?◌, ◌≤?◌, ◌=?◌}
+use Rattle.group.specs.Choice.{when◌then◌else◌, ◌and◌, ◌<?◌, ◌≤?◌, ◌=?◌}
 use Rattle.group.specs.Limits.{members_most, places_most, longest_packet, largest_number}
 use Rattle.group.specs.Members.{is_in, expected_of, needed_of}
 use Rattle.group.specs.Question.{Question, first_no}
@@ -34,13 +34,13 @@ abbrev pub fields_questions : Sequencer → Header → List Question
 fields_questions s h =
     record { yes = from_elected s.group (content_of h); refusal = Refusal.ForbiddenFields }
     ∷ record { yes = h.group =? s.group.number; refusal = Refusal.OtherGroup }
-    ∷ record { yes = if h.kind =? request_kind then true else if h.kind =? gap_kind then true else if h.kind =? status_kind then true else h.kind =? confirm_kind; refusal = Refusal.OtherEnd }
+    ∷ record { yes = when h.kind =? request_kind then true else when h.kind =? gap_kind then true else when h.kind =? status_kind then true else h.kind =? confirm_kind; refusal = Refusal.OtherEnd }
     ∷ record { yes = is_in s.group.survivors h.member.0; refusal = Refusal.UnknownMember }
-    ∷ record { yes = h.a ≤? (if h.kind =? confirm_kind then s.top.0 else s.accepted.0); refusal = Refusal.AcknowledgedAhead }
-    ∷ record { yes = if h.kind =? request_kind then h.b ≤? last_count s h.member + 1 else true; refusal = Refusal.CountAhead }
-    ∷ record { yes = if h.kind =? gap_kind then h.c ≤? s.top.0 else true; refusal = Refusal.WantedAhead }
-    ∷ record { yes = if h.kind =? confirm_kind then (if h.a ≤? s.accepted.0 then true else is_in (expected_of s.group) h.member.0) else true; refusal = Refusal.NotExpected }
-    ∷ record { yes = if h.kind =? request_kind and h.b =? last_count s h.member + 1 then s.top.0 <? largest_number else true; refusal = Refusal.NumbersUsedUp }
+    ∷ record { yes = h.a ≤? (when h.kind =? confirm_kind then s.top.0 else s.accepted.0); refusal = Refusal.AcknowledgedAhead }
+    ∷ record { yes = when h.kind =? request_kind then h.b ≤? last_count s h.member + 1 else true; refusal = Refusal.CountAhead }
+    ∷ record { yes = when h.kind =? gap_kind then h.c ≤? s.top.0 else true; refusal = Refusal.WantedAhead }
+    ∷ record { yes = when h.kind =? confirm_kind then (when h.a ≤? s.accepted.0 then true else is_in (expected_of s.group) h.member.0) else true; refusal = Refusal.NotExpected }
+    ∷ record { yes = when h.kind =? request_kind and h.b =? last_count s h.member + 1 then s.top.0 <? largest_number else true; refusal = Refusal.NumbersUsedUp }
     ∷ []
 
 -- the questions of each call, in their order
@@ -121,7 +121,7 @@ is_repeat Answer.Accepted = false
 abbrev pub OldCount : Sequencer → Bool → Outcome → Type 0
 OldCount s request o =
     repeats_of o.sequencer.acknowledgements
-    ≡ (if request and is_repeat o.answer then one_more (repeats_of s.acknowledgements) else repeats_of s.acknowledgements)
+    ≡ (when request and is_repeat o.answer then one_more (repeats_of s.acknowledgements) else repeats_of s.acknowledgements)
 
 abbrev pub ReceiveOldCount : Type 0
 ReceiveOldCount =

@@ -1,6 +1,6 @@
 -- What the functions below the call for packets work out: what a packet that is accepted changes, once A is noted.
 use Rattle.std.specs.Prelude.{List, [], ℕ, ◌+◌, ◌-◌, set}
-use Rattle.group.specs.Choice.{if◌then◌else◌, ◌<?◌, ◌≤?◌, ◌=?◌}
+use Rattle.group.specs.Choice.{when◌then◌else◌, ◌<?◌, ◌≤?◌, ◌=?◌}
 use Rattle.group.specs.Limits.{places_most}
 use Rattle.group.specs.Question.{judged}
 use Rattle.group.specs.declared.Group.{Group}
@@ -74,7 +74,7 @@ quiet last top accepted repeats answer = record { number = top; top = top; accep
 -- what the last count changes, where its message was looked for
 unfoldable pub again_change : ℕ → ℕ → SequenceNumber → SequenceNumber → ℕ → Change
 again_change number last top accepted repeats =
-    if number =? 0 then quiet last top accepted (one_more repeats) Old else
+    when number =? 0 then quiet last top accepted (one_more repeats) Old else
     record {
       number = record { 0 = number };
       top = top;
@@ -88,13 +88,13 @@ again_change number last top accepted repeats =
 -- members have to confirm a message
 unfoldable pub request_change : List Message → MemberNumber → ℕ → ℕ → ℕ → SequenceNumber → SequenceNumber → ℕ → ℕ → Change
 request_change history m count last floor top accepted needed repeats =
-    if count <? last then quiet last top accepted (one_more repeats) Old else
-    if count =? last then again_change (find_of history m count floor (top.0 - floor)) last top accepted repeats else
-    if top.0 - floor =? places_most then quiet last top accepted repeats Full else
+    when count <? last then quiet last top accepted (one_more repeats) Old else
+    when count =? last then again_change (find_of history m count floor (top.0 - floor)) last top accepted repeats else
+    when top.0 - floor =? places_most then quiet last top accepted repeats Full else
     record {
       number = record { 0 = top.0 + 1 };
       top = record { 0 = top.0 + 1 };
-      accepted = if needed =? 0 then record { 0 = top.0 + 1 } else accepted;
+      accepted = when needed =? 0 then record { 0 = top.0 + 1 } else accepted;
       count = count;
       repeats = repeats;
       answer = Numbered (record { 0 = top.0 + 1 });
@@ -103,7 +103,7 @@ request_change history m count last floor top accepted needed repeats =
 -- what a gap is answered
 unfoldable pub gap_answer : ℕ → SequenceNumber → SequenceNumber → Answer
 gap_answer floor first last =
-    if last.0 ≤? floor then Noted else
+    when last.0 ≤? floor then Noted else
     Wanted (record { 0 = larger_of first.0 (floor + 1) }) last
 
 -- what a packet that confirms nothing changes
@@ -139,7 +139,7 @@ sent_of Answer.Accepted group top accepted floor m = []
 -- what is laid in the place of a change's number: what lies there, or the message that is numbered
 unfoldable pub laid_of : Sequencer → MemberNumber → Change → List ℕ → Message
 laid_of s m change payload =
-    if change.number.0 ≤? s.top.0 then message_at s.history change.number.0 else
+    when change.number.0 ≤? s.top.0 then message_at s.history change.number.0 else
     message_of m change.count payload
 
 -- a noted state with what a packet of m changes

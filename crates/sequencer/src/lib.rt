@@ -4,7 +4,7 @@
 
 ghost use Rattle.std.specs.Prelude.{◌≡◌, [], ◌<◌, ◌≤◌, length, get_or, take};
 ghost use Rattle.group.specs.Lent.{Laid};
-ghost use Rattle.group.specs.Choice.{if◌then◌else◌, ◌and◌, ◌=?◌};
+ghost use Rattle.group.specs.Choice.{when◌then◌else◌, ◌and◌, ◌=?◌};
 ghost use Rattle.group.specs.Fold.{all_above};
 ghost use Rattle.group.specs.Limits.{members_most, places_most, payload_most, longest_packet, largest_number};
 ghost use Rattle.group.specs.Members.{expected_of, needed_of};
@@ -263,7 +263,7 @@ fn quiet(
 
 // The last accepted number, once a next number is given: that one where none has to confirm it.
 fn accepted_next(group: Group, accepted: SequenceNumber, next: SequenceNumber) -> SequenceNumber
-    ensures { result ≡ (if needed_of group =? 0 then next else accepted) }
+    ensures { result ≡ (when needed_of group =? 0 then next else accepted) }
 {
     if group.needed() == 0 {
         return next;

@@ -7,9 +7,9 @@ use native.Mathlib.Omega.{arith}
 use borrow.Author.Tests.{lt-ltb, le-ltb, ltb-true}
 use lib.ListN.{length, take, drop, get_or, set, get_elem?, length-append}
 use lib.Seq.{take-append_seam, take_all, get_or-set_same, get_or-set_other}
-use Rattle.group.proofs.Choice.{if_true, if_false}
-use Rattle.group.proofs.Lists.{if_elim, le_or}
-use Rattle.group.specs.Choice.{if◌then◌else◌, ◌<?◌}
+use Rattle.group.proofs.Choice.{when_true, when_false}
+use Rattle.group.proofs.Lists.{when_elim, le_or}
+use Rattle.group.specs.Choice.{when◌then◌else◌, ◌<?◌}
 use Rattle.group.specs.Lent.{front}
 use Rattle.group.specs.Limits.{members_most, longest_packet}
 use Rattle.group.specs.declared.Group as group
@@ -208,7 +208,7 @@ module _ (c : MemberCall) (i : ℕ) (bytes : List ℕ) (head : Head) (t t' : Ter
       let g : Group = record { sequencer = s; members = members_in t; packets = packets_in p } in
       let m : member_at t i ≡ get_or (members_in t) i no_member = sym (lists_get (member_at t) no_member t.group.n i h) in
       (λ x. let o : member.Outcome = outcome_of c bytes (room x) (m x) in with_member g i o (written (take (kept_size c (length o.bytes)) o.bytes)))
-      ∙ if_true _ _ _ _ (lt-ltb i (length (members_in t)) (rw (length_list (member_at t) 0 t.group.n) h)) refl
+      ∙ when_true _ _ _ _ (lt-ltb i (length (members_in t)) (rw (length_list (member_at t) 0 t.group.n) h)) refl
       in
       let ms : members_in t' ≡ set (members_in t) i o.member =
       ap (λ (k : ℕ). list_of (member_at t') 0 k) (ap (λ (g : group.Group). g.n) same)
@@ -250,7 +250,7 @@ acts_not happened head t p lent e =
 pub no_member_lem : (c : MemberCall) (i : ℕ) (bytes : List ℕ) (t : Terminals) (p : Packets) (s : Sequencer) → t.group.n ≤ i
     → missing (record { sequencer = s; members = members_in t; packets = packets_in p }) ≡ happened_at c i bytes (record { sequencer = s; members = members_in t; packets = packets_in p })
 unfolding happened_at
-no_member_lem c i bytes t p s h = if_false _ _ _ _ (le-ltb i (length (members_in t)) (rw (length_list (member_at t) 0 t.group.n) h)) refl
+no_member_lem c i bytes t p s h = when_false _ _ _ _ (le-ltb i (length (members_in t)) (rw (length_list (member_at t) 0 t.group.n) h)) refl
 
 -- an event of the sequencer
 module _ (c : SequencerCall) (bytes : List ℕ) (head : Head) (s s' : sequencerView.Stored) (p p' : Packets) (told : sequencerReply.Reply) (before after : List ℕ) where
@@ -314,11 +314,11 @@ unfolding fitting_of
 packet_read size length' bytes e s =
     rw s
     (le_or longest_packet length'
-    (λ h. let z : fitting_of length' ≡ longest_packet = sym (if_false _ _ _ _ (le-ltb length' longest_packet h) refl) in
+    (λ h. let z : fitting_of length' ≡ longest_packet = sym (when_false _ _ _ _ (le-ltb length' longest_packet h) refl) in
     rw z (take_all longest_packet bytes (omega arith) ∙ sym (take_all length' bytes (omega arith))))
-    (λ h. let z : fitting_of length' ≡ length' = sym (if_true _ _ _ _ (lt-ltb length' longest_packet h) refl) in rw z))
+    (λ h. let z : fitting_of length' ≡ length' = sym (when_true _ _ _ _ (lt-ltb length' longest_packet h) refl) in rw z))
 
 pub packet_fits : (size length' : ℕ) → size ≡ fitting_of length' → size ≤ longest_packet
 unfolding fitting_of
 packet_fits size length' s =
-    rw s (if_elim (λ (x : ℕ). x ≤ longest_packet) (length' <? longest_packet) (λ t. let z = ltb-true length' longest_packet t in omega arith) (λ _. omega arith))
+    rw s (when_elim (λ (x : ℕ). x ≤ longest_packet) (length' <? longest_packet) (λ t. let z = ltb-true length' longest_packet t in omega arith) (λ _. omega arith))

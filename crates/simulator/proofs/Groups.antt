@@ -2,7 +2,7 @@
 use mathlib.Core.Path.{◌≡◌, refl}
 use mathlib.Core.List.{List}
 use Prim.Native.Nat.{ℕ, ◌-◌}
-use Rattle.group.proofs.Lists.{if_elim, judged_elim}
+use Rattle.group.proofs.Lists.{when_elim, judged_elim}
 use Rattle.group.specs.Choice.{◌<?◌, ◌≤?◌, ◌=?◌}
 use Rattle.group.specs.Limits.{places_most}
 use Rattle.group.specs.declared.Group.{Group}
@@ -32,28 +32,28 @@ module _ (s : Sequencer) where
 
   again_has : (m : MemberNumber) (number : ℕ) → Has own (again_of s m number)
   unfolding again_of old_of answered repeated_of
-  again_has m number = if_elim (Has own) (number =? 0) (λ _. refl) (λ _. refl)
+  again_has m number = when_elim (Has own) (number =? 0) (λ _. refl) (λ _. refl)
 
   request_has : (m : MemberNumber) (count : ℕ) (payload : List ℕ) → Has own (request_of s m count payload)
   unfolding request_of old_of answered repeated_of full_of numbered_of with_message
   request_has m count payload =
-      if_elim (Has own) (count <? last_count s m) (λ _. refl)
-      (λ _. if_elim (Has own) (count =? last_count s m) (λ _. again_has m _)
-      (λ _. if_elim (Has own) (s.top.0 - s.floor.0 =? places_most) (λ _. refl) (λ _. refl)))
+      when_elim (Has own) (count <? last_count s m) (λ _. refl)
+      (λ _. when_elim (Has own) (count =? last_count s m) (λ _. again_has m _)
+      (λ _. when_elim (Has own) (s.top.0 - s.floor.0 =? places_most) (λ _. refl) (λ _. refl)))
 
   gap_has : (first last : SequenceNumber) → Has own (gap_of s first last)
   unfolding gap_of answered
-  gap_has first last = if_elim (Has own) (last.0 ≤? s.floor.0) (λ _. refl) (λ _. refl)
+  gap_has first last = when_elim (Has own) (last.0 ≤? s.floor.0) (λ _. refl) (λ _. refl)
 
   settled_has : (number : ℕ) → Has own (settled_of s number)
   unfolding settled_of answered with_accepted
-  settled_has number = if_elim (Has own) (number =? 0) (λ _. refl) (λ _. refl)
+  settled_has number = when_elim (Has own) (number =? 0) (λ _. refl) (λ _. refl)
 
 module _ (s : Sequencer) where
   confirm_has : (m : MemberNumber) (number : SequenceNumber) → Has s.group (confirm_of s m number)
   unfolding confirm_of answered with_mark
   confirm_has m number =
-      if_elim (Has s.group) (number.0 ≤? s.accepted.0) (λ _. refl) (λ _. settled_has (with_mark s m number) (enough_in (with_mark s m number)))
+      when_elim (Has s.group) (number.0 ≤? s.accepted.0) (λ _. refl) (λ _. settled_has (with_mark s m number) (enough_in (with_mark s m number)))
 
   content_has : (packet : Packet) (payload : List ℕ) → Has s.group (content_step s packet payload)
   unfolding content_step answered note_of with_table
@@ -81,8 +81,8 @@ module _ (s : Sequencer) where
   read_has : (reading : Reading) (payload : List ℕ) → Has s.group (read_step s reading payload)
   unfolding read_step answered
   read_has (Fields h) payload =
-      if_elim (Has s.group) (from_elected s.group (content_of h))
-      (λ _. if_elim (Has s.group) (h.group =? s.group.number) (λ _. content_has (content_of h) payload) (λ _. refl))
+      when_elim (Has s.group) (from_elected s.group (content_of h))
+      (λ _. when_elim (Has s.group) (h.group =? s.group.number) (λ _. content_has (content_of h) payload) (λ _. refl))
       (λ _. refl)
   read_has (Reading.Refused refusal) payload = refl
 

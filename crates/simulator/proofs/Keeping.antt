@@ -2,7 +2,7 @@
 use mathlib.Core.Path.{◌≡◌, refl}
 use mathlib.Core.List.{List}
 use Prim.Native.Nat.{ℕ, ◌+◌, ◌-◌}
-use Rattle.group.proofs.Lists.{if_elim, judged_elim}
+use Rattle.group.proofs.Lists.{when_elim, judged_elim}
 use Rattle.group.specs.Choice.{◌and◌, ◌<?◌, ◌≤?◌, ◌=?◌}
 use Rattle.group.specs.Limits.{held_most}
 use Rattle.group.specs.Members.{is_in, expected_of}
@@ -32,13 +32,13 @@ module _ (m : Member) where
   submit_has payload room =
       judged_elim (Has m) (call_verdict m room) (λ _ _. (refl, refl))
       (λ _. judged_elim (Has m) (submit_verdict m _) (λ _ _. (refl, refl))
-      (λ _. if_elim (Has m) (m.waiting =? 0) (λ _. (refl, refl)) (λ _. (refl, refl))))
+      (λ _. when_elim (Has m) (m.waiting =? 0) (λ _. (refl, refl)) (λ _. (refl, refl))))
 
   repeat_has : (room : ℕ) → Has m (repeat_of m room)
   unfolding repeat_of answered
   repeat_has room =
       judged_elim (Has m) (call_verdict m room) (λ _ _. (refl, refl))
-      (λ _. if_elim (Has m) (1 ≤? m.waiting) (λ _. (refl, refl)) (λ _. (refl, refl)))
+      (λ _. when_elim (Has m) (1 ≤? m.waiting) (λ _. (refl, refl)) (λ _. (refl, refl)))
 
   status_has : (room : ℕ) → Has m (status_of m room)
   unfolding status_of answered
@@ -48,19 +48,19 @@ module _ (m : Member) where
   unfolding take_of took_of with_taken answered
   take_has room =
       judged_elim (Has m) (call_verdict m room) (λ _ _. (refl, refl))
-      (λ _. if_elim (Has m) (is_ready m (m.taken.0 + 1)) (λ _. (refl, refl)) (λ _. (refl, refl)))
+      (λ _. when_elim (Has m) (is_ready m (m.taken.0 + 1)) (λ _. (refl, refl)) (λ _. (refl, refl)))
 
   -- where a number is missing below, a gap is written; what is left is the same
   gap_has : (m' : Member) (last : ℕ) (gapped : Answer) (whole : Outcome) → (m'.group ≡ m.group) × (m'.number ≡ m.number) → Has m whole → Has m (gap_up_to m' last gapped whole)
   unfolding gap_up_to
-  gap_has m' last gapped whole s w = if_elim (Has m) (lowest_missing m'.held m'.taken.0 (last - m'.taken.0) =? 0) (λ _. w) (λ _. s)
+  gap_has m' last gapped whole s w = when_elim (Has m) (lowest_missing m'.held m'.taken.0 (last - m'.taken.0) =? 0) (λ _. w) (λ _. s)
 
   message_has : (m' : Member) (originator : MemberNumber) (number count : ℕ) (payload : List ℕ) → (m'.group ≡ m.group) × (m'.number ≡ m.number) → Has m (message_step m' originator number count payload)
   unfolding message_step kept_of answered with_held
   message_has m' originator number count payload s =
-      if_elim (Has m) (number ≤? m'.taken.0) (λ _. s)
-      (λ _. if_elim (Has m) (number ≤? m'.taken.0 + held_most)
-      (λ _. if_elim (Has m) (is_held m'.held number) (λ _. s)
+      when_elim (Has m) (number ≤? m'.taken.0) (λ _. s)
+      (λ _. when_elim (Has m) (number ≤? m'.taken.0 + held_most)
+      (λ _. when_elim (Has m) (is_held m'.held number) (λ _. s)
       (λ _. gap_has (with_held m' number (message_of originator count payload)) (number - 1) Answer.KeptGap _ s s))
       (λ _. gap_has m' (m'.taken.0 + held_most) Answer.BeyondGap _ s s))
 
@@ -72,7 +72,7 @@ module _ (m : Member) where
   confirmed_has : (o : Outcome) (number : ℕ) → Has m o → Has m (confirmed_of o number)
   unfolding confirmed_of
   confirmed_has o number h =
-      if_elim (Has m) (confirms o.answer and none_missing o.member number and is_in (expected_of o.member.group) o.member.number.0) (λ _. h) (λ _. h)
+      when_elim (Has m) (confirms o.answer and none_missing o.member number and is_in (expected_of o.member.group) o.member.number.0) (λ _. h) (λ _. h)
 
   offer_has : (originator : MemberNumber) (number count : ℕ) (payload : List ℕ) → Has m (offer_of m originator number count payload)
   unfolding offer_of
@@ -82,12 +82,12 @@ module _ (m : Member) where
   unfolding content_step answered poll_of with_accepted
   content_has (Request sender taken count) payload = (refl, refl)
   content_has (Broadcast originator number count floor) payload =
-      if_elim (Has m) (originator.0 <? m.group.n) (λ _. broadcast_has originator number.0 count payload) (λ _. (refl, refl))
+      when_elim (Has m) (originator.0 <? m.group.n) (λ _. broadcast_has originator number.0 count payload) (λ _. (refl, refl))
   content_has (Gap sender taken first last) payload = (refl, refl)
   content_has (Status sender taken) payload = (refl, refl)
   content_has (Poll elected top floor) payload = gap_has m _ Answer.Gap _ (refl, refl) (refl, refl)
   content_has (Offer originator number count floor) payload =
-      if_elim (Has m) (originator.0 <? m.group.n) (λ _. offer_has originator number.0 count payload) (λ _. (refl, refl))
+      when_elim (Has m) (originator.0 <? m.group.n) (λ _. offer_has originator number.0 count payload) (λ _. (refl, refl))
   content_has (Confirm sender number) payload = (refl, refl)
   content_has (Accept elected number) payload = (refl, refl)
   content_has (Invitation sender attempt) payload = (refl, refl)
@@ -97,8 +97,8 @@ module _ (m : Member) where
   read_has : (reading : Reading) (payload : List ℕ) → Has m (read_step m reading payload)
   unfolding read_step answered
   read_has (Fields h) payload =
-      if_elim (Has m) (from_elected m.group (content_of h))
-      (λ _. if_elim (Has m) (h.group =? m.group.number) (λ _. content_has (content_of h) payload) (λ _. (refl, refl)))
+      when_elim (Has m) (from_elected m.group (content_of h))
+      (λ _. when_elim (Has m) (h.group =? m.group.number) (λ _. content_has (content_of h) payload) (λ _. (refl, refl)))
       (λ _. (refl, refl))
   read_has (Reading.Refused refusal) payload = (refl, refl)
 

@@ -6,8 +6,8 @@ use native.Mathlib.Omega.{arith}
 use borrow.Author.Tests.{lt-ltb, ltb-true, le-leb, leb-true}
 use lib.ListN.{length, get_or, set}
 use lib.Seq.{get_or-set_same, get_or-set_other}
-use Rattle.group.proofs.Choice.{if_true, both_hold, both_then}
-use Rattle.group.proofs.Lists.{if_elim, eq_or}
+use Rattle.group.proofs.Choice.{when_true, both_hold, both_then}
+use Rattle.group.proofs.Lists.{when_elim, eq_or}
 use Rattle.group.proofs.Question.{accepted≢}
 use Rattle.group.specs.Choice.{◌and◌, ◌<?◌, ◌≤?◌}
 use Rattle.group.specs.Limits.{members_most}
@@ -36,7 +36,7 @@ Itself o = o.member ≡ fresh_member o.member.group o.member.number
 
 fresh_itself : (n number resilience i : ℕ) → Itself (member.fresh_of n (record { 0 = i }) number resilience)
 unfolding member.fresh_of member.opened_of fresh_member
-fresh_itself n number resilience i = if_elim Itself (i <? n) (λ _. opened (open_of n number resilience)) (λ _. refl)
+fresh_itself n number resilience i = when_elim Itself (i <? n) (λ _. opened (open_of n number resilience)) (λ _. refl)
   where
     opened : (o : answer.Opened) → Itself (member.opened_of o (record { 0 = i }))
     opened (answer.Opened.Open g) = refl
@@ -85,10 +85,10 @@ module _ (n number resilience : ℕ) where
   fresh_is : (i : ℕ) → i < n → n ≤ members_most → resilience < n → fresh_at i ≡ fresh_member (description_of n number resilience) (record { 0 = i })
   unfolding member.fresh_of member.opened_of open_of
   fresh_is i h k d =
-      ap (λ (o : member.Opening). o.member) (sym (if_true (i <? n) _ _ _ (lt-ltb i n h) refl))
+      ap (λ (o : member.Opening). o.member) (sym (when_true (i <? n) _ _ _ (lt-ltb i n h) refl))
       ∙ ap (λ (o : answer.Opened). (member.opened_of o (record { 0 = i })).member)
-      (sym (if_true (1 ≤? n and n ≤? members_most) _ _ _ (both_hold (1 ≤? n) (n ≤? members_most) (le-leb 1 n (omega arith)) (le-leb n members_most k)) refl)
-      ∙ sym (if_true (resilience <? n) _ _ _ (lt-ltb resilience n d) refl))
+      (sym (when_true (1 ≤? n and n ≤? members_most) _ _ _ (both_hold (1 ≤? n) (n ≤? members_most) (le-leb 1 n (omega arith)) (le-leb n members_most k)) refl)
+      ∙ sym (when_true (resilience <? n) _ _ _ (lt-ltb resilience n d) refl))
 
   -- all of them
   members_are : (t : Terminals) (i k : ℕ) → ((j : ℕ) → i ≤ j → j < i + k → member_at t j ≡ fresh_at j) → list_of (member_at t) i k ≡ fresh_members n number resilience i k
@@ -120,8 +120,8 @@ module _ (n number resilience : ℕ) where
   opened_small : Small (sequencer.fresh_of n number resilience)
   unfolding sequencer.fresh_of sequencer.opened_of open_of fresh_sequencer
   opened_small =
-      if_elim (λ (o : answer.Opened). Small (sequencer.opened_of o)) (1 ≤? n and n ≤? members_most)
-      (λ t. if_elim (λ (o : answer.Opened). Small (sequencer.opened_of o)) (resilience <? n)
+      when_elim (λ (o : answer.Opened). Small (sequencer.opened_of o)) (1 ≤? n and n ≤? members_most)
+      (λ t. when_elim (λ (o : answer.Opened). Small (sequencer.opened_of o)) (resilience <? n)
       (λ d.
       record {
         few = leb-true n members_most (both_then (1 ≤? n) (n ≤? members_most) t);

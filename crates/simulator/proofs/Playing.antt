@@ -6,7 +6,7 @@ use Prim.Native.Nat.{ℕ, ◌<◌}
 use native.Mathlib.Omega.{arith}
 use lib.ListN.{length, take, get_or, get_elem?}
 use lib.Seq.{take_all}
-use Rattle.group.specs.Choice.{if◌then◌else◌, ◌<?◌}
+use Rattle.group.specs.Choice.{when◌then◌else◌, ◌<?◌}
 use Rattle.group.specs.Limits.{longest_packet}
 use Rattle.group.specs.declared.Group as group
 use Rattle.group.specs.declared.SequenceNumber.{SequenceNumber}
@@ -28,10 +28,10 @@ use Rattle.simulator.specs.declared.SequencerCall.TheVariants as calls
 -- a call of a member that writes packets; all of its bytes are the packet
 module _ (i : ℕ) (g : Group) where
   written_all : (o : member.Outcome)
-      → (if i <? length g.members then with_member g i o (written (take (length o.bytes) o.bytes)) else missing g)
-      ≡ (if i <? length g.members then with_member g i o (written o.bytes) else missing g)
+      → (when i <? length g.members then with_member g i o (written (take (length o.bytes) o.bytes)) else missing g)
+      ≡ (when i <? length g.members then with_member g i o (written o.bytes) else missing g)
   written_all o =
-      ap (λ (b : List ℕ). if i <? length g.members then with_member g i o (written b) else missing g) (take_all (length o.bytes) o.bytes (omega arith))
+      ap (λ (b : List ℕ). when i <? length g.members then with_member g i o (written b) else missing g) (take_all (length o.bytes) o.bytes (omega arith))
 
   pub submit_is : (payload : List ℕ) → happened_at call.Submit i payload g ≡ happen g (world.submit i payload)
   unfolding happened_at outcome_of kept_size happen

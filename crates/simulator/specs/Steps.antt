@@ -1,7 +1,7 @@
 -- What the steps inside the code promise, in terms of the parts of the group that each is lent.
 use Rattle.std.specs.Prelude.{◌≡◌, List, [], ◌∷◌, ◌++◌, Bool, ℕ, ◌+◌, ◌≤◌, ◌<◌, length, take, get_or}
 use Rattle.std.proofs.Math.ListN.{get_elem?}
-use Rattle.group.specs.Choice.{if◌then◌else◌, ◌and◌, ◌<?◌, ◌≤?◌}
+use Rattle.group.specs.Choice.{when◌then◌else◌, ◌and◌, ◌<?◌, ◌≤?◌}
 use Rattle.group.specs.Lent.{front}
 use Rattle.group.specs.Limits.{members_most, longest_packet}
 use Rattle.member.specs.Calls as member
@@ -37,7 +37,7 @@ there_of count n k limit = room_of count n and k <? limit
 
 -- how many bytes a stored packet has: its length, where its array has as many
 unfoldable pub fitting_of : ℕ → ℕ
-fitting_of size = if size <? longest_packet then size else longest_packet
+fitting_of size = when size <? longest_packet then size else longest_packet
 
 -- a take writes a payload and no packet
 unfoldable pub kept_size : MemberCall → ℕ → ℕ
@@ -98,7 +98,7 @@ pub record Stores (p : Packets) (size : ℕ) (bytes : List ℕ) (p' : Packets) :
 -- an event of member i, if there is such a member: it happens to every group that has these members and packets
 unfoldable pub happened_at : MemberCall → ℕ → List ℕ → Group → Happened
 happened_at call i bytes g =
-    if i <? length g.members
+    when i <? length g.members
     then with_member g i (outcome_of call bytes longest_packet (get_or g.members i no_member))
     (written (take (kept_size call (length (outcome_of call bytes longest_packet (get_or g.members i no_member)).bytes)) (outcome_of call bytes longest_packet (get_or g.members i no_member)).bytes))
     else missing g

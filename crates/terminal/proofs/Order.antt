@@ -9,7 +9,7 @@ use native.Mathlib.Omega.{arith}
 use borrow.Author.Tests.{eq-eqb, ne_eqb, leb-true, leb-false}
 use lib.ListN.{length, take, get_elem?, get_or, set, length-append}
 use lib.Seq.{take-nil}
-use Rattle.group.specs.Choice.{if◌then◌else◌, ◌and◌, ◌<?◌, ◌≤?◌, ◌=?◌}
+use Rattle.group.specs.Choice.{when◌then◌else◌, ◌and◌, ◌<?◌, ◌≤?◌, ◌=?◌}
 use Rattle.group.specs.Limits.{members_most, places_most, longest_packet, largest_number}
 use Rattle.group.specs.Opening.{description_of}
 use Rattle.group.specs.declared.Group as description
@@ -17,7 +17,7 @@ use Rattle.group.specs.declared.MemberNumber.{MemberNumber}
 use Rattle.group.specs.declared.Refusal.{Refusal}
 use Rattle.group.specs.declared.Refusal.TheVariants.{ForbiddenFields, OtherGroup, OtherEnd, NotInHistory}
 use Rattle.group.specs.declared.SequenceNumber.{SequenceNumber}
-use Rattle.group.proofs.Lists.{if_elim, judged_elim, at_le, at_last, All}
+use Rattle.group.proofs.Lists.{when_elim, judged_elim, at_le, at_last, All}
 use Rattle.history.specs.Ask.{sender_verdict, count_verdict, wanted_verdict, expected_verdict}
 use Rattle.history.specs.Note.{larger_of}
 use Rattle.history.specs.Repeat.{find_of}
@@ -60,7 +60,7 @@ use Rattle.terminal.proofs.Lists.{list_folds}
 -- the message that a packet broadcasts or offers under a number
 unfoldable broadcasts : ℕ → Reading → List ℕ → List Ordered
 broadcasts s (Fields h) payload =
-    if is_message h and h.a =? s
+    when is_message h and h.a =? s
     then record { number = s; originator = h.member.0; count = h.b; payload = payload } ∷ []
     else []
 broadcasts s (Reading.Refused refusal) payload = []
@@ -86,7 +86,7 @@ order_append s (packet ∷ a) b =
 
 -- ---- the list is fed the first of them
 abbrev found : Ordered → Bool → Bool → List Ordered
-found m a b = if a and b then m ∷ [] else []
+found m a b = when a and b then m ∷ [] else []
 
 module _ (t : ℕ) where
   abbrev left : List Job → ℕ → Left
@@ -96,7 +96,7 @@ module _ (t : ℕ) where
       → ((jobs : List Job) (s : ℕ) → (heard_all t (left jobs s) rest).jobs ≡ fed_by jobs (take (t + 1 - s) (order_in s rest)))
       → (heard_all t (heard_of t (left jobs s) reading payload) rest).jobs
       ≡ fed_by jobs (take (t + 1 - s) (broadcasts s reading payload ++ order_in (s + length (broadcasts s reading payload)) rest))
-  unfolding heard_of broadcasts is_next fed_by if◌then◌else◌
+  unfolding heard_of broadcasts is_next fed_by when◌then◌else◌
   heard_one jobs s (Reading.Refused refusal) payload rest more = let e : s ≡ s + 0 = omega arith in more jobs s ∙ ap (λ (k : ℕ). fed_by jobs (take (t + 1 - s) (order_in k rest))) e
   heard_one jobs s (Fields h) payload rest more = go (is_message h) (h.a =? s) (s ≤? t) refl
     where
@@ -107,7 +107,7 @@ module _ (t : ℕ) where
       m = record { number = s; originator = h.member.0; count = h.b; payload = payload }
 
       go : (a b c : Bool) → (s ≤? t) ≡ c
-          → (heard_all t (if a and b and c then left (feed_of jobs h.member payload).jobs (s + 1) else left jobs s) rest).jobs
+          → (heard_all t (when a and b and c then left (feed_of jobs h.member payload).jobs (s + 1) else left jobs s) rest).jobs
           ≡ fed_by jobs (take (t + 1 - s) (found m a b ++ order_in (s + length (found m a b)) rest))
       go false b c e = same
       go true false c e = same
@@ -155,16 +155,16 @@ request_copies : (s : Sequencer) (m : MemberNumber) (count : ℕ) (payload : Lis
 unfolding sequencer.request_of sequencer.again_of sequencer.full_of
 request_copies s m count payload =
     let found = find_of s.history m count s.floor.0 (s.top.0 - s.floor.0) in
-    if_elim Copies (count <? last_count s m) (λ t. old_copies s m)
-    (λ f. if_elim Copies (count =? last_count s m)
-    (λ t. if_elim Copies (found =? 0) (λ t. old_copies s m) (λ f. quiet (sequencer.repeated_of s m) (Again (record { 0 = found })) (sequencer.broadcast_of s found) (λ number e. no_zero (cc))))
-    (λ f. if_elim Copies (s.top.0 - s.floor.0 =? places_most) (λ t. quiet s Full (sequencer.poll_packet s) (λ number e. no_zero (cc)))
+    when_elim Copies (count <? last_count s m) (λ t. old_copies s m)
+    (λ f. when_elim Copies (count =? last_count s m)
+    (λ t. when_elim Copies (found =? 0) (λ t. old_copies s m) (λ f. quiet (sequencer.repeated_of s m) (Again (record { 0 = found })) (sequencer.broadcast_of s found) (λ number e. no_zero (cc))))
+    (λ f. when_elim Copies (s.top.0 - s.floor.0 =? places_most) (λ t. quiet s Full (sequencer.poll_packet s) (λ number e. no_zero (cc)))
     (λ f. numbered_copies s m count payload)))
 
 gap_copies : (s : Sequencer) (first last : SequenceNumber) → Copies (sequencer.gap_of s first last)
 unfolding sequencer.gap_of sequencer.answered
 gap_copies s first last =
-    if_elim Copies (last.0 ≤? s.floor.0) (λ t. quiet s Noted [] (λ number e. no_zero (cc)))
+    when_elim Copies (last.0 ≤? s.floor.0) (λ t. quiet s Noted [] (λ number e. no_zero (cc)))
     (λ f. quiet s (Wanted (record { 0 = larger_of first.0 (s.floor.0 + 1) }) last) [] (λ number e. no_zero (cc)))
 
 confirm_copies : (s : Sequencer) (m : MemberNumber) (number : SequenceNumber) → Copies (sequencer.confirm_of s m number)
@@ -172,8 +172,8 @@ unfolding sequencer.confirm_of sequencer.settled_of sequencer.answered
 confirm_copies s m number =
     let s' : Sequencer = sequencer.with_mark s m number in
     let k : ℕ = sequencer.enough_in s' in
-    if_elim Copies (number.0 ≤? s.accepted.0) (λ t. quiet s Old [] (λ number e. no_zero (cc)))
-    (λ f. if_elim Copies (k =? 0) (λ t. quiet s' Marked [] (λ number e. no_zero (cc)))
+    when_elim Copies (number.0 ≤? s.accepted.0) (λ t. quiet s Old [] (λ number e. no_zero (cc)))
+    (λ f. when_elim Copies (k =? 0) (λ t. quiet s' Marked [] (λ number e. no_zero (cc)))
     (λ f. quiet (sequencer.with_accepted s' k) sequencerAnswer.Answer.Accepted (sequencer.accept_packet (sequencer.with_accepted s' k)) (λ number e. no_zero (cc))))
 
 content_copies : (s : Sequencer) (content : Packet) (payload : List ℕ) → Copies (sequencer.content_step s content payload)
@@ -202,8 +202,8 @@ content_copies s (Result sender attempt elected number) payload = refused_copies
 read_copies : (s : Sequencer) (reading : Reading) (payload : List ℕ) → Copies (sequencer.read_step s reading payload)
 unfolding sequencer.read_step
 read_copies s (Fields h) payload =
-    if_elim Copies (from_elected s.group (content_of h))
-    (λ u. if_elim Copies (h.group =? s.group.number) (λ t. content_copies s (content_of h) payload) (λ f. refused_copies s OtherGroup))
+    when_elim Copies (from_elected s.group (content_of h))
+    (λ u. when_elim Copies (h.group =? s.group.number) (λ t. content_copies s (content_of h) payload) (λ f. refused_copies s OtherGroup))
     (λ u. refused_copies s ForbiddenFields)
 read_copies s (Reading.Refused refusal) payload = refused_copies s refusal
 
@@ -219,13 +219,13 @@ copy_copies : (s : Sequencer) (number : SequenceNumber) (room : ℕ) → Copies 
 unfolding sequencer.copy_of
 copy_copies s number room =
     judged_elim Copies (sequencer.call_verdict s room) (λ r e. refused_copies s r)
-    (λ e. if_elim Copies (s.floor.0 <? number.0 and number.0 ≤? s.top.0) (λ t. quiet s Sent (sequencer.broadcast_of s number.0) (λ number e. no_zero (cc)))
+    (λ e. when_elim Copies (s.floor.0 <? number.0 and number.0 ≤? s.top.0) (λ t. quiet s Sent (sequencer.broadcast_of s number.0) (λ number e. no_zero (cc)))
     (λ f. refused_copies s NotInHistory))
 
 -- ---- a packet that the group knows is no message of the number after the order
 fields_under : (g : ℕ) (f : Facts) (content : Packet) (payload rest : List ℕ) → Says f content payload
     → broadcasts (1 + length f.order) (Fields (fields_of g content)) rest ≡ []
-unfolding broadcasts fields_of if◌then◌else◌
+unfolding broadcasts fields_of when◌then◌else◌
 fields_under g f (Request sender taken count) payload rest says = refl
 fields_under g f (Broadcast originator number count floor) payload rest says =
     let l = at_le f.order number.0 says.0 in
@@ -260,7 +260,7 @@ all_under g f (packet ∷ rest) k =
 announced_under : (g : ℕ) (accepted : SequenceNumber) (originator : MemberNumber) (number : SequenceNumber) (count : ℕ) (floor : SequenceNumber) (payload : List ℕ)
     → broadcasts number.0 (Fields (fields_of g (sequencer.announced accepted originator number count floor))) payload
     ≡ record { number = number.0; originator = originator.0; count = count; payload = payload } ∷ []
-unfolding broadcasts fields_of if◌then◌else◌
+unfolding broadcasts fields_of when◌then◌else◌
 announced_under g accepted originator number count floor payload =
     announced_each
     (λ (p : Packet). broadcasts number.0 (Fields (fields_of g p)) payload ≡ record { number = number.0; originator = originator.0; count = count; payload = payload } ∷ [])
@@ -361,13 +361,13 @@ module _ (group : description.Group) (w : Group) (ord : List Ordered) (tk : ℕ 
       go sequencerAnswer.Answer.Accepted e = told sequencerAnswer.Answer.Accepted e refl
 
   at_grows : (i : ℕ) (call : Member → member.Outcome) → Grows (at_member w i call)
-  at_grows i call = if_elim Grows (i <? length w.members) (λ b. member_grows i (call (get_or w.members i no_member)) _) (λ b. missing_grows)
+  at_grows i call = when_elim Grows (i <? length w.members) (λ b. member_grows i (call (get_or w.members i no_member)) _) (λ b. missing_grows)
 
   step_grows : (e : Event) → Grows (happen w e)
   unfolding happen
   step_grows (submit i payload) = at_grows i (λ m. member.submit_of m payload longest_packet)
   step_grows (repeat i) = at_grows i (λ m. member.repeat_of m longest_packet)
-  step_grows (world.take i) = if_elim Grows (i <? length w.members) (λ b. member_grows i (member.take_of (get_or w.members i no_member) longest_packet) []) (λ b. missing_grows)
+  step_grows (world.take i) = when_elim Grows (i <? length w.members) (λ b. member_grows i (member.take_of (get_or w.members i no_member) longest_packet) []) (λ b. missing_grows)
   step_grows (status i) = at_grows i (λ m. member.status_of m longest_packet)
   step_grows poll = sequencer_grows (sequencer.poll_of w.sequencer longest_packet) (poll_copies w.sequencer longest_packet)
   step_grows (copy number) = sequencer_grows (sequencer.copy_of w.sequencer (record { 0 = number }) longest_packet) (copy_copies w.sequencer (record { 0 = number }) longest_packet)

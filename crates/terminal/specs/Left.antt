@@ -1,7 +1,7 @@
 -- Each terminal's work list, read off a group: its packets in the sequence in which they were written. The broadcast or the offer of
 -- each number was first written when the number was given, so that the first ones of 1, 2, .. are the order; terminal i took it up to t.
 use Rattle.std.specs.Prelude.{Bool, true, List, [], ◌∷◌, ℕ, ◌+◌, get_or}
-use Rattle.group.specs.Choice.{if◌then◌else◌, ◌and◌, ◌≤?◌, ◌=?◌}
+use Rattle.group.specs.Choice.{when◌then◌else◌, ◌and◌, ◌≤?◌, ◌=?◌}
 use Rattle.jobs.specs.Feed.{feed_of}
 use Rattle.jobs.specs.Job.{no_jobs}
 use Rattle.jobs.specs.declared.Job.{Job}
@@ -14,7 +14,7 @@ use Rattle.terminal.specs.declared.Left.{Left}
 
 -- the fields are those of a message's packet: a broadcast or an offer
 abbrev pub is_message : Header → Bool
-is_message h = if h.kind =? broadcast_kind then true else h.kind =? offer_kind
+is_message h = when h.kind =? broadcast_kind then true else h.kind =? offer_kind
 
 -- they are those of the message of that number, and it was taken
 unfoldable pub is_next : ℕ → ℕ → Header → Bool
@@ -23,7 +23,7 @@ is_next t number h = is_message h and h.a =? number and number ≤? t
 -- a packet: where it is the message of the number that comes next, the list is fed its message
 unfoldable pub heard_of : ℕ → Left → Reading → List ℕ → Left
 heard_of t left (Fields h) payload =
-    if is_next t left.next h
+    when is_next t left.next h
     then record { jobs = (feed_of left.jobs h.member payload).jobs; next = left.next + 1 }
     else left
 heard_of t left (Reading.Refused refusal) payload = left

@@ -3,7 +3,7 @@
 #![tactic(auto)]
 
 ghost use Rattle.std.specs.Prelude.{◌≡◌};
-ghost use Rattle.group.specs.Choice.{if◌then◌else◌, ◌=?◌};
+ghost use Rattle.group.specs.Choice.{when◌then◌else◌, ◌=?◌};
 ghost use Rattle.recovery.specs.View.{whole};
 ghost use Rattle.terminal_opening.specs.Opening.{Opens, fresh_of};
 ghost use Rattle.terminal_opening.specs.Steps.{sequencing_of, fresh_head};
@@ -35,7 +35,7 @@ fn sequencing(verdict: Verdict, number: MemberNumber) -> u8
 
 // The members of the sequencer's group: 0 where there is no sequencer.
 fn seats(sequencing: u8, n: u8) -> u8
-    ensures { result ≡ (if sequencing =? 1 then n else 0) }
+    ensures { result ≡ (when sequencing =? 1 then n else 0) }
 {
     if sequencing == 1 {
         return n;

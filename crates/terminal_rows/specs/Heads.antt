@@ -1,11 +1,11 @@
 -- A terminal's head as rows of numbers, by their width.
 use Rattle.std.specs.Prelude.{List, [], ◌∷◌, ℕ, get_or}
-use Rattle.group.specs.Choice.{if◌then◌else◌, ◌=?◌}
+use Rattle.group.specs.Choice.{when◌then◌else◌, ◌=?◌}
 use Rattle.recovery.specs.declared.Head.{Head}
 
 -- a flag is set if it is 1
 unfoldable pub flag_of : ℕ → ℕ
-flag_of stored = if stored =? 1 then 1 else 0
+flag_of stored = when stored =? 1 then 1 else 0
 
 -- the head whose rows these are
 abbrev pub head_in : List ℕ → List ℕ → List ℕ → Head

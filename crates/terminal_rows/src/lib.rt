@@ -3,7 +3,7 @@
 #![tactic(auto)]
 
 ghost use Rattle.std.specs.Prelude.{◌≡◌, ◌<◌, [], length, get_or, set};
-ghost use Rattle.group.specs.Choice.{if◌then◌else◌, ◌=?◌};
+ghost use Rattle.group.specs.Choice.{when◌then◌else◌, ◌=?◌};
 ghost use Rattle.sequencer.specs.Calls.{fresh_of};
 ghost use Rattle.simulator.specs.Steps.{fitting_of};
 ghost use Rattle.terminal_rows.specs.Heads.{flag_of, head_in, small_of, masks_of, numbers_of};
@@ -299,7 +299,7 @@ pub fn admits(call: Call, sequencing: bool) -> bool
 
 // How many members the sequencer of terminal i is opened with: that of terminal 0 has the group's, and the others have none.
 pub fn served(n: u8, i: u8) -> u8
-    ensures { result ≡ (if i =? 0 then n else 0) }
+    ensures { result ≡ (when i =? 0 then n else 0) }
 {
     if i == 0 {
         return n;

@@ -3,12 +3,12 @@ use mathlib.Core.Path.{◌≡◌, refl, sym, ap, ◌∙◌, subst}
 use mathlib.Core.Bool.{Bool, true, false, false≢true}
 use mathlib.Core.List.{List}
 use Prim.Native.Nat.{ℕ}
-use Rattle.group.specs.Choice.{if◌then◌else◌, ◌and◌, ◌≤?◌}
+use Rattle.group.specs.Choice.{when◌then◌else◌, ◌and◌, ◌≤?◌}
 use Rattle.group.specs.Limits.{members_most, longest_packet}
 use Rattle.group.specs.Members.{group_sound}
 use Rattle.group.specs.declared.Refusal.{Refusal}
 use Rattle.group.specs.declared.Verdict.{Verdict}
-use Rattle.group.proofs.Choice.{if_true, if_false, both_hold, both_first, both_then}
+use Rattle.group.proofs.Choice.{when_true, when_false, both_hold, both_first, both_then}
 use Rattle.window.specs.Sound.{frame_sound}
 use Rattle.member.specs.Calls as member
 use Rattle.member.specs.Promise as memberPromise
@@ -29,14 +29,14 @@ use Rattle.recovery.specs.View.{Stored, View, seen, member_in, kept_in, terminal
 use Rattle.terminals.specs.Steps.{end_verdict}
 
 and_true : (b x : Bool) → x ≡ true → b and x ≡ b
-unfolding if◌then◌else◌
+unfolding when◌then◌else◌
 and_true true x e = e
 and_true false x e = refl
 
 -- a terminal is seen where the flags are sound
 pub seen_as : (s : Stored) → flags_sound s.head ≡ true → view_of s ≡ seen (terminal_of s)
 unfolding view_of
-seen_as s f = sym (if_true (flags_sound s.head) _ _ _ f refl)
+seen_as s f = sym (when_true (flags_sound s.head) _ _ _ f refl)
 
 module _ (s : Stored) where
   abbrev pub beside_of : Bool
@@ -51,7 +51,7 @@ module _ (s : Stored) where
   unfolding beside_sound call_verdict member_sound member.call_verdict terminal_of memberView.view_of reset_sound
   same_verdict room e =
       let rest = both_then (s.head.member.group.n ≤? members_most) _ (both_then (flags_sound s.head) _ e) in
-      ap (λ (b : Bool). if b then (if longest_packet ≤? room then Verdict.Accepted else Verdict.Refused Refusal.ShortOutput) else Verdict.Refused Refusal.UnsoundState)
+      ap (λ (b : Bool). when b then (when longest_packet ≤? room then Verdict.Accepted else Verdict.Refused Refusal.ShortOutput) else Verdict.Refused Refusal.UnsoundState)
       (and_true (memberSoundness.sound_of (memberView.view_of (member_in s))) _ rest)
 
   -- and where it is not, the end's say no
@@ -79,8 +79,8 @@ module _ (s : Stored) where
   end_refused room e = go (flags_sound s.head) refl
     where
       go : (b : Bool) → flags_sound s.head ≡ b → Verdict.Refused Refusal.UnsoundState ≡ end_verdict (view_of s) room
-      go true f = if_false (member_sound (terminal_of s)) _ _ _ (beside_fails f e) refl ∙ sym (ap (λ (x : View). end_verdict x room) (seen_as s f))
-      go false f = sym (ap (λ (x : View). end_verdict x room) (sym (if_false (flags_sound s.head) _ _ _ f refl)))
+      go true f = when_false (member_sound (terminal_of s)) _ _ _ (beside_fails f e) refl ∙ sym (ap (λ (x : View). end_verdict x room) (seen_as s f))
+      go false f = sym (ap (λ (x : View). end_verdict x room) (sym (when_false (flags_sound s.head) _ _ _ f refl)))
 
   seen_called : (call : Terminal → Outcome) → flags_sound s.head ≡ true
       → called call (view_of s) ≡ record { view = seen (call (terminal_of s)).terminal; answer = (call (terminal_of s)).answer; bytes = (call (terminal_of s)).bytes }

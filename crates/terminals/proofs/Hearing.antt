@@ -4,7 +4,7 @@ use mathlib.Core.Path.{◌≡◌, refl, sym, ap, ◌∙◌}
 use mathlib.Core.Bool.{Bool, true, false, false≢true}
 use mathlib.Core.List.{List}
 use Prim.Native.Nat.{ℕ}
-use Rattle.group.specs.Choice.{if◌then◌else◌, ask◌or◌then◌, ◌and◌, ◌=?◌}
+use Rattle.group.specs.Choice.{when◌then◌else◌, ask◌or◌then◌, ◌and◌, ◌=?◌}
 use Rattle.group.specs.Question.{judged}
 use Rattle.group.specs.declared.Refusal.{Refusal}
 use Rattle.group.specs.declared.Verdict.{Verdict}
@@ -20,11 +20,11 @@ use Rattle.terminals.specs.Steps.{resets, closed_refusal, refusal_after, floor_s
 
 -- what is kept where the highest floor read is the one after the answer
 pub read_kept : (kept : Kept) (answer : Answer) (r : Reading) → record { read = read_after kept.read answer r; past = kept.past; counts = kept.counts } ≡ kept_read kept answer (floor_said r)
-unfolding read_after kept_read if◌then◌else◌
+unfolding read_after kept_read when◌then◌else◌
 read_kept kept answer r = go (is_refusal answer)
   where
-    go : (b : Bool) → record { read = if b then kept.read else record { 0 = larger_of kept.read.0 (floor_said r) }; past = kept.past; counts = kept.counts }
-        ≡ (if b then kept else record { read = record { 0 = larger_of kept.read.0 (floor_said r) }; past = kept.past; counts = kept.counts })
+    go : (b : Bool) → record { read = when b then kept.read else record { 0 = larger_of kept.read.0 (floor_said r) }; past = kept.past; counts = kept.counts }
+        ≡ (when b then kept else record { read = record { 0 = larger_of kept.read.0 (floor_said r) }; past = kept.past; counts = kept.counts })
     go true = refl
     go false = refl
 
@@ -34,10 +34,10 @@ module _ (t : Terminal) where
 
   -- question by question: without a reply open
   heard_asked : (from ours reset pending : Bool) (a : Outcome) (o : member.Outcome) (floor : ℕ) → reset ≡ false → pending ≡ false
-      → (ask from or refused t Refusal.ForbiddenFields then (if reset then a else (ask (ours and (if pending then false else true)) or refused t Refusal.OtherGroup then carried t (kept_read t.kept o.answer floor) o)))
+      → (ask from or refused t Refusal.ForbiddenFields then (when reset then a else (ask (ours and (when pending then false else true)) or refused t Refusal.OtherGroup then carried t (kept_read t.kept o.answer floor) o)))
       ≡ carried t (kept_read t.kept (ask from or member.refused m Refusal.ForbiddenFields then ask ours or member.refused m Refusal.OtherGroup then o).answer floor)
       (ask from or member.refused m Refusal.ForbiddenFields then ask ours or member.refused m Refusal.OtherGroup then o)
-  unfolding if◌then◌else◌ refused member.answered kept_read is_refusal
+  unfolding when◌then◌else◌ refused member.answered kept_read is_refusal
   heard_asked true true false false a o floor r p = refl
   heard_asked true false false false a o floor r p = refl
   heard_asked false ours false false a o floor r p = refl
@@ -46,16 +46,16 @@ module _ (t : Terminal) where
 
   heard_step : t.reset.replied ≡ false → (r : Reading) (payload : List ℕ) → resets r ≡ false
       → read_step t r payload ≡ carried t (kept_read t.kept (member.read_step m r payload).answer (floor_said r)) (member.read_step m r payload)
-  unfolding read_step member.read_step resets floor_said heard_of kept_read is_refusal refused member.answered if◌then◌else◌
+  unfolding read_step member.read_step resets floor_said heard_of kept_read is_refusal refused member.answered when◌then◌else◌
   heard_step p (Reading.Refused refusal) payload e = refl
   heard_step p (Reading.Fields h) payload e =
       heard_asked (from_elected m.group (content_of h)) (h.group =? m.group.number) (of_reset (content_of h)) t.reset.replied _ (member.content_step m (content_of h) payload) (floor_in (content_of h)) e p
 
   -- with one
   closed_asked : (from ours reset pending : Bool) (a b : Outcome) → reset ≡ false → pending ≡ true
-      → (ask from or refused t Refusal.ForbiddenFields then (if reset then a else (ask (ours and (if pending then false else true)) or refused t Refusal.OtherGroup then b)))
+      → (ask from or refused t Refusal.ForbiddenFields then (when reset then a else (ask (ours and (when pending then false else true)) or refused t Refusal.OtherGroup then b)))
       ≡ refused t (ask from or Refusal.ForbiddenFields then Refusal.OtherGroup)
-  unfolding if◌then◌else◌
+  unfolding when◌then◌else◌
   closed_asked true true false true a b r p = refl
   closed_asked true false false true a b r p = refl
   closed_asked false ours false true a b r p = refl
@@ -71,7 +71,7 @@ module _ (t : Terminal) where
     -- the whole call
     pub heard_own : t.reset.replied ≡ false
         → receive_of t packet room ≡ carried t (kept_read t.kept (member.receive_of m packet room).answer (floor_said (read_of packet))) (member.receive_of m packet room)
-    unfolding receive_of member.receive_of judged refused member.answered kept_read is_refusal if◌then◌else◌
+    unfolding receive_of member.receive_of judged refused member.answered kept_read is_refusal when◌then◌else◌
     heard_own p = ap (λ (v : Verdict). judged v (refused t) (read_step t (read_of packet) (payload_at packet))) same ∙ go (member.call_verdict m room)
       where
         inner : member.Outcome

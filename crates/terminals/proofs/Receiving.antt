@@ -6,7 +6,7 @@ use Prim.Native.Nat.{ℕ, ◌-◌, ◌≤◌, ◌<◌}
 use native.Mathlib.Omega.{arith}
 use borrow.Author.Tests.{leb-true, ltb-true}
 use lib.ListN.{length}
-use Rattle.group.specs.Choice.{if◌then◌else◌, ◌≤?◌}
+use Rattle.group.specs.Choice.{when◌then◌else◌, ◌≤?◌}
 use Rattle.group.specs.Limits.{header_size, longest_packet}
 use Rattle.group.specs.Question.{judged}
 use Rattle.group.specs.declared.Refusal.{Refusal}
@@ -31,10 +31,10 @@ use Rattle.terminals.proofs.Freezing.{reset_kind}
 
 -- questions 1 and 2 of what is seen
 room_of : (t : Terminal) (room : ℕ) → call_verdict t room ≡ Verdict.Accepted → longest_packet ≤ room
-unfolding call_verdict if◌then◌else◌
+unfolding call_verdict when◌then◌else◌
 room_of t room e = leb-true longest_packet room (go (member_sound t) (longest_packet ≤? room) e)
   where
-    go : (a b : Bool) → (if a then (if b then Verdict.Accepted else Verdict.Refused Refusal.ShortOutput) else Verdict.Refused Refusal.UnsoundState) ≡ Verdict.Accepted → b ≡ true
+    go : (a b : Bool) → (when a then (when b then Verdict.Accepted else Verdict.Refused Refusal.ShortOutput) else Verdict.Refused Refusal.UnsoundState) ≡ Verdict.Accepted → b ≡ true
     go true true h = refl
     go true false h = let z : ◌≡◌ {A = ℕ} 0 1 = cc in absurd (omega arith)
     go false b h = let z : ◌≡◌ {A = ℕ} 0 1 = cc in absurd (omega arith)

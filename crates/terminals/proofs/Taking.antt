@@ -7,7 +7,7 @@ use native.Mathlib.Omega.{arith}
 use borrow.Author.Tests.{leb-true, eqb-true}
 use lib.ListN.{length, take, drop, get_or, set, replicate, length-append, length-take, length-drop, take-append-drop}
 use lib.Seq.{take_at, length-take-le}
-use Rattle.group.specs.Choice.{if◌then◌else◌, ◌≤?◌, ◌=?◌}
+use Rattle.group.specs.Choice.{when◌then◌else◌, ◌≤?◌, ◌=?◌}
 use Rattle.group.specs.Lent.{front}
 use Rattle.group.specs.Limits.{held_most, payload_most, longest_packet}
 use Rattle.group.specs.Question.{judged}
@@ -15,9 +15,9 @@ use Rattle.group.specs.declared.MemberNumber.{MemberNumber}
 use Rattle.group.specs.declared.Refusal.{Refusal}
 use Rattle.group.specs.declared.SequenceNumber.{SequenceNumber}
 use Rattle.group.specs.declared.Verdict.{Verdict}
-use Rattle.group.proofs.Choice.{if_true, both_first, both_then}
+use Rattle.group.proofs.Choice.{when_true, both_first, both_then}
 use Rattle.group.proofs.Fold.{above_each}
-use Rattle.group.proofs.Lists.{if_elim, judged_elim}
+use Rattle.group.proofs.Lists.{when_elim, judged_elim}
 use Rattle.message.specs.Message.{Message, all_zero, message_of, payload_of, zero_behind}
 use Rattle.store.specs.Places.{messages_in}
 use Rattle.store.proofs.Places.{message_in_lem, part_length}
@@ -73,29 +73,29 @@ module _ (m : Member) (full : Full m.held) where
   unfolding is_ready place_sound
   next_same e r =
       let here = both_first _ _ r in
-      let sound = if_true (is_held m.held (m.taken.0 + 1)) _ _ _ here refl ∙ next_sound e r in
+      let sound = when_true (is_held m.held (m.taken.0 + 1)) _ _ _ here refl ∙ next_sound e r in
       let rest = both_then _ _ sound in
       message_same (message_at m.held (m.taken.0 + 1)) (leb-true _ _ (both_first _ _ rest)) (full (m.taken.0 + 1)) (both_first _ _ (both_then _ _ rest))
 
   accepted_sound : (room : ℕ) → member.call_verdict m room ≡ Verdict.Accepted → sound_of m ≡ true
-  unfolding member.call_verdict if◌then◌else◌
+  unfolding member.call_verdict when◌then◌else◌
   accepted_sound room e = go (sound_of m) e
     where
-      go : (b : Bool) → (if b then (if longest_packet ≤? room then Verdict.Accepted else Verdict.Refused Refusal.ShortOutput) else Verdict.Refused Refusal.UnsoundState) ≡ Verdict.Accepted → b ≡ true
+      go : (b : Bool) → (when b then (when longest_packet ≤? room then Verdict.Accepted else Verdict.Refused Refusal.ShortOutput) else Verdict.Refused Refusal.UnsoundState) ≡ Verdict.Accepted → b ≡ true
       go true h = refl
       go false h = let z : ◌≡◌ {A = ℕ} 0 1 = cc in absurd (omega arith)
 
   -- what a take leaves of what is kept, by its answer and its bytes
   took_told : (kept : Kept) → sound_of m ≡ true
-      → (if is_ready m (m.taken.0 + 1) then kept_took kept (m.taken.0 + 1) (message_at m.held (m.taken.0 + 1)) else kept)
-      ≡ kept_told kept (if is_ready m (m.taken.0 + 1) then took_of m (message_at m.held (m.taken.0 + 1)) else member.answered m Answer.None).answer
-      (if is_ready m (m.taken.0 + 1) then took_of m (message_at m.held (m.taken.0 + 1)) else member.answered m Answer.None).bytes
-  unfolding kept_told took_of member.answered if◌then◌else◌
+      → (when is_ready m (m.taken.0 + 1) then kept_took kept (m.taken.0 + 1) (message_at m.held (m.taken.0 + 1)) else kept)
+      ≡ kept_told kept (when is_ready m (m.taken.0 + 1) then took_of m (message_at m.held (m.taken.0 + 1)) else member.answered m Answer.None).answer
+      (when is_ready m (m.taken.0 + 1) then took_of m (message_at m.held (m.taken.0 + 1)) else member.answered m Answer.None).bytes
+  unfolding kept_told took_of member.answered when◌then◌else◌
   took_told kept e = go (is_ready m (m.taken.0 + 1)) refl
     where
-      go : (b : Bool) → is_ready m (m.taken.0 + 1) ≡ b → (if b then kept_took kept (m.taken.0 + 1) (message_at m.held (m.taken.0 + 1)) else kept)
-          ≡ kept_told kept (if b then took_of m (message_at m.held (m.taken.0 + 1)) else member.answered m Answer.None).answer
-          (if b then took_of m (message_at m.held (m.taken.0 + 1)) else member.answered m Answer.None).bytes
+      go : (b : Bool) → is_ready m (m.taken.0 + 1) ≡ b → (when b then kept_took kept (m.taken.0 + 1) (message_at m.held (m.taken.0 + 1)) else kept)
+          ≡ kept_told kept (when b then took_of m (message_at m.held (m.taken.0 + 1)) else member.answered m Answer.None).answer
+          (when b then took_of m (message_at m.held (m.taken.0 + 1)) else member.answered m Answer.None).bytes
       go true r = ap (kept_took kept (m.taken.0 + 1)) (sym (next_same e r))
       go false r = refl
 
@@ -104,7 +104,7 @@ module _ (m : Member) (full : Full m.held) where
   unfolding member.take_of took_of member.answered payload_of
   take_short room =
       judged_elim (λ (o : member.Outcome). length o.bytes ≤ payload_most) (member.call_verdict m room) (λ r _. omega arith)
-      (λ _. if_elim (λ (o : member.Outcome). length o.bytes ≤ payload_most) (is_ready m (m.taken.0 + 1))
+      (λ _. when_elim (λ (o : member.Outcome). length o.bytes ≤ payload_most) (is_ready m (m.taken.0 + 1))
       (λ _. let f = full (m.taken.0 + 1) in simp length-take (omega arith)) (λ _. omega arith))
 
 -- the call of the terminal is the member's, and what is kept is told by its answer and its bytes
@@ -112,15 +112,15 @@ pub take_own : (t : Terminal) (room : ℕ) → Full t.member.held → call_verdi
     → take_of t room ≡ carried t (kept_told t.kept (member.take_of t.member room).answer (member.take_of t.member room).bytes) (member.take_of t.member room)
 unfolding take_of member.take_of judged refused member.answered kept_told
 take_own t room full same =
-    ap (λ (v : Verdict). judged v (refused t) (carried t (if is_ready t.member (t.member.taken.0 + 1) then kept_took t.kept (t.member.taken.0 + 1) (message_at t.member.held (t.member.taken.0 + 1)) else t.kept)
+    ap (λ (v : Verdict). judged v (refused t) (carried t (when is_ready t.member (t.member.taken.0 + 1) then kept_took t.kept (t.member.taken.0 + 1) (message_at t.member.held (t.member.taken.0 + 1)) else t.kept)
     (judged (member.call_verdict t.member room) (member.refused t.member) inner))) same
     ∙ go (member.call_verdict t.member room) refl
   where
     inner : member.Outcome
-    inner = if is_ready t.member (t.member.taken.0 + 1) then took_of t.member (message_at t.member.held (t.member.taken.0 + 1)) else member.answered t.member Answer.None
+    inner = when is_ready t.member (t.member.taken.0 + 1) then took_of t.member (message_at t.member.held (t.member.taken.0 + 1)) else member.answered t.member Answer.None
 
     go : (v : Verdict) → member.call_verdict t.member room ≡ v
-        → judged v (refused t) (carried t (if is_ready t.member (t.member.taken.0 + 1) then kept_took t.kept (t.member.taken.0 + 1) (message_at t.member.held (t.member.taken.0 + 1)) else t.kept) (judged v (member.refused t.member) inner))
+        → judged v (refused t) (carried t (when is_ready t.member (t.member.taken.0 + 1) then kept_took t.kept (t.member.taken.0 + 1) (message_at t.member.held (t.member.taken.0 + 1)) else t.kept) (judged v (member.refused t.member) inner))
         ≡ carried t (kept_told t.kept (judged v (member.refused t.member) inner).answer (judged v (member.refused t.member) inner).bytes) (judged v (member.refused t.member) inner)
     go Verdict.Accepted e = ap (λ (kept : Kept). carried t kept inner) (took_told t.member full t.kept (accepted_sound t.member full room e))
     go (Verdict.Refused r) e = refl

@@ -1,6 +1,6 @@
 -- What the steps inside the code promise, in terms of the meaning. No call's promise speaks of these.
 use Rattle.std.specs.Prelude.{◌≡◌, Bool, false, List, ℕ}
-use Rattle.group.specs.Choice.{if◌then◌else◌, ask◌or◌then◌, ◌and◌, ◌=?◌}
+use Rattle.group.specs.Choice.{when◌then◌else◌, ask◌or◌then◌, ◌and◌, ◌=?◌}
 use Rattle.group.specs.declared.Group.{Group}
 use Rattle.group.specs.declared.Refusal.{Refusal}
 use Rattle.group.specs.declared.SequenceNumber.{SequenceNumber}
@@ -71,7 +71,7 @@ floor_said (Reading.Refused refusal) = 0
 
 -- the highest floor read, once a packet was answered
 unfoldable pub read_after : SequenceNumber → Answer → Reading → SequenceNumber
-read_after read answer reading = if is_refusal answer then read else record { 0 = larger_of read.0 (floor_said reading) }
+read_after read answer reading = when is_refusal answer then read else record { 0 = larger_of read.0 (floor_said reading) }
 
 -- a head with what its member leaves, and the highest floor read
 abbrev pub heard_head : Head → member.Head → SequenceNumber → Head

@@ -6,22 +6,22 @@ use native.Mathlib.Nat.{pow-suc}
 use native.Mathlib.Omega.{arith}
 use lib.ListN.{length, take, drop, set, length-append}
 use lib.Seq.{length-take-le, drop_at, set_split}
-use Rattle.group.specs.Choice.{if◌then◌else◌}
-use Rattle.group.proofs.Choice.{if_ne}
+use Rattle.group.specs.Choice.{when◌then◌else◌}
+use Rattle.group.proofs.Choice.{when_ne}
 use Rattle.group.proofs.Lists.{eq_or, le_or}
 use Rattle.text.specs.Text.{glyph_of}
 use Rattle.text.specs.Written.{decimal_digits, decimal_of}
 
 -- of 0 there is no digit
 digits_none : (k : ℕ) → decimal_digits k 0 ≡ []
-unfolding decimal_digits if◌then◌else◌
+unfolding decimal_digits when◌then◌else◌
 digits_none zero = refl
 digits_none (suc k) = refl
 
 -- the last digit of a number above 0, behind the others
 digits_last : (k n : ℕ) → 0 < n → decimal_digits (suc k) n ≡ decimal_digits k (n / 10) ++ (glyph_of (n % 10) ∷ [])
 unfolding decimal_digits
-digits_last k n h = sym (if_ne n 0 _ [] (decimal_digits k (n / 10) ++ (glyph_of (n % 10) ∷ [])) (λ e. omega arith) refl)
+digits_last k n h = sym (when_ne n 0 _ [] (decimal_digits k (n / 10) ++ (glyph_of (n % 10) ∷ [])) (λ e. omega arith) refl)
 
 -- whatever bound on their count is given
 digits_same : (k j n : ℕ) → n ≤ k → n ≤ j → decimal_digits k n ≡ decimal_digits j n
@@ -72,12 +72,12 @@ module _ (n rest start : ℕ) (digits : List ℕ) (room : length (decimal_digits
 
 -- a number in base ten: 0 is one digit, any other has those above
 pub decimal_zero : decimal_of 0 ≡ glyph_of 0 ∷ []
-unfolding decimal_of if◌then◌else◌
+unfolding decimal_of when◌then◌else◌
 decimal_zero = refl
 
 pub decimal_digits_lem : (n : ℕ) → (n ≡ 0 → ⊥) → decimal_of n ≡ decimal_digits n n
 unfolding decimal_of
-decimal_digits_lem n h = sym (if_ne n 0 (decimal_digits n n) (glyph_of 0 ∷ []) (decimal_digits n n) h refl)
+decimal_digits_lem n h = sym (when_ne n 0 (decimal_digits n n) (glyph_of 0 ∷ []) (decimal_digits n n) h refl)
 
 pub decimal_most : (j n : ℕ) → 1 ≤ j → n < 10 ^ j → length (decimal_of n) ≤ j
 decimal_most j n o h = eq_or n 0 (λ e. rw (e, decimal_zero) o) (λ e. rw (decimal_digits_lem n e) (digits_most j n h))

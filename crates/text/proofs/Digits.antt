@@ -14,7 +14,7 @@ use Rattle.group.specs.Choice.{◌and◌, ◌<?◌, ◌≤?◌, ◌=?◌}
 use Rattle.group.specs.Fold.{all}
 use Rattle.group.specs.Lent.{front}
 use Rattle.group.specs.Limits.{largest_number}
-use Rattle.group.proofs.Choice.{if_eq, if_ne, if_le, if_nle, both_first, both_then}
+use Rattle.group.proofs.Choice.{when_eq, when_ne, when_le, when_nle, both_first, both_then}
 use Rattle.text.specs.Text.{dash, digit_of}
 use Rattle.text.specs.Field.{letter_of, digits_of, value_from, up_to_largest, pairs_of, is_hex, hex_bytes}
 
@@ -35,13 +35,13 @@ module _ (l : List ℕ) (v i : ℕ) (inv : value_from 0 l ≡ value_from v (drop
   value_past d h e p =
       let g = value_grows (drop (i + 1) l) (v * 10 + d) in
       let w = value_on d h e in
-      if_nle (value_from 0 l) largest_number none (some (value_from 0 l)) none (omega arith) refl
+      when_nle (value_from 0 l) largest_number none (some (value_from 0 l)) none (omega arith) refl
 
   pub value_end : length l ≤ i → v ≤ largest_number → some v ≡ up_to_largest (value_from 0 l)
   unfolding value_from up_to_largest
   value_end h p =
       let e : value_from 0 l ≡ v = inv ∙ rw (drop_of_length-le l h) in
-      rw e (if_le v largest_number (some v) (some v) none p refl)
+      rw e (when_le v largest_number (some v) (some v) none p refl)
 
 -- where every character is a digit, each is
 pub digit_at : (base i : ℕ) (l : List ℕ) (k : ℕ) → all (λ i c. digit_of c <? base) k l ≡ true → i < length l → digit_of (get_or l i 0) < base
@@ -95,17 +95,17 @@ pairs_done field lent payload i n laid rest =
 module _ (field : List ℕ) where
   pub hex_dash : letter_of field ≡ dash → hex_bytes field ≡ []
   unfolding hex_bytes
-  hex_dash h = sym (if_eq (letter_of field) dash [] [] (pairs_of field) h refl)
+  hex_dash h = sym (when_eq (letter_of field) dash [] [] (pairs_of field) h refl)
 
   pub hex_pairs : (letter_of field ≡ dash → ⊥) → hex_bytes field ≡ pairs_of field
   unfolding hex_bytes
-  hex_pairs h = sym (if_ne (letter_of field) dash (pairs_of field) [] (pairs_of field) h refl)
+  hex_pairs h = sym (when_ne (letter_of field) dash (pairs_of field) [] (pairs_of field) h refl)
 
   pub hex_digits : is_hex field ≡ true → (letter_of field ≡ dash → ⊥) → (digits_of 16 field ≡ true) × (length field % 2 ≡ 0)
   unfolding is_hex
   hex_digits e h =
       let p : 1 ≤? length field and length field % 2 =? 0 and digits_of 16 field ≡ true =
-      if_ne (letter_of field) dash (1 ≤? length field and length field % 2 =? 0 and digits_of 16 field) true (1 ≤? length field and length field % 2 =? 0 and digits_of 16 field) h refl ∙ e
+      when_ne (letter_of field) dash (1 ≤? length field and length field % 2 =? 0 and digits_of 16 field) true (1 ≤? length field and length field % 2 =? 0 and digits_of 16 field) h refl ∙ e
       in
       let q = both_then (1 ≤? length field) (length field % 2 =? 0 and digits_of 16 field) p in
       (both_then (length field % 2 =? 0) (digits_of 16 field) q, eqb-true (length field % 2) 0 (both_first (length field % 2 =? 0) (digits_of 16 field) q))

@@ -5,7 +5,7 @@ use Prim.Native.Nat.{ℕ, ◌+◌, ◌<◌}
 use native.Mathlib.Numerals.{add-one}
 use lib.ListN.{length, get_or, take}
 use lib.Seq.{take-suc}
-use Rattle.group.proofs.Choice.{if_eq, if_ne}
+use Rattle.group.proofs.Choice.{when_eq, when_ne}
 use Rattle.text.specs.Text.{dash}
 use Rattle.text.specs.Written.{hex_of, payload_text}
 
@@ -22,8 +22,8 @@ hex_on l i h = rw (add-one i, take-suc l i 0 h) (hex_append (take i l) (get_or l
 module _ (payload : List ℕ) where
   pub payload_empty : length payload ≡ 0 → payload_text payload ≡ dash ∷ []
   unfolding payload_text
-  payload_empty h = sym (if_eq (length payload) 0 (dash ∷ []) (dash ∷ []) (hex_of payload) h refl)
+  payload_empty h = sym (when_eq (length payload) 0 (dash ∷ []) (dash ∷ []) (hex_of payload) h refl)
 
   pub payload_hex : (length payload ≡ 0 → ⊥) → payload_text payload ≡ hex_of payload
   unfolding payload_text
-  payload_hex h = sym (if_ne (length payload) 0 (hex_of payload) (dash ∷ []) (hex_of payload) h refl)
+  payload_hex h = sym (when_ne (length payload) 0 (hex_of payload) (dash ∷ []) (hex_of payload) h refl)

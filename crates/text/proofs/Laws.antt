@@ -11,10 +11,10 @@ use native.Mathlib.Omega.{arith}
 use borrow.Author.Rules.{rules}
 use borrow.Author.Tests.{lt-ltb, ltb-true, le-leb, eq-eqb}
 use lib.ListN.{length, length-append}
-use Rattle.group.specs.Choice.{if◌then◌else◌, ◌<?◌, ◌≤?◌, ◌=?◌}
+use Rattle.group.specs.Choice.{when◌then◌else◌, ◌<?◌, ◌≤?◌, ◌=?◌}
 use Rattle.group.specs.Fold.{all}
 use Rattle.group.specs.Limits.{largest_number}
-use Rattle.group.proofs.Choice.{choices, if_true, if_lt, if_nlt, if_le, if_nle, if_ne, both_hold, both_first, both_then}
+use Rattle.group.proofs.Choice.{choices, when_true, when_lt, when_nlt, when_le, when_nle, when_ne, both_hold, both_first, both_then}
 use Rattle.group.proofs.Lists.{eq_or, le_or}
 use Rattle.text.specs.Text.{line_feed, dash, digit_of, glyph_of}
 use Rattle.text.specs.Field.{before, lines_of, letter_of, digits_of, value_from, up_to_largest, number_in, pairs_of, is_hex, hex_bytes, hex_in}
@@ -32,15 +32,15 @@ figure_worth c h k = search (choices, rules) depth 9
 
 letter_worth : (c : ℕ) → code "a" ≤ c → c ≤ code "f" → c - code "a" + 10 ≡ digit_of c
 unfolding digit_of
-letter_worth c h k = if_nlt c (code "0") _ _ _ (omega arith) (if_nle c (code "9") _ _ _ (omega arith) (search (choices, rules) depth 9))
+letter_worth c h k = when_nlt c (code "0") _ _ _ (omega arith) (when_nle c (code "9") _ _ _ (omega arith) (search (choices, rules) depth 9))
 
 -- a digit is worth what it was written for
 glyph_worth : (d : ℕ) → d < 16 → digit_of (glyph_of d) ≡ d
 unfolding glyph_of
 glyph_worth d h =
-    le_or 10 d (λ k. let e : glyph_of d ≡ code "a" + (d - 10) = sym (if_nlt d 10 _ (code "0" + d) (code "a" + (d - 10)) k refl) in
+    le_or 10 d (λ k. let e : glyph_of d ≡ code "a" + (d - 10) = sym (when_nlt d 10 _ (code "0" + d) (code "a" + (d - 10)) k refl) in
     rw e (sym (letter_worth (code "a" + (d - 10)) (omega arith) (omega arith)) ∙ omega arith))
-    (λ k. let e : glyph_of d ≡ code "0" + d = sym (if_lt d 10 _ (code "0" + d) (code "a" + (d - 10)) k refl) in
+    (λ k. let e : glyph_of d ≡ code "0" + d = sym (when_lt d 10 _ (code "0" + d) (code "a" + (d - 10)) k refl) in
     rw e (sym (figure_worth (code "0" + d) (omega arith) (omega arith)) ∙ omega arith))
 
 -- one digit behind others
@@ -68,7 +68,7 @@ digits_value (suc k) n h =
     (value_behind (decimal_digits (n / 10) (n / 10)) 0 (glyph_of (n % 10)) ∙ rw (v.0, d) (omega arith), digits_behind 10 (decimal_digits (n / 10) (n / 10)) 0 (glyph_of (n % 10)) v.1 (omega arith)))
 
 decimal_value : (n : ℕ) → (1 ≤ length (decimal_of n)) × (digits_of 10 (decimal_of n) ≡ true) × (value_from 0 (decimal_of n) ≡ n)
-unfolding glyph_of digit_of value_from all if◌then◌else◌
+unfolding glyph_of digit_of value_from all when◌then◌else◌
 decimal_value n =
     eq_or n 0 (λ e. rw (e, decimal_zero) (omega arith, refl, refl))
     (λ e. let v = digits_value n n (omega arith) in
@@ -80,8 +80,8 @@ unfolding number_in up_to_largest
 number_back n h =
     let v = decimal_value n in
     sym
-    (if_le 1 (length (decimal_of n)) _ _ _ v.0
-    (if_true (digits_of 10 (decimal_of n)) _ _ _ v.1 (rw v.2 (if_le n largest_number _ _ _ h refl))))
+    (when_le 1 (length (decimal_of n)) _ _ _ v.0
+    (when_true (digits_of 10 (decimal_of n)) _ _ _ v.1 (rw v.2 (when_le n largest_number _ _ _ h refl))))
 
 -- pairs of digits come to the bytes that they were written for
 module _ (b : ℕ) (b<256 : b < 256) where
@@ -122,20 +122,20 @@ module _ (b : ℕ) (l : List ℕ) (e : all (λ i b. b <? 256) 0 (b ∷ l) ≡ tr
       let t = hex_of (b ∷ l) in
       let u : (1 ≤? length t) ≡ true = le-leb 1 (length t) (omega arith) in
       let v : (length t % 2 =? 0) ≡ true = eq-eqb (length t % 2) 0 (omega arith) in
-      sym (if_ne (letter_of t) dash true true _ (hex_letter b l) (sym (both_hold _ _ u (both_hold _ _ v (hex_back (b ∷ l) 0 0 e).1))))
+      sym (when_ne (letter_of t) dash true true _ (hex_letter b l) (sym (both_hold _ _ u (both_hold _ _ v (hex_back (b ∷ l) 0 0 e).1))))
 
   hex_bytes_lem : hex_bytes (hex_of (b ∷ l)) ≡ b ∷ l
   unfolding hex_bytes
-  hex_bytes_lem = sym (if_ne (letter_of (hex_of (b ∷ l))) dash (b ∷ l) [] _ (hex_letter b l) (sym (hex_back (b ∷ l) 0 0 e).0))
+  hex_bytes_lem = sym (when_ne (letter_of (hex_of (b ∷ l))) dash (b ∷ l) [] _ (hex_letter b l) (sym (hex_back (b ∷ l) 0 0 e).0))
 
 empty_back : hex_in (payload_text []) ≡ some []
-unfolding is_hex hex_bytes payload_text letter_of if◌then◌else◌
+unfolding is_hex hex_bytes payload_text letter_of when◌then◌else◌
 empty_back = refl
 
 pub payload_back : PayloadBack
 payload_back [] e = empty_back
 payload_back (b ∷ l) e =
-    rw (payload_hex (b ∷ l) (λ z. omega arith)) (sym (if_true (is_hex (hex_of (b ∷ l))) _ _ none (hex_is b l e) (ap some (sym (hex_bytes_lem b l e)))))
+    rw (payload_hex (b ∷ l) (λ z. omega arith)) (sym (when_true (is_hex (hex_of (b ∷ l))) _ _ none (hex_is b l e) (ap some (sym (hex_bytes_lem b l e)))))
 
 pub lines_go_on : LinesGoOn
 unfolding lines_of before

@@ -8,8 +8,8 @@ use native.Mathlib.Numerals.{add-one}
 use native.Mathlib.Omega.{arith}
 use lib.ListN.{length, get_or, take, drop, length-drop, drop_of_length-le}
 use lib.Seq.{drop-cons, drop-drop}
-use Rattle.group.specs.Choice.{if◌then◌else◌, ◌=?◌}
-use Rattle.group.proofs.Choice.{if_eq, if_ne}
+use Rattle.group.specs.Choice.{when◌then◌else◌, ◌=?◌}
+use Rattle.group.proofs.Choice.{when_eq, when_ne}
 use Rattle.text.specs.Text.{space}
 use Rattle.text.specs.Field.{first_from, before, fields_of, letter_of, read}
 use Rattle.text.specs.declared.Found.{Found}
@@ -18,15 +18,15 @@ use Rattle.text.specs.declared.Numeral.{Numeral}
 
 -- the loop that looks for a character: here, further on, and the end
 module _ (character : ℕ) (l : List ℕ) (i : ℕ) (whole : Found) (inv : whole ≡ first_from character i (drop i l)) where
-  first_step : i < length l → whole ≡ if get_or l i 0 =? character then At i else first_from character (i + 1) (drop (i + 1) l)
+  first_step : i < length l → whole ≡ when get_or l i 0 =? character then At i else first_from character (i + 1) (drop (i + 1) l)
   unfolding first_from
   first_step h = inv ∙ rw (drop-cons l i 0 h, add-one)
 
   pub first_here : i < length l → get_or l i 0 ≡ character → At i ≡ whole
-  first_here h e = if_eq (get_or l i 0) character (At i) (At i) _ e refl ∙ sym (first_step h)
+  first_here h e = when_eq (get_or l i 0) character (At i) (At i) _ e refl ∙ sym (first_step h)
 
   pub first_on : i < length l → (get_or l i 0 ≡ character → ⊥) → whole ≡ first_from character (i + 1) (drop (i + 1) l)
-  first_on h e = first_step h ∙ sym (if_ne (get_or l i 0) character _ (At i) _ e refl)
+  first_on h e = first_step h ∙ sym (when_ne (get_or l i 0) character _ (At i) _ e refl)
 
   pub first_done : length l ≤ i → Nothing ≡ whole
   unfolding first_from
@@ -37,11 +37,11 @@ nothing_at h = let z : ◌≡◌ {A = ℕ} 0 1 = cc in omega arith
 
 -- what is found stands in the text, from where it was looked for on
 found_in : (character : ℕ) (l : List ℕ) (i e : ℕ) → first_from character i l ≡ At e → (i ≤ e) × (e < i + length l)
-unfolding first_from if◌then◌else◌
+unfolding first_from when◌then◌else◌
 found_in character [] i e h = absurd (nothing_at h)
 found_in character (c ∷ l) i e h = go (c =? character) (found_in character l (i + 1) e) h
   where
-    go : (t : Bool) → (first_from character (i + 1) l ≡ At e → (i + 1 ≤ e) × (e < i + 1 + length l)) → if t then At i else first_from character (i + 1) l ≡ At e
+    go : (t : Bool) → (first_from character (i + 1) l ≡ At e → (i + 1 ≤ e) × (e < i + 1 + length l)) → when t then At i else first_from character (i + 1) l ≡ At e
         → (i ≤ e) × (e < i + suc (length l))
     go true further h = let z : i ≡ e = cc in (omega arith, omega arith)
     go false further h = let k = further h in (omega arith, omega arith)
@@ -54,32 +54,32 @@ found_from character l i e b h =
 
 -- the parts of a text that a character ends: for the fields of a line and for the lines of an input
 module _ (mark : ℕ) (parts : List ℕ → List (List ℕ))
-    (goes : (c : ℕ) (l : List ℕ) → parts (c ∷ l) ≡ if c =? mark then [] ∷ parts l else before c (parts l))
+    (goes : (c : ℕ) (l : List ℕ) → parts (c ∷ l) ≡ when c =? mark then [] ∷ parts l else before c (parts l))
     (ends : (c : ℕ) → before c (parts []) ≡ (c ∷ []) ∷ [])
   where
     -- without the character the whole is one
     pub parts_one : (l : List ℕ) (i c : ℕ) → first_from mark i (c ∷ l) ≡ Nothing → parts (c ∷ l) ≡ (c ∷ l) ∷ []
-    unfolding first_from if◌then◌else◌ before
+    unfolding first_from when◌then◌else◌ before
     parts_one [] i c h = goes c [] ∙ go (c =? mark) h
       where
-        go : (t : Bool) → if t then At i else Nothing ≡ Nothing → if t then [] ∷ parts [] else before c (parts []) ≡ (c ∷ []) ∷ []
+        go : (t : Bool) → when t then At i else Nothing ≡ Nothing → when t then [] ∷ parts [] else before c (parts []) ≡ (c ∷ []) ∷ []
         go true h = absurd (nothing_at (sym h))
         go false h = ends c
     parts_one (d ∷ l) i c h = goes c (d ∷ l) ∙ go (c =? mark) (parts_one l (i + 1) d) h
       where
-        go : (t : Bool) → (first_from mark (i + 1) (d ∷ l) ≡ Nothing → parts (d ∷ l) ≡ (d ∷ l) ∷ []) → if t then At i else first_from mark (i + 1) (d ∷ l) ≡ Nothing
-            → if t then [] ∷ parts (d ∷ l) else before c (parts (d ∷ l)) ≡ (c ∷ (d ∷ l)) ∷ []
+        go : (t : Bool) → (first_from mark (i + 1) (d ∷ l) ≡ Nothing → parts (d ∷ l) ≡ (d ∷ l) ∷ []) → when t then At i else first_from mark (i + 1) (d ∷ l) ≡ Nothing
+            → when t then [] ∷ parts (d ∷ l) else before c (parts (d ∷ l)) ≡ (c ∷ (d ∷ l)) ∷ []
         go true further h = absurd (nothing_at (sym h))
         go false further h = ap (before c) (further h)
 
     -- the first part stands before the character, the others behind it
     pub parts_more : (l : List ℕ) (i k : ℕ) → first_from mark i l ≡ At (i + k) → parts l ≡ take k l ∷ parts (drop (suc k) l)
-    unfolding first_from if◌then◌else◌ before
+    unfolding first_from when◌then◌else◌ before
     parts_more [] i k h = absurd (nothing_at h)
     parts_more (c ∷ l) i k h = goes c l ∙ go (c =? mark) k (parts_more l (i + 1)) h
       where
         go : (t : Bool) (k : ℕ) → ((k : ℕ) → first_from mark (i + 1) l ≡ At (i + 1 + k) → parts l ≡ take k l ∷ parts (drop (suc k) l))
-            → if t then At i else first_from mark (i + 1) l ≡ At (i + k) → if t then [] ∷ parts l else before c (parts l) ≡ take k (c ∷ l) ∷ parts (drop (suc k) (c ∷ l))
+            → when t then At i else first_from mark (i + 1) l ≡ At (i + k) → when t then [] ∷ parts l else before c (parts l) ≡ take k (c ∷ l) ∷ parts (drop (suc k) (c ∷ l))
         go true zero further h = refl
         go true (suc k) further h = let z : i ≡ i + suc k = cc in absurd (omega arith)
         go false zero further h = let z = found_in mark l (i + 1) (i + 0) h in absurd (omega arith)

@@ -1,7 +1,7 @@
 -- The lines of an input, the fields of a line, and what a field holds.
 use Rattle.std.specs.Prelude.{Bool, true, List, [], ◌∷◌, ℕ, ◌+◌, ◌*◌, ◌%◌, length}
 use Rattle.std.proofs.Math.Option.{Option, none, some}
-use Rattle.group.specs.Choice.{if◌then◌else◌, ask◌or◌then◌, ◌and◌, ◌<?◌, ◌≤?◌, ◌=?◌}
+use Rattle.group.specs.Choice.{when◌then◌else◌, ask◌or◌then◌, ◌and◌, ◌<?◌, ◌≤?◌, ◌=?◌}
 use Rattle.group.specs.Fold.{all}
 use Rattle.group.specs.Limits.{largest_number}
 use Rattle.text.specs.Text.{space, line_feed, dash, hex_base, digit_of}
@@ -12,7 +12,7 @@ use Rattle.text.specs.declared.Numeral.{Numeral}
 -- where a character first stands, if the list begins at index i
 unfoldable pub first_from : ℕ → ℕ → List ℕ → Found
 first_from character i [] = Nothing
-first_from character i (c ∷ rest) = if c =? character then At i else first_from character (i + 1) rest
+first_from character i (c ∷ rest) = when c =? character then At i else first_from character (i + 1) rest
 
 -- where the first line ends
 abbrev pub line_end : List ℕ → Found
@@ -26,12 +26,12 @@ before c (part ∷ rest) = (c ∷ part) ∷ rest
 -- a line is what stands before its line feed; what stands behind the last line feed is a line too, unless it is empty
 unfoldable pub lines_of : List ℕ → List (List ℕ)
 lines_of [] = []
-lines_of (c ∷ rest) = if c =? line_feed then [] ∷ lines_of rest else before c (lines_of rest)
+lines_of (c ∷ rest) = when c =? line_feed then [] ∷ lines_of rest else before c (lines_of rest)
 
 -- one space parts fields
 unfoldable pub fields_of : List ℕ → List (List ℕ)
 fields_of [] = [] ∷ []
-fields_of (c ∷ rest) = if c =? space then [] ∷ fields_of rest else before c (fields_of rest)
+fields_of (c ∷ rest) = when c =? space then [] ∷ fields_of rest else before c (fields_of rest)
 
 -- the character that a field is; 0 for a field of none or several
 unfoldable pub letter_of : List ℕ → ℕ
@@ -73,11 +73,11 @@ pairs_of (c ∷ (d ∷ rest)) = (digit_of c * hex_base + digit_of d) ∷ pairs_o
 -- hex is lower case, two digits a byte, and `-` for empty
 unfoldable pub is_hex : List ℕ → Bool
 is_hex field =
-    if letter_of field =? dash then true else
+    when letter_of field =? dash then true else
     1 ≤? length field and length field % 2 =? 0 and digits_of hex_base field
 
 unfoldable pub hex_bytes : List ℕ → List ℕ
-hex_bytes field = if letter_of field =? dash then [] else pairs_of field
+hex_bytes field = when letter_of field =? dash then [] else pairs_of field
 
 abbrev pub hex_in : List ℕ → Option (List ℕ)
 hex_in field = ask is_hex field or none then some (hex_bytes field)

@@ -3,7 +3,7 @@ use Rattle.std.specs.Prelude.{List, [], ◌∷◌, ℕ, ◌+◌, ◌-◌}
 use Prim.Native.Char.{code}
 use Prim.Native.String as string
 use Prim.Native.String.{String}
-use Rattle.group.specs.Choice.{if◌then◌else◌, ◌<?◌, ◌≤?◌}
+use Rattle.group.specs.Choice.{when◌then◌else◌, ◌<?◌, ◌≤?◌}
 
 -- the bytes of a text
 abbrev pub text_of : String → List ℕ
@@ -29,12 +29,12 @@ hex_base = 16
 -- what a digit is worth, `0` to `9` and then `a` to `f`; the base for any other character
 unfoldable pub digit_of : ℕ → ℕ
 digit_of c =
-    if c <? code "0" then hex_base else
-    if c ≤? code "9" then c - code "0" else
-    if c <? code "a" then hex_base else
-    if c ≤? code "f" then c - code "a" + 10 else
+    when c <? code "0" then hex_base else
+    when c ≤? code "9" then c - code "0" else
+    when c <? code "a" then hex_base else
+    when c ≤? code "f" then c - code "a" + 10 else
     hex_base
 
 -- the digit that is worth d, `0` to `9` and then `a` to `f`
 unfoldable pub glyph_of : ℕ → ℕ
-glyph_of d = if d <? 10 then code "0" + d else code "a" + (d - 10)
+glyph_of d = when d <? 10 then code "0" + d else code "a" + (d - 10)

@@ -9,7 +9,7 @@ use borrow.Author.Tests.{ltb-true, ltb-false}
 use lib.ListN.{length, set, length-set}
 use lib.Seq.{get_or-set_same, get_or-set_other}
 use Rattle.group.specs.Limits.{held_most}
-use Rattle.group.proofs.Lists.{if_elim, eq_or}
+use Rattle.group.proofs.Lists.{when_elim, eq_or}
 use Rattle.message.specs.Message.{Message, blank}
 use Rattle.window.specs.Places.{place_of, message_at, is_held, lowest_missing}
 
@@ -25,7 +25,7 @@ module _ (held : List Message) where
   unfolding lowest_missing
   lowest_is t zero = λ n. absurd (n refl)
   lowest_is t (suc k) =
-      if_elim (λ (low : ℕ). low ≢ 0 → Lowest held t (suc k) low) (is_held held (t + 1))
+      when_elim (λ (low : ℕ). low ≢ 0 → Lowest held t (suc k) low) (is_held held (t + 1))
       (λ h n. let l = lowest_is (t + 1) k n in
       record {
         above = omega arith;
@@ -40,7 +40,7 @@ module _ (held : List Message) where
   unfolding lowest_missing
   lowest_none t zero = λ e s lo hi. absurd (omega arith)
   lowest_none t (suc k) =
-      if_elim (λ (low : ℕ). low ≡ 0 → (s : ℕ) → t < s → s ≤ t + suc k → 1 ≤ (message_at held s).count) (is_held held (t + 1))
+      when_elim (λ (low : ℕ). low ≡ 0 → (s : ℕ) → t < s → s ≤ t + suc k → 1 ≤ (message_at held s).count) (is_held held (t + 1))
       (λ h e s lo hi. eq_or s (t + 1) (λ q. rw q (ltb-true 0 (message_at held (t + 1)).count h)) (λ q. lowest_none (t + 1) k e s (omega arith) (omega arith)))
       (λ h e s lo hi. absurd (omega arith))
 

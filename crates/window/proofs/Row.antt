@@ -11,8 +11,8 @@ use lib.ListN.{length, set}
 use lib.Seq.{get_or-set_other}
 use Rattle.group.specs.Choice.{◌<?◌, ◌=?◌}
 use Rattle.group.specs.Limits.{held_most}
-use Rattle.group.proofs.Choice.{if_eq_of, if_ne_of}
-use Rattle.group.proofs.Lists.{if_elim, eq_or, le_or}
+use Rattle.group.proofs.Choice.{when_eq_of, when_ne_of}
+use Rattle.group.proofs.Lists.{when_elim, eq_or, le_or}
 use Rattle.message.specs.Message.{Message, empty_message, blank}
 use Rattle.window.specs.Places.{place_of, message_at, is_held, lowest_missing, row_end, smaller_of, larger_of}
 use Rattle.window.specs.Steps.{Counted, lowest_uncounted, row_counted}
@@ -30,7 +30,7 @@ pub row_is : (held : List Message) (t k : ℕ) → Row held t k (row_end held t 
 unfolding row_end
 row_is held t zero = record { least = le_refl t; most = omega arith; holds = λ s lo hi. absurd (omega arith); hole = λ h. absurd (omega arith) }
 row_is held t (suc k) =
-    if_elim (λ (r : ℕ). Row held t (suc k) r) (is_held held (t + 1))
+    when_elim (λ (r : ℕ). Row held t (suc k) r) (is_held held (t + 1))
     (λ h. let w = row_is held (t + 1) k in
     record {
       least = omega arith;
@@ -119,7 +119,7 @@ pub row_counted_lem : (counts : List ℕ) (held : List Message) → Counted coun
 unfolding row_counted
 row_counted_lem counts held c t last le =
     rw (uncounted counts held c t (last - t))
-    (if_elim (λ (r : ℕ). r ≡ row_end held t (last - t)) (low =? 0)
+    (when_elim (λ (r : ℕ). r ≡ row_end held t (last - t)) (low =? 0)
     (λ e. let n = lowest_none held t (last - t) (eqb-true low 0 e) in
     sym (row_one (record { least = le; most = omega arith; holds = λ s lo hi. n s lo (omega arith); hole = λ h. absurd (omega arith) })))
     (λ e. let l = lowest_is held t (last - t) (eqb-false low 0 e) in let z = row_gap (row_is held t (last - t)) l in omega arith))
@@ -148,26 +148,26 @@ module _ (held : List Message) (t k last : ℕ) (in-k : last ≤ t + k) where
 module _ (counts : List ℕ) (t last end first : ℕ) (e : last ≡ end) (f : first ≡ lowest_uncounted counts t (last - t)) where
   pub row_whole : first ≡ 0 → last ≡ row_counted counts t end
   unfolding row_counted
-  row_whole z = rw (← e) (if_eq_of (lowest_uncounted counts t (last - t)) 0 first _ _ _ f z refl)
+  row_whole z = rw (← e) (when_eq_of (lowest_uncounted counts t (last - t)) 0 first _ _ _ f z refl)
 
   pub row_broken : (first ≡ 0 → ⊥) → first - 1 ≡ row_counted counts t end
   unfolding row_counted
-  row_broken n = rw (← e) (if_ne_of (lowest_uncounted counts t (last - t)) 0 first _ _ _ f n (ap (λ (x : ℕ). x - 1) f))
+  row_broken n = rw (← e) (when_ne_of (lowest_uncounted counts t (last - t)) 0 first _ _ _ f n (ap (λ (x : ℕ). x - 1) f))
 
 -- the smaller of two numbers is at most each, and what is at most each is at most it
 pub smaller_le : (a b : ℕ) → (smaller_of a b ≤ a) × (smaller_of a b ≤ b)
 unfolding smaller_of
-smaller_le a b = if_elim (λ (c : ℕ). (c ≤ a) × (c ≤ b)) (a <? b) (λ t. let z = ltb-true a b t in (le_refl a, omega arith)) (λ t. (ltb-false a b t, le_refl b))
+smaller_le a b = when_elim (λ (c : ℕ). (c ≤ a) × (c ≤ b)) (a <? b) (λ t. let z = ltb-true a b t in (le_refl a, omega arith)) (λ t. (ltb-false a b t, le_refl b))
 
 pub le_smaller : (a b c : ℕ) → c ≤ a → c ≤ b → c ≤ smaller_of a b
 unfolding smaller_of
-le_smaller a b c x y = if_elim (λ (d : ℕ). c ≤ d) (a <? b) (λ _. x) (λ _. y)
+le_smaller a b c x y = when_elim (λ (d : ℕ). c ≤ d) (a <? b) (λ _. x) (λ _. y)
 
 -- the larger of two numbers
 pub larger_le : (a b : ℕ) → (a ≤ larger_of a b) × (b ≤ larger_of a b)
 unfolding larger_of
-larger_le a b = if_elim (λ (c : ℕ). (a ≤ c) × (b ≤ c)) (a <? b) (λ t. let z = ltb-true a b t in (omega arith, le_refl b)) (λ t. (le_refl a, ltb-false a b t))
+larger_le a b = when_elim (λ (c : ℕ). (a ≤ c) × (b ≤ c)) (a <? b) (λ t. let z = ltb-true a b t in (omega arith, le_refl b)) (λ t. (le_refl a, ltb-false a b t))
 
 pub le_larger : (a b c : ℕ) → a ≤ c → b ≤ c → larger_of a b ≤ c
 unfolding larger_of
-le_larger a b c x y = if_elim (λ (d : ℕ). d ≤ c) (a <? b) (λ _. y) (λ _. x)
+le_larger a b c x y = when_elim (λ (d : ℕ). d ≤ c) (a <? b) (λ _. y) (λ _. x)

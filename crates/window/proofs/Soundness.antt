@@ -11,9 +11,9 @@ use Rattle.group.specs.Choice.{◌≤?◌}
 use Rattle.group.specs.Fold.{all_above}
 use Rattle.group.specs.Limits.{held_most, payload_most, waiting_most, largest_number}
 use Rattle.group.specs.declared.MemberNumber.{MemberNumber}
-use Rattle.group.proofs.Choice.{if_true, if_false, both_hold, both_then, says}
+use Rattle.group.proofs.Choice.{when_true, when_false, both_hold, both_then, says}
 use Rattle.group.proofs.Fold.{above_each, above_all}
-use Rattle.group.proofs.Lists.{if_elim}
+use Rattle.group.proofs.Lists.{when_elim}
 use Rattle.message.specs.Message.{Message, zero_behind, is_empty}
 use Rattle.window.specs.Sound.{place_sound, queue_sound, waiting_sound}
 use Rattle.window.specs.Places.{message_at, is_held, queued_at}
@@ -48,18 +48,18 @@ module _ (n : ℕ) (held : List Message) (k : ℕ) where
   held_of : place_sound n held k ≡ true → 1 ≤ (message_at held k).count → HeldSound n k (message_at held k)
   unfolding place_sound
   held_of e c =
-      let a = if_true (is_held held k) _ _ (is_empty (message_at held k)) (lt-ltb 0 (message_at held k).count c) refl ∙ e in
+      let a = when_true (is_held held k) _ _ (is_empty (message_at held k)) (lt-ltb 0 (message_at held k).count c) refl ∙ e in
       record { originator_lt = search says; short = search says; zero_behind_lem = search says; number_le = search says }
 
   free_of : place_sound n held k ≡ true → (message_at held k).count ≡ 0 → is_empty (message_at held k) ≡ true
   unfolding place_sound
-  free_of e c = if_false (is_held held k) _ _ _ (le-ltb 0 (message_at held k).count (omega arith)) refl ∙ e
+  free_of e c = when_false (is_held held k) _ _ _ (le-ltb 0 (message_at held k).count (omega arith)) refl ∙ e
 
   of_place : (1 ≤ (message_at held k).count → HeldSound n k (message_at held k))
       → ((message_at held k).count ≡ 0 → is_empty (message_at held k) ≡ true) → place_sound n held k ≡ true
   unfolding place_sound
   of_place f g =
-      if_elim (λ (b : Bool). b ≡ true) (is_held held k)
+      when_elim (λ (b : Bool). b ≡ true) (is_held held k)
       (λ t. let h = f (ltb-true 0 (message_at held k).count t) in
       both_hold _ _ (lt-ltb _ _ h.originator_lt) (both_hold _ _ (le-leb _ _ h.short) (both_hold _ _ h.zero_behind_lem (le-leb _ _ h.number_le))))
       (λ t. g (let z = ltb-false 0 (message_at held k).count t in omega arith))
@@ -69,18 +69,18 @@ module _ (number : MemberNumber) (submitted : ℕ) (queue : List Message) where
     waits_of : queue_sound number queue submitted c ≡ true → c ≤ submitted → QueuedSound number.0 c (queued_at queue c)
     unfolding queue_sound
     waits_of e h =
-        let a = if_true (c ≤? submitted) _ _ (is_empty (queued_at queue c)) (le-leb c submitted h) refl ∙ e in
+        let a = when_true (c ≤? submitted) _ _ (is_empty (queued_at queue c)) (le-leb c submitted h) refl ∙ e in
         record { originator_is = search says; count_is = search says; short = search says; zero_behind_lem = search says }
 
     idle_of : queue_sound number queue submitted c ≡ true → submitted < c → is_empty (queued_at queue c) ≡ true
     unfolding queue_sound
-    idle_of e h = if_false (c ≤? submitted) _ _ _ (lt-leb c submitted h) refl ∙ e
+    idle_of e h = when_false (c ≤? submitted) _ _ _ (lt-leb c submitted h) refl ∙ e
 
     of_queued : (c ≤ submitted → QueuedSound number.0 c (queued_at queue c)) → (submitted < c → is_empty (queued_at queue c) ≡ true)
         → queue_sound number queue submitted c ≡ true
     unfolding queue_sound
     of_queued f g =
-        if_elim (λ (b : Bool). b ≡ true) (c ≤? submitted)
+        when_elim (λ (b : Bool). b ≡ true) (c ≤? submitted)
         (λ t. let h = f (leb-true c submitted t) in
         both_hold _ _ (eq-eqb _ _ h.originator_is) (both_hold _ _ (eq-eqb _ _ h.count_is) (both_hold _ _ (le-leb _ _ h.short) h.zero_behind_lem)))
         (λ t. g (leb-false c submitted t))

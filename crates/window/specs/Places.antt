@@ -1,6 +1,6 @@
 -- The 8 places of a member, for numbers t + 1 to t + 8, and the 5 places of its messages that wait.
 use Rattle.std.specs.Prelude.{Bool, List, ℕ, zero, suc, ◌+◌, ◌%◌, get_or}
-use Rattle.group.specs.Choice.{if◌then◌else◌, ◌<?◌}
+use Rattle.group.specs.Choice.{when◌then◌else◌, ◌<?◌}
 use Rattle.group.specs.Limits.{held_most, waiting_most}
 use Rattle.message.specs.Message.{Message, blank}
 
@@ -25,17 +25,17 @@ queued_at queue count = get_or queue (queue_place count) blank
 -- "missing" means above t and not held: the lowest missing of the k numbers above t; 0: none is
 unfoldable pub lowest_missing : List Message → ℕ → ℕ → ℕ
 lowest_missing held t zero = 0
-lowest_missing held t (suc k) = if is_held held (t + 1) then lowest_missing held (t + 1) k else t + 1
+lowest_missing held t (suc k) = when is_held held (t + 1) then lowest_missing held (t + 1) k else t + 1
 
 -- the last of the k numbers above t up to which every one is held, without a hole; t where the first is missing
 unfoldable pub row_end : List Message → ℕ → ℕ → ℕ
 row_end held t zero = t
-row_end held t (suc k) = if is_held held (t + 1) then row_end held (t + 1) k else t
+row_end held t (suc k) = when is_held held (t + 1) then row_end held (t + 1) k else t
 
 -- the larger of two numbers
 unfoldable pub larger_of : ℕ → ℕ → ℕ
-larger_of a b = if a <? b then b else a
+larger_of a b = when a <? b then b else a
 
 -- the smaller of two numbers
 unfoldable pub smaller_of : ℕ → ℕ → ℕ
-smaller_of a b = if a <? b then a else b
+smaller_of a b = when a <? b then a else b

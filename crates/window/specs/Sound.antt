@@ -1,6 +1,6 @@
 -- When the parts of a member's state are sound: question 1, sentence by sentence.
 use Rattle.std.specs.Prelude.{Bool, List, ℕ, ◌-◌}
-use Rattle.group.specs.Choice.{if◌then◌else◌, ◌and◌, ◌<?◌, ◌≤?◌, ◌=?◌}
+use Rattle.group.specs.Choice.{when◌then◌else◌, ◌and◌, ◌<?◌, ◌≤?◌, ◌=?◌}
 use Rattle.group.specs.Fold.{all_above}
 use Rattle.group.specs.Limits.{payload_most, waiting_most, largest_number}
 use Rattle.group.specs.Members.{is_in, group_sound}
@@ -13,7 +13,7 @@ use Rattle.window.specs.Places.{message_at, is_held, queued_at}
 -- unused place and byte is zero
 unfoldable pub place_sound : ℕ → List Message → ℕ → Bool
 place_sound n held number =
-    if is_held held number
+    when is_held held number
     then (message_at held number).originator.0 <? n
     and (message_at held number).length ≤? payload_most
     and zero_behind (message_at held number)
@@ -24,7 +24,7 @@ place_sound n held number =
 -- at most 240, and every unused byte is zero; the place of one above u is all zero
 unfoldable pub queue_sound : MemberNumber → List Message → ℕ → ℕ → Bool
 queue_sound number queue submitted count =
-    if count ≤? submitted
+    when count ≤? submitted
     then (queued_at queue count).originator.0 =? number.0
     and (queued_at queue count).count =? count
     and (queued_at queue count).length ≤? payload_most

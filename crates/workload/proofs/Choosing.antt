@@ -14,7 +14,7 @@ use Rattle.group.specs.Opening as group
 use Rattle.group.specs.declared.Opened.{Opened}
 use Rattle.group.specs.declared.Refusal.{Refusal}
 use Rattle.group.specs.declared.Refusal.TheVariants.{UnsoundState, Opening}
-use Rattle.group.proofs.Choice.{if_ne, if_true, if_false, both_hold, first_fails, then_fails}
+use Rattle.group.proofs.Choice.{when_ne, when_true, when_false, both_hold, first_fails, then_fails}
 use Rattle.model.specs.World.{Event, hand_sequencer}
 use Rattle.simulator.specs.Whole.{packets_most}
 use Rattle.text.specs.LaidAt.{LaidAt}
@@ -31,13 +31,13 @@ pub chosen_last : (letter n state : ℕ) → 7 ≤ letter → record { event = h
 unfolding chosen
 chosen_last letter n state h =
     let other : (k : ℕ) → k < 7 → letter ≡ k → ⊥ = λ k l e. omega arith in
-    if_ne letter 0 _ _ _ (other 0 (omega arith))
-    (if_ne letter 1 _ _ _ (other 1 (omega arith))
-    (if_ne letter 2 _ _ _ (other 2 (omega arith))
-    (if_ne letter 3 _ _ _ (other 3 (omega arith))
-    (if_ne letter 4 _ _ _ (other 4 (omega arith))
-    (if_ne letter 5 _ _ _ (other 5 (omega arith))
-    (if_ne letter 6 _ _ _ (other 6 (omega arith)) refl))))))
+    when_ne letter 0 _ _ _ (other 0 (omega arith))
+    (when_ne letter 1 _ _ _ (other 1 (omega arith))
+    (when_ne letter 2 _ _ _ (other 2 (omega arith))
+    (when_ne letter 3 _ _ _ (other 3 (omega arith))
+    (when_ne letter 4 _ _ _ (other 4 (omega arith))
+    (when_ne letter 5 _ _ _ (other 5 (omega arith))
+    (when_ne letter 6 _ _ _ (other 6 (omega arith)) refl))))))
 
 pub laid_whole : {size : ℕ} {bytes lent after : List ℕ} → LaidAt 0 bytes lent after size → Laid bytes size lent after
 laid_whole {size} {bytes} f =
@@ -48,17 +48,17 @@ laid_whole {size} {bytes} f =
 pub open_many : (n number : ℕ) → members_most < n → group.open_of n number 0 ≡ Opened.Refused Opening
 unfolding group.open_of
 open_many n number h =
-    sym (if_false (1 ≤? n and n ≤? members_most) (Opened.Refused Opening) _ _ (then_fails (1 ≤? n) (n ≤? members_most) (lt-leb n members_most h)) refl)
+    sym (when_false (1 ≤? n and n ≤? members_most) (Opened.Refused Opening) _ _ (then_fails (1 ≤? n) (n ≤? members_most) (lt-leb n members_most h)) refl)
 
 -- question 1, and the line
 module _ (load : Load) where
   pub next_none : load.n < 1 → next_of load ≡ refused load UnsoundState
   unfolding next_of
-  next_none h = sym (if_false (1 ≤? load.n and load.n ≤? members_most) (refused load UnsoundState) _ _ (first_fails (1 ≤? load.n) (load.n ≤? members_most) (lt-leb 1 load.n h)) refl)
+  next_none h = sym (when_false (1 ≤? load.n and load.n ≤? members_most) (refused load UnsoundState) _ _ (first_fails (1 ≤? load.n) (load.n ≤? members_most) (lt-leb 1 load.n h)) refl)
 
   pub next_many : members_most < load.n → next_of load ≡ refused load UnsoundState
   unfolding next_of
-  next_many h = sym (if_false (1 ≤? load.n and load.n ≤? members_most) (refused load UnsoundState) _ _ (then_fails (1 ≤? load.n) (load.n ≤? members_most) (lt-leb load.n members_most h)) refl)
+  next_many h = sym (when_false (1 ≤? load.n and load.n ≤? members_most) (refused load UnsoundState) _ _ (then_fails (1 ≤? load.n) (load.n ≤? members_most) (lt-leb load.n members_most h)) refl)
 
   abbrev pub line_outcome : Outcome
   line_outcome =
@@ -70,7 +70,7 @@ module _ (load : Load) where
 
   pub next_line : 1 ≤ load.n → load.n ≤ members_most → next_of load ≡ line_outcome
   unfolding next_of
-  next_line h k = sym (if_true (1 ≤? load.n and load.n ≤? members_most) line_outcome _ _ (both_hold (1 ≤? load.n) (load.n ≤? members_most) (le-leb 1 load.n h) (le-leb load.n members_most k)) refl)
+  next_line h k = sym (when_true (1 ≤? load.n and load.n ≤? members_most) line_outcome _ _ (both_hold (1 ≤? load.n) (load.n ≤? members_most) (le-leb 1 load.n h) (le-leb load.n members_most k)) refl)
 
   -- what the code made of the next event
   pub next_step : {event : Event} (generator : Generator) (written : ℕ) (before after : List ℕ) → record { event = event; state = generator.state } ≡ event_from load.n load.generator.state

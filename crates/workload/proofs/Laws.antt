@@ -11,11 +11,11 @@ use native.Mathlib.Omega.{arith}
 use borrow.Author.Tests.{lt-ltb}
 use lib.ListN.{length}
 use Rattle.generator.specs.Generator.{stepped}
-use Rattle.group.specs.Choice.{if◌then◌else◌, ◌<?◌, ◌=?◌}
+use Rattle.group.specs.Choice.{when◌then◌else◌, ◌<?◌, ◌=?◌}
 use Rattle.group.specs.Fold.{all}
 use Rattle.group.specs.Limits.{members_most}
-use Rattle.group.proofs.Choice.{if_le, both_hold}
-use Rattle.group.proofs.Lists.{if_elim}
+use Rattle.group.proofs.Choice.{when_le, both_hold}
+use Rattle.group.proofs.Lists.{when_elim}
 use Rattle.model.specs.World.{Event, submit, repeat, take, status, poll, copy, hand_member, hand_sequencer}
 use Rattle.schedule.specs.Line.{line_most, alone, with_number, submitted, handed, with_two, form_of, event_of, opened, opening_with, opening_form, opening_of}
 use Rattle.schedule.specs.declared.Opening.{Opening}
@@ -37,13 +37,13 @@ fields_within : (letter n state : ℕ) → 1 ≤ n → Within n (chosen letter n
 unfolding chosen Within
 fields_within letter n state h =
     let P : Chosen → Type 0 = λ c. Within n c.event in
-    if_elim P (letter =? 0) (λ t. (drawn_below n state h, drawn 256 (stepped state), drawn_below 256 (stepped state) (omega arith), refl))
-    (λ t. if_elim P (letter =? 1) (λ t. drawn_below n state h)
-    (λ t. if_elim P (letter =? 2) (λ t. drawn_below n state h)
-    (λ t. if_elim P (letter =? 3) (λ t. drawn_below n state h)
-    (λ t. if_elim P (letter =? 4) (λ t. tt)
-    (λ t. if_elim P (letter =? 5) (λ t. let k = drawn_below 32 state (omega arith) in (omega arith, omega arith))
-    (λ t. if_elim P (letter =? 6) (λ t. (drawn_below 200 state (omega arith), drawn_below n (stepped state) h))
+    when_elim P (letter =? 0) (λ t. (drawn_below n state h, drawn 256 (stepped state), drawn_below 256 (stepped state) (omega arith), refl))
+    (λ t. when_elim P (letter =? 1) (λ t. drawn_below n state h)
+    (λ t. when_elim P (letter =? 2) (λ t. drawn_below n state h)
+    (λ t. when_elim P (letter =? 3) (λ t. drawn_below n state h)
+    (λ t. when_elim P (letter =? 4) (λ t. tt)
+    (λ t. when_elim P (letter =? 5) (λ t. let k = drawn_below 32 state (omega arith) in (omega arith, omega arith))
+    (λ t. when_elim P (letter =? 6) (λ t. (drawn_below 200 state (omega arith), drawn_below n (stepped state) h))
     (λ t. drawn_below 200 state (omega arith))))))))
 
 pub chosen_within : ChosenWithin
@@ -81,11 +81,11 @@ module _ (fields : List (List ℕ)) (some-fields : 1 ≤ length fields) (few : l
 
   event_by : event_of (joined fields) ≡ form_of fields
   unfolding event_of
-  event_by = sym (if_le (length (joined fields)) line_most (form_of fields) (form_of (fields_of (joined fields))) none back.1 (ap form_of (sym back.0)))
+  event_by = sym (when_le (length (joined fields)) line_most (form_of fields) (form_of (fields_of (joined fields))) none back.1 (ap form_of (sym back.0)))
 
   opening_by : opening_of (joined fields) ≡ opening_form fields
   unfolding opening_of
-  opening_by = sym (if_le (length (joined fields)) line_most (opening_form fields) (opening_form (fields_of (joined fields))) Opening.Other back.1 (ap opening_form (sym back.0)))
+  opening_by = sym (when_le (length (joined fields)) line_most (opening_form fields) (opening_form (fields_of (joined fields))) Opening.Other back.1 (ap opening_form (sym back.0)))
 
 byte_back : (byte : ℕ) → byte < 256 → hex_in (payload_text (byte ∷ [])) ≡ some (byte ∷ [])
 unfolding all
@@ -93,7 +93,7 @@ byte_back byte h = payload_back (byte ∷ []) (both_hold (byte <? 256) true (lt-
 
 -- reading the fields of an event gives the event
 form_means : (n : ℕ) (event : Event) → n ≤ members_most → Within n event → form_of (event_fields event) ≡ some event
-unfolding Within event_fields form_of alone with_number with_two submitted handed letter_of if◌then◌else◌
+unfolding Within event_fields form_of alone with_number with_two submitted handed letter_of when◌then◌else◌
 form_means n (submit i payload) m h =
     let k = h.0 in
     rw (h.3, number_back i (omega arith), byte_back h.1 h.2)
@@ -142,7 +142,7 @@ module _ (n : ℕ) (one : 1 ≤ n) (most : n ≤ members_most) where
   events_mean state (suc k) = rw (line_means n (event_from n state).event most (chosen_within n state one), events_mean (event_from n state).state k)
 
 pub load_plays : LoadPlays
-unfolding load_of opening_form opening_with opened letter_of if◌then◌else◌
+unfolding load_of opening_form opening_with opened letter_of when◌then◌else◌
 load_plays seed n group k one most g =
     let plain : AllPlain (opening_fields n group) = (letter_plain (code "N") (omega arith), (decimal_plain n (omega arith), (decimal_plain group g, tt))) in
     record {

@@ -5,10 +5,10 @@ use mathlib.Core.List.{List, [], ◌∷◌, ◌++◌, append-nil, append_assoc}
 use Prim.Native.Nat.{ℕ, zero, suc, ◌+◌, ◌*◌, ◌/◌, ◌%◌, ◌≤◌, ◌<◌}
 use native.Mathlib.Omega.{arith}
 use lib.ListN.{length, length-append}
-use Rattle.group.specs.Choice.{if◌then◌else◌, ◌<?◌, ◌=?◌}
+use Rattle.group.specs.Choice.{when◌then◌else◌, ◌<?◌, ◌=?◌}
 use Rattle.group.specs.Limits.{largest_number}
-use Rattle.group.proofs.Choice.{if_eq, if_ne}
-use Rattle.group.proofs.Lists.{if_elim}
+use Rattle.group.proofs.Choice.{when_eq, when_ne}
+use Rattle.group.proofs.Lists.{when_elim}
 use Rattle.text.specs.Field.{before, lines_of, fields_of}
 use Rattle.text.specs.Text.{space, line_feed, glyph_of}
 use Rattle.text.specs.Written.{decimal_digits, decimal_of, hex_of, payload_text, spaced, line, number_digits}
@@ -21,14 +21,14 @@ above_append mark [] r h k = k
 above_append mark (c ∷ l) r h k = (h.0, above_append mark l r h.1 k)
 
 -- the parts of a text that a character ends: for the fields of a line and for the lines of a text
-module _ (mark : ℕ) (parts : List ℕ → List (List ℕ)) (goes : (c : ℕ) (l : List ℕ) → parts (c ∷ l) ≡ if c =? mark then [] ∷ parts l else before c (parts l)) where
+module _ (mark : ℕ) (parts : List ℕ → List (List ℕ)) (goes : (c : ℕ) (l : List ℕ) → parts (c ∷ l) ≡ when c =? mark then [] ∷ parts l else before c (parts l)) where
   -- past a character that is above it
   part_on : (c : ℕ) (l : List ℕ) → mark < c → parts (c ∷ l) ≡ before c (parts l)
-  part_on c l h = goes c l ∙ sym (if_ne c mark (before c (parts l)) ([] ∷ parts l) (before c (parts l)) (λ e. omega arith) refl)
+  part_on c l h = goes c l ∙ sym (when_ne c mark (before c (parts l)) ([] ∷ parts l) (before c (parts l)) (λ e. omega arith) refl)
 
   part_then : (l r : List ℕ) → Above mark l → parts (l ++ (mark ∷ r)) ≡ l ∷ parts r
   unfolding before
-  part_then [] r h = goes mark r ∙ sym (if_eq mark mark ([] ∷ parts r) ([] ∷ parts r) (before mark (parts r)) refl refl)
+  part_then [] r h = goes mark r ∙ sym (when_eq mark mark ([] ∷ parts r) ([] ∷ parts r) (before mark (parts r)) refl refl)
   part_then (c ∷ l) r h = part_on c (l ++ (mark ∷ r)) h.0 ∙ ap (before c) (part_then l r h.1)
 
   part_last : (l : List ℕ) → parts [] ≡ [] ∷ [] → Above mark l → parts l ≡ l ∷ []
@@ -66,18 +66,18 @@ line_then (first ∷ rest) behind h =
 -- digits are no spaces
 glyph_above : (d : ℕ) → space < glyph_of d
 unfolding glyph_of
-glyph_above d = if_elim (λ (c : ℕ). space < c) (d <? 10) (λ t. omega arith) (λ t. omega arith)
+glyph_above d = when_elim (λ (c : ℕ). space < c) (d <? 10) (λ t. omega arith) (λ t. omega arith)
 
 digits_above : (most n : ℕ) → Above space (decimal_digits most n)
 unfolding decimal_digits
 digits_above zero n = tt
 digits_above (suc most) n =
-    if_elim (Above space) (n =? 0) (λ t. tt)
+    when_elim (Above space) (n =? 0) (λ t. tt)
     (λ t. above_append space (decimal_digits most (n / 10)) (glyph_of (n % 10) ∷ []) (digits_above most (n / 10)) (glyph_above (n % 10), tt))
 
 decimal_above : (n : ℕ) → Above space (decimal_of n)
 unfolding decimal_of
-decimal_above n = if_elim (Above space) (n =? 0) (λ t. (glyph_above 0, tt)) (λ t. digits_above n n)
+decimal_above n = when_elim (Above space) (n =? 0) (λ t. (glyph_above 0, tt)) (λ t. digits_above n n)
 
 -- a field as a load has it: without a space, and of ten characters at the most
 abbrev pub Plain : List ℕ → Type 0

@@ -1,7 +1,7 @@
 -- Which events a load has: outputs choose them, each modulo the number of choices.
 use Rattle.std.specs.Prelude.{List, [], ◌∷◌, ℕ, zero, suc, ◌+◌, ◌%◌}
 use Rattle.generator.specs.Generator.{stepped, output_of}
-use Rattle.group.specs.Choice.{if◌then◌else◌, ◌=?◌}
+use Rattle.group.specs.Choice.{when◌then◌else◌, ◌=?◌}
 use Rattle.group.specs.Limits.{places_most}
 use Rattle.model.specs.World.{Event, submit, repeat, take, status, poll, copy, hand_member, hand_sequencer}
 use Rattle.simulator.specs.Whole.{packets_most}
@@ -27,13 +27,13 @@ pub record Chosen : Type 0 where
 -- to 32, packets 0 to 199
 unfoldable pub chosen : ℕ → ℕ → ℕ → Chosen
 chosen letter n state =
-    if letter =? 0 then record { event = submit (drawn n state) (drawn bytes_most (stepped state) ∷ []); state = stepped (stepped state) } else
-    if letter =? 1 then record { event = repeat (drawn n state); state = stepped state } else
-    if letter =? 2 then record { event = take (drawn n state); state = stepped state } else
-    if letter =? 3 then record { event = status (drawn n state); state = stepped state } else
-    if letter =? 4 then record { event = poll; state = state } else
-    if letter =? 5 then record { event = copy (1 + drawn places_most state); state = stepped state } else
-    if letter =? 6 then record { event = hand_member (drawn packets_most state) (drawn n (stepped state)); state = stepped (stepped state) } else
+    when letter =? 0 then record { event = submit (drawn n state) (drawn bytes_most (stepped state) ∷ []); state = stepped (stepped state) } else
+    when letter =? 1 then record { event = repeat (drawn n state); state = stepped state } else
+    when letter =? 2 then record { event = take (drawn n state); state = stepped state } else
+    when letter =? 3 then record { event = status (drawn n state); state = stepped state } else
+    when letter =? 4 then record { event = poll; state = state } else
+    when letter =? 5 then record { event = copy (1 + drawn places_most state); state = stepped state } else
+    when letter =? 6 then record { event = hand_member (drawn packets_most state) (drawn n (stepped state)); state = stepped (stepped state) } else
     record { event = hand_sequencer (drawn packets_most state); state = stepped state }
 
 -- the letter, then its fields

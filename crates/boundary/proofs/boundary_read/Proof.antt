@@ -2,7 +2,7 @@
 -- Assumes nothing.
 use mathlib.Core.Path.{sym, ap, ◌∙◌}
 use Rattle.packet.specs.Wording.{reading_wording}
-use Rattle.group.specs.Choice.{if◌then◌else◌}
+use Rattle.group.specs.Choice.{when◌then◌else◌}
 use Rattle.group.specs.Codes.{numbers_in, code_of, word_code}
 use Rattle.boundary.specs.Codes.{numbers_after, read_code, fields_after}
 use borrow.Author.Rules.{rules}
@@ -28,13 +28,13 @@ number-requires : tie.Need-number-requires
 number-requires c κs = search rules
 
 returns : tie.Need-returns
-unfolding reading_wording numbers_in code_of word_code if◌then◌else◌ numbers_after
+unfolding reading_wording numbers_in code_of word_code when◌then◌else◌ numbers_after
 returns c =
     let e = sym c.before.before.before.before.reading.given.1 ∙ c.before.before.before.before.before.before.read.ensures.0 in
     (ap read_code e, ap (λ r. fields_after r c.before.before.before.before.before.before.before.before.args.fields.now) e)
 
 returns-2 : tie.Need-returns-2
-unfolding reading_wording numbers_in code_of word_code if◌then◌else◌ numbers_after
+unfolding reading_wording numbers_in code_of word_code when◌then◌else◌ numbers_after
 returns-2 c =
     let e = sym c.before.before.reading2.given.1 ∙ c.before.before.before.before.read.ensures.0 in
     (c.number.ensures ∙ ap read_code e, ap (λ r. fields_after r c.before.before.before.before.before.before.args.fields.now) e)

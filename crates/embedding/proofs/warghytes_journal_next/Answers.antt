@@ -1,7 +1,7 @@
 -- The second number, and then what the block gives, settle what is told and the writer.
 use mathlib.Core.Path.{refl, sym, ap, ◌∙◌}
 use lib.ListN.{get_or}
-use Rattle.group.proofs.Choice.{if_le, if_nle}
+use Rattle.group.proofs.Choice.{when_le, when_nle}
 use Rattle.journal.specs.Read.{next_of}
 use Rattle.journal.specs.Wording.{block_wording}
 use Rattle.embedding.specs.Journals.{writer_in, found_of, block_told, writer_at, writer_behind}
@@ -12,7 +12,7 @@ pub returns-then-writer-gt1 : goal.returns-then-writer-gt1
 unfolding block_told block_wording writer_behind writer_at writer_in
 returns-then-writer-gt1 c =
     let w = c.args.writer.now in
-    record { answer = if_nle (get_or w 1 0) 1 _ _ _ c.if-writer-gt1.true (refused_found refl); writer = if_nle (get_or w 1 0) 1 _ _ _ c.if-writer-gt1.true refl }
+    record { answer = when_nle (get_or w 1 0) 1 _ _ _ c.if-writer-gt1.true (refused_found refl); writer = when_nle (get_or w 1 0) 1 _ _ _ c.if-writer-gt1.true refl }
 
 pub returns-in-Right : goal.returns-in-Right
 unfolding block_told block_wording writer_behind writer_at writer_in
@@ -20,7 +20,7 @@ returns-in-Right c =
     let w = c.args.writer.now in
     let block = c.args.block.now in
     let e = sym c.in-Right.is ∙ (c.next-next.ensures.answer ∙ ap (λ t. next_of t block) c.tail_in-tail.ensures) in
-    record { answer = if_le (get_or w 1 0) 1 _ _ _ c.if-writer-gt1.false (right_found _ _ ∙ ap (λ b. found_of (block_wording b)) e); writer = if_le (get_or w 1 0) 1 _ _ _ c.if-writer-gt1.false (c.numbers_after.ensures ∙ ap (λ b. writer_at b w) e) }
+    record { answer = when_le (get_or w 1 0) 1 _ _ _ c.if-writer-gt1.false (right_found _ _ ∙ ap (λ b. found_of (block_wording b)) e); writer = when_le (get_or w 1 0) 1 _ _ _ c.if-writer-gt1.false (c.numbers_after.ensures ∙ ap (λ b. writer_at b w) e) }
 
 pub returns-in-Wrong : goal.returns-in-Wrong
 unfolding block_told block_wording writer_behind writer_at writer_in
@@ -28,4 +28,4 @@ returns-in-Wrong c =
     let w = c.args.writer.now in
     let block = c.args.block.now in
     let e = sym c.in-Wrong.is ∙ (c.next-next.ensures.answer ∙ ap (λ t. next_of t block) c.tail_in-tail.ensures) in
-    record { answer = if_le (get_or w 1 0) 1 _ _ _ c.if-writer-gt1.false (wrong_found ∙ ap (λ b. found_of (block_wording b)) e); writer = if_le (get_or w 1 0) 1 _ _ _ c.if-writer-gt1.false (ap (λ b. writer_at b w) e) }
+    record { answer = when_le (get_or w 1 0) 1 _ _ _ c.if-writer-gt1.false (wrong_found ∙ ap (λ b. found_of (block_wording b)) e); writer = when_le (get_or w 1 0) 1 _ _ _ c.if-writer-gt1.false (ap (λ b. writer_at b w) e) }

@@ -1,7 +1,7 @@
 -- Each answer's code and numbers are its wording's.
 use mathlib.Core.Path.{sym, ap, ◌∙◌}
 use Prim.Native.Nat.{ℕ}
-use Rattle.group.specs.Choice.{if◌then◌else◌}
+use Rattle.group.specs.Choice.{when◌then◌else◌}
 use Rattle.group.specs.Codes.{code_of, word_code, numbers_of, numbers_in, more_of, more_in, flag_of}
 use Rattle.ends.specs.Telling.{told_of}
 use Rattle.ends.specs.declared.Told.{Told}
@@ -13,9 +13,9 @@ abbrev plain : ℕ → ℕ → Told
 plain k written = record { code = k; first = 0; second = 0; third = 0; more = 0; written = written }
 
 pub returns-in-Accepted : goal.returns-in-Accepted
-unfolding told_of code_of word_code numbers_of numbers_in more_of more_in flag_of if◌then◌else◌ verdict_wording
+unfolding told_of code_of word_code numbers_of numbers_in more_of more_in flag_of when◌then◌else◌ verdict_wording
 returns-in-Accepted c = c.word.ensures ∙ ap (λ a. told_of (verdict_wording a) 0) (sym c.in-Accepted.is)
 
 pub returns-in-Refused : goal.returns-in-Refused
-unfolding told_of code_of word_code numbers_of numbers_in more_of more_in flag_of if◌then◌else◌ verdict_wording
+unfolding told_of code_of word_code numbers_of numbers_in more_of more_in flag_of when◌then◌else◌ verdict_wording
 returns-in-Refused c = c.word-in-Refused.ensures ∙ ap (λ (k : ℕ). plain k 0) c.number.ensures ∙ ap (λ a. told_of (verdict_wording a) 0) (sym c.in-Refused.is)

@@ -1,7 +1,7 @@
 -- A list of another length is unsound: it is refused, and left.
 use Rattle.std.proofs.Common.{◌≡◌, ℕ, List, length, ap, sym}
 use Rattle.std.proofs.lemmas.Bool.{ne_eqb}
-use Rattle.group.specs.Choice.{if◌then◌else◌}
+use Rattle.group.specs.Choice.{when◌then◌else◌}
 use Rattle.group.specs.Limits.{jobs_most}
 use Rattle.group.specs.declared.MemberNumber.{MemberNumber}
 use Rattle.group.specs.declared.Refusal.TheVariants.{UnsoundState}
@@ -13,7 +13,7 @@ use Rattle.jobs.specs.Wording.{wording_of}
 use Rattle.jobs.proofs.feed.Goals as goal
 
 other_refused : (ys : List Job) (m : MemberNumber) (ps : List ℕ) → ¬ (length ys ≡ jobs_most) → feed_of ys m ps ≡ record { jobs = ys; answer = Refused UnsoundState }
-unfolding feed_of sound_of if◌then◌else◌ refusedOf
+unfolding feed_of sound_of when◌then◌else◌ refusedOf
 other_refused ys m ps h = rw (ne_eqb (length ys) jobs_most h)
 
 pub returns-then-jobs-ne-JOBS-clause-answer : goal.returns-then-jobs-ne-JOBS-clause-answer

@@ -3,7 +3,7 @@ use mathlib.Core.Path.{refl, ◌∙◌}
 use native.Mathlib.Omega.{arith}
 use lib.ListN.{length}
 use Rattle.group.specs.Limits.{jobs_most}
-use Rattle.group.proofs.Choice.{if_eq}
+use Rattle.group.proofs.Choice.{when_eq}
 use Rattle.group.proofs.Fold.{all_on, all_off, all_done}
 use Rattle.jobs.specs.Sound.{sound_of}
 use borrow.Author.Rules.{rules}
@@ -37,10 +37,10 @@ unfolding sound_of
 returns-else-record_sound c =
     let l = c.loop-i in
     all_off _ _ l.i l.invariant.2 _ c.record_sound.result (omega arith) c.record_sound.ensures c.if-record_sound.false
-    ∙ if_eq (length c.args.jobs) jobs_most _ _ _ l.invariant.0 refl
+    ∙ when_eq (length c.args.jobs) jobs_most _ _ _ l.invariant.0 refl
 
 pub returns : goal.returns
 unfolding sound_of
 returns c =
     let l = c.loop-i in
-    all_done _ _ l.i l.invariant.2 (omega arith) ∙ if_eq (length c.args.jobs) jobs_most _ _ _ l.invariant.0 refl
+    all_done _ _ l.i l.invariant.2 (omega arith) ∙ when_eq (length c.args.jobs) jobs_most _ _ _ l.invariant.0 refl

@@ -4,13 +4,13 @@ use native.Mathlib.Omega.{arith}
 use Rattle.journal.proofs.Lists.{zero_byte}
 use mathlib.Core.Path.{refl}
 use Prim.Native.Nat.{◌-◌}
-use Rattle.group.specs.Choice.{if◌then◌else◌}
+use Rattle.group.specs.Choice.{when◌then◌else◌}
 use Rattle.message.proofs.Zero.{zero_on, zero_done}
 use borrow.Author.Rules.{rules}
 use Rattle.journal.proofs.zeros.Goals as goal
 
 pub loop-i-init : goal.loop-i-init
-unfolding if◌then◌else◌
+unfolding when◌then◌else◌
 loop-i-init c = (search rules, refl)
 
 pub loop-i-preserved : goal.loop-i-preserved

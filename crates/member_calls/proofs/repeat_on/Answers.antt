@@ -3,7 +3,7 @@ use mathlib.Core.Path.{refl, sym, ◌∙◌}
 use Prim.Native.Nat.{◌<◌}
 use native.Mathlib.Omega.{arith}
 use lib.ListN.{get_or}
-use Rattle.group.proofs.Choice.{if_le, if_nle}
+use Rattle.group.proofs.Choice.{when_le, when_nle}
 use Rattle.message.specs.Message.{blank}
 use Rattle.store.specs.Places.{messages_in}
 use Rattle.window.specs.Places.{queue_place}
@@ -52,11 +52,11 @@ returns-then-head-ge1 c =
     let some : 0 < (get_or queue (queue_place (first_count m)) blank).count = let z = q.count_is in omega arith in
     let inside = held_inside a.queued.now a.queued_originators.now a.queued_lengths.now a.queued_payloads.now (queue_place (first_count m)) some in
     let request = request_is a.head a.held.now queue held (counted_in_lem a.held.now a.held_originators.now a.held_lengths.now a.held_payloads.now) (let g = c.well_formed.0 in omega (arith, g)) _ (payload_in a.queued.now a.queued_originators.now a.queued_lengths.now a.queued_payloads.now (queue_place (first_count m)) inside) in
-    told (replied_as (if_le 1 _ _ _ _ some-wait refl ∙ judged_yes _ _ _ v) (sent m Answer.Sent (request_packet m) _ _ _ (laid_as request c.put_first-written.ensures)))
+    told (replied_as (when_le 1 _ _ _ _ some-wait refl ∙ judged_yes _ _ _ v) (sent m Answer.Sent (request_packet m) _ _ _ (laid_as request c.put_first-written.ensures)))
 
 pub returns-else-head-ge1 : goal.returns-else-head-ge1
 unfolding view_of repeat_of
-returns-else-head-ge1 c = told (replied_as (if_nle 1 _ _ _ _ c.if-head-ge1.false refl ∙ judged_yes _ _ _ (sym c.ask-v.ensures ∙ c.in-Accepted.is)) (quiet _ _ _ c.args.out.now c.refused.ensures))
+returns-else-head-ge1 c = told (replied_as (when_nle 1 _ _ _ _ c.if-head-ge1.false refl ∙ judged_yes _ _ _ (sym c.ask-v.ensures ∙ c.in-Accepted.is)) (quiet _ _ _ c.args.out.now c.refused.ensures))
 
 pub returns-in-Refused : goal.returns-in-Refused
 unfolding view_of repeat_of

@@ -2,7 +2,7 @@
 use mathlib.Core.Path.{refl, sym, ◌∙◌}
 use Prim.Native.Nat.{◌+◌}
 use native.Mathlib.Omega.{arith}
-use Rattle.group.proofs.Choice.{if_true, if_false}
+use Rattle.group.proofs.Choice.{when_true, when_false}
 use Rattle.store.specs.Places.{messages_in}
 use Rattle.window.specs.Places.{place_of}
 use Rattle.window.proofs.Places.{counted_in_lem}
@@ -37,7 +37,7 @@ returns-then-ready c =
     let held = messages_in a.held.now a.held_originators.now a.held_lengths.now a.held_payloads.now in
     let m = member_of a.head (messages_in a.queued.now a.queued_originators.now a.queued_lengths.now a.queued_payloads.now) held in
     let r = ready_is m a.held.now (counted_in_lem a.held.now a.held_originators.now a.held_lengths.now a.held_payloads.now) _ a.head.taken.0 (a.head.taken.0 + 1) _ c.place-following.ensures refl c.ready.ensures in
-    changed (replied_as (if_true _ _ _ _ (sym r ∙ c.if-ready.true) refl ∙ judged_yes _ _ _ (sym c.ask-v.ensures ∙ c.in-Accepted.is)) c.hand_out.ensures)
+    changed (replied_as (when_true _ _ _ _ (sym r ∙ c.if-ready.true) refl ∙ judged_yes _ _ _ (sym c.ask-v.ensures ∙ c.in-Accepted.is)) c.hand_out.ensures)
 
 pub returns-else-ready : goal.returns-else-ready
 unfolding view_of take_of
@@ -46,7 +46,7 @@ returns-else-ready c =
     let held = messages_in a.held.now a.held_originators.now a.held_lengths.now a.held_payloads.now in
     let m = member_of a.head (messages_in a.queued.now a.queued_originators.now a.queued_lengths.now a.queued_payloads.now) held in
     let r = ready_is m a.held.now (counted_in_lem a.held.now a.held_originators.now a.held_lengths.now a.held_payloads.now) _ a.head.taken.0 (a.head.taken.0 + 1) _ c.place-following.ensures refl c.ready.ensures in
-    changed (replied_as (if_false _ _ _ _ (sym r ∙ c.if-ready.false) refl ∙ judged_yes _ _ _ (sym c.ask-v.ensures ∙ c.in-Accepted.is)) (quiet _ _ _ a.out.now refl))
+    changed (replied_as (when_false _ _ _ _ (sym r ∙ c.if-ready.false) refl ∙ judged_yes _ _ _ (sym c.ask-v.ensures ∙ c.in-Accepted.is)) (quiet _ _ _ a.out.now refl))
 
 pub returns-in-Refused : goal.returns-in-Refused
 unfolding view_of take_of

@@ -1,7 +1,7 @@
 -- Question 2 is asked here, then the verdict on the fields, then question 13 (`write-by`).
 use mathlib.Core.Path.{sym, ap, ◌∙◌}
 use lib.ListN.{length}
-use Rattle.group.specs.Choice.{if◌then◌else◌, ◌≤?◌}
+use Rattle.group.specs.Choice.{when◌then◌else◌, ◌≤?◌}
 use Rattle.group.specs.Limits.{payload_most}
 use Rattle.group.specs.Question.{judged}
 use Rattle.group.specs.declared.Refusal.TheVariants.{LongPayload}
@@ -22,7 +22,7 @@ unfolding judged
 returns-then-payload-gt-PAYLOAD c =
     let a = c.args in
     let size = length a.payload.now in
-    let rest = if size ≤? payload_most then Accepted else Refused LongPayload in
+    let rest = when size ≤? payload_most then Accepted else Refused LongPayload in
     search (choices, rules) depth 9 ∙ ap (λ (v : Verdict). judged v Refused rest) (sym c.in-Accepted.is) ∙ write_by a.h a.payload.now a.room c.ask_fields-v.result (search rules) c.ask_fields-v.ensures
 
 pub returns-else-payload-gt-PAYLOAD : goal.returns-else-payload-gt-PAYLOAD
@@ -30,7 +30,7 @@ unfolding judged
 returns-else-payload-gt-PAYLOAD c =
     let a = c.args in
     let size = length a.payload.now in
-    let rest = if size ≤? payload_most then Accepted else Refused LongPayload in
+    let rest = when size ≤? payload_most then Accepted else Refused LongPayload in
     search (choices, rules) depth 9 ∙ ap (λ (v : Verdict). judged v Refused rest) (sym c.in-Accepted.is) ∙ write_by a.h a.payload.now a.room c.ask_fields-v.result (search rules) c.ask_fields-v.ensures
 
 pub returns-in-Refused : goal.returns-in-Refused
@@ -38,5 +38,5 @@ unfolding judged
 returns-in-Refused c =
     let a = c.args in
     let size = length a.payload.now in
-    let rest = if size ≤? payload_most then Accepted else Refused LongPayload in
+    let rest = when size ≤? payload_most then Accepted else Refused LongPayload in
     ap (λ (v : Verdict). judged v Refused rest) (sym c.in-Refused.is) ∙ write_by a.h a.payload.now a.room c.ask_fields-v.result (search rules) c.ask_fields-v.ensures

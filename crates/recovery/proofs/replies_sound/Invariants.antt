@@ -2,7 +2,7 @@
 use mathlib.Core.Path.{◌≡◌}
 use Prim.Native.Nat.{◌-◌}
 use lib.ListN.{length, drop}
-use Rattle.group.specs.Choice.{if◌then◌else◌, ◌=?◌}
+use Rattle.group.specs.Choice.{when◌then◌else◌, ◌=?◌}
 use Rattle.group.specs.Fold.{all}
 use Rattle.group.specs.Limits.{members_most}
 use mathlib.Core.Bool.{true}
@@ -10,7 +10,7 @@ use Rattle.group.specs.Members.{is_in}
 use Rattle.recovery.proofs.replies_sound.Given as goal
 
 abbrev pub invariant-loop-i : goal.invariant-loop-i
-invariant-loop-i l = (length l.replies ≡ members_most) × (all (λ k number. if is_in l.repliers k then true else number =? 0) 0 l.replies ≡ all (λ k number. if is_in l.repliers k then true else number =? 0) l.i (drop l.i l.replies))
+invariant-loop-i l = (length l.replies ≡ members_most) × (all (λ k number. when is_in l.repliers k then true else number =? 0) 0 l.replies ≡ all (λ k number. when is_in l.repliers k then true else number =? 0) l.i (drop l.i l.replies))
 
 abbrev pub decreases-loop-i : goal.decreases-loop-i
 decreases-loop-i l = members_most - l.i

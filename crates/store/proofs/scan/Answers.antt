@@ -6,14 +6,14 @@ use Prim.Native.Nat.{ℕ, ◌+◌, ◌-◌}
 use native.Mathlib.Omega.{arith}
 use lib.Bits.{bit_and}
 use lib.ListN.{length, get_or}
-use Rattle.group.specs.Choice.{if◌then◌else◌, ◌and◌, ◌=?◌}
+use Rattle.group.specs.Choice.{when◌then◌else◌, ◌and◌, ◌=?◌}
 use Rattle.message.proofs.Zero.{zero_on, zero_done}
 use Rattle.store.specs.Places.{block_size}
 use Rattle.store.proofs.Scanning.{mask_length, masked_zero}
 use Rattle.store.proofs.scan.Goals as goal
 
 pub loop-i-init : goal.loop-i-init
-unfolding if◌then◌else◌
+unfolding when◌then◌else◌
 loop-i-init c =
     let a = c.args in
     let p = c.requires in
@@ -34,7 +34,7 @@ loop-i-preserved c =
     let l = c.loop-i in
     let a = c.args in
     let b = get_or a.block.now l.i 0 in
-    let u : (bit_and b (get_or a.mask.now (block_size - a.from + l.i) 0) =? 0) ≡ (if b =? 0 then true else (l.i + 1 - a.from =? 0)) =
+    let u : (bit_and b (get_or a.mask.now (block_size - a.from + l.i) 0) =? 0) ≡ (when b =? 0 then true else (l.i + 1 - a.from =? 0)) =
     ap (λ (m : List ℕ). bit_and b (get_or m (block_size - a.from + l.i) 0) =? 0) l.invariant.1
     ∙ masked_zero b l.i a.from (let z = c.shared_slice_known-1.given l.i in omega (arith, z)) (omega arith) l.invariant.3 in
     (l.invariant.0, l.invariant.1, l.invariant.2, l.invariant.3, zero_on a.block.now a.from l.seen l.i l.invariant.4 (bit_and b (get_or a.mask.now (block_size - a.from + l.i) 0)) (omega arith) u)

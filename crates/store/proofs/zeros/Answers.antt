@@ -3,14 +3,14 @@ use mathlib.Core.Path.{refl}
 use Prim.Native.Nat.{◌-◌}
 use native.Mathlib.Omega.{arith}
 use lib.ListN.{get_or}
-use Rattle.group.specs.Choice.{if◌then◌else◌}
+use Rattle.group.specs.Choice.{when◌then◌else◌}
 use Rattle.message.proofs.Zero.{zero_on, zero_done}
 use Rattle.store.proofs.Scanning.{byte_zero}
 use borrow.Author.Rules.{rules}
 use Rattle.store.proofs.zeros.Goals as goal
 
 pub loop-i-init : goal.loop-i-init
-unfolding if◌then◌else◌
+unfolding when◌then◌else◌
 loop-i-init c = refl
 
 pub loop-i-smaller : goal.loop-i-smaller

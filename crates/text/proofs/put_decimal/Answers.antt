@@ -5,7 +5,7 @@ use lib.ListN.{drop, length-drop}
 use Rattle.text.proofs.Decimal.{decimal_zero, decimal_digits_lem}
 use Rattle.text.specs.Text.{glyph_of}
 use Rattle.text.specs.Written.{count_digits}
-use Rattle.group.specs.Choice.{if◌then◌else◌}
+use Rattle.group.specs.Choice.{when◌then◌else◌}
 use lib.Seq.{take_all}
 use Rattle.text.proofs.put_decimal.Goals as goal
 
@@ -13,7 +13,7 @@ pub put-requires : goal.put-requires
 put-requires c = let p = rw (c.if-n-eq0.true, decimal_zero) at c.requires in omega arith
 
 pub returns-then-n-eq0 : goal.returns-then-n-eq0
-unfolding glyph_of if◌then◌else◌
+unfolding glyph_of when◌then◌else◌
 returns-then-n-eq0 c = rw (c.if-n-eq0.true, decimal_zero) c.put.ensures
 
 pub put_text-requires : goal.put_text-requires

@@ -1,11 +1,11 @@
 -- A packet, and then a member, from the state behind it.
-use Rattle.group.specs.Choice.{if◌then◌else◌}
+use Rattle.group.specs.Choice.{when◌then◌else◌}
 use Rattle.workload.specs.Choice.{chosen}
 use Rattle.workload.specs.Steps.{event_in}
 use Rattle.workload.proofs.choose_hand.Goals as goal
 
 pub returns : goal.returns
-unfolding chosen event_in if◌then◌else◌
+unfolding chosen event_in when◌then◌else◌
 returns c =
     let d = c.draw-packet.ensures in
     let e = c.draw-member.ensures in

@@ -1,6 +1,6 @@
 -- A packet that is read as the broadcast of the number that comes next feeds the list what lies behind its header.
 use mathlib.Core.Path.{refl, sym, ◌∙◌}
-use Rattle.group.proofs.Choice.{if_true, if_false}
+use Rattle.group.proofs.Choice.{when_true, when_false}
 use Rattle.packet.proofs.Verdicts.{readable, payload_part}
 use Prim.Native.Nat.{◌+◌}
 use Rattle.terminal.specs.Left.{is_next, heard_of}
@@ -27,14 +27,14 @@ returns-then-is_next c =
     let e = sym c.read-reading.ensures.answer ∙ c.in-Fields.is in
     let n = sym c.is_next.ensures ∙ c.if-is_next.true in
     let o = rw (c.payload_length-end.ensures, (payload_part _ _ e).1) at c.feed_array-outcome.ensures.answer in
-    rw e (if_true (is_next a.taken.0 a.self.next _) _ _ _ n (λ i. record { jobs = (o i).jobs; next = a.self.next + 1 }))
+    rw e (when_true (is_next a.taken.0 a.self.next _) _ _ _ n (λ i. record { jobs = (o i).jobs; next = a.self.next + 1 }))
 
 pub returns-else-is_next : goal.returns-else-is_next
 unfolding heard_of
 returns-else-is_next c =
     let a = c.args in
     let e = sym c.read-reading.ensures.answer ∙ c.in-Fields.is in
-    rw e (if_false (is_next a.taken.0 a.self.next _) _ _ _ (sym c.is_next.ensures ∙ c.if-is_next.false) refl)
+    rw e (when_false (is_next a.taken.0 a.self.next _) _ _ _ (sym c.is_next.ensures ∙ c.if-is_next.false) refl)
 
 pub returns-in-Refused : goal.returns-in-Refused
 unfolding heard_of

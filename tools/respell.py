@@ -31,6 +31,15 @@ LEMMAS = {
 }
 
 
+# The library has `if .. then .. else` for another definition than the repository's own, which reads `when .. then .. else`.
+CHOICES = re.compile(r"(?<![\w'\-.])if_(append|both|either|elim|eq|eq_of|false|false_of|first|le|lt|ne|ne_of|nle|nlt|other|same|true|true_of|was)(?![\w'\-])")
+
+
+def chosen(line):
+    line = line.replace("if◌then◌else◌", "when◌then◌else◌")
+    return CHOICES.sub(r"when_\1", re.sub(r"(?<![\w'\-.◌])if(?= )", "when", line))
+
+
 def snake(name):
     parts = []
     for part in name.split("-"):
@@ -113,12 +122,13 @@ def main():
                 line = re.sub(r"(?<![\w'\-.])" + word + r"(?![\w'\-])(?!\.)", word + "_lem", line)
         if path.endswith(".antt"):
             code, dash, said = line.partition("-- ") if not line.lstrip().startswith("--") else ("", "", line)
-            return turn(code, table) + dash + turn(said, camel)
+            return chosen(turn(code, table)) + dash + turn(said, camel)
         if path.endswith(".rt"):
             if line.lstrip().startswith("//"):
                 return turn(line, camel)
             if re.match(r"\s*(ghost|requires|ensures)\b", line) or "≡" in line:
-                return turn(line, table)
+                line = turn(line, table)
+                return chosen(line) if re.match(r"\s*ghost\b", line) or re.search(r"\bif\b.* then .* else ", line) else line
             return line
         return line
 
@@ -134,7 +144,8 @@ def main():
         with open(path) as f:
             old = f.read()
         words = table if ".antt" in old.split("\n", 1)[0] else camel
-        new = "\n".join(turn(l, words) if re.match(r"(old|new):", l) else l for l in old.split("\n"))
+        lines = [turn(l, words) if re.match(r"(old|new):", l) else l for l in old.split("\n")]
+        new = "\n".join(chosen(l) if l[:4] in ("old:", "new:") and (words is table or re.search(r"\bif\b.* then ", l)) else l for l in lines)
         if new != old:
             turned += 1
             with open(path, "w") as f:

@@ -14,7 +14,6 @@ import sys
 
 IDENT = r"[A-Za-z_][\w'\-]*"
 TOKEN = re.compile(r"(?<![\w'\-])" + IDENT)
-DEFINED = re.compile(r"\s*(?:(?:abbrev|unfoldable|pub|instance|ruleset)\s+)*(" + IDENT + r")(?:\s+" + IDENT + r")*\s*[:=](?:\s|$)")
 RULESET = re.compile(r"\s*(?:pub\s+)?ruleset\s+(" + IDENT + r")\s*=")
 # Fields that stand beside what they are named after.
 FIELDS = set("kept-size queued-originators queued-lengths queued-payloads held-originators held-lengths held-payloads past-originators past-lengths past-payloads".split())

@@ -1,4 +1,4 @@
--- How every definition chooses: by one of three tests, with `if .. then .. else`, or with `ask .. or .. then` where a no ends it.
+-- How every definition chooses: by one of three tests, with `when .. then .. else`, or with `ask .. or .. then` where a no ends it.
 use Rattle.std.specs.Prelude.{Bool, true, false, ℕ, leb, ltb, eqb}
 
 infix 40 ◌<?◌ ◌≤?◌ ◌=?◌

@@ -1,4 +1,4 @@
--- The frame, and behind it the sum of what it laid (`block-laid`).
+-- The frame, and behind it the sum of what it laid (`block_laid`).
 use Rattle.journal.proofs.Laying.{frame_ends, block_laid}
 use borrow.Author.Rules.{rules}
 use Rattle.journal.proofs.put_block.Goals as goal

@@ -1,4 +1,4 @@
--- Each piece is laid behind the one before it (`frame-laid`).
+-- Each piece is laid behind the one before it (`frame_laid`).
 use Rattle.journal.proofs.Laying.{frame_laid}
 use Rattle.journal.proofs.put_frame.Goals as goal
 

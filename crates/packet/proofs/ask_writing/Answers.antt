@@ -1,4 +1,4 @@
--- Question 2 is asked here, then the verdict on the fields, then question 13 (`write-by`).
+-- Question 2 is asked here, then the verdict on the fields, then question 13 (`write_by`).
 use mathlib.Core.Path.{sym, ap, ◌∙◌}
 use lib.ListN.{length}
 use Rattle.group.specs.Choice.{when◌then◌else◌, ◌≤?◌}

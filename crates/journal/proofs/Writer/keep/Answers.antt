@@ -1,4 +1,4 @@
--- The record is laid in the block in hand (`kept-fits`), or in the next one after that block was handed out (`kept-over`).
+-- The record is laid in the block in hand (`kept_fits`), or in the next one after that block was handed out (`kept_over`).
 use Rattle.journal.specs.Write.{message_with}
 use Rattle.journal.specs.Block.{record_of}
 use Rattle.journal.proofs.Keeping.{kept_fits, kept_over}

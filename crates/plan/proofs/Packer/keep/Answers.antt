@@ -1,4 +1,4 @@
--- The record goes behind the others (`kept-fits`), or begins the next block after the one in hand was closed (`kept-over`).
+-- The record goes behind the others (`kept_fits`), or begins the next block after the one in hand was closed (`kept_over`).
 use Prim.Native.Nat.{◌+◌, ◌≤◌, ◌<◌}
 use native.Mathlib.Omega.{arith}
 use Rattle.journal.specs.Block.{message_at}

@@ -5,38 +5,32 @@ use mathlib.Core.List.{List, [], ◌∷◌}
 use Prim.Native.Nat.{ℕ, zero, suc, ◌+◌, ◌*◌, ◌≤◌, ◌<◌}
 use native.Mathlib.Omega.{arith}
 use borrow.Author.Tests.{leb-true}
-use lib.ListN.{length, replicate}
+use lib.ListN.{replicate}
 use Rattle.group.proofs.Choice.{both_then}
 use Rattle.group.proofs.Lists.{when_elim, eq_or}
-use Rattle.group.proofs.Question.{accepted≢}
 use Rattle.group.specs.Choice.{when◌then◌else◌, ◌and◌, ◌<?◌, ◌≤?◌, ◌=?◌}
 use Rattle.group.specs.Limits.{members_most, places_most, payload_most}
 use Rattle.group.specs.Opening.{open_of}
 use Rattle.group.specs.declared.Opened as answer
-use Rattle.group.specs.declared.Refusal.{Refusal}
 use Rattle.group.specs.declared.Verdict.{Verdict}
 use Rattle.member.specs.Calls as member
-use Rattle.member.specs.State.{Member}
 use Rattle.member.specs.View as memberView
 use Rattle.member.specs.declared.Head as memberHead
 use Rattle.recovery.specs.Calls.{fresh_terminal}
-use Rattle.recovery.specs.State.{Terminal, no_reset, no_sequencer}
-use Rattle.recovery.specs.View.{Stored, whole, member_in, sequencer_in, terminal_of}
-use Rattle.recovery.specs.declared.Head.{Head}
+use Rattle.recovery.specs.State.{no_reset, no_sequencer}
+use Rattle.recovery.specs.View.{whole, terminal_of}
 use Rattle.reset.specs.World.{fresh_terminals, fresh}
 use Rattle.sequencer.specs.Calls as sequencer
-use Rattle.sequencer.specs.State.{Sequencer, fresh_sequencer}
 use Rattle.sequencer.specs.View as sequencerView
 use Rattle.sequencer.specs.declared.Head as sequencerHead
-use Rattle.simulator.specs.Whole.{packets_most, list_of, packets_of}
+use Rattle.simulator.specs.Whole.{list_of, packets_of}
 use Rattle.store.proofs.Places.{messages_none}
 use Rattle.terminal_opening.specs.Steps.{fresh_head}
 use Rattle.terminal_rows.specs.Steps.{admits_of, opened_with}
 use Rattle.terminal_rows.specs.declared.Call.TheVariants as call
 use Rattle.reset_simulator.specs.Steps.{came_of, came_at, CallsAt, Begun}
-use Rattle.reset_simulator.specs.Whole.{Terminals, terminal_at, group_of, Room, Opens}
+use Rattle.reset_simulator.specs.Whole.{Terminals, terminal_at, group_of, Opens}
 use Rattle.reset_simulator.specs.declared.Called.{Called}
-use Rattle.reset_simulator.specs.declared.World.{World}
 
 module _ (n number resilience : ℕ) where
   pub begun_none : (t : Terminals) → Begun n number resilience t 0

@@ -1,5 +1,5 @@
 -- Each call is its event of the world. Assumes nothing.
-use mathlib.Core.Path.{◌≡◌, refl, sym, ap, ◌∙◌}
+use mathlib.Core.Path.{◌≡◌, refl, ap, ◌∙◌}
 use mathlib.Core.Bool.{Bool, true, false}
 use mathlib.Core.List.{List, [], ◌++◌, append-nil}
 use mathlib.Core.Option.{Option, none, some}
@@ -13,7 +13,6 @@ use Rattle.group.specs.declared.SequenceNumber.{SequenceNumber}
 use Rattle.model.specs.World.{answer_of, absent}
 use Rattle.packet.specs.Packet.{written}
 use Rattle.recovery.specs.Calls as terminal
-use Rattle.recovery.specs.State.{Terminal}
 use Rattle.reset.specs.World as reset
 use Rattle.reset.specs.World.{Group, Happened, missing, no_terminal, with_member, with_sequencer, at_terminal, at_sequencer, happen}
 use Rattle.terminal_rows.specs.Steps.{kept_size, admits_of}

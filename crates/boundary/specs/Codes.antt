@@ -1,5 +1,5 @@
 -- How the answers of reading and writing cross the boundary: as numbers, by their wording.
-use Rattle.std.specs.Prelude.{List, [], ◌∷◌, ℕ, get_or}
+use Rattle.std.specs.Prelude.{List, ℕ, get_or}
 use Rattle.group.specs.Codes.{code_of, numbers_in}
 use Rattle.group.specs.Wording.{Wording}
 use Rattle.packet.specs.Wording.{reading_wording, writing_wording}

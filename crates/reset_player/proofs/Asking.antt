@@ -4,7 +4,6 @@ use mathlib.Core.List.{List}
 use mathlib.Core.Option.{Option, none, some}
 use Prim.Native.Nat.{ℕ, ◌≤◌, zero-le}
 use lib.ListN.{take}
-use Rattle.model.specs.World.{Answer}
 use Rattle.reset.specs.World as world
 use Rattle.reset.specs.World.{Event, Group, Happened, happen}
 use Rattle.reset_schedule.specs.Laws.{meant_by}

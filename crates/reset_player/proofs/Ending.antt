@@ -1,16 +1,16 @@
 -- What is printed of a terminal at the end goes by its head. Assumes nothing.
-use mathlib.Core.Path.{◌≡◌, refl, sym, ap, ◌∙◌, subst}
+use mathlib.Core.Path.{◌≡◌, refl, sym, ap, ◌∙◌}
 use mathlib.Core.List.{List, []}
 use Prim.Native.Nat.{ℕ}
 use lib.ListN.{length, get_or}
 use Rattle.group.proofs.Choice.{when_eq, when_ne}
 use Rattle.group.specs.Choice.{◌=?◌}
-use Rattle.group.specs.Lent.{front, Laid}
+use Rattle.group.specs.Lent.{front}
 use Rattle.member.specs.View as member
 use Rattle.recovery.specs.View.{terminal_of}
 use Rattle.recovery.specs.declared.Head.{Head}
 use Rattle.reset_report.specs.Print.{terminal_line, sequencer_line}
-use Rattle.reset_simulator.specs.Whole.{stored_at, terminal_at}
+use Rattle.reset_simulator.specs.Whole.{terminal_at}
 use Rattle.sequencer.specs.View as sequencer
 use Rattle.terminal_rows.specs.Heads.{head_in}
 use Rattle.reset_player.specs.Player.{LaysLast}

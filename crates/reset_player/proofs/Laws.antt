@@ -10,12 +10,12 @@ use Rattle.group.proofs.Choice.{when_nle}
 use Rattle.group.proofs.Lists.{le_or}
 use Rattle.player.proofs.Laws.{opening_kept}
 use Rattle.player.proofs.Parts as parts
-use Rattle.player.specs.Parts.{kept_most, kept_of, ToldKept, said_of}
+use Rattle.player.specs.Parts.{kept_most, kept_of, ToldKept}
 use Rattle.reset_schedule.specs.Line.{event_of}
 use Rattle.schedule.specs.Line.{line_most}
 use Rattle.reset_player.specs.Feed.{State, start, fed_of, end_of}
 use Rattle.reset_player.specs.Laws.{Continues, ReadsOn, PrintsAll}
-use Rattle.reset_output.specs.Recover.{Stage, opening, running, ended, closed, event_told, open_told, line_told, last_of, recover_program, recover_of}
+use Rattle.reset_output.specs.Recover.{opening, running, ended, closed, event_told, open_told, line_told, last_of, recover_program, recover_of}
 
 -- a line over 1,000 characters is of another form, cut or not
 event_kept : (line : List ℕ) → event_of (kept_of line) ≡ event_of line

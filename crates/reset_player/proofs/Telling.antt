@@ -1,17 +1,16 @@
 -- What a line tells, out of what the functions below say: phases and their worlds, and the lines that fit the output.
 -- Assumes nothing.
 use mathlib.Core.Path.{◌≡◌, refl, sym, ap, ◌∙◌, subst}
-use mathlib.Core.List.{List, [], ◌∷◌}
+use mathlib.Core.List.{List, []}
 use mathlib.Core.Option.{Option, none, some}
-use Prim.Native.Nat.{ℕ, ◌+◌, ◌≤◌, ◌<◌, zero-le}
+use Prim.Native.Nat.{ℕ, ◌≤◌, ◌<◌, zero-le}
 use native.Mathlib.Omega.{arith}
-use types.Run.{OneOf}
 use lib.ListN.{length, take, length-append, length-drop}
 use Rattle.group.proofs.Choice.{when_lt, when_nlt}
 use Rattle.group.specs.Lent.{front}
 use Rattle.group.specs.Limits.{longest_packet}
 use Rattle.model.specs.World.{Answer, answer_of}
-use Rattle.player.proofs.Telling.{within_is, within_was, within_closed, fits_in, positive, no_key}
+use Rattle.player.proofs.Telling.{within_is, within_was, within_closed, fits_in}
 use Rattle.player.specs.Play.{next_number}
 use Rattle.player.specs.declared.Phase.{Phase}
 use Rattle.player.specs.declared.Phase.TheVariants.{Running, Ended, Closed}
@@ -183,8 +182,3 @@ module _ (w : Whole) (number : ℕ) (event : Option Event) where
           let is : record { text = line_of number (happen g e).answer (length g.packets); stage = running (happen g e).group (next_number number) } ≡ event_told g number (some e) =
           when_lt (length g.packets) packets_most _ _ _ (omega arith) refl in
           subst (λ (x : recover.Told). Tells x r w' lent after) is told
-
--- a command other than the first is not the first
-pub event_key : OneOf (1 ∷ 2 ∷ 3 ∷ 4 ∷ 5 ∷ 6 ∷ 7 ∷ 8 ∷ 9 ∷ 10 ∷ []) 0 → ⊥
-unfolding positive
-event_key = no_key 1 (2 ∷ 3 ∷ 4 ∷ 5 ∷ 6 ∷ 7 ∷ 8 ∷ 9 ∷ 10 ∷ []) (omega arith, (omega arith, (omega arith, (omega arith, (omega arith, (omega arith, (omega arith, (omega arith, (omega arith, (omega arith, tt))))))))))

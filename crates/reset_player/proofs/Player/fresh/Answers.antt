@@ -1,6 +1,5 @@
 -- Nothing was read.
--- Assumes nothing.
-use mathlib.Core.Path.{refl, ap}
+use mathlib.Core.Path.{ap}
 use mathlib.Core.List.{[]}
 use native.Mathlib.Omega.{arith}
 use Rattle.player.specs.declared.Phase.{Phase}
@@ -9,19 +8,11 @@ use Rattle.reset_simulator.specs.Whole.{group_of}
 use Rattle.reset_simulator.specs.declared.World.{World}
 use Rattle.reset_player.specs.Player.{stage_in}
 use Rattle.reset_player.proofs.Telling.{phase_is}
-use borrow.Author.Rules.{rules}
-use Rattle.reset_player.proofs.Player.fresh.Statement.{statement}
-use Rattle.reset_player.proofs.Player.fresh.Tie as tie
+use Rattle.reset_player.proofs.Player.fresh.Goals as goal
 
-returns : tie.Need-returns
+pub returns : goal.returns
 unfolding stage_in
 returns c =
     let world : World = record { n = 0; count = 0 } in
     let e = phase_is world Opening (record { terminals = omega arith; packets = omega arith }) in
     λ w line i. record { stage = ap (λ (p : Phase). stage_in p (group_of w) 0) e i; line = [] }
-
-pub fresh-spec : {M : Type 1} → statement M
-fresh-spec =
-    tie.close
-    (tie.spec
-    returns)

@@ -2,11 +2,12 @@
 use mathlib.Core.Path.{◌≡◌, refl, sym, ap, ◌∙◌, subst}
 use mathlib.Core.Bool.{true}
 use mathlib.Core.List.{List, [], ◌++◌, append-nil, append_assoc}
-use Prim.Native.Nat.{ℕ, zero, suc, ◌+◌, ◌-◌, ◌≤◌, ◌<◌}
+use Prim.Native.Nat.{ℕ, zero, suc, ◌-◌, ◌≤◌, ◌<◌}
 use native.Mathlib.Omega.{arith}
 use borrow.Author.Tests.{leb-true}
 use lib.ListN.{length, take, drop}
 use lib.Seq.{length-take-le, take_at}
+use Rattle.std.specs.declared.option.Option.{Option}
 use Rattle.descriptor.specs.Descriptor.{Takes}
 use Rattle.descriptor.specs.declared.Sink.{Sink}
 use Rattle.descriptor.proofs.Laws.{takes_none, takes_both, takes_as, takes_nothing}
@@ -72,32 +73,33 @@ gathered load next events left size before after h n l s f =
     }
 
 -- of the lines of some events a sink took the first, and those of the events that are left follow
-pub record Hands (load : Load) (events : ℕ) (before : Sink) (next : Load) (left : ℕ) (after : Sink) : Type 0 where
+pub record Hands {W : Type 0} (contents : W → Option (List ℕ)) (load : Load) (events : ℕ) (before : Sink W) (next : Load) (left : ℕ) (after : Sink W) : Type 0 where
   pub lines : List ℕ
-  pub takes : Takes before lines after
+  pub takes : Takes contents before lines after
   pub rest : lines_from load events ≡ lines ++ lines_from next left
 
-pub hands_none : (load : Load) (events : ℕ) (sink : Sink) → Hands load events sink load events sink
-hands_none load events sink = record { lines = []; takes = takes_none sink; rest = refl }
+module _ {W : Type 0} {contents : W → Option (List ℕ)} where
+  pub hands_none : (load : Load) (events : ℕ) (sink : Sink W) → Hands contents load events sink load events sink
+  hands_none load events sink = record { lines = []; takes = takes_none sink; rest = refl }
 
-pub hands_on : {load next behind : Load} {events left fewer size : ℕ} {sink from to : Sink} {before after : List ℕ} → Hands load events sink next left from
-    → Lays next left before after behind fewer size → Takes from (take size after) to → Hands load events sink behind fewer to
-hands_on {behind = behind} {fewer = fewer} {size = size} {before = before} {after = after} h l t =
-    let w = laid_whole l.laid in
-    let e = taken l.lines before after size w.lent w.size in
-    record {
-      lines = h.lines ++ l.lines;
-      takes = takes_both h.takes (takes_as e t);
-      rest = h.rest ∙ ap (λ (r : List ℕ). h.lines ++ r) l.rest ∙ sym (append_assoc h.lines l.lines (lines_from behind fewer));
-    }
+  pub hands_on : {load next behind : Load} {events left fewer size : ℕ} {sink from to : Sink W} {before after : List ℕ} → Hands contents load events sink next left from
+      → Lays next left before after behind fewer size → Takes contents from (take size after) to → Hands contents load events sink behind fewer to
+  hands_on {behind = behind} {fewer = fewer} {size = size} {before = before} {after = after} h l t =
+      let w = laid_whole l.laid in
+      let e = taken l.lines before after size w.lent w.size in
+      record {
+        lines = h.lines ++ l.lines;
+        takes = takes_both h.takes (takes_as e t);
+        rest = h.rest ∙ ap (λ (r : List ℕ). h.lines ++ r) l.rest ∙ sym (append_assoc h.lines l.lines (lines_from behind fewer));
+      }
 
--- a sink that failed takes nothing more; where no event is left, it took all
-pub hands_failed : {load next : Load} {events left : ℕ} {before after : Sink} → Hands load events before next left after → after.failed ≡ true → Takes before (lines_from load events) after
-hands_failed {next = next} {left = left} {after = after} h f = takes_as (sym h.rest) (takes_both h.takes (takes_nothing after (lines_from next left) f))
+  -- a sink that failed takes nothing more; where no event is left, it took all
+  pub hands_failed : {load next : Load} {events left : ℕ} {before after : Sink W} → Hands contents load events before next left after → after.failed ≡ true → Takes contents before (lines_from load events) after
+  hands_failed {next = next} {left = left} {after = after} h f = takes_as (sym h.rest) (takes_both h.takes (takes_nothing after (lines_from next left) f))
 
-pub hands_all : {load next : Load} {events left : ℕ} {before after : Sink} → Hands load events before next left after → left ≡ 0 → Takes before (lines_from load events) after
-unfolding lines_from
-hands_all {next = next} h e = takes_as (sym (h.rest ∙ ap (λ (k : ℕ). h.lines ++ lines_from next k) e ∙ append-nil h.lines)) h.takes
+  pub hands_all : {load next : Load} {events left : ℕ} {before after : Sink W} → Hands contents load events before next left after → left ≡ 0 → Takes contents before (lines_from load events) after
+  unfolding lines_from
+  hands_all {next = next} h e = takes_as (sym (h.rest ∙ ap (λ (k : ℕ). h.lines ++ lines_from next k) e ∙ append-nil h.lines)) h.takes
 
 -- the lines of a load that is open are those of its events
 pub lines_events : (n : ℕ) → 1 ≤ n → n ≤ members_most → (state k : ℕ) → lines_from (load_at state n) k ≡ event_lines (events_from n state k)
@@ -122,10 +124,10 @@ open_within n number g e =
     let l = leb-true n members_most (both_then (1 ≤? n) (n ≤? members_most) w.0) in
     (omega arith, omega arith)
 
-module _ (seed n number events : ℕ) (sink : Sink) where
+module _ {W : Type 0} {contents : W → Option (List ℕ)} (seed n number events : ℕ) (sink : Sink W) where
   -- the first line, and the lines of the events behind it
-  pub prints_whole : {step : Step} {first last : Sink} → step ≡ step_of (open_of seed n number) → step.answer ≡ Answer.Written → Takes sink (open_of seed n number).bytes first
-      → Takes first (lines_from step.load events) last → Prints seed n number events sink (record { answer = step.answer; sink = last })
+  pub prints_whole : {step : Step} {first last : Sink W} → step ≡ step_of (open_of seed n number) → step.answer ≡ Answer.Written → Takes contents sink (open_of seed n number).bytes first
+      → Takes contents first (lines_from step.load events) last → Prints contents seed n number events sink (record { answer = step.answer; sink = last })
   unfolding opened printed_of load_of
   prints_whole {step} {first} {last} s w f l =
       record {
@@ -133,17 +135,17 @@ module _ (seed n number events : ℕ) (sink : Sink) where
         takes = go (group.open_of n number 0) refl (sym (ap (λ (x : Step). x.answer) s) ∙ w) f (takes_as (ap (λ (x : Step). lines_from x.load events) s) l);
       }
     where
-      go : (o : Opened) → group.open_of n number 0 ≡ o → (opened seed o).answer ≡ Answer.Written → Takes sink (opened seed o).bytes first → Takes first (lines_from (opened seed o).load events) last
-          → Takes sink (printed_of seed events o) last
+      go : (o : Opened) → group.open_of n number 0 ≡ o → (opened seed o).answer ≡ Answer.Written → Takes contents sink (opened seed o).bytes first → Takes contents first (lines_from (opened seed o).load events) last
+          → Takes contents sink (printed_of seed events o) last
       go (Opened.Open g) e a f l = let k = open_within n number g e in takes_both f (takes_as (lines_events g.n k.0 k.1 seed events) l)
       go (Opened.Refused refusal) e a f l = absurd (refused_not a)
 
   pub prints_nothing : {step : Step} {refusal : Refusal} → step ≡ step_of (open_of seed n number) → step.answer ≡ Answer.Refused refusal
-      → Prints seed n number events sink (record { answer = step.answer; sink = sink })
+      → Prints contents seed n number events sink (record { answer = step.answer; sink = sink })
   unfolding opened printed_of
   prints_nothing {step} {refusal} s w =
       record { answer = ap (λ (x : Step). x.answer) s; takes = go (group.open_of n number 0) (sym (ap (λ (x : Step). x.answer) s) ∙ w) }
     where
-      go : (o : Opened) → (opened seed o).answer ≡ Answer.Refused refusal → Takes sink (printed_of seed events o) sink
+      go : (o : Opened) → (opened seed o).answer ≡ Answer.Refused refusal → Takes contents sink (printed_of seed events o) sink
       go (Opened.Open g) a = absurd (refused_not (sym a))
       go (Opened.Refused refusal) a = takes_none sink

@@ -9,6 +9,7 @@ use std::str;
 
 fn digit(n: u32) -> u8
     requires { n < 10 }
+    ensures { result < 128 }
 {
     b'0' + (n as u8)
 }

@@ -1,9 +1,6 @@
 -- What is said of a text, and at the end. Assumes nothing.
-use mathlib.Core.Path.{◌≡◌, refl, ap, ◌∙◌}
-use mathlib.Core.Bool.{Bool, true, false}
-use mathlib.Core.List.{List}
-use Prim.Native.Nat.{ℕ}
-use lib.ListN.{length, take}
+use Rattle.std.proofs.Common.{◌≡◌, refl, ap, ◌∙◌, Bool, true, false, List, ℕ, length, take}
+use Rattle.std.specs.declared.option.Option.{Option}
 use Rattle.descriptor.proofs.Laws.{takes_as}
 use Rattle.descriptor.specs.Descriptor.{Takes}
 use Rattle.descriptor.specs.declared.Sink.{Sink}
@@ -15,7 +12,7 @@ use Rattle.player.proofs.Laws.{laid_front}
 use Rattle.player.proofs.Telling.{shown_of}
 use Rattle.player.specs.Feed.{State, Fed, said_of}
 use Rattle.player.specs.Laws.{Quiet}
-use Rattle.player.specs.Play.{Stage, opening, running, ended, closed}
+use Rattle.player.specs.Play.{opening, running, ended, closed}
 use Rattle.player.specs.Player.{stage_in, phase_of, Does}
 use Rattle.player.specs.declared.Fed as declared
 use Rattle.player.specs.declared.Phase.{Phase}
@@ -51,11 +48,11 @@ said_told quiet {told} {r} {w} {line} {lent} {after} {size} d e =
     ∙ ap (λ (x : State). (program_of quiet).says x.stage told.text) d.state
 
 -- what is printed at the end, of a player that did what was told
-pub hands_told : (quiet : Bool) {told : Fed} {r : declared.Fed} {s : sequencerView.Stored} {numbers : List (List ℕ)} {rows : Rows} {p : Packets} {line lent after : List ℕ} {before behind : Sink}
+pub hands_told : {W : Type 0} {contents : W → Option (List ℕ)} (quiet : Bool) {told : Fed} {r : declared.Fed} {s : sequencerView.Stored} {numbers : List (List ℕ)} {rows : Rows} {p : Packets} {line lent after : List ℕ} {before behind : Sink W}
     → Does told r (record { sequencer = s; terminals = terminals_of r.player.head.sequencer.group numbers rows; packets = p }) line lent after
-    → HandsLast quiet r.player s.taken s.repeats (terminals_of r.player.head.sequencer.group numbers rows) p before behind
-    → s.head ≡ r.player.head.sequencer → Takes before ((program_of quiet).last told.state.stage) behind
-hands_told quiet {told} {r} {s} {numbers} {rows} {p} {line} {lent} {after} {before} {behind} d l e =
+    → HandsLast contents quiet r.player s.taken s.repeats (terminals_of r.player.head.sequencer.group numbers rows) p before behind
+    → s.head ≡ r.player.head.sequencer → Takes contents before ((program_of quiet).last told.state.stage) behind
+hands_told {W} {contents} quiet {told} {r} {s} {numbers} {rows} {p} {line} {lent} {after} {before} {behind} d l e =
     let k =
     l (group_of (record { sequencer = s; terminals = terminals_of r.player.head.sequencer.group numbers rows; packets = p })) (tabled_of r.player.head.sequencer.group s numbers rows p)
     (record { shown = shown_of r.player.head s numbers rows p e; written = refl }) in

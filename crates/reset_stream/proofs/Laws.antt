@@ -1,10 +1,6 @@
 -- What is handed on of a text that a player printed, of each terminal at the end, and of all of them. Assumes nothing.
-use mathlib.Core.Path.{◌≡◌, refl, sym, ap, ◌∙◌}
-use mathlib.Core.List.{List, [], ◌∷◌, ◌++◌, append-nil, append_assoc}
-use Prim.Native.Nat.{ℕ, zero, suc, ◌+◌}
-use native.Mathlib.Omega.{arith}
-use native.Mathlib.Nat.{zero-add}
-use lib.ListN.{length, take}
+use Rattle.std.proofs.Common.{◌≡◌, refl, sym, ap, ◌∙◌, List, [], ◌∷◌, ◌++◌, append-nil, append_assoc, ℕ, zero, suc, ◌+◌, zero-add, arith, length, take}
+use Rattle.std.specs.declared.option.Option.{Option}
 use Rattle.descriptor.proofs.Laws.{takes_both, takes_as}
 use Rattle.descriptor.specs.Descriptor.{Takes}
 use Rattle.descriptor.specs.declared.Sink.{Sink}
@@ -56,15 +52,15 @@ unfolding terminals_told list_of
 told_none f = refl
 
 -- what is printed at the end, of a player that did what was told
-pub hands_told : {told : feed.Fed} {r : Fed} {small masks numbers : List (List ℕ)} {rows : Rows} {p : Packets} {line lent after : List ℕ} {before behind : Sink}
+pub hands_told : {W : Type 0} {contents : W → Option (List ℕ)} {told : feed.Fed} {r : Fed} {small masks numbers : List (List ℕ)} {rows : Rows} {p : Packets} {line lent after : List ℕ} {before behind : Sink W}
     → Does told r (record { n = r.player.world.n; terminals = terminals_of small masks numbers rows; packets = p }) line lent after
-    → HandsLast r.player small masks numbers before behind → Takes before (last_of told.state.stage) behind
-hands_told {told} {r} {small} {masks} {numbers} {rows} {p} {line} {lent} {after} {before} {behind} d l =
+    → HandsLast contents r.player small masks numbers before behind → Takes contents before (last_of told.state.stage) behind
+hands_told {W} {contents} {told} {r} {small} {masks} {numbers} {rows} {p} {line} {lent} {after} {before} {behind} d l =
     takes_as (ap (λ (x : feed.State). last_of x.stage) d.state) (l rows (packets_in p))
 
 -- what the turns printed, with the end of the input behind it, is what the whole input prints
-pub recovered : {s t : feed.State} {source read : Source} {sink handed last : Sink} → s ≡ feed.start → TurnsBy line_told recover_program s t source sink read handed
-    → Takes handed ((feed.end_of t).text ++ last_of (feed.end_of t).state.stage) last → Recovers source sink (record { source = read; sink = last })
-recovered {s} {t} {source} {read} {sink} {handed} {last} e turns f =
+pub recovered : {R W : Type 0} {remaining : R → Option (List ℕ)} {contents : W → Option (List ℕ)} {s t : feed.State} {source read : Source R} {sink handed last : Sink W} → s ≡ feed.start → TurnsBy line_told recover_program contents remaining s t source sink read handed
+    → Takes contents handed ((feed.end_of t).text ++ last_of (feed.end_of t).state.stage) last → Recovers remaining contents source sink (record { source = read; sink = last })
+recovered {R} {W} {remaining} {contents} {s} {t} {source} {read} {sink} {handed} {last} e turns f =
     let p = puts_from e turns.puts in
     record { input = turns.input; gives = turns.gives; takes = takes_as (continues_end t turns.input p.printed [] refl p.continues) (takes_both p.takes f) }

@@ -1,7 +1,6 @@
 -- The line that is left, and then what is printed at the end.
 use Rattle.descriptor.proofs.Laws.{takes_both, takes_as}
 use Rattle.reset_stream.proofs.Laws.{text_told, hands_told}
-use borrow.Author.Rules.{rules}
 use Rattle.reset_stream.proofs.finish.Goals as goal
 
 pub returns : goal.returns

@@ -1,9 +1,7 @@
 -- The loop's invariant: what was played since its first turn.
 use Rattle.reset_player.specs.Player.{state_of}
 use Rattle.reset_simulator.specs.Whole.{whole_of}
-use Rattle.stream.proofs.Turning.{turns_none, turns_both}
 use Rattle.reset_stream.specs.Steps.{Turns}
-use borrow.Author.Rules.{rules}
 use Rattle.reset_stream.proofs.play_all.Given as goal
 
 abbrev pub invariant-loop-turns : goal.invariant-loop-turns

@@ -1,8 +1,8 @@
 -- What the rest of the part prints goes behind what the sink took.
-use mathlib.Core.Path.{◌≡◌, refl, sym, ap, ◌∙◌}
+use mathlib.Core.Path.{refl}
 use Prim.Native.Nat.{◌+◌, ◌-◌, ◌≤◌, ◌<◌}
 use native.Mathlib.Omega.{arith}
-use lib.ListN.{length, take, drop, drop_of_length-le}
+use lib.ListN.{length, drop_of_length-le}
 use Rattle.descriptor.proofs.Laws.{takes_both, takes_as}
 use Rattle.player.proofs.Parts.{continues_fed}
 use Rattle.reset_player.proofs.Laws.{reads_within}
@@ -10,7 +10,6 @@ use Rattle.reset_player.specs.Player.{state_of}
 use Rattle.reset_output.specs.Recover.{recover_program}
 use Rattle.reset_simulator.specs.Whole.{whole_of}
 use Rattle.stream.proofs.Turning.{puts_none}
-use Rattle.reset_stream.specs.Steps.{Puts}
 use Rattle.reset_stream.proofs.Laws.{text_told}
 use borrow.Author.Rules.{rules}
 use Rattle.reset_stream.proofs.play_part.Goals as goal

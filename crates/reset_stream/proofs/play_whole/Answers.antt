@@ -1,6 +1,5 @@
 -- What the turns printed, with the end of the input behind it.
 use Rattle.reset_stream.proofs.Laws.{recovered}
-use borrow.Author.Rules.{rules}
 use Rattle.reset_stream.proofs.play_whole.Goals as goal
 
 pub returns : goal.returns

@@ -1,7 +1,5 @@
 -- What is printed in each phase.
-use mathlib.Core.Path.{◌≡◌, refl, sym, ap, ◌∙◌}
-use native.Mathlib.Omega.{arith}
-use Prim.Native.Nat.{◌≤◌}
+use mathlib.Core.Path.{sym, ap, ◌∙◌}
 use Rattle.descriptor.proofs.Laws.{takes_none, takes_as}
 use Rattle.player.proofs.Telling.{running≢, ended≢}
 use Rattle.player.specs.declared.Phase.{Phase}
@@ -12,7 +10,6 @@ use Rattle.reset_player.specs.Player.{stage_in, phase_of}
 use Rattle.reset_output.specs.Recover.{last_of}
 use Rattle.reset_stream.specs.Steps.{terminals_by}
 use Rattle.reset_stream.proofs.Laws.{laid_text}
-use borrow.Author.Rules.{rules}
 use Rattle.reset_stream.proofs.put_last.Goals as goal
 
 pub put_terminals-requires : goal.put_terminals-requires

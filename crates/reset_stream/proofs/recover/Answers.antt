@@ -1,5 +1,4 @@
 -- A player that has read nothing.
-use borrow.Author.Rules.{rules}
 use Rattle.reset_stream.proofs.recover.Goals as goal
 
 pub returns : goal.returns

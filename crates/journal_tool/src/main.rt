@@ -749,10 +749,11 @@ fn complete(rt: &HostRuntime, name: &mut [u8]) -> io::Result<()>
     Ok(())
 }
 
-// Makes a file that was not there, and completes its name.
-fn create_temp(rt: &HostRuntime, name: &mut [u8]) -> io::Result<File>
-    requires { 6 ≤ length name.old }
-{
+// Makes a file that was not there, and completes its name. A name that is shorter than what completes it is refused.
+fn create_temp(rt: &HostRuntime, name: &mut [u8]) -> io::Result<File> {
+    if name.len() < COMPLETED {
+        return Err(Error::from(ErrorKind::InvalidInput));
+    }
     let mut options = OpenOptions::new();
     options.write(true).create_new(true).mode(0o600);
     for _ in 0..NAMES_TRIED {
@@ -786,9 +787,7 @@ fn place(rt: &HostRuntime, file: File, beside: &[u8], name: &[u8], bytes: &[u8])
 }
 
 // Puts bytes in a new file, whose name is completed, and then gives it the other name: a failure leaves what has that name.
-fn put_beside(rt: &HostRuntime, beside: &mut [u8], name: &[u8], bytes: &[u8]) -> bool
-    requires { 6 ≤ length beside.old }
-{
+fn put_beside(rt: &HostRuntime, beside: &mut [u8], name: &[u8], bytes: &[u8]) -> bool {
     let file = match create_temp(rt, beside) {
         Ok(file) => file,
         Err(error) => {

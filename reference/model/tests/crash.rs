@@ -38,8 +38,7 @@ fn the_reference_passes_and_wrong_programs_fail() {
 
     let forgets = format!("[ $1 = list ] || : > \"$2\"\nexec {JOURNAL} \"$@\"");
     let told = wrong("forgetful", &forgets);
-    // Bytes, or blocks where the program forgot before the first look.
-    let short = told.contains("the file has") || told.contains("written and not");
+    let short = told.contains("the file has") || told.contains("bytes written and not");
     assert!(short, "{told}");
 
     let in_place = format!("[ $1 = rewrite ] || exec {JOURNAL} \"$@\"\ncat \"$2\" > \"$3\"");

@@ -54,14 +54,11 @@ fn upper(name: &str) -> String {
 #[test]
 fn refusals() {
     let header = header();
-    let source: BTreeMap<&str, &str> = GROUP
+    let (_, behind) = GROUP.split_once("pub enum Refusal {").unwrap();
+    let (variants, _) = behind.split_once('}').unwrap();
+    let source: BTreeMap<&str, &str> = variants
         .lines()
-        .filter_map(|line| {
-            line.trim()
-                .strip_prefix("Refusal::")?
-                .strip_suffix(',')?
-                .split_once(" => ")
-        })
+        .filter_map(|line| line.trim().strip_suffix(',')?.split_once(" = "))
         .collect();
     assert_eq!(source.len(), Refusal::ALL.len());
     for refusal in Refusal::ALL {

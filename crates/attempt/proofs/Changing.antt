@@ -1,5 +1,7 @@
 -- A call over a terminal's parts that asks question 1 of the whole terminal first: what its no promises, and what a step that it takes does.
 -- Assumes nothing.
+use Rattle.group.specs.Question.{all_yes}
+use Rattle.std.specs.Prelude.{Err}
 use mathlib.Core.Path.{◌≡◌, refl, sym, ap, ◌∙◌, subst}
 use mathlib.Core.Bool.{Bool, true, false}
 use mathlib.Core.List.{List}
@@ -9,7 +11,6 @@ use Rattle.group.specs.Choice.{when◌then◌else◌, ◌and◌}
 use Rattle.group.specs.Lent.{front}
 use Rattle.group.specs.Limits.{members_most, longest_packet}
 use Rattle.group.specs.declared.Refusal.{Refusal}
-use Rattle.group.specs.declared.Verdict.{Verdict}
 use Rattle.group.proofs.Choice.{when_true, when_false, when_le, when_nle, both_first, both_then}
 use Rattle.member.specs.View as memberView
 use Rattle.member.specs.Wording.{wording_of}
@@ -94,15 +95,15 @@ call_as s call other {left} {reply} {before} {after} f e p =
 
 -- questions 1 and 2 of the whole terminal
 module _ (t : Terminal) (room : ℕ) where
-  pub whole_sound : terminal_sound t ≡ true → longest_packet ≤ room → whole_verdict t room ≡ Verdict.Accepted
+  pub whole_sound : terminal_sound t ≡ true → longest_packet ≤ room → whole_verdict t room ≡ all_yes
   unfolding whole_verdict
   whole_sound e h = sym (when_true (terminal_sound t) _ _ _ e (when_le longest_packet room _ _ _ h refl))
 
-  pub whole_short : terminal_sound t ≡ true → room < longest_packet → whole_verdict t room ≡ Verdict.Refused Refusal.ShortOutput
+  pub whole_short : terminal_sound t ≡ true → room < longest_packet → whole_verdict t room ≡ Err Refusal.ShortOutput
   unfolding whole_verdict
   whole_short e h = sym (when_true (terminal_sound t) _ _ _ e (when_nle longest_packet room _ _ _ h refl))
 
-  pub whole_unsound : terminal_sound t ≡ false → whole_verdict t room ≡ Verdict.Refused Refusal.UnsoundState
+  pub whole_unsound : terminal_sound t ≡ false → whole_verdict t room ≡ Err Refusal.UnsoundState
   unfolding whole_verdict
   whole_unsound e = sym (when_false (terminal_sound t) _ _ _ e refl)
 

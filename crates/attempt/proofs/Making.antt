@@ -1,4 +1,6 @@
 -- Making: questions 1, 2, 27 and 26, and then the initiator has the result. Assumes nothing.
+use Rattle.group.specs.Question.{all_yes}
+use Rattle.std.specs.Prelude.{Err}
 use mathlib.Core.Path.{◌≡◌, refl, sym, ap, ◌∙◌, subst}
 use mathlib.Core.Bool.{Bool, true, false, false≢true}
 use mathlib.Core.List.{List, [], append-nil}
@@ -15,7 +17,7 @@ use Rattle.group.specs.Question.{judged}
 use Rattle.group.specs.declared.MemberNumber.{MemberNumber}
 use Rattle.group.specs.declared.Refusal.{Refusal}
 use Rattle.group.specs.declared.SequenceNumber.{SequenceNumber}
-use Rattle.group.specs.declared.Verdict.{Verdict}
+use Rattle.group.specs.Question.{Verdict}
 use Rattle.group.proofs.Choice.{when_true, when_was, both_first, both_then}
 use Rattle.group.proofs.Question.{accepted≢}
 use Rattle.big_endian.specs.Number.{bytes_of}
@@ -48,7 +50,7 @@ mask_bytes mask h =
 
 -- the fields of a result with its survivors' mask behind them may be written
 pub made_fields : (group : ℕ) (sender elected : MemberNumber) (attempt : ℕ) (number : SequenceNumber) (mask : ℕ) → mask < 65536 → is_in mask sender.0 ≡ true → is_in mask elected.0 ≡ true
-    → fields_verdict (fields_of group (Packet.Result sender attempt elected number)) (length (bytes_of survivors_size mask)) (bytes_of survivors_size mask) ≡ Verdict.Accepted
+    → fields_verdict (fields_of group (Packet.Result sender attempt elected number)) (length (bytes_of survivors_size mask)) (bytes_of survivors_size mask) ≡ all_yes
 made_fields group sender elected attempt number mask h a b =
     let m = sym (mask_bytes mask h) in
     result_fields group sender elected attempt number (bytes_of survivors_size mask) (bytes_of-length survivors_size mask)
@@ -67,15 +69,15 @@ result_laid head elected number room {survivors} {size} {x} {y} e m a b h l =
 
 -- three questions, the first of them before the others
 judged_three : (t : Terminal) (o : Outcome) (first second third : Refusal) (a b c : Bool)
-    → judged (when a then Verdict.Accepted else Verdict.Refused first) (refused t) (when b then (when c then o else refused t third) else refused t second)
-    ≡ judged (when a then (when b then (when c then Verdict.Accepted else Verdict.Refused third) else Verdict.Refused second) else Verdict.Refused first) (refused t) o
+    → judged (when a then all_yes else Err first) (refused t) (when b then (when c then o else refused t third) else refused t second)
+    ≡ judged (when a then (when b then (when c then all_yes else Err third) else Err second) else Err first) (refused t) o
 unfolding when◌then◌else◌ judged
 judged_three t o first second third true true true = refl
 judged_three t o first second third true true false = refl
 judged_three t o first second third true false c = refl
 judged_three t o first second third false b c = refl
 
-room_asked : (t : Terminal) (room : ℕ) → terminal_sound t ≡ true → whole_verdict t room ≡ (when longest_packet ≤? room then Verdict.Accepted else Verdict.Refused Refusal.ShortOutput)
+room_asked : (t : Terminal) (room : ℕ) → terminal_sound t ≡ true → whole_verdict t room ≡ (when longest_packet ≤? room then all_yes else Err Refusal.ShortOutput)
 unfolding whole_verdict
 room_asked t room e = sym (when_true (terminal_sound t) _ _ _ e refl)
 
@@ -106,20 +108,20 @@ module _ (s : Stored) where
   replied_own k h = both_first _ _ (both_then _ _ (chosen (s.head.inviting =? 1) _ _ h (both_first _ _ (both_then _ _ (both_then _ _ (both_then _ _ (both_first _ _ k.sound)))))))
 
   module _ (k : Facts s) (demand : ℕ) (before : List ℕ) {v : Verdict} (v-is : v ≡ make_verdict s.head demand (length before)) where
-    pub make_declined : (refusal : Refusal) {done : Done} → v ≡ Verdict.Refused refusal → done ≡ record { head = s.head; reply = no_of refusal }
+    pub make_declined : (refusal : Refusal) {done : Done} → v ≡ Err refusal → done ≡ record { head = s.head; reply = no_of refusal }
         → Made s demand before done.reply (with_parts s done.head s.replies) before
     make_declined refusal e d =
         declined_done s (λ x. make_of x demand (length before)) refusal k.flags (make_asked demand (length before) k.sound ∙ sym (judged_no _ (refused t) (made_of t) refusal (sym v-is ∙ e))) d
 
-    pub make_done : {left : Stored} {reply : Reply} {after : List ℕ} → v ≡ Verdict.Accepted → Changed (called made_of (view_of s)) reply left before after
+    pub make_done : {left : Stored} {reply : Reply} {after : List ℕ} → v ≡ all_yes → Changed (called made_of (view_of s)) reply left before after
         → Made s demand before reply left after
     make_done e p = call_as s made_of (λ x. make_of x demand (length before)) k.flags (judged_yes _ (refused t) (made_of t) (sym v-is ∙ e) ∙ sym (make_asked demand (length before) k.sound)) p
 
-    pub make_asks : v ≡ Verdict.Accepted → (is_in s.head.repliers s.head.member.number.0 ≡ true) × (longest_packet ≤ length before)
+    pub make_asks : v ≡ all_yes → (is_in s.head.repliers s.head.member.number.0 ≡ true) × (longest_packet ≤ length before)
     unfolding make_verdict
     make_asks e =
-        let a = when_was _ _ _ Verdict.Accepted (sym v-is ∙ e) (accepted≢ Refusal.ShortOutput) in
-        let b = when_was _ _ _ Verdict.Accepted a.1 (accepted≢ Refusal.NotOfAttempt) in
+        let a = when_was _ _ _ all_yes (sym v-is ∙ e) (accepted≢ Refusal.ShortOutput) in
+        let b = when_was _ _ _ all_yes a.1 (accepted≢ Refusal.NotOfAttempt) in
         (replied_own k b.0, leb-true longest_packet (length before) a.0)
 
   module _ (f : flags_sound s.head ≡ true) (number : SequenceNumber) (elected : MemberNumber) (number_is : number.0 ≡ highest_of s.head.repliers 0 s.replies)

@@ -1,4 +1,5 @@
 -- A packet of a reset that was read: question 1 of the whole terminal, 7, and then those of its kind. Assumes nothing.
+use Rattle.std.specs.Prelude.{Ok}
 use mathlib.Core.Path.{◌≡◌, refl, sym, ap, ◌∙◌, subst}
 use mathlib.Core.Logic.{◌≢◌}
 use mathlib.Core.Bool.{Bool, true, false}
@@ -17,7 +18,6 @@ use Rattle.big_endian.specs.Laws.{Bytes}
 use Rattle.packet.specs.Packet.{request_kind, broadcast_kind, gap_kind, status_kind, poll_kind, offer_kind, confirm_kind, accept_kind, invitation_kind, reply_kind, content_of, from_elected, payload_at, read_of, survivors_size, Named}
 use Rattle.packet.specs.declared.Header.{Header}
 use Rattle.packet.specs.declared.Packet.{Packet}
-use Rattle.packet.specs.declared.Reading.{Reading}
 use Rattle.packet.proofs.Verdicts.{askable, readable, fits_size, result_size, read_named}
 use Rattle.member.specs.View as memberView
 use Rattle.member.specs.declared.Reply.{Reply}
@@ -104,14 +104,14 @@ reset_content group h above =
     of : {x : Packet} → content_of h ≡ x → (from_elected group x ≡ true) × (of_reset x ≡ true) → (from_elected group (content_of h) ≡ true) × (of_reset (content_of h) ≡ true)
     of e p = subst (λ (x : Packet). (from_elected group x ≡ true) × (of_reset x ≡ true)) (sym e) p
 
-pub read_reset : (t : Terminal) (h : Header) (payload : List ℕ) → accept_kind < h.kind → reset_read t h payload ≡ read_step t (Reading.Fields h) payload
+pub read_reset : (t : Terminal) (h : Header) (payload : List ℕ) → accept_kind < h.kind → reset_read t h payload ≡ read_step t (Ok h) payload
 unfolding read_step reset_read
 read_reset t h payload above =
     let c = reset_content t.member.group h above in
     when_true (from_elected t.member.group (content_of h)) _ _ _ c.0 (when_true (of_reset (content_of h)) _ _ _ c.1 refl)
 
 -- and it has a meaning, of a result with its two bytes
-pub reset_fits : (p : List ℕ) → Bytes p → (h : Header) → read_of p ≡ Reading.Fields h → Named h × (reply_kind < h.kind → survivors_size ≤ length (payload_at p))
+pub reset_fits : (p : List ℕ) → Bytes p → (h : Header) → read_of p ≡ Ok h → Named h × (reply_kind < h.kind → survivors_size ≤ length (payload_at p))
 reset_fits p bytes h e =
     let a = askable h (length p - header_size) (payload_at p) (readable p h e).fields in (
       read_named p bytes h e,

@@ -1,4 +1,6 @@
 -- A result: what the code asks is what the meaning asks, and where it fits, the terminal is entered as the meaning says. Assumes nothing.
+use Rattle.group.specs.Question.{all_yes}
+use Rattle.std.specs.Prelude.{Err}
 use mathlib.Core.Path.{◌≡◌, refl, sym, ap, ◌∙◌}
 use mathlib.Core.Bool.{Bool, true, false}
 use mathlib.Core.List.{List, []}
@@ -11,7 +13,7 @@ use Rattle.group.specs.Question.{judged}
 use Rattle.group.specs.declared.MemberNumber.{MemberNumber}
 use Rattle.group.specs.declared.Refusal.{Refusal}
 use Rattle.group.specs.declared.SequenceNumber.{SequenceNumber}
-use Rattle.group.specs.declared.Verdict.{Verdict}
+use Rattle.group.specs.Question.{Verdict}
 use Rattle.packet.specs.Packet.{survivors_in}
 use Rattle.packet.specs.declared.Packet.{Packet}
 use Rattle.history.proofs.Asking.{judged_yes, judged_no}
@@ -31,7 +33,7 @@ use Rattle.attempt.proofs.Changing.{no_of, with_parts, changed, declined_done}
 -- two questions, asked one after the other
 judged_two : (t : Terminal) (o : Outcome) (first second : Refusal) (b c : Bool)
     → (when b then (when c then o else refused t second) else refused t first)
-    ≡ judged (when b then (when c then Verdict.Accepted else Verdict.Refused second) else Verdict.Refused first) (refused t) o
+    ≡ judged (when b then (when c then all_yes else Err second) else Err first) (refused t) o
 unfolding when◌then◌else◌ judged
 judged_two t o first second true true = refl
 judged_two t o first second true false = refl
@@ -87,12 +89,12 @@ module _ (s : Stored) (sender : MemberNumber) (attempt : ℕ) (elected : MemberN
     verdict_as : v ≡ result_verdict s.head sender attempt elected number (survivors_in payload)
     verdict_as = v-is ∙ ap (λ (m : ℕ). result_verdict s.head sender attempt elected number m) survivors_are
 
-    pub result_declined : (refusal : Refusal) {done : Done} {before : List ℕ} → v ≡ Verdict.Refused refusal → done ≡ record { head = s.head; reply = no_of refusal }
+    pub result_declined : (refusal : Refusal) {done : Done} {before : List ℕ} → v ≡ Err refusal → done ≡ record { head = s.head; reply = no_of refusal }
         → Changed (called call (view_of s)) done.reply (with_parts s done.head s.replies) before before
     result_declined refusal e d =
         declined_done s call refusal f (asked ∙ sym (judged_no _ (refused t) done_as refusal (sym verdict_as ∙ e))) d
 
-    pub result_entered : {before : List ℕ} {head' : Head} {held' held_originators' held_lengths' held_payloads' replies' taken' counts' repeats' kept' marks' originators' lengths' payloads' : List ℕ} → v ≡ Verdict.Accepted
+    pub result_entered : {before : List ℕ} {head' : Head} {held' held_originators' held_lengths' held_payloads' replies' taken' counts' repeats' kept' marks' originators' lengths' payloads' : List ℕ} → v ≡ all_yes
         → Enters s.head s.held s.held_originators s.held_lengths s.held_payloads s.past s.past_originators s.past_lengths s.past_payloads s.highest s.replies s.taken s.counts s.repeats s.kept s.marks s.originators s.lengths s.payloads attempt elected number survivors head' held' held_originators' held_lengths' held_payloads' replies' taken' counts' repeats' kept' marks' originators' lengths' payloads'
         → Changed (called call (view_of s)) (record { answer = Answer.Noted; written = 0 }) (entered s head' held' held_originators' held_lengths' held_payloads' replies' taken' counts' repeats' kept' marks' originators' lengths' payloads') before before
     result_entered {before = before} e p =

@@ -1,4 +1,6 @@
 -- What the steps inside the code promise, in terms of the meaning. No call's promise speaks of these.
+use Rattle.group.specs.Question.{all_yes}
+use Rattle.std.specs.Prelude.{Err}
 use Rattle.std.specs.Prelude.{◌≡◌, Bool, true, List, [], ℕ, length, set, replicate}
 use Rattle.std.specs.Int.Bits.{bit_or}
 use Rattle.std.specs.Int.Count.{ones}
@@ -9,7 +11,7 @@ use Rattle.group.specs.Members.{only_of, is_in, is_within, all_of}
 use Rattle.group.specs.declared.MemberNumber.{MemberNumber}
 use Rattle.group.specs.declared.Refusal.{Refusal}
 use Rattle.group.specs.declared.SequenceNumber.{SequenceNumber}
-use Rattle.group.specs.declared.Verdict.{Verdict}
+use Rattle.group.specs.Question.{Verdict}
 use Rattle.big_endian.specs.Number.{bytes_of}
 use Rattle.packet.specs.Packet.{invitation_kind, fields_of, packet_of, survivors_size}
 use Rattle.packet.specs.declared.Header.{Header}
@@ -138,9 +140,9 @@ fits_in head attempt elected number survivors =
 -- questions 9 and 27 of a result
 unfoldable pub result_verdict : Head → MemberNumber → ℕ → MemberNumber → SequenceNumber → ℕ → Verdict
 result_verdict head sender attempt elected number survivors =
-    ask sender.0 <? head.member.group.n and is_within survivors (all_of head.member.group.n) or Verdict.Refused Refusal.UnknownMember then
-    ask fits_in head attempt elected number survivors or Verdict.Refused Refusal.NotOfAttempt then
-    Verdict.Accepted
+    ask sender.0 <? head.member.group.n and is_within survivors (all_of head.member.group.n) or Err Refusal.UnknownMember then
+    ask fits_in head attempt elected number survivors or Err Refusal.NotOfAttempt then
+    all_yes
 
 -- what a result comes to, whatever the waiting messages are: nothing is written
 abbrev pub Results : Head → List ℕ → List ℕ → List ℕ → List ℕ → List ℕ → List ℕ → List ℕ → List ℕ → List ℕ → List ℕ → List ℕ → List ℕ → List ℕ → List ℕ → List ℕ → List ℕ → List ℕ → List ℕ → Header → List ℕ → Done → List ℕ → List ℕ → List ℕ → List ℕ → List ℕ → List ℕ → List ℕ → List ℕ → List ℕ → List ℕ → List ℕ → List ℕ → List ℕ → Type 0
@@ -151,10 +153,10 @@ Results head held held_originators held_lengths held_payloads past past_originat
 -- questions 2, 27 and 26 of making
 unfoldable pub make_verdict : Head → ℕ → ℕ → Verdict
 make_verdict head demand room =
-    ask longest_packet ≤? room or Verdict.Refused Refusal.ShortOutput then
-    ask head.inviting =? 1 or Verdict.Refused Refusal.NotOfAttempt then
-    ask demand ≤? ones head.repliers or Verdict.Refused Refusal.FewSurvivors then
-    Verdict.Accepted
+    ask longest_packet ≤? room or Err Refusal.ShortOutput then
+    ask head.inviting =? 1 or Err Refusal.NotOfAttempt then
+    ask demand ≤? ones head.repliers or Err Refusal.FewSurvivors then
+    all_yes
 
 -- making, behind its questions
 unfoldable pub made_of : Terminal → Outcome

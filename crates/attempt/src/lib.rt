@@ -3,11 +3,11 @@
 #![tactic(auto)]
 
 ghost use Rattle.std.specs.Prelude.{◌≡◌, true, [], ◌≤◌, ◌<◌, length, set, replicate};
+ghost use Rattle.group.specs.Question.{all_yes};
 ghost use Rattle.group.specs.Choice.{when◌then◌else◌, ◌and◌, ◌<?◌};
 ghost use Rattle.group.specs.Lent.{Laid};
 ghost use Rattle.group.specs.Limits.{members_most, held_most, longest_packet};
 ghost use Rattle.group.specs.Members.{is_in, is_within, all_of};
-ghost use Rattle.group.specs.declared.Verdict.{Verdict};
 ghost use Rattle.big_endian.specs.Number.{bytes_of};
 ghost use Rattle.packet.specs.Packet.{accept_kind, reply_kind, fields_verdict, fields_of, packet_of, survivors_size, Named};
 ghost use Rattle.packet.specs.declared.Packet as said;
@@ -20,7 +20,7 @@ ghost use Rattle.recovery.specs.View.{whole, terminal_of, flags_sound};
 ghost use Rattle.attempt.specs.Promise.{ResetReceived};
 ghost use Rattle.attempt.specs.Steps.{Takes, Tells, replied_head, invitation_head, invite_step, reply_step, awaits_in, note_step, answer_step, fits_in, result_verdict, Results, make_verdict, Makes};
 
-use group::{Group, MemberNumber, Refusal, SequenceNumber, Verdict};
+use group::{Group, MemberNumber, Refusal, SequenceNumber};
 use packet::{Header, Packet};
 use recovery::Head;
 
@@ -36,13 +36,15 @@ pub fn declined(head: Head, refusal: Refusal) -> Done
     ensures { result ≡ record { head = head; reply = record { answer = member.Answer.Refused refusal; written = 0 } } }
 {
     let answer = member::Answer::Refused(refusal);
-    let reply = member::Reply { answer, written: 0 };
-    Done { head, reply }
+    Done {
+        head,
+        reply: member::Reply { answer, written: 0 },
+    }
 }
 
 // Lays a packet without payload at the front of the output, and gives its length.
 fn put_bare(packet: Packet, group: u32, out: &mut [u8]) -> usize
-    requires { (fields_verdict (fields_of group packet) 0 [] ≡ Verdict.Accepted) × (longest_packet ≤ length out.old) }
+    requires { (fields_verdict (fields_of group packet) 0 [] ≡ all_yes) × (longest_packet ≤ length out.old) }
     ensures { Laid (packet_of (fields_of group packet) []) result out.old out.new }
 {
     let none = [0u8; 0];
@@ -50,6 +52,7 @@ fn put_bare(packet: Packet, group: u32, out: &mut [u8]) -> usize
 }
 
 // Question 1 of the sequencer's end: it is sound, of a group of as many members; or it is not there.
+#[tactic(auto, using(group::proofs::Choice::choices), unfolding(recovery::specs::Steps::sequencer_sound_in, sequencer::specs::View::view_of))]
 fn sequencer_sound(
     head: Head,
     taken: &[u32; Group::MEMBERS],
@@ -65,7 +68,7 @@ fn sequencer_sound(
     ensures { result ≡ sequencer_sound_in head (sequencer.view_of (sequencer.whole head.sequencer taken.now counts.now repeats.now kept.now marks.now originators.now lengths.now payloads.now)) }
 {
     if head.sequencing == 1 {
-        if sequencer::sound(
+        sequencer::sound(
             head.sequencer,
             taken,
             counts,
@@ -75,28 +78,20 @@ fn sequencer_sound(
             originators,
             lengths,
             payloads,
-        ) {
-            return head.sequencer.group.n == head.member.group.n;
-        }
-        return false;
+        ) && head.sequencer.group.n == head.member.group.n
+    } else {
+        recovery::no_sequencer(
+            head.sequencer,
+            taken,
+            counts,
+            repeats,
+            kept,
+            marks,
+            originators,
+            lengths,
+            payloads,
+        ) && head.frozen != 1
     }
-    if recovery::no_sequencer(
-        head.sequencer,
-        taken,
-        counts,
-        repeats,
-        kept,
-        marks,
-        originators,
-        lengths,
-        payloads,
-    ) {
-        if head.frozen == 1 {
-            return false;
-        }
-        return true;
-    }
-    false
 }
 
 // Question 1 of the whole terminal: both ends are sound, and they agree.
@@ -127,7 +122,7 @@ pub fn terminal_sound(
 ) -> bool
     ensures { result ≡ (flags_sound head and terminal_sound (terminal_of (whole head queued.now held.now queued_originators.now queued_lengths.now held_originators.now held_lengths.now queued_payloads.now held_payloads.now past.now past_originators.now past_lengths.now past_payloads.now highest.now replies.now taken.now counts.now repeats.now kept.now marks.now originators.now lengths.now payloads.now))) }
 {
-    if recovery::beside_sound(
+    recovery::beside_sound(
         head,
         past,
         past_originators,
@@ -135,70 +130,64 @@ pub fn terminal_sound(
         past_payloads,
         highest,
         replies,
-    ) {
-        if member::sound(
-            head.member,
-            queued,
-            held,
-            queued_originators,
-            queued_lengths,
-            held_originators,
-            held_lengths,
-            queued_payloads,
-            held_payloads,
-        ) {
-            if sequencer_sound(
-                head,
-                taken,
-                counts,
-                repeats,
-                kept,
-                marks,
-                originators,
-                lengths,
-                payloads,
-            ) {
-                return recovery::reply_sound(head, held);
-            }
-            return false;
-        }
-        return false;
-    }
-    false
+    ) && member::sound(
+        head.member,
+        queued,
+        held,
+        queued_originators,
+        queued_lengths,
+        held_originators,
+        held_lengths,
+        queued_payloads,
+        held_payloads,
+    ) && sequencer_sound(
+        head,
+        taken,
+        counts,
+        repeats,
+        kept,
+        marks,
+        originators,
+        lengths,
+        payloads,
+    ) && recovery::reply_sound(head, held)
 }
 
 // Whether its sequencer is frozen with a reply: its group's is.
+#[tactic(auto, using(group::proofs::Choice::choices))]
 fn frozen_with(head: Head) -> u8
     ensures { result ≡ (when serves_in head then 1 else head.frozen) }
 {
     if recovery::serves(head) {
-        return 1;
+        1
+    } else {
+        head.frozen
     }
-    head.frozen
 }
 
 // The head with a reply open to an attempt.
 fn with_reply(head: Head, attempt: u32, number: SequenceNumber) -> Head
     ensures { result ≡ replied_head head attempt number }
 {
-    let frozen = frozen_with(head);
-    let mut next = head;
-    next.replied = 1;
-    next.attempt = attempt;
-    next.number = number;
-    next.frozen = frozen;
-    next
+    Head {
+        replied: 1,
+        attempt,
+        number,
+        frozen: frozen_with(head),
+        ..head
+    }
 }
 
 // The head with its own invitation: whether it is open, with which number, and whose replies came.
 fn with_invitation(head: Head, inviting: u8, invited: u32, repliers: u16) -> Head
     ensures { result ≡ invitation_head head inviting invited repliers }
 {
-    let mut next = head;
-    next.inviting = inviting;
-    next.invited = invited;
-    next.repliers = repliers;
-    next
+    Head {
+        inviting,
+        invited,
+        repliers,
+        ..head
+    }
 }
 
 // A member's reply goes to its place.
@@ -206,8 +195,7 @@ fn keep_reply(replies: &mut [u32], member: MemberNumber, number: SequenceNumber)
     requires { (length replies.old ≡ members_most) × (member.0 < members_most) }
     ensures { replies.new ≡ set replies.old member.0 number.0 }
 {
-    let at = member.0 as usize;
-    replies[at] = number.0;
+    replies[member.0 as usize] = number.0;
 }
 
 // Its own reply is the only one.
@@ -215,7 +203,7 @@ fn own_reply(replies: &mut [u32; Group::MEMBERS], member: MemberNumber, number: 
     requires { member.0 < members_most }
     ensures { replies.new ≡ set (replicate members_most 0) member.0 number.0 }
 {
-    *replies = [0u32; Group::MEMBERS];
+    *replies = [0; Group::MEMBERS];
     keep_reply(replies, member, number);
 }
 
@@ -337,7 +325,7 @@ fn reply(
         if sender.0 == own.0 {
             return Done { head: open, reply };
         }
-        *replies = [0u32; Group::MEMBERS];
+        *replies = [0; Group::MEMBERS];
         let next = with_invitation(open, 0, 0, 0);
         return Done { head: next, reply };
     }
@@ -345,13 +333,11 @@ fn reply(
 }
 
 // Whether its own invitation is open with that number.
+#[tactic(auto, using(group::proofs::Choice::choices), unfolding(crate::specs::Steps::awaits_in))]
 fn awaits(head: Head, attempt: u32) -> bool
     ensures { result ≡ awaits_in head attempt }
 {
-    if head.inviting == 1 {
-        return head.invited == attempt;
-    }
-    false
+    head.inviting == 1 && head.invited == attempt
 }
 
 // A reply to its own invitation is noted, each one's first: questions 9 and 27.
@@ -403,18 +389,17 @@ fn answer(
 }
 
 // Whether a result's sender and its survivors are members: question 9.
+#[tactic(auto, using(group::proofs::Choice::choices))]
 fn known(head: Head, sender: MemberNumber, survivors: u16) -> bool
     requires { head.member.group.n ≤ members_most }
     ensures { result ≡ (sender.0 <? head.member.group.n and is_within survivors (all_of head.member.group.n)) }
 {
-    if sender.0 < head.member.group.n {
-        return recovery::are_members(survivors, head.member.group.n);
-    }
-    false
+    sender.0 < head.member.group.n && recovery::are_members(survivors, head.member.group.n)
 }
 
 // Whether a result is of the last invitation replied to, has the terminal among its survivors, is not below its reply, and, if it is elected,
 // not above it: question 27.
+#[tactic(auto, using(group::proofs::Choice::choices), unfolding(crate::specs::Steps::fits_in))]
 fn fits(
     head: Head,
     attempt: u32,
@@ -425,25 +410,16 @@ fn fits(
     ensures { result ≡ fits_in head attempt elected number survivors }
 {
     let own = head.member.number;
-    if head.replied == 1 {
-        if head.attempt != attempt {
-            return false;
-        }
-        if group::is_in(survivors, own) {
-            if number.0 < head.number.0 {
-                return false;
-            }
-            if elected.0 == own.0 {
-                return number.0 <= head.number.0;
-            }
-            return true;
-        }
-        return false;
-    }
-    false
+    head.replied == 1
+        && head.attempt == attempt
+        && group::is_in(survivors, own)
+        // kept: the proof of `fits` did not close with the numbers' derived order.
+        && head.number.0 <= number.0
+        && (elected.0 != own.0 || number.0 <= head.number.0)
 }
 
 // Questions 9 and 27 of a result.
+#[tactic(auto, using(group::proofs::Choice::choices), unfolding(crate::specs::Steps::result_verdict))]
 fn ask_result(
     head: Head,
     sender: MemberNumber,
@@ -451,17 +427,18 @@ fn ask_result(
     elected: MemberNumber,
     number: SequenceNumber,
     survivors: u16,
-) -> Verdict
+) -> Result<(), Refusal>
     requires { head.member.group.n ≤ members_most }
     ensures { result ≡ result_verdict head sender attempt elected number survivors }
 {
-    if known(head, sender, survivors) {
-        if fits(head, attempt, elected, number, survivors) {
-            return Verdict::Accepted;
-        }
-        return Verdict::Refused(Refusal::NotOfAttempt);
+    if !known(head, sender, survivors) {
+        return Err(Refusal::UnknownMember);
     }
-    Verdict::Refused(Refusal::UnknownMember)
+    if fits(head, attempt, elected, number, survivors) {
+        Ok(())
+    } else {
+        Err(Refusal::NotOfAttempt)
+    }
 }
 
 // A result that fits is entered.
@@ -495,9 +472,8 @@ fn result(
     let elected = MemberNumber(h.b as u8);
     let number = SequenceNumber(h.c);
     let survivors = big_endian::u16_at(payload, 0);
-    let v = ask_result(head, sender, h.a, elected, number, survivors);
-    match v {
-        Verdict::Accepted => {
+    match ask_result(head, sender, h.a, elected, number, survivors) {
+        Ok(()) => {
             let next = election::enter_on(
                 head,
                 held,
@@ -529,7 +505,7 @@ fn result(
             };
             Done { head: next, reply }
         }
-        Verdict::Refused(q) => declined(head, q),
+        Err(q) => declined(head, q),
     }
 }
 
@@ -624,19 +600,20 @@ pub fn reset_on(
 }
 
 // Questions 2, 27 and 26 of making.
-fn ask_making(head: Head, demand: u32, room: usize) -> Verdict
+#[tactic(auto, using(group::proofs::Choice::choices), unfolding(crate::specs::Steps::make_verdict))]
+fn ask_making(head: Head, demand: u32, room: usize) -> Result<(), Refusal>
     ensures { result ≡ make_verdict head demand room }
 {
     if room < Group::PACKET {
-        return Verdict::Refused(Refusal::ShortOutput);
+        return Err(Refusal::ShortOutput);
     }
-    if head.inviting == 1 {
-        if u16::count_ones(head.repliers) < demand {
-            return Verdict::Refused(Refusal::FewSurvivors);
-        }
-        return Verdict::Accepted;
+    if head.inviting != 1 {
+        return Err(Refusal::NotOfAttempt);
     }
-    Verdict::Refused(Refusal::NotOfAttempt)
+    if head.repliers.count_ones() < demand {
+        return Err(Refusal::FewSurvivors);
+    }
+    Ok(())
 }
 
 // Lays the result at the front of the output, and gives its length.
@@ -771,9 +748,8 @@ pub fn make_on(
         lengths,
         payloads,
     ) {
-        let v = ask_making(head, demand, out.len());
-        match v {
-            Verdict::Accepted => {
+        match ask_making(head, demand, out.len()) {
+            Ok(()) => {
                 return make(
                     head,
                     held,
@@ -797,7 +773,7 @@ pub fn make_on(
                     out,
                 );
             }
-            Verdict::Refused(q) => {
+            Err(q) => {
                 return declined(head, q);
             }
         }

@@ -3,10 +3,11 @@
 use mathlib.Core.Path.{◌≡◌, refl, sym, ◌∙◌}
 use mathlib.Core.List.{List, [], ◌∷◌, ◌++◌, append_assoc}
 use Prim.Native.Nat.{ℕ, zero, suc, ◌+◌, ◌*◌, ◌/◌, ◌%◌, ◌^◌, ◌≤◌, ◌<◌}
-use native.Mathlib.Nat.{div-add-mod', pow-suc}
+use native.Mathlib.Nat.{div-add-mod', div-div-eq-div-mul, pow-suc}
 use native.Mathlib.Omega.{arith}
-use lib.ListN.{length, get_or, drop, length-append, length-drop, take-append-drop}
-use lib.Seq.{take-suc, get_or_at, get_or-drop, drop-drop}
+use lib.ListN.{length, get_or, take, drop, length-append, length-drop, take-append-drop}
+use lib.Seq.{take-suc, get_or_at, get_or-take, get_or-drop, drop-drop}
+use Rattle.std.specs.Int.{w16, w32, from_be_bytes, to_be_bytes}
 use Rattle.big_endian.specs.Laws.{Bytes, NumberOfBytes, BytesOfNumber}
 use Rattle.big_endian.specs.Number.{number_at, bytes_of}
 
@@ -70,11 +71,23 @@ unfolding Bytes bytes_of
 bytes_of-bytes zero v = λ i h. absurd (omega arith)
 bytes_of-bytes (suc k) v = bytes_append (bytes_of k (v / 256)) (v % 256 ∷ []) (bytes_of-bytes k (v / 256)) (bytes_cons (v % 256) [] (omega arith) (λ i h. absurd (omega arith)))
 
--- the sums that the code works out, at the two widths
-pub number_two : (p : List ℕ) (i : ℕ) → get_or p i 0 * 256 + get_or p (i + 1) 0 ≡ number_at 2 p i
-unfolding number_at
-number_two p i = let e : i + 0 ≡ i = omega arith in rw e (omega arith)
+byte : (p : List ℕ) (i k j : ℕ) → j < k → get_or (take k (drop i p)) j 0 ≡ get_or p (i + j) 0
+byte p i k j h = simp (get_or-take k (drop i p) j 0 h, get_or-drop)
 
-pub number_four : (p : List ℕ) (i : ℕ) → ((get_or p i 0 * 256 + get_or p (i + 1) 0) * 256 + get_or p (i + 2) 0) * 256 + get_or p (i + 3) 0 ≡ number_at 4 p i
+-- the library's readings of two and of four bytes, and its bytes of a number, are those of the definitions
+pub number_two : (p : List ℕ) (i : ℕ) → from_be_bytes w16 (take 2 (drop i p)) ≡ number_at 2 p i
 unfolding number_at
-number_four p i = let e : i + 0 ≡ i = omega arith in rw e (omega arith)
+number_two p i = simp (byte p i 2 0 (omega arith), byte p i 2 1 (omega arith)) (omega arith)
+
+pub number_four : (p : List ℕ) (i : ℕ) → from_be_bytes w32 (take 4 (drop i p)) ≡ number_at 4 p i
+unfolding number_at
+number_four p i =
+    simp (byte p i 4 0 (omega arith), byte p i 4 1 (omega arith), byte p i 4 2 (omega arith), byte p i 4 3 (omega arith)) (omega arith)
+
+pub bytes_two : (v : ℕ) → to_be_bytes w16 v ≡ bytes_of 2 v
+unfolding bytes_of
+bytes_two v = refl
+
+pub bytes_four : (v : ℕ) → to_be_bytes w32 v ≡ bytes_of 4 v
+unfolding bytes_of
+bytes_four v = simp div-div-eq-div-mul refl

@@ -4,8 +4,8 @@ use Rattle.group.specs.Codes.{code_of, numbers_in}
 use Rattle.group.specs.Wording.{Wording}
 use Rattle.packet.specs.Wording.{reading_wording, writing_wording}
 use Rattle.packet.specs.declared.Header.{Header}
-use Rattle.packet.specs.declared.Reading.{Reading}
-use Rattle.packet.specs.declared.Writing.{Writing}
+use Rattle.packet.specs.Answers.{Reading}
+use Rattle.packet.specs.Answers.{Writing}
 
 -- the lent numbers after the answer: its own; where it is a refusal they keep their values
 unfoldable pub numbers_after : Wording → List ℕ → List ℕ

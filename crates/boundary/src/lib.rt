@@ -12,7 +12,7 @@ ghost use Rattle.boundary.specs.Codes.{read_code, fields_after, write_code, head
 
 use generator::Generator;
 use group::MemberNumber;
-use packet::{Header, Reading, Writing};
+use packet::Header;
 use workload::Load;
 
 // Reads a packet: 0 and its fields (kind, member, group, A, B, C), or the number of the refusal.
@@ -21,13 +21,12 @@ pub extern "C" fn boundary_read(packet: &[u8], fields: &mut [u32; 6]) -> u8
     ensures answer { result ≡ read_code (read_of packet.now) }
     ensures lent { fields.new ≡ fields_after (read_of packet.now) fields.old }
 {
-    let reading = packet::read(packet);
-    match reading {
-        Reading::Fields(h) => {
+    match packet::read(packet) {
+        Ok(h) => {
             *fields = [h.kind as u32, h.member.0 as u32, h.group, h.a, h.b, h.c];
             0
         }
-        Reading::Refused(q) => q.number(),
+        Err(q) => q.number(),
     }
 }
 
@@ -54,10 +53,9 @@ pub extern "C" fn boundary_write(
         b,
         c,
     };
-    let writing = packet::write(h, payload, out);
-    match writing {
-        Writing::Bytes(k) => k,
-        Writing::Refused(q) => q.number() as usize,
+    match packet::write(h, payload, out) {
+        Ok(k) => k,
+        Err(q) => q.number() as usize,
     }
 }
 

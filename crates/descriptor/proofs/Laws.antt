@@ -1,6 +1,6 @@
 -- Bytes that were read, or handed on, one part after the other are those of the parts joined: a tally goes on from where it stands.
 -- Assumes nothing.
-use Rattle.std.proofs.Common.{◌≡◌, ℕ, ◌+◌, ◌<◌, ◌≤◌, Bool, true, false, List, [], ◌∷◌, ◌++◌, length, get_or, drop, sym, refl, ap, ◌∙◌, subst, append_assoc, append-nil, add-one, arith, drop_of_length-le, drop-cons}
+use Rattle.std.proofs.Common.{◌≡◌, ℕ, Bool, true, false, List, [], ◌∷◌, ◌++◌, sym, refl, ap, ◌∙◌, subst, append_assoc, append-nil, fold, arith}
 use Rattle.std.specs.Io.KnownBytes.{Consumes, Appends}
 use Rattle.std.specs.declared.option.Option.{Option}
 use Rattle.std.specs.declared.option.Option.TheVariants.{None, Some}
@@ -10,14 +10,11 @@ use Rattle.descriptor.specs.declared.Tally.{Tally}
 use Rattle.descriptor.specs.declared.Source.{Source}
 use Rattle.descriptor.specs.declared.Sink.{Sink}
 
--- a turn of the loop over the bytes, and its end
-pub tallied_step : (t : Tally) (l : List ℕ) (i : ℕ) → i < length l → tallied t (drop i l) ≡ tallied (counted t (get_or l i 0)) (drop (i + 1) l)
+-- a fold along the bytes is their tally
+pub folded : (t : Tally) (l : List ℕ) → fold counted t l ≡ tallied t l
 unfolding tallied
-tallied_step t l i h = rw (drop-cons l i 0 h, add-one)
-
-pub tallied_end : (t : Tally) (l : List ℕ) (i : ℕ) → length l ≤ i → tallied t (drop i l) ≡ t
-unfolding tallied
-tallied_end t l i h = rw (drop_of_length-le l h)
+folded t [] = refl
+folded t (byte ∷ l) = folded (counted t byte) l
 
 pub tallied_none : (t : Tally) → tallied t [] ≡ t
 unfolding tallied

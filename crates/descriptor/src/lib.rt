@@ -24,24 +24,20 @@ impl Tally {
     }
 
     // With one byte more.
+    #[tactic(auto, unfolding(crate::specs::Tally::counted))]
     fn with(self, byte: u8) -> Self
         ensures { result ≡ counted self byte }
     {
-        let sum = std::num::wrapping_add_u64(self.sum, byte as u64 + 1);
-        let total = std::num::wrapping_add_u64(self.total, sum);
+        let sum = self.sum.wrapping_add(byte as u64 + 1);
+        let total = self.total.wrapping_add(sum);
         Tally { sum, total }
     }
 
     // With some bytes more.
-    fn over(mut self, bytes: &[u8]) -> Self
+    fn over(self, bytes: &[u8]) -> Self
         ensures { result ≡ tallied self bytes.now }
     {
-        let mut i: usize = 0;
-        while i < bytes.len() {
-            self = self.with(bytes[i]);
-            i += 1;
-        }
-        self
+        bytes.iter().fold(self, |tally, &byte| tally.with(byte))
     }
 }
 
@@ -63,8 +59,10 @@ impl<'a, R: io::Read> Source<'a, R> {
     pub fn of(reader: &'a mut R) -> Self
         ensures { result ≡ source_of reader.entry }
     {
-        let tally = Tally::none();
-        Source { reader, tally }
+        Source {
+            reader,
+            tally: Tally::none(),
+        }
     }
 
     // Reads once, to the front of a chunk. An input that has ended, or that cannot be read, gives no bytes.
@@ -72,10 +70,7 @@ impl<'a, R: io::Read> Source<'a, R> {
         ensures within { IsPrefixLen result.size chunk.new }
         ensures gives { Gives R.remaining self.entry (take result.size chunk.new) result.source }
     {
-        let size = match self.reader.read(chunk) {
-            Ok(size) => size,
-            Err(_) => 0,
-        };
+        let size = self.reader.read(chunk).unwrap_or(0);
         let tally = self.tally.over(&chunk[..size]);
         let source = Source {
             reader: self.reader,
@@ -97,10 +92,9 @@ impl<'a, W: io::Write> Sink<'a, W> {
     pub fn to(writer: &'a mut W) -> Self
         ensures { result ≡ sink_to writer.entry }
     {
-        let tally = Tally::none();
         Sink {
             writer,
-            tally,
+            tally: Tally::none(),
             failed: false,
         }
     }
@@ -119,11 +113,11 @@ impl<'a, W: io::Write> Sink<'a, W> {
             return self;
         }
         let tally = self.tally.over(text);
-        let all = self.writer.write_all(text).is_ok();
+        let failed = self.writer.write_all(text).is_err();
         Sink {
             writer: self.writer,
             tally,
-            failed: !all,
+            failed,
         }
     }
 }

@@ -148,8 +148,8 @@ fn begin(
         payloads,
     );
     recovery::begin_taken(group.survivors, floor, taken);
-    *repeats = [0u32; Group::MEMBERS];
-    *marks = [0u16; Group::PLACES];
+    *repeats = [0; Group::MEMBERS];
+    *marks = [0; Group::PLACES];
     sequencer::Head {
         group,
         top: number,
@@ -162,11 +162,12 @@ fn begin(
 fn seat_head(head: Head, begun: sequencer::Head) -> Head
     ensures { result ≡ seated_head head begun }
 {
-    let mut next = head;
-    next.sequencer = begun;
-    next.sequencing = 1;
-    next.frozen = 0;
-    next
+    Head {
+        sequencer: begun,
+        sequencing: 1,
+        frozen: 0,
+        ..head
+    }
 }
 
 // The sequencer of a made group's terminal: the elected one's begins, another stays in the old group.
@@ -195,7 +196,7 @@ fn seat(
     requires { Held held.now held_originators.now held_lengths.now held_payloads.now × Places past.now past_originators.now past_lengths.now past_payloads.now × (length taken.old ≡ members_most) }
     ensures { Seated head held.now held_originators.now held_lengths.now held_payloads.now past.now past_originators.now past_lengths.now past_payloads.now highest.now taken.old counts.old repeats.old kept.old marks.old originators.old lengths.old payloads.old group number result taken.new counts.new repeats.new kept.new marks.new originators.new lengths.new payloads.new }
 {
-    if group.elected.0 == head.member.number.0 {
+    if group.elected == head.member.number {
         let begun = begin(
             head,
             held,
@@ -227,30 +228,32 @@ fn seat(
 fn made(group: Group, attempt: u32, elected: MemberNumber, survivors: u16) -> Group
     ensures { result ≡ made_group group attempt elected survivors }
 {
-    let mut next = group;
-    next.survivors = survivors;
-    next.elected = elected;
-    next.number = attempt;
-    next
+    Group {
+        survivors,
+        elected,
+        number: attempt,
+        ..group
+    }
 }
 
 // The head of a member in a made group, with what is accepted; its reply and its own invitation end.
 fn enter_head(head: Head, group: Group, accepted: SequenceNumber) -> Head
     ensures { result ≡ entered_head head group accepted }
 {
-    let mut member = head.member;
-    member.group = group;
-    member.accepted = accepted;
-    let none = SequenceNumber(0);
-    let mut next = head;
-    next.member = member;
-    next.attempt = 0;
-    next.number = none;
-    next.invited = 0;
-    next.repliers = 0;
-    next.replied = 0;
-    next.inviting = 0;
-    next
+    Head {
+        member: member::Head {
+            group,
+            accepted,
+            ..head.member
+        },
+        attempt: 0,
+        number: SequenceNumber(0),
+        invited: 0,
+        repliers: 0,
+        replied: 0,
+        inviting: 0,
+        ..head
+    }
 }
 
 // A survivor's member enters the made group: all up to its order's last number and none above are accepted, and held ones above are
@@ -277,9 +280,8 @@ fn enter_member(
         last,
         taken,
     );
-    *replies = [0u32; Group::MEMBERS];
-    let accepted = window::later(taken, last);
-    enter_head(head, group, accepted)
+    *replies = [0; Group::MEMBERS];
+    enter_head(head, group, window::later(taken, last))
 }
 
 // What a result leaves at a survivor.

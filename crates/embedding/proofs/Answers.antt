@@ -11,10 +11,6 @@ use Rattle.embedding.proofs.Codes.{bytes_code, none_code, added_code, given_code
 abbrev answer : ℕ → ℕ → Answer
 answer k n = record { code = k; number = n }
 
-pub refused_answer : {k l : ℕ} → k ≡ l → answer k 0 ≡ answer_of (Wording.refusal l)
-unfolding answer_of code_of numbers_of
-refused_answer e = ap (λ k. answer k 0) e
-
 pub bytes_answer : (n : ℕ) (rest : List Value) → answer 58 n ≡ answer_of (Wording.word "bytes" (Value.number n ∷ rest))
 unfolding answer_of code_of numbers_of numbers_in
 bytes_answer n rest = ap (λ k. answer k n) (sym bytes_code)

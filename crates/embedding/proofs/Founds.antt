@@ -13,10 +13,6 @@ use Rattle.embedding.proofs.Codes.{read_code_lem, right_code, wrong_code}
 abbrev found : ℕ → ℕ → ℕ → Found
 found k b m = record { code = k; blocks = b; messages = m }
 
-pub refused_found : {k l : ℕ} → k ≡ l → found k 0 0 ≡ found_of (Wording.refusal l)
-unfolding found_of code_of numbers_of
-refused_found e = ap (λ k. found k 0 0) e
-
 pub read_found : (b m : ℕ) → found 60 b m ≡ found_of (Wording.word "read" (Value.number b ∷ Value.number m ∷ []))
 unfolding found_of code_of numbers_of numbers_in
 read_found b m = ap (λ k. found k b m) (sym read_code_lem)

@@ -1,17 +1,17 @@
 -- A journal's writer by its numbers, and what the calls of a journal tell.
-use Rattle.std.specs.Prelude.{◌≡◌, not, List, [], ◌∷◌, ℕ, length, get_or}
+use Rattle.std.specs.Prelude.{◌≡◌, Option, Some, None, Result, Ok, Err, not, List, [], ◌∷◌, ℕ, length, get_or}
 use Rattle.group.specs.Choice.{when◌then◌else◌, ask◌or◌then◌, ◌≤?◌, ◌=?◌}
 use Rattle.group.specs.Lent.{front}
 use Rattle.group.specs.Wording.{Wording, refused_wording}
+use Rattle.group.specs.declared.Refusal.{Refusal}
 use Rattle.group.specs.declared.Refusal.TheVariants.{UnsoundState}
 use Rattle.message.specs.Order.{Ordered}
 use Rattle.journal.specs.Read.{next_of}
 use Rattle.journal.specs.Write.{Outcome, writer_after, write_of, finish_of}
 use Rattle.journal.specs.Wording.{reading_wording, block_wording, entry_wording, wording_of}
 use Rattle.journal.specs.declared.Answer as journal
-use Rattle.journal.specs.declared.Block.{Block}
-use Rattle.journal.specs.declared.Entry.{Entry}
-use Rattle.journal.specs.declared.Reading.{Reading}
+use Rattle.journal.specs.declared.Found as journal_found
+use Rattle.journal.specs.declared.Record as journal_record
 use Rattle.journal.specs.declared.Writer.{Writer}
 use Rattle.embedding.specs.Codes.{code_of, numbers_of, answer_of}
 use Rattle.embedding.specs.declared.Answer.{Answer}
@@ -37,12 +37,12 @@ unfoldable pub found_of : Wording → Found
 found_of w = record { code = code_of w; blocks = get_or (numbers_of w) 0 0; messages = get_or (numbers_of w) 1 0 }
 
 -- reading a journal; a writer that goes on behind what was found
-abbrev pub read_told : Reading → Found
+abbrev pub read_told : Result journal_found.Found Refusal → Found
 read_told reading = found_of (reading_wording reading)
 
-unfoldable pub writer_found : Reading → List ℕ → List ℕ
-writer_found (Reading.Read found) writer = writer_numbers (writer_after found.tail)
-writer_found (Reading.Refused r) writer = writer
+unfoldable pub writer_found : Result journal_found.Found Refusal → List ℕ → List ℕ
+writer_found (Ok found) writer = writer_numbers (writer_after found.tail)
+writer_found (Err r) writer = writer
 
 -- reading one block: question 1, and then what the block gives
 unfoldable pub block_told : List ℕ → List ℕ → Found
@@ -50,9 +50,9 @@ block_told writer block =
     ask get_or writer 1 0 ≤? 1 or found_of (refused_wording UnsoundState) then
     found_of (block_wording (next_of (writer_in writer).tail block))
 
-unfoldable pub writer_at : Block → List ℕ → List ℕ
-writer_at (Block.Right found) writer = writer_numbers (writer_after found.tail)
-writer_at Block.Wrong writer = writer
+unfoldable pub writer_at : Option journal_found.Found → List ℕ → List ℕ
+writer_at (Some found) writer = writer_numbers (writer_after found.tail)
+writer_at None writer = writer
 
 unfoldable pub writer_behind : List ℕ → List ℕ → List ℕ
 writer_behind writer block =
@@ -71,11 +71,11 @@ record_of w =
       length = get_or (numbers_of w) 4 0;
     }
 
-abbrev pub record_told : Entry → Record
+abbrev pub record_told : Option journal_record.Record → Record
 record_told entry = record_of (entry_wording entry)
 
 -- what a writer's answer tells, with how many bytes were laid
-unfoldable pub writer_told : journal.Answer → ℕ → Answer
+unfoldable pub writer_told : Result journal.Answer Refusal → ℕ → Answer
 writer_told answer written = record { code = code_of (wording_of answer); number = written }
 
 -- what a call of a writer comes to: what it tells, the writer's numbers, the block in hand, and the bytes laid at the front of the output

@@ -1,7 +1,7 @@
 // What programs in C or Rust call beside the two ends: packets, the work list, the journal and the plan, on numbers and byte slices.
 #![tactic(auto)]
 
-ghost use Rattle.std.specs.Prelude.{◌≡◌, [], ◌∷◌, ◌<◌, length};
+ghost use Rattle.std.specs.Prelude.{◌≡◌, Ok, [], ◌∷◌, ◌<◌, length};
 ghost use Rattle.group.specs.Lent.{front};
 ghost use Rattle.packet.specs.Packet.{read_of, write_of};
 ghost use Rattle.packet.specs.Wording.{writing_wording};
@@ -14,12 +14,13 @@ ghost use Rattle.plan.specs.Wording.{wording_of as laidWording};
 ghost use Rattle.embedding.specs.Codes.{answer_of};
 ghost use Rattle.embedding.specs.Lists.{feed_told, Feeds};
 ghost use Rattle.embedding.specs.Packets.{read_code, fields_after, header_with};
-ghost use Rattle.embedding.specs.Journals.{writer_in, writer_numbers, read_told, writer_found, block_told, writer_behind, record_told, writer_told, Writes, written_of, finished_of};
+ghost use Rattle.group.specs.Wording.{refused_wording};
+ghost use Rattle.embedding.specs.Journals.{found_of, writer_in, writer_numbers, read_told, writer_found, block_told, writer_behind, record_told, writer_told, Writes, written_of, finished_of};
 
-use group::{MemberNumber, SequenceNumber};
+use group::{MemberNumber, Refusal, SequenceNumber};
 use jobs::Job;
-use journal::{Block, Entry, Tail, Writer};
-use packet::{Header, Reading, Writing};
+use journal::{Block, Tail, Writer};
+use packet::Header;
 
 // What a call tells: the code of its answer, and the answer's one number or how many bytes lie at the front of the lent output; 0 where it
 // has neither.
@@ -72,10 +73,32 @@ impl Answer {
     pub const ADDED: u32 = 64;
 
     pub const GIVEN: u32 = 65;
+
+    // What a refusal tells.
+    #[tactic(auto, unfolding(crate::specs::Codes::answer_of, crate::specs::Codes::code_of, crate::specs::Codes::numbers_of))]
+    fn refused(refusal: Refusal) -> Self
+        ensures { result ≡ answer_of (refused_wording refusal) }
+    {
+        Answer {
+            code: refusal.number() as u32,
+            number: 0,
+        }
+    }
 }
 
-// The number of question 1.
-const UNSOUND: u32 = 1;
+impl Found {
+    // What a refusal tells.
+    #[tactic(auto, unfolding(crate::specs::Journals::found_of, crate::specs::Codes::code_of, crate::specs::Codes::numbers_of))]
+    fn refused(refusal: Refusal) -> Self
+        ensures { result ≡ found_of (refused_wording refusal) }
+    {
+        Found {
+            code: refusal.number() as u32,
+            blocks: 0,
+            messages: 0,
+        }
+    }
+}
 
 // Reads a packet: its fields (kind, member, group, A, B, C) are laid in the lent numbers; a refusal leaves them.
 #[unsafe(no_mangle)]
@@ -85,11 +108,11 @@ pub extern "C" fn warghytes_packet_read(packet: &[u8], fields: &mut [u32; 6]) ->
 {
     let reading = packet::read(packet);
     match reading {
-        Reading::Fields(h) => {
+        Ok(h) => {
             *fields = [h.kind as u32, h.member.0 as u32, h.group, h.a, h.b, h.c];
             Answer::FIELDS
         }
-        Reading::Refused(q) => q.number() as u32,
+        Err(q) => q.number() as u32,
     }
 }
 
@@ -118,35 +141,30 @@ pub extern "C" fn warghytes_packet_write(
     };
     let writing = packet::write(h, payload, out);
     match writing {
-        Writing::Bytes(k) => Answer {
+        Ok(k) => Answer {
             code: Answer::BYTES,
             number: k,
         },
-        Writing::Refused(q) => Answer {
-            code: q.number() as u32,
-            number: 0,
-        },
+        Err(q) => Answer::refused(q),
     }
 }
 
 // What a feed's answer tells.
-fn feed_tells(answer: jobs::Answer) -> Answer
+#[tactic(auto, using(crate::proofs::Answers::added_answer, crate::proofs::Answers::given_answer, crate::proofs::Answers::none_answer), unfolding(jobs::specs::Wording::wording_of))]
+fn feed_tells(answer: Result<jobs::Answer, Refusal>) -> Answer
     ensures { result ≡ feed_told answer }
 {
     match answer {
-        jobs::Answer::Refused(q) => Answer {
-            code: q.number() as u32,
-            number: 0,
-        },
-        jobs::Answer::Added => Answer {
+        Err(q) => Answer::refused(q),
+        Ok(jobs::Answer::Added) => Answer {
             code: Answer::ADDED,
             number: 0,
         },
-        jobs::Answer::Given(place) => Answer {
+        Ok(jobs::Answer::Given(place)) => Answer {
             code: Answer::GIVEN,
             number: place,
         },
-        jobs::Answer::None => Answer {
+        Ok(jobs::Answer::None) => Answer {
             code: Answer::NONE,
             number: 0,
         },
@@ -163,105 +181,93 @@ pub extern "C" fn warghytes_jobs_feed(jobs: &mut [Job], member: u8, payload: &[u
 }
 
 // A tail by its numbers: any number above the last may follow if `free` is not 0.
+#[tactic(auto, unfolding(crate::specs::Journals::writer_in))]
 fn tail_in(last: u32, free: u32) -> Tail
     ensures { result ≡ (writer_in (last ∷ free ∷ [])).tail }
 {
-    let number = SequenceNumber(last);
     Tail {
-        last: number,
+        last: SequenceNumber(last),
         free: free != 0,
     }
 }
 
 // A writer by its numbers.
+#[tactic(auto, unfolding(crate::specs::Journals::writer_in))]
 fn writer_in(last: u32, free: u32, first: u32, records: u32, used: u32) -> Writer
     ensures is { result ≡ writer_in (last ∷ free ∷ first ∷ records ∷ used ∷ []) }
     ensures small { (result.records < 4294967296) × (result.used < 4294967296) }
 {
-    let tail = tail_in(last, free);
-    let number = SequenceNumber(first);
     Writer {
-        tail,
-        first: number,
+        tail: tail_in(last, free),
+        first: SequenceNumber(first),
         records: records as usize,
         used: used as usize,
     }
 }
 
 // The numbers of a writer.
+#[tactic(auto, using(group::proofs::Choice::choices), unfolding(crate::specs::Journals::writer_numbers))]
 fn numbers_of(writer: Writer) -> [u32; 5]
     requires { (writer.records < 4294967296) × (writer.used < 4294967296) }
     ensures { result ≡ writer_numbers writer }
 {
-    let last = writer.tail.last.0;
-    let first = writer.first.0;
-    let records = writer.records as u32;
-    let used = writer.used as u32;
-    if writer.tail.free {
-        return [last, 1, first, records, used];
-    }
-    [last, 0, first, records, used]
+    [
+        writer.tail.last.0,
+        writer.tail.free as u32,
+        writer.first.0,
+        writer.records as u32,
+        writer.used as u32,
+    ]
 }
 
 // The numbers of a writer behind a tail, with no record in hand.
 fn numbers_after(tail: Tail) -> [u32; 5]
     ensures { result ≡ writer_numbers (writer_after tail) }
 {
-    let writer = Writer::after(tail);
-    numbers_of(writer)
+    numbers_of(Writer::after(tail))
 }
 
 // Reads a journal: how many blocks and messages precede the first wrong block. The lent writer becomes one that goes on behind them.
+#[tactic(auto, using(crate::proofs::Founds::read_found), unfolding(journal::specs::Wording::reading_wording, crate::specs::Journals::writer_found))]
 #[unsafe(no_mangle)]
 pub extern "C" fn warghytes_journal_read(journal: &[u8], writer: &mut [u32; 5]) -> Found
     ensures answer { result ≡ read_told (journalOf journal.now) }
     ensures writer { writer.new ≡ writer_found (journalOf journal.now) writer.old }
 {
-    let reading = journal::read(journal);
-    match reading {
-        journal::Reading::Read(found) => {
-            let tail = found.tail;
-            *writer = numbers_after(tail);
+    match journal::read(journal) {
+        Ok(found) => {
+            *writer = numbers_after(found.tail);
             Found {
                 code: Answer::READ,
                 blocks: found.blocks,
                 messages: found.messages,
             }
         }
-        journal::Reading::Refused(q) => Found {
-            code: q.number() as u32,
-            blocks: 0,
-            messages: 0,
-        },
+        Err(refusal) => Found::refused(refusal),
     }
 }
 
 // Reads one block behind what the lent writer has: if it is right, the writer goes on behind it.
+#[tactic(auto, using(group::proofs::Choice::choices, crate::proofs::Founds::right_found, crate::proofs::Founds::wrong_found), unfolding(journal::specs::Wording::block_wording, crate::specs::Journals::block_told, crate::specs::Journals::writer_behind, crate::specs::Journals::writer_at, crate::specs::Journals::writer_in))]
 #[unsafe(no_mangle)]
 pub extern "C" fn warghytes_journal_next(writer: &mut [u32; 5], block: &[u8]) -> Found
     ensures answer { result ≡ block_told writer.old block.now }
     ensures writer { writer.new ≡ writer_behind writer.old block.now }
 {
     if 1 < writer[1] {
-        return Found {
-            code: UNSOUND,
-            blocks: 0,
-            messages: 0,
-        };
+        return Found::refused(Refusal::UnsoundState);
     }
     let tail = tail_in(writer[0], writer[1]);
-    let next = tail.next(block);
-    match next {
-        Block::Right(found) => {
-            let behind = found.tail;
-            *writer = numbers_after(behind);
+    match tail.next(block) {
+        Some(found) => {
+            *writer = numbers_after(found.tail);
             Found {
                 code: Answer::RIGHT,
                 blocks: found.blocks,
                 messages: found.messages,
             }
         }
-        Block::Wrong => Found {
+        None => Found {
             code: Answer::WRONG,
             blocks: 0,
             messages: 0,
@@ -270,13 +276,13 @@ pub extern "C" fn warghytes_journal_next(writer: &mut [u32; 5], block: &[u8]) ->
 }
 
 // Reads the record that stands at an index of a block, under that number.
+#[tactic(auto, using(crate::proofs::Founds::right_entry, crate::proofs::Founds::wrong_entry), unfolding(journal::specs::Wording::entry_wording))]
 #[unsafe(no_mangle)]
 pub extern "C" fn warghytes_journal_record(block: &[u8], at: usize, number: u32) -> Record
     ensures { result ≡ record_told (entry_of block.now at (record { 0 = number })) }
 {
-    let entry = journal::record_at(block, at, SequenceNumber(number));
-    match entry {
-        Entry::Right(record) => Record {
+    match journal::record_at(block, at, SequenceNumber(number)) {
+        Some(record) => Record {
             code: Answer::RIGHT,
             number: record.number.0,
             originator: record.originator.0 as u32,
@@ -284,7 +290,7 @@ pub extern "C" fn warghytes_journal_record(block: &[u8], at: usize, number: u32)
             start: record.start,
             length: record.length,
         },
-        Entry::Wrong => Record {
+        None => Record {
             code: Answer::WRONG,
             number: 0,
             originator: 0,
@@ -295,27 +301,23 @@ pub extern "C" fn warghytes_journal_record(block: &[u8], at: usize, number: u32)
     }
 }
 
-// What a writer's answer tells.
+// What a writer that was not refused tells.
+#[tactic(auto, using(crate::proofs::Writing::kept_told_lem, crate::proofs::Writing::closed_told))]
 fn writer_tells(answer: journal::Answer, written: usize) -> Answer
-    ensures { result ≡ writer_told answer written }
+    ensures { result ≡ writer_told (Ok answer) written }
 {
-    match answer {
-        journal::Answer::Kept => Answer {
-            code: Answer::KEPT,
-            number: written,
-        },
-        journal::Answer::Closed => Answer {
-            code: Answer::CLOSED,
-            number: written,
-        },
-        journal::Answer::Refused(q) => Answer {
-            code: q.number() as u32,
-            number: written,
-        },
+    let code = match answer {
+        journal::Answer::Kept => Answer::KEPT,
+        journal::Answer::Closed => Answer::CLOSED,
+    };
+    Answer {
+        code,
+        number: written,
     }
 }
 
 // Writes a message: its record goes to the lent block in hand, and where it does not fit, that block to the lent output.
+#[tactic(auto, using(crate::proofs::Writing::write_small, crate::proofs::Writing::step_small,))]
 #[unsafe(no_mangle)]
 pub extern "C" fn warghytes_journal_write(
     writer: &mut [u32; 5],
@@ -329,13 +331,10 @@ pub extern "C" fn warghytes_journal_write(
     ensures { Writes (written_of writer.old (message_with (record { 0 = number }) (record { 0 = originator }) count payload.now) hand.old) result writer.new hand.new out.old out.new }
 {
     if 1 < writer[1] {
-        return Answer {
-            code: UNSOUND,
-            number: 0,
-        };
+        return Answer::refused(Refusal::UnsoundState);
     }
     let state = writer_in(writer[0], writer[1], writer[2], writer[3], writer[4]);
-    let step = state.write(
+    let written = state.write(
         SequenceNumber(number),
         MemberNumber(originator),
         count,
@@ -343,13 +342,17 @@ pub extern "C" fn warghytes_journal_write(
         hand,
         out,
     );
-    let next = step.writer;
-    let answer = step.answer;
-    *writer = numbers_of(next);
-    writer_tells(answer, step.written)
+    match written {
+        Ok(step) => {
+            *writer = numbers_of(step.writer);
+            writer_tells(step.answer, step.written)
+        }
+        Err(refusal) => Answer::refused(refusal),
+    }
 }
 
 // Shutdown: what is in hand goes to the lent output; without a record, nothing.
+#[tactic(auto, using(crate::proofs::Writing::finish_small, crate::proofs::Writing::step_small,))]
 #[unsafe(no_mangle)]
 pub extern "C" fn warghytes_journal_finish(
     writer: &mut [u32; 5],
@@ -359,32 +362,29 @@ pub extern "C" fn warghytes_journal_finish(
     ensures { Writes (finished_of writer.old hand.now) result writer.new hand.now out.old out.new }
 {
     if 1 < writer[1] {
-        return Answer {
-            code: UNSOUND,
-            number: 0,
-        };
+        return Answer::refused(Refusal::UnsoundState);
     }
     let state = writer_in(writer[0], writer[1], writer[2], writer[3], writer[4]);
-    let step = state.finish(hand, out);
-    let next = step.writer;
-    let answer = step.answer;
-    *writer = numbers_of(next);
-    writer_tells(answer, step.written)
+    match state.finish(hand, out) {
+        Ok(step) => {
+            *writer = numbers_of(step.writer);
+            writer_tells(step.answer, step.written)
+        }
+        Err(refusal) => Answer::refused(refusal),
+    }
 }
 
 // What laying a plan or a journal tells.
-fn plan_tells(answer: plan::Answer) -> Answer
+#[tactic(auto, using(crate::proofs::Answers::bytes_answer), unfolding(plan::specs::Wording::wording_of))]
+fn plan_tells(answer: Result<usize, Refusal>) -> Answer
     ensures { result ≡ answer_of (laidWording answer) }
 {
     match answer {
-        plan::Answer::Bytes(size) => Answer {
+        Ok(size) => Answer {
             code: Answer::BYTES,
             number: size,
         },
-        plan::Answer::Refused(q) => Answer {
-            code: q.number() as u32,
-            number: 0,
-        },
+        Err(q) => Answer::refused(q),
     }
 }
 

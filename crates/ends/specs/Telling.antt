@@ -2,7 +2,7 @@
 use Rattle.std.specs.Prelude.{◌≡◌, ℕ, get_or}
 use Rattle.group.specs.Codes.{code_of, numbers_of, more_of}
 use Rattle.group.specs.Wording.{Wording, verdict_wording}
-use Rattle.group.specs.declared.Verdict.{Verdict}
+use Rattle.group.specs.Question.{Verdict}
 use Rattle.sequencer.specs.Wording as sequencer
 use Rattle.sequencer.specs.declared.Reply as SequencerReply
 use Rattle.member.specs.Wording as member

@@ -6,13 +6,13 @@ ghost use Rattle.group.specs.Codes.{flag_of};
 ghost use Rattle.ends.specs.Telling.{sequencer_told, member_told, opening_told};
 ghost use Rattle.ends.specs.Promise.{SequencerOpens, SequencerReceives, SequencerPolls, SequencerCopies, MemberOpens, MemberSubmits, MemberReceives, MemberTakes, MemberRepeats, MemberReports};
 
-use group::{MemberNumber, SequenceNumber, Verdict};
+use group::{MemberNumber, Refusal, SequenceNumber};
 use states::{Member, Sequencer};
 
 // What a call tells: the code of its answer, the answer's numbers in their order, whether the following number may be taken too (1)
 // or not (0), and how many bytes lie at the front of the lent output. A number that the answer does not have is 0.
 #[repr(C)]
-#[derive(Clone, Copy)]
+#[derive(Clone, Copy, Debug, PartialEq, Eq)]
 pub struct Told {
     pub code: u32,
     pub first: u32,
@@ -23,6 +23,7 @@ pub struct Told {
 }
 
 // The code of each word. The code of a refusal is its number, below all of these.
+// kept: numbers for the answers are the C interface (include/warghytes.h).
 impl Told {
     pub const OLD: u32 = 32;
 
@@ -90,19 +91,19 @@ fn numbered(code: u32, first: u32, second: u32, written: usize) -> Told
 }
 
 // A yes or no as a number.
+#[tactic(auto, unfolding(group::specs::Codes::flag_of))]
 fn flag(yes: bool) -> u32
     ensures { result ≡ flag_of yes }
 {
-    if yes { 1 } else { 0 }
+    u32::from(yes)
 }
 
 // What a sequencer's reply tells.
 pub fn sequencer_tells(reply: sequencer::Reply) -> Told
     ensures { result ≡ sequencer_told reply }
 {
-    let answer = reply.answer;
     let written = reply.written;
-    match answer {
+    match reply.answer {
         sequencer::Answer::Refused(q) => word(q.number() as u32, written),
         sequencer::Answer::Old => word(Told::OLD, written),
         sequencer::Answer::Again(s) => numbered(Told::AGAIN, s.0, 0, written),
@@ -122,9 +123,8 @@ pub fn sequencer_tells(reply: sequencer::Reply) -> Told
 pub fn member_tells(reply: member::Reply) -> Told
     ensures { result ≡ member_told reply }
 {
-    let answer = reply.answer;
     let written = reply.written;
-    match answer {
+    match reply.answer {
         member::Answer::Refused(q) => word(q.number() as u32, written),
         member::Answer::Sent => word(Told::SENT, written),
         member::Answer::Queued(count) => numbered(Told::QUEUED, count, 0, written),
@@ -154,12 +154,13 @@ pub fn member_tells(reply: member::Reply) -> Told
 }
 
 // What an opening's verdict tells.
-pub fn opening_tells(verdict: Verdict) -> Told
+#[tactic(auto, unfolding(crate::specs::Telling::told_of, group::specs::Codes::code_of, group::specs::Codes::word_code, group::specs::Codes::numbers_of, group::specs::Codes::numbers_in, group::specs::Codes::more_of, group::specs::Codes::more_in, group::specs::Wording::verdict_wording))]
+pub fn opening_tells(verdict: Result<(), Refusal>) -> Told
     ensures { result ≡ opening_told verdict }
 {
     match verdict {
-        Verdict::Accepted => word(Told::ACCEPTED, 0),
-        Verdict::Refused(q) => word(q.number() as u32, 0),
+        Ok(()) => word(Told::ACCEPTED, 0),
+        Err(q) => word(q.number() as u32, 0),
     }
 }
 
@@ -167,78 +168,68 @@ pub fn opening_tells(verdict: Verdict) -> Told
 pub fn warghytes_sequencer_open(s: &mut Sequencer, n: u8, group: u32, resilience: u8) -> Told
     ensures { SequencerOpens s.old n group resilience result s.new }
 {
-    let verdict = s.open(n, group, resilience);
-    opening_tells(verdict)
+    opening_tells(s.open(n, group, resilience))
 }
 
 // A packet that came.
 pub fn warghytes_sequencer_receive(s: &mut Sequencer, packet: &[u8], out: &mut [u8]) -> Told
     ensures { SequencerReceives s.old packet.now out.old result s.new out.new }
 {
-    let reply = s.receive(packet, out);
-    sequencer_tells(reply)
+    sequencer_tells(s.receive(packet, out))
 }
 
 // A poll.
 pub fn warghytes_sequencer_poll(s: &Sequencer, out: &mut [u8]) -> Told
     ensures { SequencerPolls s.now out.old result out.new }
 {
-    let reply = s.poll(out);
-    sequencer_tells(reply)
+    sequencer_tells(s.poll(out))
 }
 
 // The broadcast of a number again, or its offer if it is not accepted.
 pub fn warghytes_sequencer_copy(s: &Sequencer, number: u32, out: &mut [u8]) -> Told
     ensures { SequencerCopies s.now number out.old result out.new }
 {
-    let reply = s.copy(SequenceNumber(number), out);
-    sequencer_tells(reply)
+    sequencer_tells(s.copy(SequenceNumber(number), out))
 }
 
 // Member `number` of n in the group with that number and resilience degree, fresh. A refusal leaves it closed.
 pub fn warghytes_member_open(s: &mut Member, n: u8, number: u8, group: u32, resilience: u8) -> Told
     ensures { MemberOpens s.old n number group resilience result s.new }
 {
-    let verdict = s.open(n, MemberNumber(number), group, resilience);
-    opening_tells(verdict)
+    opening_tells(s.open(n, MemberNumber(number), group, resilience))
 }
 
 // A message to be sent to all.
 pub fn warghytes_member_submit(s: &mut Member, payload: &[u8], out: &mut [u8]) -> Told
     ensures { MemberSubmits s.old payload.now out.old result s.new out.new }
 {
-    let reply = s.submit(payload, out);
-    member_tells(reply)
+    member_tells(s.submit(payload, out))
 }
 
 // A packet that came.
 pub fn warghytes_member_receive(s: &mut Member, packet: &[u8], out: &mut [u8]) -> Told
     ensures { MemberReceives s.old packet.now out.old result s.new out.new }
 {
-    let reply = s.receive(packet, out);
-    member_tells(reply)
+    member_tells(s.receive(packet, out))
 }
 
 // The next message in order.
 pub fn warghytes_member_take(s: &mut Member, out: &mut [u8]) -> Told
     ensures { MemberTakes s.old out.old result s.new out.new }
 {
-    let reply = s.take(out);
-    member_tells(reply)
+    member_tells(s.take(out))
 }
 
 // The request of the first message that waits, again.
 pub fn warghytes_member_repeat(s: &Member, out: &mut [u8]) -> Told
     ensures { MemberRepeats s.now out.old result out.new }
 {
-    let reply = s.repeat(out);
-    member_tells(reply)
+    member_tells(s.repeat(out))
 }
 
 // What it has, acknowledged.
 pub fn warghytes_member_status(s: &Member, out: &mut [u8]) -> Told
     ensures { MemberReports s.now out.old result out.new }
 {
-    let reply = s.status(out);
-    member_tells(reply)
+    member_tells(s.status(out))
 }

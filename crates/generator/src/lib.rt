@@ -13,17 +13,19 @@ impl Generator {
     // What a step adds. It is odd, so that every state is passed before one comes back.
     pub const INCREMENT: u32 = 2654435769;
 
+    #[tactic(auto, unfolding(crate::specs::Generator::stepped))]
     pub fn step(self) -> Self
         ensures { result.state ≡ stepped self.state }
     {
-        let state = std::num::wrapping_add_u32(self.state, Generator::INCREMENT);
-        Generator { state }
+        Generator {
+            state: self.state.wrapping_add(Generator::INCREMENT),
+        }
     }
 
+    #[tactic(auto, unfolding(crate::specs::Generator::output_of))]
     pub fn output(self) -> u32
         ensures { result ≡ output_of self.state }
     {
-        let state = self.state;
-        state ^ (state >> 16)
+        self.state ^ (self.state >> 16)
     }
 }

@@ -6,15 +6,14 @@ use mathlib.Core.Option.{Option, none, some}
 use mathlib.Core.List.{List, [], ◌∷◌, ◌++◌}
 use Prim.Native.Nat.{ℕ, zero, suc, ◌≤◌, ◌<◌, suc-le-suc, zero-le}
 use native.Mathlib.Nat.{le_of_suc-le-suc, not-suc-le-zero}
-use native.Mathlib.Omega.{arith}
 use borrow.Author.Tests.{eqb-true, eqb-false, leb-true, leb-false}
 use lib.ListN.{length, get_or, set, take, drop, get_elem?}
 use lib.Seq.{get_or-set_same, get_or-set_other}
 use Rattle.group.specs.Choice.{when◌then◌else◌, ◌≤?◌, ◌=?◌}
 use Rattle.group.specs.Question.{judged}
 use Rattle.group.specs.declared.Refusal.{Refusal}
-use Rattle.group.specs.declared.Verdict.{Verdict}
-use Rattle.group.specs.declared.Verdict.TheVariants.{Accepted, Refused}
+use Rattle.std.specs.Prelude.{Ok, Err}
+use Rattle.group.specs.Question.{Verdict, all_yes}
 
 -- a claim of a choice: one proof for each way the test goes
 pub when_elim : {A : Type 0} (P : A → Type 0) (t : Bool) {x y : A} → (t ≡ true → P x) → (t ≡ false → P y) → P (when t then x else y)
@@ -23,10 +22,10 @@ when_elim P true f g = f refl
 when_elim P false f g = g refl
 
 -- a claim of what a verdict comes to
-pub judged_elim : {A : Type 0} (P : A → Type 0) (v : Verdict) {f : Refusal → A} {x : A} → ((r : Refusal) → v ≡ Refused r → P (f r)) → (v ≡ Accepted → P x) → P (judged v f x)
+pub judged_elim : {A : Type 0} (P : A → Type 0) (v : Verdict) {f : Refusal → A} {x : A} → ((r : Refusal) → v ≡ Err r → P (f r)) → (v ≡ all_yes → P x) → P (judged v f x)
 unfolding judged
-judged_elim P Accepted f g = g refl
-judged_elim P (Refused r) f g = f r refl
+judged_elim P (Ok _) f g = g refl
+judged_elim P (Err r) f g = f r refl
 
 -- two numbers are equal or they are not
 pub eq_or : {B : Type 0} (m n : ℕ) → (m ≡ n → B) → (m ≢ n → B) → B
@@ -37,7 +36,7 @@ pub le_or : {B : Type 0} (m n : ℕ) → (m ≤ n → B) → (n < m → B) → B
 le_or {B} m n f g = when_elim (λ (x : ℕ). B) (m ≤? n) {x = 0} {y = 0} (λ t. f (leb-true m n t)) (λ t. g (leb-false m n t))
 
 pub none≢some : {A : Type 0} {x : A} → none ≡ some x → ⊥
-none≢some e = let z : ◌≡◌ {A = ℕ} 0 1 = cc in omega arith
+none≢some e = cc
 
 module _ {A : Type 0} where
   -- the element that is numbered s, from 1

@@ -1,11 +1,11 @@
 -- An answer as the paper words it: a refusal is the number of the question that said no; any other answer is a word and its
 -- values. Each answer of the library has one definition that gives its wording; promises, printing and codes go by it.
-use Rattle.std.specs.Prelude.{Bool, List, [], ◌∷◌, ℕ}
+use Rattle.std.specs.Prelude.{Bool, List, [], ◌∷◌, ℕ, Ok, Err}
 use Prim.Native.String.{String}
 use Rattle.group.specs.Refusal.{number_of}
-use Rattle.group.specs.declared.Opened.{Opened}
 use Rattle.group.specs.declared.Refusal.{Refusal}
-use Rattle.group.specs.declared.Verdict.{Verdict}
+use Rattle.group.specs.Opening.{Opened}
+use Rattle.group.specs.Question.{Verdict}
 
 -- a number (of a message, a member, a count, ..), the payload that was handed out, whether the following number is held, and
 -- the packet that was written, or the one that was written if one was; payload and packet lie at the front of the lent output
@@ -26,10 +26,10 @@ refused_wording r = refusal (number_of r)
 
 -- what a list of questions comes to
 unfoldable pub verdict_wording : Verdict → Wording
-verdict_wording Verdict.Accepted = word "accepted" []
-verdict_wording (Verdict.Refused r) = refused_wording r
+verdict_wording (Ok _) = word "accepted" []
+verdict_wording (Err r) = refused_wording r
 
 -- what opening a group answers: n, the group number and the resilience degree
 unfoldable pub opened_wording : Opened → Wording
-opened_wording (Opened.Open group) = word "open" (number group.n ∷ number group.number ∷ number group.resilience ∷ [])
-opened_wording (Opened.Refused r) = refused_wording r
+opened_wording (Ok group) = word "open" (number group.n ∷ number group.number ∷ number group.resilience ∷ [])
+opened_wording (Err r) = refused_wording r

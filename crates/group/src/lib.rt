@@ -9,45 +9,46 @@ ghost use Rattle.group.specs.Members.{only_of, is_in, is_within, lowest_of, all_
 ghost use Rattle.group.specs.Wording.{opened_wording};
 
 // A sequence number: the place of a message in the order, from 1. 0 means none yet.
+// kept: packets and the C interface's structs say none by 0.
 #[repr(C)]
-#[derive(Clone, Copy)]
+#[derive(Clone, Copy, Debug, Default, PartialEq, Eq, PartialOrd, Ord)]
 pub struct SequenceNumber(pub u32);
 
 // A member number: from 0, below the group's n.
 #[repr(C)]
-#[derive(Clone, Copy)]
+#[derive(Clone, Copy, Debug, Default, PartialEq, Eq, PartialOrd, Ord)]
 pub struct MemberNumber(pub u8);
 
 // What document 01's 18 questions refuse, in their order, and what document 02 adds.
-#[derive(Clone, Copy)]
+#[derive(Clone, Copy, Debug, PartialEq, Eq)]
 pub enum Refusal {
-    UnsoundState,
-    ShortOutput,
-    PacketSize,
-    UnknownKind,
-    PayloadLength,
-    ForbiddenFields,
-    OtherGroup,
-    OtherEnd,
-    UnknownMember,
-    AcknowledgedAhead,
-    CountAhead,
-    WantedAhead,
-    LongPayload,
-    AlreadyWaiting,
-    NothingWaiting,
-    NumbersUsedUp,
-    NotInHistory,
-    Opening,
-    NotForList,
-    ListFull,
-    WrongJournal,
-    ManyUnits,
-    NoRoom,
-    Resilience,
-    NotExpected,
-    FewSurvivors,
-    NotOfAttempt,
+    UnsoundState = 1,
+    ShortOutput = 2,
+    PacketSize = 3,
+    UnknownKind = 4,
+    PayloadLength = 5,
+    ForbiddenFields = 6,
+    OtherGroup = 7,
+    OtherEnd = 8,
+    UnknownMember = 9,
+    AcknowledgedAhead = 10,
+    CountAhead = 11,
+    WantedAhead = 12,
+    LongPayload = 13,
+    AlreadyWaiting = 14,
+    NothingWaiting = 15,
+    NumbersUsedUp = 16,
+    NotInHistory = 17,
+    Opening = 18,
+    NotForList = 19,
+    ListFull = 20,
+    WrongJournal = 21,
+    ManyUnits = 22,
+    NoRoom = 23,
+    Resilience = 24,
+    NotExpected = 25,
+    FewSurvivors = 26,
+    NotOfAttempt = 27,
 }
 
 impl Refusal {
@@ -55,62 +56,20 @@ impl Refusal {
     pub fn number(self) -> u8
         ensures { result ≡ number_of self }
     {
-        match self {
-            Refusal::UnsoundState => 1,
-            Refusal::ShortOutput => 2,
-            Refusal::PacketSize => 3,
-            Refusal::UnknownKind => 4,
-            Refusal::PayloadLength => 5,
-            Refusal::ForbiddenFields => 6,
-            Refusal::OtherGroup => 7,
-            Refusal::OtherEnd => 8,
-            Refusal::UnknownMember => 9,
-            Refusal::AcknowledgedAhead => 10,
-            Refusal::CountAhead => 11,
-            Refusal::WantedAhead => 12,
-            Refusal::LongPayload => 13,
-            Refusal::AlreadyWaiting => 14,
-            Refusal::NothingWaiting => 15,
-            Refusal::NumbersUsedUp => 16,
-            Refusal::NotInHistory => 17,
-            Refusal::Opening => 18,
-            Refusal::NotForList => 19,
-            Refusal::ListFull => 20,
-            Refusal::WrongJournal => 21,
-            Refusal::ManyUnits => 22,
-            Refusal::NoRoom => 23,
-            Refusal::Resilience => 24,
-            Refusal::NotExpected => 25,
-            Refusal::FewSurvivors => 26,
-            Refusal::NotOfAttempt => 27,
-        }
+        self as u8
     }
-}
-
-// What a list of questions comes to: every answer is yes, or the first no.
-#[derive(Clone, Copy)]
-pub enum Verdict {
-    Accepted,
-    Refused(Refusal),
 }
 
 // A group of n members under its number, how many members other than the sequencer's must have a message before it is taken, its survivors,
 // one bit a member, and the elected one: the member whose terminal has the sequencer.
 #[repr(C)]
-#[derive(Clone, Copy)]
+#[derive(Clone, Copy, Debug, Default, PartialEq, Eq)]
 pub struct Group {
     pub n: u8,
     pub resilience: u8,
     pub survivors: u16,
     pub elected: MemberNumber,
     pub number: u32,
-}
-
-// What opening a group answers.
-#[derive(Clone, Copy)]
-pub enum Opened {
-    Open(Group),
-    Refused(Refusal),
 }
 
 impl Group {
@@ -145,7 +104,7 @@ impl Group {
     pub const PACKET: usize = Group::HEADER + Group::PAYLOAD;
 
     // The largest number of any kind.
-    pub const LARGEST: u32 = 4294967295;
+    pub const LARGEST: u32 = u32::MAX;
 
     // The records of a work list.
     pub const JOBS: usize = 64;
@@ -154,87 +113,71 @@ impl Group {
     pub const JOB: usize = Group::PAYLOAD - 1;
 
     // Question 18 of a group: is n 1 to 16? Then 24: is the resilience degree below n?
-    pub fn fresh(n: u8, number: u32, resilience: u8) -> Opened
+    #[tactic(auto, using(crate::proofs::Choice::choices), unfolding(crate::specs::Opening::open_of))]
+    pub fn fresh(n: u8, number: u32, resilience: u8) -> Result<Group, Refusal>
         ensures answer { result ≡ open_of n number resilience }
         ensures wording { opened_wording result ≡ opened_wording (open_of n number resilience) }
     {
-        if n < 1 {
-            return Opened::Refused(Refusal::Opening);
+        if n < 1 || Group::MEMBERS < (n as usize) {
+            return Err(Refusal::Opening);
         }
-        if Group::MEMBERS < (n as usize) {
-            return Opened::Refused(Refusal::Opening);
+        if n <= resilience {
+            return Err(Refusal::Resilience);
         }
-        if resilience < n {
-            let survivors = all_of(n);
-            Opened::Open(Group {
-                n,
-                resilience,
-                survivors,
-                elected: MemberNumber(0),
-                number,
-            })
-        } else {
-            Opened::Refused(Refusal::Resilience)
-        }
+        Ok(Group {
+            n,
+            resilience,
+            survivors: all_of(n),
+            elected: MemberNumber(0),
+            number,
+        })
     }
 
     // Is the description sound: n 1 to 16, r below n, the survivors members, and the elected one of them?
+    #[tactic(auto, using(crate::proofs::Choice::choices), unfolding(crate::specs::Members::group_sound))]
     pub fn sound(self) -> bool
         ensures { result ≡ group_sound self }
     {
-        if self.n < 1 {
-            return false;
-        }
-        if Group::MEMBERS < (self.n as usize) {
-            return false;
-        }
-        if self.resilience < self.n {
-            let all = all_of(self.n);
-            if is_within(self.survivors, all) {
-                is_in(self.survivors, self.elected)
-            } else {
-                false
-            }
-        } else {
-            false
-        }
+        1 <= self.n
+            && (self.n as usize) <= Group::MEMBERS
+            && self.resilience < self.n
+            && is_within(self.survivors, all_of(self.n))
+            && is_in(self.survivors, self.elected)
     }
 
     // The survivors other than the elected one, one bit a member.
+    #[tactic(auto, unfolding(crate::specs::Members::others_of))]
     pub fn others(self) -> u16
         ensures { result ≡ others_of self }
     {
         if (self.elected.0 as usize) < Group::MEMBERS {
-            let elected = 1u16 << (self.elected.0 as u32);
-            if elected <= self.survivors {
-                return self.survivors - elected;
-            }
+            self.survivors.saturating_sub(only(self.elected))
+        } else {
+            0
         }
-        0
     }
 
     // The members that are expected to confirm an offer, one bit a member.
+    #[tactic(auto, unfolding(crate::specs::Members::expected_of))]
     pub fn expected(self) -> u16
         ensures { result ≡ expected_of self }
     {
-        let others = self.others();
-        lowest_of(self.resilience, others)
+        lowest_of(self.resilience, self.others())
     }
 
     // How many confirmations a message needs.
+    #[tactic(auto, unfolding(crate::specs::Members::needed_of))]
     pub fn needed(self) -> u32
         ensures { result ≡ needed_of self }
     {
-        let expected = self.expected();
-        u16::count_ones(expected)
+        self.expected().count_ones()
     }
 
     // Is the member expected to confirm an offer?
     pub fn expects(self, member: MemberNumber) -> bool
         ensures { result ≡ is_in (expected_of self) member.0 }
     {
-        let expected = self.expected();
-        is_in(expected, member)
+        is_in(self.expected(), member)
     }
 }
 
@@ -243,25 +186,21 @@ fn all_of(n: u8) -> u16
     requires { n ≤ members_most }
     ensures { result ≡ all_of n }
 {
-    let all = (1u32 << (n as u32)) - 1;
-    all as u16
+    ((1u32 << n) - 1) as u16
 }
 
 // The k lowest members of a mask; all of them where it has fewer.
 fn lowest_of(k: u8, mask: u16) -> u16
     ensures { result ≡ lowest_of k mask }
 {
-    let mut found: u16 = 0;
-    let mut rest: u16 = mask;
-    let mut left: u8 = k;
-    while 0 < left {
+    let mut found = 0;
+    let mut rest = mask;
+    for _ in 0..k {
         if rest == 0 {
-            return found;
+            break;
         }
-        let lowest = 1u16 << u16::trailing_zeros(rest);
-        found = found | lowest;
-        rest = rest & (rest - 1);
-        left = left - 1;
+        found |= 1u16 << rest.trailing_zeros();
+        rest &= rest - 1;
     }
     found
 }
@@ -271,18 +210,15 @@ pub fn only(member: MemberNumber) -> u16
     requires { member.0 < members_most }
     ensures { result ≡ only_of member }
 {
-    1u16 << (member.0 as u32)
+    1 << member.0
 }
 
 // Is the member in the mask?
+#[tactic(auto, using(crate::proofs::Members::in_beyond))]
 pub fn is_in(mask: u16, member: MemberNumber) -> bool
     ensures { result ≡ is_in mask member.0 }
 {
-    if (member.0 as usize) < Group::MEMBERS {
-        (mask >> (member.0 as u32)) % 2 == 1
-    } else {
-        false
-    }
+    (member.0 as usize) < Group::MEMBERS && (mask >> member.0) % 2 == 1
 }
 
 // Is every member of the mask in the other?
@@ -293,62 +229,15 @@ pub fn is_within(mask: u16, other: u16) -> bool
 }
 
 // The limits of specs/ are these constants.
-fn members_most() -> usize
-    ensures { result ≡ members_most }
-{
-    Group::MEMBERS
-}
-
-fn places_most() -> usize
-    ensures { result ≡ places_most }
-{
-    Group::PLACES
-}
-
-fn payload_most() -> usize
-    ensures { result ≡ payload_most }
-{
-    Group::PAYLOAD
-}
-
-fn held_most() -> usize
-    ensures { result ≡ held_most }
-{
-    Group::HELD
-}
-
-fn waiting_most() -> usize
-    ensures { result ≡ waiting_most }
-{
-    Group::WAITING
-}
-
-fn header_size() -> usize
-    ensures { result ≡ header_size }
-{
-    Group::HEADER
-}
-
-fn longest_packet() -> usize
-    ensures { result ≡ longest_packet }
-{
-    Group::PACKET
-}
-
-fn largest_number() -> u32
-    ensures { result ≡ largest_number }
-{
-    Group::LARGEST
-}
-
-fn jobs_most() -> usize
-    ensures { result ≡ jobs_most }
-{
-    Group::JOBS
-}
-
-fn job_most() -> usize
-    ensures { result ≡ job_most }
-{
-    Group::JOB
-}
+fn limits()
+    ensures members { Group.MEMBERS ≡ members_most }
+    ensures places { Group.PLACES ≡ places_most }
+    ensures payload { Group.PAYLOAD ≡ payload_most }
+    ensures held { Group.HELD ≡ held_most }
+    ensures waiting { Group.WAITING ≡ waiting_most }
+    ensures header { Group.HEADER ≡ header_size }
+    ensures packet { Group.PACKET ≡ longest_packet }
+    ensures number { Group.LARGEST ≡ largest_number }
+    ensures jobs { Group.JOBS ≡ jobs_most }
+    ensures job { Group.JOB ≡ job_most }
+{}

@@ -1,14 +1,14 @@
 -- What a turn of each loop over the marks needs: one number more is marked or cleared, the search for enough marks goes one number on,
 -- and a mark is asked where it lies. Assumes nothing.
 use mathlib.Core.Path.{◌≡◌, refl, sym, ap, ◌∙◌}
-use mathlib.Core.Bool.{Bool, true, false}
+use mathlib.Core.Bool.{Bool}
 use mathlib.Core.List.{List}
-use Prim.Native.Nat.{ℕ, zero, suc, ◌+◌, ◌-◌, ◌≤◌, ◌<◌}
+use Prim.Native.Nat.{ℕ, suc, ◌+◌, ◌-◌, ◌≤◌, ◌<◌}
 use native.Mathlib.Omega.{arith}
 use lib.Bits.{bit_or}
 use lib.Count.{ones}
 use lib.ListN.{get_or, set}
-use Rattle.group.proofs.Choice.{when_true_of, when_false_of}
+use Rattle.group.proofs.Choice.{when_le, when_nle}
 use Rattle.group.specs.Choice.{when◌then◌else◌, ◌and◌, ◌<?◌, ◌≤?◌, ◌=?◌}
 use Rattle.group.specs.Members.{only_of, is_within}
 use Rattle.group.specs.declared.MemberNumber.{MemberNumber}
@@ -41,22 +41,17 @@ module _ (marks : List ℕ) (needed from to number : ℕ) (inv : enough_of marks
       inv ∙ ap (enough_of marks needed from) e ∙ rw f
 
   -- a turn of the search: found, on, and the end
-  pub enough_found : (r : Bool) → from < number → r ≡ (needed ≤? ones (mark_at marks number)) → r ≡ true → number ≡ enough_of marks needed from (to - from)
-  enough_found r h e t = when_true_of _ r _ _ _ e t refl ∙ sym (enough_step h)
+  pub enough_found : from < number → needed ≤ ones (mark_at marks number) → number ≡ enough_of marks needed from (to - from)
+  enough_found h t = when_le _ _ _ _ _ t refl ∙ sym (enough_step h)
 
-  pub enough_on : (r : Bool) → from < number → r ≡ (needed ≤? ones (mark_at marks number)) → r ≡ false
-      → enough_of marks needed from (to - from) ≡ enough_of marks needed from (number - 1 - from)
-  enough_on r h e t = enough_step h ∙ sym (when_false_of _ r _ _ _ e t refl)
+  pub enough_on : from < number → ones (mark_at marks number) < needed → enough_of marks needed from (to - from) ≡ enough_of marks needed from (number - 1 - from)
+  enough_on h t = enough_step h ∙ sym (when_nle _ _ _ _ _ t refl)
 
   pub enough_end : number ≤ from → 0 ≡ enough_of marks needed from (to - from)
   unfolding enough_of
   enough_end h = let e : number - from ≡ 0 = omega arith in sym (inv ∙ ap (enough_of marks needed from) e)
 
 -- a mark that was asked where it lies
-pub enough_asked : (marks : List ℕ) (needed number at : ℕ) (r : Bool) → at ≡ place_of number → r ≡ (needed ≤? ones (get_or marks at 0))
-    → r ≡ (needed ≤? ones (mark_at marks number))
-enough_asked marks needed number at r p e = e ∙ ap (λ (k : ℕ). needed ≤? ones (get_or marks k 0)) p
-
 pub mark_asked : (expected : ℕ) (marks : List ℕ) (accepted top number at : ℕ) (r : Bool) → at ≡ place_of number
     → r ≡ (when accepted <? number and number ≤? top then is_within (get_or marks at 0) expected else get_or marks at 0 =? 0)
     → r ≡ mark_sound expected marks accepted top number

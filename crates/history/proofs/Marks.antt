@@ -6,7 +6,7 @@ use mathlib.Core.Bool.{Bool, true, false}
 use mathlib.Core.List.{List}
 use Prim.Native.Nat.{ℕ, zero, suc, ◌+◌, ◌^◌, ◌≤◌, ◌<◌}
 use native.Mathlib.Omega.{arith}
-use borrow.Author.Tests.{leb-true, leb-false, le-leb, lt-leb, ltb-true, ltb-false, lt-ltb, le-ltb, eqb-true, eq-eqb}
+use borrow.Author.Tests.{leb-true, leb-false, le-leb, lt-leb, ltb-true, lt-ltb, le-ltb, eqb-true, eq-eqb}
 use lib.Bits.{bit_and, bit_or, or_lt}
 use lib.Count.{ones}
 use lib.ListN.{length, get_or, set, length-set, get_or-eq_default}
@@ -14,9 +14,9 @@ use lib.Pow.{pow_pos, pow-lt}
 use lib.Seq.{get_or-set_same, get_or-set_other}
 use Rattle.group.proofs.Choice.{when_true, when_false, both_hold, first_fails, then_fails, both_first, both_then}
 use Rattle.group.proofs.Lists.{when_elim, eq_or, le_or}
-use Rattle.group.specs.Choice.{when◌then◌else◌, ◌and◌, ◌<?◌, ◌≤?◌, ◌=?◌}
+use Rattle.group.specs.Choice.{◌and◌, ◌<?◌, ◌≤?◌}
 use Rattle.group.specs.Limits.{places_most, members_most}
-use Rattle.group.specs.Members.{only_of, is_within}
+use Rattle.group.specs.Members.{only_of}
 use Rattle.group.specs.declared.MemberNumber.{MemberNumber}
 use Rattle.history.specs.Marks.{mark_at, marked_of, enough_of, unmarked_of, mark_sound}
 use Rattle.history.specs.State.{place_of}

@@ -2,7 +2,7 @@
 -- them keeps its message. Assumes nothing.
 use mathlib.Core.Path.{◌≡◌, refl, ap, ◌∙◌}
 use mathlib.Core.List.{List}
-use Prim.Native.Nat.{ℕ, zero, suc, ◌+◌, ◌≤◌, ◌<◌}
+use Prim.Native.Nat.{ℕ, zero, suc, ◌+◌, ◌≤◌, ◌<◌, max}
 use native.Mathlib.Nat.{le_refl}
 use native.Mathlib.Omega.{arith}
 use borrow.Author.Tests.{ltb-true, ltb-false}
@@ -14,6 +14,11 @@ use Rattle.group.specs.Limits.{places_most}
 use Rattle.message.specs.Message.{Message, empty_message, blank}
 use Rattle.history.specs.Note.{larger_of, cleared_of}
 use Rattle.history.specs.State.{place_of, message_at}
+
+pub larger_max : (a b : ℕ) → max a b ≡ larger_of a b
+unfolding larger_of
+larger_max a b =
+    when_elim (λ (x : ℕ). max a b ≡ x) (a <? b) (λ t. let z = ltb-true a b t in omega arith) (λ t. let z = ltb-false a b t in omega arith)
 
 pub larger_least : (a b : ℕ) → a ≤ larger_of a b
 unfolding larger_of

@@ -1,5 +1,5 @@
 -- What is known of each member, and the history's 32 places.
-use Rattle.std.specs.Prelude.{List, ℕ, ◌%◌, get_or}
+use Rattle.std.specs.Prelude.{List, ℕ, zero, suc, ◌%◌, get_or, Option, Some, None}
 use Rattle.group.specs.Fold.{least_of}
 use Rattle.group.specs.Limits.{places_most, largest_number}
 use Rattle.group.specs.Members.{is_in}
@@ -32,3 +32,8 @@ message_at history number = get_or history (place_of number) blank
 -- floor is the smallest of the survivors' acknowledgements
 unfoldable pub floor_of : ℕ → List Acknowledgement → ℕ
 floor_of survivors table = least_of (is_in survivors) (λ a. a.taken.0) 0 largest_number table
+
+-- a number that was looked for: 0 stands for none
+unfoldable pub numbered : ℕ → Option SequenceNumber
+numbered zero = None
+numbered (suc n) = Some (record { 0 = suc n })

@@ -13,15 +13,16 @@ ghost use Rattle.history.specs.State.{place_of, message_at, floor_of};
 ghost use Rattle.history.specs.Sound.{entry_sound, kept_sound, place_sound, frame_sound};
 ghost use Rattle.history.specs.Marks.{marked_of, enough_of, unmarked_of, mark_sound};
 ghost use Rattle.history.specs.Note.{larger_of, cleared_of};
+ghost use Rattle.history.specs.State.{numbered};
 ghost use Rattle.history.specs.Repeat.{one_more, repeats_of, is_of, find_of};
 ghost use Rattle.history.specs.Ask.{sender_verdict, count_verdict, wanted_verdict, expected_verdict, request_verdict, gap_verdict, confirm_verdict, content_verdict, packet_verdict, sender_of};
 ghost use Rattle.history.specs.View.{Entries, Places, entry_in, table_in, taken_only, counts_only, repeats_only, listed};
 
-use group::{Group, MemberNumber, Refusal, SequenceNumber, Verdict};
+use group::{Group, MemberNumber, Refusal, SequenceNumber};
 use packet::Packet;
 
 // Who sent a packet, and the number that it acknowledges.
-#[derive(Clone, Copy)]
+#[derive(Clone, Copy, Debug, PartialEq, Eq)]
 pub struct Sender {
     pub member: MemberNumber,
     pub taken: SequenceNumber,
@@ -34,42 +35,40 @@ pub fn place(number: u64) -> usize
     (number as usize) % Group::PLACES
 }
 
-// Whether the member of an entry is a survivor.
-fn survives(survivors: u16, i: usize) -> bool
-    requires { i < members_most }
-    ensures { result ≡ is_in survivors i }
-{
-    (survivors >> (i as u32)) % 2 == 1
-}
-
-// The smaller of a survivor's number and the smallest so far; another's counts for nothing.
-fn smaller(survivors: u16, i: usize, a: u32, b: u32) -> u32
-    requires { i < members_most }
-    ensures { result ≡ (when is_in survivors i and a <? b then a else b) }
-{
-    if survives(survivors, i) {
-        if a < b {
-            return a;
-        }
-        return b;
-    }
-    b
-}
-
 // Floor is the smallest of the survivors' acknowledgements.
 pub fn smallest(survivors: u16, taken: [u32; Group::MEMBERS]) -> SequenceNumber
     ensures { result.0 ≡ floor_of survivors (taken_only taken) }
 {
     let mut low = Group::LARGEST;
-    let mut i: usize = 0;
-    while i < Group::MEMBERS {
+    for i in 0..Group::MEMBERS {
         low = smaller(survivors, i, taken[i], low);
-        i += 1;
     }
     SequenceNumber(low)
 }
 
+// The smaller of a survivor's number and the smallest so far; another's counts for nothing.
+#[tactic(auto, using(group::proofs::Choice::choices))]
+fn smaller(survivors: u16, i: usize, a: u32, b: u32) -> u32
+    requires { i < members_most }
+    ensures { result ≡ (when is_in survivors i and a <? b then a else b) }
+{
+    if survives(survivors, i) && a < b {
+        a
+    } else {
+        b
+    }
+}
+
+// Whether the member of an entry is a survivor.
+fn survives(survivors: u16, i: usize) -> bool
+    requires { i < members_most }
+    ensures { result ≡ is_in survivors i }
+{
+    group::is_in(survivors, MemberNumber(i as u8))
+}
+
 // Whether a survivor's entry is at most top, and another's zero but for a lost member's last count.
+#[tactic(auto, using(group::proofs::Choice::choices), unfolding(crate::specs::Sound::entry_sound))]
 fn entry_sound(
     group: Group,
     top: SequenceNumber,
@@ -82,18 +81,10 @@ fn entry_sound(
     ensures { result ≡ entry_sound group top.0 i (entry_in taken count repeats) }
 {
     if survives(group.survivors, i) {
-        return taken <= top.0;
+        taken <= top.0
+    } else {
+        taken == 0 && repeats == 0 && (i < (group.n as usize) || count == 0)
     }
-    if taken != 0 {
-        return false;
-    }
-    if repeats != 0 {
-        return false;
-    }
-    if i < (group.n as usize) {
-        return true;
-    }
-    count == 0
 }
 
 pub fn entries_sound(
@@ -106,11 +97,8 @@ pub fn entries_sound(
     requires { Entries taken.now counts.now repeats.now }
     ensures { result ≡ all (entry_sound group top.0) 0 (table_in taken.now counts.now repeats.now) }
 {
-    let mut i: usize = 0;
-    while i < Group::MEMBERS {
-        if entry_sound(group, top, i, taken[i], counts[i], repeats[i]) {
-            i += 1;
-        } else {
+    for i in 0..Group::MEMBERS {
+        if !entry_sound(group, top, i, taken[i], counts[i], repeats[i]) {
             return false;
         }
     }
@@ -131,47 +119,15 @@ fn kept_sound(
     requires { (n ≤ members_most) × Lies at payloads.now × (mask.now ≡ mask_of) × (length counts.now ≡ members_most) }
     ensures { result ≡ kept_sound n (counts_only counts.now) (message_in count originator size (part_of payloads.now at)) }
 {
-    if n <= originator {
-        return false;
-    }
-    if count < 1 {
-        return false;
-    }
-    let member = originator as usize;
-    if counts[member] < count {
-        return false;
-    }
-    if Group::PAYLOAD < (size as usize) {
-        return false;
-    }
-    store::zero_from(payloads, mask, at, size)
-}
-
-// Whether a place is empty.
-fn empty_sound(
-    count: u32,
-    originator: u8,
-    size: u8,
-    payloads: &[u8],
-    mask: &[u8],
-    at: usize,
-) -> bool
-    requires { Lies at payloads.now × (mask.now ≡ mask_of) }
-    ensures { result ≡ is_empty (message_in count originator size (part_of payloads.now at)) }
-{
-    if originator != 0 {
-        return false;
-    }
-    if count != 0 {
-        return false;
-    }
-    if size != 0 {
-        return false;
-    }
-    store::zero_from(payloads, mask, at, size)
+    originator < n
+        && 1 <= count
+        && count <= counts[originator as usize]
+        && (size as usize) <= Group::PAYLOAD
+        && store::zero_from(payloads, mask, at, size)
 }
 
 // Whether what lies in a number's place is a message where the number is at most top, and else is empty.
+#[tactic(auto, using(group::proofs::Choice::choices))]
 fn place_sound(
     n: u8,
     counts: &[u32],
@@ -188,9 +144,10 @@ fn place_sound(
     ensures { result ≡ (when number ≤? top.0 then kept_sound n (counts_only counts.now) (message_in count originator size (part_of payloads.now at)) else is_empty (message_in count originator size (part_of payloads.now at))) }
 {
     if number <= (top.0 as u64) {
-        return kept_sound(n, counts, count, originator, size, payloads, mask, at);
+        kept_sound(n, counts, count, originator, size, payloads, mask, at)
+    } else {
+        store::is_empty(count, originator, size, payloads, mask, at)
     }
-    empty_sound(count, originator, size, payloads, mask, at)
 }
 
 // Whether the history is exactly floor + 1 to top.
@@ -208,11 +165,10 @@ pub fn history_sound(
     ensures { result ≡ all_above (place_sound n (counts_only counts.now) (messages_in kept.now originators.now lengths.now payloads.now) top.0) floor.0 places_most }
 {
     let mask = store::mask();
-    let mut i: usize = 0;
-    while i < Group::PLACES {
+    for i in 0..Group::PLACES {
         let number = (floor.0 as u64) + (i as u64) + 1;
         let at = place(number);
-        if place_sound(
+        if !place_sound(
             n,
             counts,
             top,
@@ -224,27 +180,15 @@ pub fn history_sound(
             &mask,
             at,
         ) {
-            i += 1;
-        } else {
             return false;
         }
     }
     true
 }
 
-// Whether the last accepted number lies from floor to top, and these have at most the history's places between them.
-fn span_sound(floor: SequenceNumber, accepted: SequenceNumber, top: SequenceNumber) -> bool
-    ensures { result ≡ (floor.0 ≤? accepted.0 and accepted.0 ≤? top.0 and top.0 - floor.0 ≤? places_most) }
-{
-    if accepted.0 < floor.0 {
-        return false;
-    }
-    if top.0 < accepted.0 {
-        return false;
-    }
-    ((top.0 - floor.0) as usize) <= Group::PLACES
-}
-
+// Is the group sound, is floor the smallest of the survivors' acknowledgements, and does the last accepted number lie from floor to top, which
+// have at most the history's places between them?
+#[tactic(auto, using(group::proofs::Choice::choices), unfolding(crate::specs::Sound::frame_sound))]
 pub fn frame_sound(
     group: Group,
     floor: SequenceNumber,
@@ -254,16 +198,15 @@ pub fn frame_sound(
 ) -> bool
     ensures { result ≡ frame_sound group (taken_only taken.now) floor.0 accepted.0 top.0 }
 {
-    if group.sound() {
-        if smallest(group.survivors, *taken).0 != floor.0 {
-            return false;
-        }
-        return span_sound(floor, accepted, top);
-    }
-    false
+    group.sound()
+        && smallest(group.survivors, *taken) == floor
+        && floor <= accepted
+        && accepted <= top
+        && kept(floor, top) <= Group::PLACES
 }
 
 // Whether the mark of a number has expected members' bits only, where the number is above the last accepted, up to top, and else is zero.
+#[tactic(auto, using(group::proofs::Choice::choices))]
 fn mark_sound(
     expected: u16,
     accepted: SequenceNumber,
@@ -273,13 +216,11 @@ fn mark_sound(
 ) -> bool
     ensures { result ≡ (when accepted.0 <? number and number ≤? top.0 then is_within mark expected else mark =? 0) }
 {
-    if (accepted.0 as u64) < number {
-        if number <= (top.0 as u64) {
-            return group::is_within(mark, expected);
-        }
-        return mark == 0;
+    if (accepted.0 as u64) < number && number <= (top.0 as u64) {
+        group::is_within(mark, expected)
+    } else {
+        mark == 0
     }
-    mark == 0
 }
 
 // Whether the marks of the 32 numbers above floor are sound.
@@ -293,13 +234,9 @@ pub fn marks_sound(
     requires { length marks.now ≡ places_most }
     ensures { result ≡ all_above (mark_sound expected marks.now accepted.0 top.0) floor.0 places_most }
 {
-    let mut i: usize = 0;
-    while i < Group::PLACES {
+    for i in 0..Group::PLACES {
         let number = (floor.0 as u64) + (i as u64) + 1;
-        let at = place(number);
-        if mark_sound(expected, accepted, top, number, marks[at]) {
-            i += 1;
-        } else {
+        if !mark_sound(expected, accepted, top, number, marks[place(number)]) {
             return false;
         }
     }
@@ -311,41 +248,29 @@ pub fn mark(marks: &mut [u16], member: MemberNumber, from: SequenceNumber, to: S
     requires { (length marks.old ≡ places_most) × (member.0 < members_most) }
     ensures { marks.new ≡ marked_of marks.old member from.0 (to.0 - from.0) }
 {
-    let mut confirmed = from.0;
-    while confirmed < to.0 {
-        confirmed += 1;
-        let at = place(confirmed as u64);
-        let bit = group::only(member);
-        marks[at] = marks[at] | bit;
+    let bit = group::only(member);
+    for number in from.0..to.0 {
+        marks[place((number as u64) + 1)] |= bit;
     }
 }
 
-// Whether a mark has at least so many members.
-fn has_enough(mark: u16, needed: u32) -> bool
-    ensures { result ≡ (needed ≤? ones mark) }
-{
-    needed <= u16::count_ones(mark)
-}
-
-// The highest number above one, up to another, with at least so many marks; 0: there is none.
+// The highest number above one, up to another, with at least so many marks, if there is one.
 pub fn enough(
     marks: &[u16],
     needed: u32,
     from: SequenceNumber,
     to: SequenceNumber,
-) -> SequenceNumber
+) -> Option<SequenceNumber>
     requires { length marks.now ≡ places_most }
-    ensures { result.0 ≡ enough_of marks.now needed from.0 (to.0 - from.0) }
+    ensures { result ≡ numbered (enough_of marks.now needed from.0 (to.0 - from.0)) }
 {
-    let mut last = to.0;
-    while from.0 < last {
-        let at = place(last as u64);
-        if has_enough(marks[at], needed) {
-            return SequenceNumber(last);
+    for below in (from.0..to.0).rev() {
+        let number = below + 1;
+        if needed <= marks[place(number as u64)].count_ones() {
+            return Some(SequenceNumber(number));
         }
-        last -= 1;
     }
-    SequenceNumber(0)
+    None
 }
 
 // Clears the marks of the numbers above one, up to another.
@@ -353,21 +278,13 @@ pub fn unmark(marks: &mut [u16], from: SequenceNumber, to: SequenceNumber)
     requires { length marks.old ≡ places_most }
     ensures { marks.new ≡ unmarked_of marks.old from.0 (to.0 - from.0) }
 {
-    let mut passed = from.0;
-    while passed < to.0 {
-        passed += 1;
-        let at = place(passed as u64);
-        marks[at] = 0;
+    for number in from.0..to.0 {
+        marks[place((number as u64) + 1)] = 0;
     }
 }
 
-pub fn larger(a: u32, b: u32) -> u32
-    ensures { result ≡ larger_of a b }
-{
-    if a < b { b } else { a }
-}
-
 // Notes an acknowledgement: the sender's number becomes the larger of old and new. The result is the new floor.
+#[tactic(auto, using(crate::proofs::Noting::larger_max))]
 pub fn note(
     survivors: u16,
     taken: &mut [u32; Group::MEMBERS],
@@ -379,7 +296,7 @@ pub fn note(
     ensures floor { result.0 ≡ floor_of survivors (taken_only taken.new) }
 {
     let at = sender.0 as usize;
-    taken[at] = larger(taken[at], number.0);
+    taken[at] = taken[at].max(number.0);
     smallest(survivors, *taken)
 }
 
@@ -395,10 +312,8 @@ pub fn clear(
     requires { Places kept.old originators.old lengths.old payloads.old }
     ensures { messages_in kept.new originators.new lengths.new payloads.new ≡ cleared_of (messages_in kept.old originators.old lengths.old payloads.old) was.0 (floor.0 - was.0) }
 {
-    let mut passed = was.0;
-    while passed < floor.0 {
-        passed += 1;
-        let at = place(passed as u64);
+    for number in was.0..floor.0 {
+        let at = place((number as u64) + 1);
         kept[at] = 0;
         originators[at] = 0;
         lengths[at] = 0;
@@ -421,7 +336,7 @@ pub fn lay(
     requires { (length payload.now ≤ payload_most) × Places kept.old originators.old lengths.old payloads.old }
     ensures { messages_in kept.new originators.new lengths.new payloads.new ≡ set (messages_in kept.old originators.old lengths.old payloads.old) (place_of number.0) (when number.0 ≤? top.0 then message_at (messages_in kept.old originators.old lengths.old payloads.old) number.0 else message_of sender count payload.now) }
 {
-    if number.0 <= top.0 {
+    if number <= top {
         return;
     }
     let at = place(number.0 as u64);
@@ -431,17 +346,7 @@ pub fn lay(
     store::keep(payloads, at, payload);
 }
 
-// Whether the message of a place has that originator and count.
-fn is_of(sender: MemberNumber, count: u32, kept: u32, originator: u8) -> bool
-    ensures { result ≡ is_of sender count (message_in kept originator 0 []) }
-{
-    if originator != sender.0 {
-        return false;
-    }
-    kept == count
-}
-
-// The highest number above floor whose message has that originator and count; 0: there is none.
+// The highest number above floor whose message has that originator and count, if there is one.
 pub fn find(
     kept: &[u32],
     originators: &[u8],
@@ -449,39 +354,40 @@ pub fn find(
     count: u32,
     floor: SequenceNumber,
     top: SequenceNumber,
-) -> SequenceNumber
+) -> Option<SequenceNumber>
     requires { (length kept.now ≡ places_most) × (length originators.now ≡ places_most) }
-    ensures { result.0 ≡ find_of (listed kept.now originators.now) sender count floor.0 (top.0 - floor.0) }
+    ensures { result ≡ numbered (find_of (listed kept.now originators.now) sender count floor.0 (top.0 - floor.0)) }
 {
-    let mut number = top.0;
-    while floor.0 < number {
+    for below in (floor.0..top.0).rev() {
+        let number = below + 1;
         let at = place(number as u64);
         if is_of(sender, count, kept[at], originators[at]) {
-            return SequenceNumber(number);
+            return Some(SequenceNumber(number));
         }
-        number -= 1;
     }
-    SequenceNumber(0)
+    None
+}
+
+// Is the message of a place that of an originator and a count?
+#[tactic(auto, using(group::proofs::Choice::choices), unfolding(crate::specs::Repeat::is_of))]
+fn is_of(sender: MemberNumber, count: u32, kept: u32, originator: u8) -> bool
+    ensures { result ≡ is_of sender count (message_in kept originator 0 []) }
+{
+    originator == sender.0 && kept == count
 }
 
 // How many numbers the history holds.
 pub fn kept(floor: SequenceNumber, top: SequenceNumber) -> usize
     ensures { result ≡ top.0 - floor.0 }
 {
-    if floor.0 < top.0 {
-        return (top.0 - floor.0) as usize;
-    }
-    0
+    top.0.saturating_sub(floor.0) as usize
 }
 
+#[tactic(auto, using(group::proofs::Choice::choices), unfolding(crate::specs::Repeat::one_more))]
 pub fn one_more(repeats: u32) -> u32
     ensures { result ≡ one_more repeats }
 {
-    if repeats < Group::LARGEST {
-        repeats + 1
-    } else {
-        repeats
-    }
+    repeats.saturating_add(1)
 }
 
 // The repeats of all members, held at the largest number.
@@ -490,70 +396,58 @@ pub fn repeats(repeats: &[u32]) -> u32
     ensures { result ≡ repeats_of (repeats_only repeats.now) }
 {
     let mut sum: u64 = 0;
-    let mut i: usize = 0;
-    while i < Group::MEMBERS {
-        sum += repeats[i] as u64;
-        i += 1;
+    for count in repeats {
+        sum += *count as u64;
     }
-    if sum < (Group::LARGEST as u64) {
-        sum as u32
-    } else {
-        Group::LARGEST
-    }
+    sum.min(Group::LARGEST as u64) as u32
 }
 
 // Questions 9 and 10 of a sender, which is a survivor, and its number A, which is at most `most`.
+#[tactic(auto, using(group::proofs::Choice::choices), unfolding(crate::specs::Ask::sender_verdict))]
 fn ask_sender(
     survivors: u16,
     most: SequenceNumber,
     sender: MemberNumber,
     a: SequenceNumber,
-) -> Verdict
+) -> Result<(), Refusal>
     ensures { result ≡ sender_verdict survivors most.0 sender a }
 {
-    if group::is_in(survivors, sender) {
-        if most.0 < a.0 {
-            return Verdict::Refused(Refusal::AcknowledgedAhead);
-        }
-        return Verdict::Accepted;
+    if !group::is_in(survivors, sender) {
+        return Err(Refusal::UnknownMember);
     }
-    Verdict::Refused(Refusal::UnknownMember)
-}
-
-// Whether a next number is left, where a count wants one.
-fn number_left(last: u32, top: SequenceNumber, count: u32) -> bool
-    ensures { result ≡ (when count ≤? last then true else top.0 <? largest_number) }
-{
-    if count <= last {
-        return true;
+    if most < a {
+        return Err(Refusal::AcknowledgedAhead);
     }
-    top.0 < Group::LARGEST
+    Ok(())
 }
 
 // Questions 11 and 16 of a request's count.
-fn ask_count(last: u32, top: SequenceNumber, count: u32) -> Verdict
+#[tactic(auto, using(group::proofs::Choice::choices), unfolding(crate::specs::Ask::count_verdict))]
+fn ask_count(last: u32, top: SequenceNumber, count: u32) -> Result<(), Refusal>
     ensures { result ≡ count_verdict last top.0 count }
 {
     if (last as u64) + 1 < (count as u64) {
-        return Verdict::Refused(Refusal::CountAhead);
+        return Err(Refusal::CountAhead);
     }
-    if number_left(last, top, count) {
-        return Verdict::Accepted;
+    if last < count && Group::LARGEST <= top.0 {
+        return Err(Refusal::NumbersUsedUp);
     }
-    Verdict::Refused(Refusal::NumbersUsedUp)
+    Ok(())
 }
 
 // Question 12 of a gap.
-fn ask_wanted(top: SequenceNumber, last: SequenceNumber) -> Verdict
+#[tactic(auto, using(group::proofs::Choice::choices), unfolding(crate::specs::Ask::wanted_verdict))]
+fn ask_wanted(top: SequenceNumber, last: SequenceNumber) -> Result<(), Refusal>
     ensures { result ≡ wanted_verdict top.0 last }
 {
-    if top.0 < last.0 {
-        return Verdict::Refused(Refusal::WantedAhead);
+    if top < last {
+        return Err(Refusal::WantedAhead);
     }
-    Verdict::Accepted
+    Ok(())
 }
 
 // Questions 9 to 11, and 16, of a request.
+#[tactic(auto, using(group::proofs::Choice::choices), unfolding(crate::specs::Ask::request_verdict, group::specs::Question::judged))]
 fn ask_request(
     survivors: u16,
     counts: &[u32],
@@ -562,21 +456,16 @@ fn ask_request(
     sender: MemberNumber,
     taken: SequenceNumber,
     count: u32,
-) -> Verdict
+) -> Result<(), Refusal>
     requires { length counts.now ≡ members_most }
     ensures { result ≡ request_verdict survivors (counts_only counts.now) accepted.0 top.0 sender taken count }
 {
-    let v = ask_sender(survivors, accepted, sender, taken);
-    match v {
-        Verdict::Accepted => {
-            let at = sender.0 as usize;
-            ask_count(counts[at], top, count)
-        }
-        Verdict::Refused(q) => Verdict::Refused(q),
-    }
+    ask_sender(survivors, accepted, sender, taken)?;
+    ask_count(counts[sender.0 as usize], top, count)
 }
 
 // Questions 9, 10 and 12 of a gap.
+#[tactic(auto, using(group::proofs::Choice::choices), unfolding(crate::specs::Ask::gap_verdict, group::specs::Question::judged))]
 fn ask_gap(
     survivors: u16,
     accepted: SequenceNumber,
@@ -584,72 +473,54 @@ fn ask_gap(
     sender: MemberNumber,
     taken: SequenceNumber,
     last: SequenceNumber,
-) -> Verdict
+) -> Result<(), Refusal>
     ensures { result ≡ gap_verdict survivors accepted.0 top.0 sender taken last }
 {
-    let v = ask_sender(survivors, accepted, sender, taken);
-    match v {
-        Verdict::Accepted => ask_wanted(top, last),
-        Verdict::Refused(q) => Verdict::Refused(q),
-    }
+    ask_sender(survivors, accepted, sender, taken)?;
+    ask_wanted(top, last)
 }
 
-// Whether a confirmation's number is accepted, or its sender is expected.
-fn may_confirm(
-    group: Group,
-    accepted: SequenceNumber,
-    sender: MemberNumber,
-    number: SequenceNumber,
-) -> bool
-    ensures { result ≡ (when number.0 ≤? accepted.0 then true else is_in (expected_of group) sender.0) }
-{
-    if number.0 <= accepted.0 {
-        return true;
-    }
-    let expected = group.expected();
-    group::is_in(expected, sender)
-}
-
-// Question 25 of a confirmation.
+// Question 25 of a confirmation: its number is accepted, or its sender is expected.
+#[tactic(auto, using(group::proofs::Choice::choices), unfolding(crate::specs::Ask::expected_verdict))]
 fn ask_expected(
     group: Group,
     accepted: SequenceNumber,
     sender: MemberNumber,
     number: SequenceNumber,
-) -> Verdict
+) -> Result<(), Refusal>
     ensures { result ≡ expected_verdict group accepted.0 sender number }
 {
-    if may_confirm(group, accepted, sender, number) {
-        return Verdict::Accepted;
+    if number <= accepted || group.expects(sender) {
+        Ok(())
+    } else {
+        Err(Refusal::NotExpected)
     }
-    Verdict::Refused(Refusal::NotExpected)
 }
 
 // Questions 9, 10 and 25 of a confirmation.
+#[tactic(auto, using(group::proofs::Choice::choices), unfolding(crate::specs::Ask::confirm_verdict, group::specs::Question::judged))]
 fn ask_confirm(
     group: Group,
     accepted: SequenceNumber,
     top: SequenceNumber,
     sender: MemberNumber,
     number: SequenceNumber,
-) -> Verdict
+) -> Result<(), Refusal>
     ensures { result ≡ confirm_verdict group accepted.0 top.0 sender number }
 {
-    let v = ask_sender(group.survivors, top, sender, number);
-    match v {
-        Verdict::Accepted => ask_expected(group, accepted, sender, number),
-        Verdict::Refused(q) => Verdict::Refused(q),
-    }
+    ask_sender(group.survivors, top, sender, number)?;
+    ask_expected(group, accepted, sender, number)
 }
 
 // Questions 8 to 12, 25, and 16, of what a packet says: kinds 1, 3, 4 and 7 are for this end.
+#[tactic(auto, unfolding(crate::specs::Ask::content_verdict))]
 fn ask_content(
     group: Group,
     counts: &[u32],
     accepted: SequenceNumber,
     top: SequenceNumber,
     packet: Packet,
-) -> Verdict
+) -> Result<(), Refusal>
     requires { length counts.now ≡ members_most }
     ensures { result ≡ content_verdict group (counts_only counts.now) accepted.0 top.0 packet }
 {
@@ -660,55 +531,21 @@ fn ask_content(
             taken,
             count,
         } => ask_request(survivors, counts, accepted, top, sender, taken, count),
-        Packet::Broadcast {
-            originator: _,
-            number: _,
-            count: _,
-            floor: _,
-        } => Verdict::Refused(Refusal::OtherEnd),
         Packet::Gap {
             sender,
             taken,
-            first: _,
             last,
+            ..
         } => ask_gap(survivors, accepted, top, sender, taken, last),
         Packet::Status { sender, taken } => ask_sender(survivors, accepted, sender, taken),
-        Packet::Poll {
-            elected: _,
-            top: _,
-            floor: _,
-        } => Verdict::Refused(Refusal::OtherEnd),
-        Packet::Offer {
-            originator: _,
-            number: _,
-            count: _,
-            floor: _,
-        } => Verdict::Refused(Refusal::OtherEnd),
         Packet::Confirm { sender, number } => ask_confirm(group, accepted, top, sender, number),
-        Packet::Accept {
-            elected: _,
-            number: _,
-        } => Verdict::Refused(Refusal::OtherEnd),
-        Packet::Invitation {
-            sender: _,
-            attempt: _,
-        } => Verdict::Refused(Refusal::OtherEnd),
-        Packet::Reply {
-            sender: _,
-            attempt: _,
-            number: _,
-        } => Verdict::Refused(Refusal::OtherEnd),
-        Packet::Result {
-            sender: _,
-            attempt: _,
-            elected: _,
-            number: _,
-        } => Verdict::Refused(Refusal::OtherEnd),
+        _ => Err(Refusal::OtherEnd),
     }
 }
 
 // Question 6 at this end, that the elected member sent what only that one may; then 7 to 12, 25, and 16, of a packet from the group of a
 // number.
+#[tactic(auto, using(group::proofs::Choice::choices), unfolding(crate::specs::Ask::packet_verdict))]
 pub fn ask_packet(
     group: Group,
     counts: &[u32],
@@ -716,103 +553,37 @@ pub fn ask_packet(
     top: SequenceNumber,
     number: u32,
     packet: Packet,
-) -> Verdict
+) -> Result<(), Refusal>
     requires { length counts.now ≡ members_most }
     ensures { result ≡ packet_verdict group (counts_only counts.now) accepted.0 top.0 number packet }
 {
-    if packet.from_elected(group) {
-        if number != group.number {
-            return Verdict::Refused(Refusal::OtherGroup);
-        }
-        return ask_content(group, counts, accepted, top, packet);
+    if !packet.from_elected(group) {
+        return Err(Refusal::ForbiddenFields);
     }
-    Verdict::Refused(Refusal::ForbiddenFields)
+    if number != group.number {
+        return Err(Refusal::OtherGroup);
+    }
+    ask_content(group, counts, accepted, top, packet)
 }
 
-// The sender of a packet for the sequencer, and the number that it acknowledges.
+// The sender of a packet for the sequencer, and the number that it acknowledges; a confirmation acknowledges nothing.
+// kept: of a packet for another end it gives member 0, by `sender_of` of specs/, which says so of each kind.
+#[tactic(auto, unfolding(crate::specs::Ask::sender_of))]
 pub fn sender_of(packet: Packet) -> Sender
     ensures { result ≡ sender_of packet }
 {
     match packet {
-        Packet::Request {
-            sender,
-            taken,
-            count: _,
-        } => Sender {
+        Packet::Request { sender, taken, .. }
+        | Packet::Gap { sender, taken, .. }
+        | Packet::Status { sender, taken } => Sender {
             member: sender,
             taken,
         },
-        Packet::Broadcast {
-            originator: _,
-            number: _,
-            count: _,
-            floor: _,
-        } => Sender {
-            member: MemberNumber(0),
-            taken: SequenceNumber(0),
-        },
-        Packet::Gap {
-            sender,
-            taken,
-            first: _,
-            last: _,
-        } => Sender {
-            member: sender,
-            taken,
-        },
-        Packet::Status { sender, taken } => Sender {
-            member: sender,
-            taken,
-        },
-        Packet::Poll {
-            elected: _,
-            top: _,
-            floor: _,
-        } => Sender {
-            member: MemberNumber(0),
-            taken: SequenceNumber(0),
-        },
-        Packet::Offer {
-            originator: _,
-            number: _,
-            count: _,
-            floor: _,
-        } => Sender {
-            member: MemberNumber(0),
-            taken: SequenceNumber(0),
-        },
-        Packet::Confirm { sender, number: _ } => Sender {
+        Packet::Confirm { sender, .. } => Sender {
             member: sender,
             taken: SequenceNumber(0),
         },
-        Packet::Accept {
-            elected: _,
-            number: _,
-        } => Sender {
-            member: MemberNumber(0),
-            taken: SequenceNumber(0),
-        },
-        Packet::Invitation {
-            sender: _,
-            attempt: _,
-        } => Sender {
-            member: MemberNumber(0),
-            taken: SequenceNumber(0),
-        },
-        Packet::Reply {
-            sender: _,
-            attempt: _,
-            number: _,
-        } => Sender {
-            member: MemberNumber(0),
-            taken: SequenceNumber(0),
-        },
-        Packet::Result {
-            sender: _,
-            attempt: _,
-            elected: _,
-            number: _,
-        } => Sender {
+        _ => Sender {
             member: MemberNumber(0),
             taken: SequenceNumber(0),
         },

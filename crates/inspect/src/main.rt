@@ -6,7 +6,5 @@ use descriptor::{Sink, Source};
 fn main(rt: HostRuntime) {
     let mut input = rt.stdin();
     let mut output = rt.stdout();
-    let source = Source::of(&mut input);
-    let sink = Sink::to(&mut output);
-    stream::inspect(source, sink);
+    stream::inspect(Source::of(&mut input), Sink::to(&mut output));
 }

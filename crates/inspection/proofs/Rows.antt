@@ -2,6 +2,7 @@
 -- group's. Assumes nothing.
 use mathlib.Core.Path.{◌≡◌, refl, sym, ap, ◌∙◌}
 use mathlib.Core.List.{List, [], ◌∷◌, ◌++◌, map}
+use mathlib.Core.Logic.{◌⊎◌, inl, inr}
 use Prim.Native.Nat.{ℕ, zero, suc, ◌+◌, ◌≤◌, ◌<◌}
 use native.Mathlib.Numerals.{add-one}
 use native.Mathlib.Omega.{arith}
@@ -15,8 +16,14 @@ use Rattle.member.specs.State.{Member, reach_of}
 use Rattle.member.specs.View as member
 use Rattle.member.specs.declared.Head as memberHead
 use Rattle.model.specs.World.{Group, no_member}
+use Rattle.player.proofs.Telling.{phase_was, running≢, ended≢}
+use Rattle.player.specs.Player.{phase_of}
+use Rattle.player.specs.Steps.{Fits}
+use Rattle.player.specs.declared.Phase.{Phase}
+use Rattle.player.specs.declared.Phase.TheVariants.{Running, Ended}
 use Rattle.sequencer.specs.View as sequencer
 use Rattle.simulator.proofs.Lists.{length_list, lists_get}
+use Rattle.simulator.specs.declared.Head.{Head}
 use Rattle.simulator.specs.Whole.{Rows, stored_at, Terminals, terminals_of, head_in, member_at, Packets, group_of}
 use Rattle.text.proofs.Pieces.{laid_then}
 use Rattle.text.specs.LaidAt.{LaidAt}
@@ -92,3 +99,8 @@ pub laid_whole : (bytes lent after : List ℕ) (size : ℕ) → LaidAt 0 bytes l
 laid_whole bytes lent after size f =
     let z : 0 + length bytes ≡ length bytes = omega arith in
     (f.ends ∙ z, f.lays ∙ rw z)
+
+-- a group that runs, or that has ended, fits
+pub fits_open : (head : Head) (phase r : Phase) → phase_of head phase ≡ r → (r ≡ Running) ⊎ (r ≡ Ended) → Fits head
+fits_open head phase r e (inl i) = (phase_was head phase Running (e ∙ i) running≢).0
+fits_open head phase r e (inr i) = (phase_was head phase Ended (e ∙ i) ended≢).0

@@ -54,10 +54,7 @@ fn repeats_at(taken: &[u32], repeats: &[u32], i: usize) -> u32
     requires { i < length repeats.now }
     ensures { result ≡ repeats_at taken.now repeats.now i }
 {
-    if i < taken.len() {
-        return repeats[i];
-    }
-    0
+    if i < taken.len() { repeats[i] } else { 0 }
 }
 
 // A terminal's numbers behind its own.
@@ -130,8 +127,7 @@ fn put_rows(
     ensures { LaidAt at (row_lines (row_at (terminals_of group numbers.now (rows_of queued.now held.now queued_originators.now queued_lengths.now held_originators.now held_lengths.now queued_payloads.now held_payloads.now)) taken.now repeats.now) n) out.old out.new result }
 {
     let mut next = at;
-    let mut i: usize = 0;
-    while i < n {
+    for i in 0..n {
         let told = row(
             group,
             numbers,
@@ -148,7 +144,6 @@ fn put_rows(
             i,
         );
         next = put_row(i as u32, &told, out, next);
-        i += 1;
     }
     next
 }
@@ -212,27 +207,10 @@ pub fn write_left(
     ensures { LaysLeft player (terminals_of player.head.sequencer.group numbers.now (rows_of queued.now held.now queued_originators.now queued_lengths.now held_originators.now held_lengths.now queued_payloads.now held_payloads.now)) taken.now repeats.now result out.old out.new }
 {
     let head = player.head;
-    let phase = player.phase;
     let group = head.sequencer.group;
-    let stands = phase_of(group.n, head.count, phase);
-    match stands {
+    match phase_of(group.n, head.count, player.phase) {
         Phase::Opening => write_bad_opening(out),
-        Phase::Running => put_table(
-            group,
-            numbers,
-            queued,
-            held,
-            queued_originators,
-            queued_lengths,
-            held_originators,
-            held_lengths,
-            queued_payloads,
-            held_payloads,
-            taken,
-            repeats,
-            out,
-        ),
-        Phase::Ended => put_table(
+        Phase::Running | Phase::Ended => put_table(
             group,
             numbers,
             queued,
@@ -255,8 +233,7 @@ pub fn write_left(
 fn hear(left: Left, taken: SequenceNumber, packet: [u8; Group::PACKET], size: usize) -> Left
     ensures { result ≡ heard_of taken.0 left (read_of (take size packet)) (payload_at (take size packet)) }
 {
-    let most = fitting(size);
-    left.hear(taken, &packet[..most])
+    left.hear(taken, &packet[..fitting(size)])
 }
 
 // The work list of a terminal, read off the packets that were written.
@@ -270,11 +247,8 @@ pub fn list_left(
     ensures { result ≡ (heard_all taken.0 fresh_left (packets_in (packets_of sizes.now packets.now count))).jobs }
 {
     let mut left = Left::fresh();
-    let mut k: usize = 0;
-    while k < count {
-        let packet = packets[k];
-        left = hear(left, taken, packet, sizes[k]);
-        k += 1;
+    for k in 0..count {
+        left = hear(left, taken, packets[k], sizes[k]);
     }
     left.jobs
 }
@@ -297,10 +271,7 @@ fn put_bytes(bytes: [u8; Group::JOB], size: usize, out: &mut [u8], at: usize) ->
     ensures laid { LaidAt at (spaced (payload_text (take size bytes) ∷ [])) out.old out.new result }
     ensures short { result ≤ at + 2 + 2 * job_most }
 {
-    if size < Group::JOB {
-        return put_payload(&bytes[..size], out, at);
-    }
-    put_payload(&bytes, out, at)
+    put_payload(&bytes[..size.min(Group::JOB)], out, at)
 }
 
 // The line of the job at a place of terminal i's list.
@@ -308,12 +279,10 @@ fn put_job(i: u32, place: u32, job: Job, out: &mut [u8]) -> usize
     requires { job_room ≤ length out.old }
     ensures { LaidAt 0 (used_line i place job) out.old out.new result }
 {
-    let member = job.member;
-    let bytes = job.bytes;
     let next = put_decimal(i as u64, out, 0);
     let next = put_number(place, out, next);
-    let next = put_holder(job.state, member, out, next);
-    let next = put_bytes(bytes, job.length, out, next);
+    let next = put_holder(job.state, job.member, out, next);
+    let next = put_bytes(job.bytes, job.length, out, next);
     put(b'\n', out, next)
 }
 

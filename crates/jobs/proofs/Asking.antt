@@ -6,12 +6,13 @@ use mathlib.Core.List.{List, [], ◌∷◌}
 use Prim.Native.Nat.{ℕ}
 use native.Mathlib.Omega.{arith}
 use lib.ListN.{drop, set}
+use Rattle.std.specs.Prelude.{Result, Ok, Err}
 use Rattle.group.specs.Choice.{when◌then◌else◌, ask◌or◌then◌, ◌<?◌}
 use Rattle.group.specs.Limits.{jobs_most}
 use Rattle.group.specs.Question.{Question, first_no, judged}
 use Rattle.group.specs.declared.MemberNumber.{MemberNumber}
 use Rattle.group.specs.declared.Refusal.{Refusal}
-use Rattle.group.specs.declared.Verdict.{Verdict}
+use Rattle.group.specs.Question.{Verdict}
 use Rattle.group.proofs.Lists.{when_elim}
 use Rattle.group.proofs.Question.{judged_ask}
 use Rattle.jobs.specs.Feed.{is_add, is_fetch, for_list, refused, add_of, finish_of, give_of, form_of, feed_of}
@@ -19,17 +20,15 @@ use Rattle.jobs.specs.Job.{unused_state, waiting_state, waiting_job, place_of}
 use Rattle.jobs.specs.Laws.{feed_questions, FirstNo, FeedFirstNo}
 use Rattle.jobs.specs.Sound.{sound_of}
 use Rattle.jobs.specs.declared.Answer.{Answer}
-use Rattle.jobs.specs.declared.Answer.TheVariants.{Refused, Added, Given, None}
+use Rattle.jobs.specs.declared.Answer.TheVariants.{Added}
 use Rattle.jobs.specs.declared.Job.{Job}
 use Rattle.jobs.specs.declared.Outcome.{Outcome}
 use Rattle.jobs.proofs.Forms.{for_list_adds, fetch_no_add}
 
 -- whether an answer is a refusal
-abbrev refuses : Answer → Bool
-refuses (Refused refusal) = true
-refuses Added = false
-refuses (Given place) = false
-refuses None = false
+abbrev refuses : Result Answer Refusal → Bool
+refuses (Err refusal) = true
+refuses (Ok answer) = false
 
 record Accepts (o : Outcome) : Type 0 where
   no : refuses o.answer ≡ false
@@ -56,7 +55,7 @@ module _ (jobs : List Job) (m : MemberNumber) (payload : List ℕ) where
   abbrev taken : Outcome
   taken =
       when is_fetch payload then give_of (finish_of jobs m) m else
-      record { jobs = set jobs (place_of unused_state 0 jobs) (waiting_job (drop 1 payload)); answer = Added }
+      record { jobs = set jobs (place_of unused_state 0 jobs) (waiting_job (drop 1 payload)); answer = Ok Added }
 
   -- question 20, of an add
   abbrev full : Question
@@ -70,7 +69,7 @@ module _ (jobs : List Job) (m : MemberNumber) (payload : List ℕ) where
       go true e = rw (e, fetch_no_add payload e)
       go false e =
           rw (e, (for_list_adds m payload f e).0)
-          (judged_ask (refused jobs) (record { jobs = set jobs (place_of unused_state 0 jobs) (waiting_job (drop 1 payload)); answer = Added })
+          (judged_ask (refused jobs) (record { jobs = set jobs (place_of unused_state 0 jobs) (waiting_job (drop 1 payload)); answer = Ok Added })
           (place_of unused_state 0 jobs <? jobs_most) Refusal.ListFull [])
 
   taken_accepts : Accepts taken

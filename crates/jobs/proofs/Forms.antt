@@ -1,14 +1,14 @@
 -- A payload that is for the list is an add, with a first byte and within the limit, or a fetch, and not both. Assumes nothing.
-use mathlib.Core.Path.{◌≡◌, refl, sym, ap, ◌∙◌}
+use mathlib.Core.Path.{◌≡◌, refl, sym, ◌∙◌}
 use mathlib.Core.Bool.{Bool, true, false}
-use mathlib.Core.List.{List, [], ◌∷◌}
+use mathlib.Core.List.{List}
 use Prim.Native.Nat.{ℕ, ◌-◌, ◌≤◌, ◌<◌}
 use native.Mathlib.Omega.{arith}
 use borrow.Author.Tests.{ltb-true, leb-true, eqb-true, ne_eqb}
 use lib.ListN.{length, take, drop, get_or}
-use lib.Seq.{take-length}
+use Rattle.std.proofs.lemmas.List.{take_rest}
 use Rattle.group.specs.Choice.{when◌then◌else◌, ◌<?◌, ◌≤?◌, ◌=?◌}
-use Rattle.group.specs.Limits.{members_most, payload_most}
+use Rattle.group.specs.Limits.{members_most, payload_most, job_most}
 use Rattle.group.specs.declared.MemberNumber.{MemberNumber}
 use Rattle.group.proofs.Choice.{both_first, both_then, then_fails}
 use Rattle.jobs.specs.Feed.{is_add, is_fetch, for_list}
@@ -40,7 +40,6 @@ fetch_no_add payload e =
     let two = eqb-true (get_or payload 0 0) 2 (both_then (length payload =? 1) (get_or payload 0 0 =? 2) e) in
     then_fails (1 ≤? length payload) (get_or payload 0 0 =? 1) (ne_eqb (get_or payload 0 0) 1 (λ one. omega arith))
 
--- what lies behind the first byte
-pub whole_tail : (p : List ℕ) → take (length p - 1) (drop 1 p) ≡ drop 1 p
-whole_tail [] = refl
-whole_tail (x ∷ xs) = let e : length (x ∷ xs) - 1 ≡ length xs = omega arith in ap (λ (n : ℕ). take n xs) e ∙ take-length xs
+-- all that lies behind some bytes of a job
+pub behind : (k : ℕ) (bytes : List ℕ) → length bytes ≡ job_most → take (job_most - k) (drop k bytes) ≡ drop k bytes
+behind k bytes e = rw (← e) (take_rest bytes k)

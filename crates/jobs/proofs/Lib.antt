@@ -5,4 +5,5 @@ pub mod Forms
 pub mod Keeping
 pub mod Moving
 pub mod Places
+pub mod Steps
 pub mod Soundness

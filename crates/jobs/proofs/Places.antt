@@ -1,16 +1,11 @@
--- The place of the first record of a kind, one record at a time; what stands there, and what stands before it. The same of
--- zeros behind a job. Assumes nothing.
-use mathlib.Core.Path.{◌≡◌, refl, sym, ◌∙◌}
-use mathlib.Core.Bool.{Bool, true, false}
-use mathlib.Core.List.{List, [], ◌∷◌}
-use Prim.Native.Nat.{ℕ, zero, suc, ◌+◌, ◌≤◌, ◌<◌}
+-- The place of the first record of a kind: it is what a search along the list finds, what stands there, and what stands before it.
+-- Zeros, as such a search says them. Assumes nothing.
+use Rattle.std.proofs.Common.{◌≡◌, refl, sym, ap, ◌∙◌, subst, Bool, true, false, cond, not, ◌&&◌, nat_eq, nat_lt, eqb, List, [], ◌∷◌, ℕ, zero, suc, ◌+◌, ◌≤◌, ◌<◌, length, get_or, Option, Some, None, IfSome, IsNone, position, arith}
 use native.Mathlib.Nat.{not-suc-le-zero, le_of_suc-le-suc}
-use native.Mathlib.Numerals.{add-one}
-use native.Mathlib.Omega.{arith}
-use lib.ListN.{length, get_or, drop, drop_of_length-le}
-use lib.Seq.{drop-cons}
-use Rattle.group.specs.Choice.{when◌then◌else◌, ◌and◌, ◌=?◌}
-use Rattle.group.proofs.Choice.{when_true, when_false, when_eq, when_ne}
+use borrow.Author.Tests.{ltb-true, ltb-false, ne_eqb}
+use Rattle.std.specs.List.{list_all, position_or_len}
+use Rattle.std.specs.Option.{option_eq}
+use Rattle.group.specs.Choice.{when◌then◌else◌, ◌and◌}
 use Rattle.group.proofs.Lists.{when_elim}
 use Rattle.message.specs.Message.{all_zero}
 use Rattle.jobs.specs.Job.{is_of, place_of}
@@ -25,29 +20,26 @@ read_any [] i d e h = absurd (not-suc-le-zero h)
 read_any (x ∷ jobs) zero d e h = refl
 read_any (x ∷ jobs) (suc i) d e h = read_any jobs i d e (le_of_suc-le-suc h)
 
--- a turn of the loop that looks for a place, after the first i records: it is here, it is behind, or there is none
-module _ (state member : ℕ) (jobs : List Job) (i : ℕ) (inv : place_of state member jobs ≡ i + place_of state member (drop i jobs)) where
-  place_step : (d : Job) → i < length jobs
-      → place_of state member (drop i jobs) ≡ when is_of state member (get_or jobs i d) then 0 else suc (place_of state member (drop (i + 1) jobs))
-  unfolding place_of
-  place_step d h = rw (drop-cons jobs i d h, add-one)
-
-  pub place_here : (d : Job) (r : Bool) → i < length jobs → r ≡ is_of state member (get_or jobs i d) → r ≡ true → i ≡ place_of state member jobs
-  place_here d r h e t =
-      let z : place_of state member (drop i jobs) ≡ 0 = place_step d h ∙ sym (when_true (is_of state member (get_or jobs i d)) 0 0 _ (sym e ∙ t) refl) in
-      omega (arith, inv, z)
-
-  pub place_on : (d : Job) (r : Bool) → i < length jobs → r ≡ is_of state member (get_or jobs i d) → r ≡ false
-      → place_of state member jobs ≡ i + 1 + place_of state member (drop (i + 1) jobs)
-  place_on d r h e t =
-      let z : place_of state member (drop i jobs) ≡ suc (place_of state member (drop (i + 1) jobs)) = place_step d h ∙ sym (when_false (is_of state member (get_or jobs i d)) _ 0 _ (sym e ∙ t) refl) in
-      omega (arith, inv, z)
-
-  pub place_none : length jobs ≤ i → i ≡ place_of state member jobs
-  unfolding place_of
-  place_none h = let z : place_of state member (drop i jobs) ≡ 0 = rw (drop_of_length-le jobs h) refl in omega (arith, inv, z)
-
 module _ (state member : ℕ) where
+  -- a search along the list finds that place, and there is none where it is the list's length
+  passed : (t : Bool) (a b : ℕ) → a ≡ b → cond (not t) (1 + a) 0 ≡ when t then 0 else suc b
+  unfolding when◌then◌else◌
+  passed true a b e = refl
+  passed false a b e = omega (arith, e)
+
+  pub place_is : (jobs : List Job) → position_or_len (is_of state member) jobs ≡ place_of state member jobs
+  unfolding place_of
+  place_is [] = refl
+  place_is (job ∷ rest) = passed (is_of state member job) _ _ (place_is rest)
+
+  pub position_place : (jobs : List Job) → position (is_of state member) jobs ≡ cond (nat_lt (place_of state member jobs) (length jobs)) (Some (place_of state member jobs)) None
+  position_place jobs = ap (λ (k : ℕ). cond (nat_lt k (length jobs)) (Some k) None) (place_is jobs)
+
+  pub place_most : (jobs : List Job) → place_of state member jobs ≤ length jobs
+  unfolding place_of
+  place_most [] = omega arith
+  place_most (job ∷ rest) = let h = place_most rest in when_elim (λ (k : ℕ). k ≤ suc (length rest)) (is_of state member job) (λ t. omega arith) (λ f. omega (arith, h))
+
   -- the record that stands there has that state and member
   pub place_has : (d : Job) (jobs : List Job) → place_of state member jobs < length jobs → is_of state member (get_or jobs (place_of state member jobs) d) ≡ true
   unfolding place_of
@@ -65,18 +57,33 @@ module _ (state member : ℕ) where
       when_elim (λ (k : ℕ). k ≤ suc i) (is_of state member job) (λ t. omega arith)
       (λ f. let z = place_least d rest i (le_of_suc-le-suc h) e in omega arith)
 
--- a turn of the loop that looks for a byte that is not zero
-module _ (bytes : List ℕ) (from i : ℕ) (inv : all_zero (drop from bytes) ≡ all_zero (drop i bytes)) where
-  zero_step : i < length bytes → all_zero (drop i bytes) ≡ get_or bytes i 0 =? 0 and all_zero (drop (i + 1) bytes)
-  unfolding all_zero
-  zero_step h = rw (drop-cons bytes i 0 h, add-one)
+-- what a search along the list finds, by the place and the list's length
+found : (t : Bool) (k n : ℕ) → nat_lt k n ≡ t → IfSome (cond t (Some k) None) (λ place. (place ≡ k) × (place < n))
+found true k n h = (refl, ltb-true k n h)
+found false k n h = tt
 
-  pub zero_on : i < length bytes → get_or bytes i 0 ≡ 0 → all_zero (drop from bytes) ≡ all_zero (drop (i + 1) bytes)
-  zero_on h e = inv ∙ zero_step h ∙ sym (when_eq (get_or bytes i 0) 0 _ _ false e refl)
+pub found_some : (r : Option ℕ) (k n : ℕ) → r ≡ cond (nat_lt k n) (Some k) None → IfSome r (λ place. (place ≡ k) × (place < n))
+found_some r k n e = subst (λ (o : Option ℕ). IfSome o (λ place. (place ≡ k) × (place < n))) (sym e) (found (nat_lt k n) k n refl)
 
-  pub zero_off : i < length bytes → (get_or bytes i 0 ≡ 0 → ⊥) → false ≡ all_zero (drop from bytes)
-  zero_off h e = when_ne (get_or bytes i 0) 0 false _ false e refl ∙ sym (inv ∙ zero_step h)
+missed : (t : Bool) (k n : ℕ) → nat_lt k n ≡ t → k ≤ n → IsNone (cond t (Some k) None) → k ≡ n
+missed true k n h l z = absurd (true≢false z)
+missed false k n h l z = let b = ltb-false k n h in omega (arith, b, l)
 
-  pub zero_done : length bytes ≤ i → true ≡ all_zero (drop from bytes)
-  unfolding all_zero
-  zero_done h = sym (inv ∙ rw (drop_of_length-le bytes h) refl)
+pub found_none : (r : Option ℕ) (k n : ℕ) → r ≡ cond (nat_lt k n) (Some k) None → k ≤ n → IsNone r → k ≡ n
+found_none r k n e l z = missed (nat_lt k n) k n refl l (subst (λ (o : Option ℕ). IsNone o) e z)
+
+pub found_eq : (r : Option ℕ) (k n place : ℕ) → IfSome r (λ p. (p ≡ k) × (p < n)) → (IsNone r → k ≡ n) → place < n
+    → option_eq eqb r (Some place) ≡ eqb k place
+found_eq (Some p) k n place some none h = ap (λ (i : ℕ). eqb i place) some.0
+found_eq None k n place some none h = let e = none refl in sym (ne_eqb k place (λ z. omega (arith, z, e, h)))
+
+-- every byte is zero, as a search along the bytes says it
+both : (s t u : Bool) → t ≡ u → (s && t) ≡ s and u
+unfolding when◌then◌else◌
+both true t u e = e
+both false t u e = refl
+
+pub zeros : (bytes : List ℕ) → list_all (λ byte. nat_eq byte 0) bytes ≡ all_zero bytes
+unfolding all_zero
+zeros [] = refl
+zeros (b ∷ rest) = both (nat_eq b 0) _ _ (zeros rest)

@@ -1,6 +1,6 @@
 -- A feed: a message that was taken, by its originator and its payload. It goes down its questions in their order, and then takes
 -- its step.
-use Rattle.std.specs.Prelude.{Bool, true, List, [], ◌∷◌, ◌++◌, ℕ, ◌+◌, length, take, drop, get_or, set}
+use Rattle.std.specs.Prelude.{Bool, true, List, [], ◌∷◌, ◌++◌, ℕ, ◌+◌, length, take, drop, get_or, set, Ok, Err}
 use Rattle.group.specs.Choice.{when◌then◌else◌, ask◌or◌then◌, ◌and◌, ◌<?◌, ◌≤?◌, ◌=?◌}
 use Rattle.group.specs.Limits.{members_most, payload_most, jobs_most}
 use Rattle.group.specs.declared.MemberNumber.{MemberNumber}
@@ -8,7 +8,7 @@ use Rattle.group.specs.declared.Refusal.{Refusal}
 use Rattle.group.specs.declared.Refusal.TheVariants.{UnsoundState, NotForList, ListFull}
 use Rattle.jobs.specs.Job.{unused_state, waiting_state, given_state, no_job, waiting_job, given_to, place_of}
 use Rattle.jobs.specs.Sound.{sound_of}
-use Rattle.jobs.specs.declared.Answer.TheVariants.{Refused, Added, Given, None}
+use Rattle.jobs.specs.declared.Answer.TheVariants.{Added, Given, None}
 use Rattle.jobs.specs.declared.Job.{Job}
 use Rattle.jobs.specs.declared.Outcome.{Outcome}
 
@@ -29,13 +29,13 @@ for_list m payload = m.0 <? members_most and length payload ≤? payload_most an
 
 -- a no: every record is left
 unfoldable pub refused : List Job → Refusal → Outcome
-refused jobs refusal = record { jobs = jobs; answer = Refused refusal }
+refused jobs refusal = record { jobs = jobs; answer = Err refusal }
 
 -- an add: the job waits in the first unused record. Question 20: is there one?
 unfoldable pub add_of : List Job → List ℕ → Outcome
 add_of jobs bytes =
     ask place_of unused_state 0 jobs <? jobs_most or refused jobs ListFull then
-    record { jobs = set jobs (place_of unused_state 0 jobs) (waiting_job bytes); answer = Added }
+    record { jobs = set jobs (place_of unused_state 0 jobs) (waiting_job bytes); answer = Ok Added }
 
 -- a record is removed: those behind it move down by one, and the last place is unused
 unfoldable pub without_place : ℕ → List Job → List Job
@@ -55,8 +55,8 @@ with_given place m jobs = set jobs place (given_to m (get_or jobs place no_job))
 unfoldable pub give_of : List Job → MemberNumber → Outcome
 give_of jobs m =
     when place_of waiting_state 0 jobs <? jobs_most
-    then record { jobs = with_given (place_of waiting_state 0 jobs) m jobs; answer = Given (place_of waiting_state 0 jobs) }
-    else record { jobs = jobs; answer = None }
+    then record { jobs = with_given (place_of waiting_state 0 jobs) m jobs; answer = Ok (Given (place_of waiting_state 0 jobs)) }
+    else record { jobs = jobs; answer = Ok None }
 
 -- a payload of a form
 unfoldable pub form_of : List Job → MemberNumber → List ℕ → Outcome

@@ -1,16 +1,16 @@
 -- What is proved of a feed. `proofs/` has a proof of each statement.
-use Rattle.std.specs.Prelude.{◌≡◌, true, List, [], ◌∷◌, ℕ, ◌+◌, length}
+use Rattle.group.specs.Question.{all_yes}
+use Rattle.std.specs.Prelude.{◌≡◌, true, List, [], ◌∷◌, ℕ, ◌+◌, length, Err}
 use Rattle.group.specs.Choice.{when◌then◌else◌, ◌<?◌}
 use Rattle.group.specs.Limits.{jobs_most}
 use Rattle.group.specs.Question.{Question, first_no}
 use Rattle.group.specs.declared.MemberNumber.{MemberNumber}
 use Rattle.group.specs.declared.Refusal.{Refusal}
-use Rattle.group.specs.declared.Verdict.{Verdict}
+use Rattle.group.specs.Question.{Verdict}
 use Rattle.jobs.specs.Count.{waiting_in, given_in, added_by, finished_by}
 use Rattle.jobs.specs.Feed.{is_add, for_list, refused, feed_of}
 use Rattle.jobs.specs.Job.{unused_state, place_of}
 use Rattle.jobs.specs.Sound.{sound_of}
-use Rattle.jobs.specs.declared.Answer.{Answer}
 use Rattle.jobs.specs.declared.Job.{Job}
 use Rattle.jobs.specs.declared.Outcome.{Outcome}
 
@@ -25,8 +25,8 @@ feed_questions jobs m payload =
 -- demand 1: a refusal is answered exactly if some question says no, with the first one's number; then every record is left.
 -- Every other input is accepted
 pub record FirstNo (jobs : List Job) (questions : List Question) (o : Outcome) : Type 0 where
-  pub refuses : (refusal : Refusal) → first_no questions ≡ Verdict.Refused refusal → o ≡ refused jobs refusal
-  pub accepts : (refusal : Refusal) → first_no questions ≡ Verdict.Accepted → o.answer ≡ Answer.Refused refusal → ⊥
+  pub refuses : (refusal : Refusal) → first_no questions ≡ Err refusal → o ≡ refused jobs refusal
+  pub accepts : (refusal : Refusal) → first_no questions ≡ all_yes → o.answer ≡ Err refusal → ⊥
 
 abbrev pub FeedFirstNo : Type 0
 FeedFirstNo = (jobs : List Job) (m : MemberNumber) (payload : List ℕ) → FirstNo jobs (feed_questions jobs m payload) (feed_of jobs m payload)

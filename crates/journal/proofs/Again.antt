@@ -1,24 +1,25 @@
 -- A record that a cursor gave is found again by walking its block alone: the same steps lead there, and no record before it begins
 -- where it does. Assumes nothing.
+use Rattle.std.specs.Prelude.{Option, Some, None}
 use mathlib.Core.Path.{◌≡◌, refl, sym, ap, subst, ◌∙◌}
-use mathlib.Core.Bool.{true, false}
+use mathlib.Core.Bool.{true}
 use mathlib.Core.List.Memᴰ
-use mathlib.Core.List.{List, [], ◌∷◌, Memᴰ}
+use mathlib.Core.List.{List, ◌∷◌, Memᴰ}
 use Prim.Native.Nat.{ℕ, zero, suc, ◌+◌, ◌-◌, ◌*◌, ◌/◌, ◌≤◌, ◌<◌}
 use native.Mathlib.Omega.{arith}
-use borrow.Author.Tests.{ltb-true, ltb-false}
+use borrow.Author.Tests.{ltb-false}
 use lib.ListN.{length}
-use Rattle.group.specs.Choice.{◌<?◌, ◌=?◌}
-use Rattle.group.proofs.Choice.{when_true, when_eq, when_ne, when_was}
+use Rattle.group.specs.Choice.{◌<?◌}
+use Rattle.group.proofs.Choice.{when_true, when_eq, when_ne}
 use Rattle.group.proofs.Lists.{when_elim, eq_or}
 use Rattle.journal.specs.Limits.{block_size, records_at, records_end, record_head}
-use Rattle.journal.specs.Block.{first_at, record_start, behind_in, record_number, step_right, form_of}
-use Rattle.journal.specs.Walk.{block_at, entered_in, cursor_of, alone_in, alone_at, spot_of, moved_of, given_of, walk_of, walked, given_by, spot_with, spot_at}
+use Rattle.journal.specs.Block.{record_start, behind_in, record_number, step_right}
+use Rattle.journal.specs.Walk.{block_at, entered_in, alone_in, alone_at, spot_of, moved_of, given_of, walk_of, walked, given_by, spot_with, spot_at}
 use Rattle.journal.specs.Laws.{StandsIn, GivesAgain}
 use Rattle.journal.specs.declared.Cursor.{Cursor}
 use Rattle.journal.specs.declared.Spot.{Spot}
-use Rattle.journal.specs.declared.Walk.{Walk}
 use Rattle.journal.proofs.Records.{step_says}
+use Rattle.journal.proofs.Walking.{some_was}
 use Rattle.journal.proofs.Cursors.{start_behind, walk_none, walk_here, cursor_none, cursor_first}
 use Rattle.journal.proofs.Given.{gives_standing}
 
@@ -70,11 +71,11 @@ module _ (journal : List ℕ) where
         let few = r.few in
         let low = r.low in
         let l : block_size - r.k - 1 ≡ block_size - (r.k + 1) = omega arith in
-        let w : walk_of (alone c r.k) journal ≡ Walk.Next here (alone next (r.k + 1)) =
+        let w : walk_of (alone c r.k) journal ≡ Some (here, alone next (r.k + 1)) =
         sym (walk_here (alone c r.k) journal (omega arith) (omega arith))
-        ∙ sym (when_true (step_right c.form block c.at c.before) _ (Walk.Next (spot_of (alone c r.k) block) (moved_of (alone c r.k) block)) Walk.End right refl)
-        ∙ ap (λ (n : ℕ). Walk.Next here (record { base = c.base; blocks = 1; form = c.form; at = behind_in c.form block c.at; before = record_number c.form block c.at c.before; left = n })) l in
-        ap (λ (x : Walk). walked x (λ n. given_by m n journal)) w
+        ∙ sym (when_true (step_right c.form block c.at c.before) _ (Some (spot_of (alone c r.k) block, moved_of (alone c r.k) block)) None right refl)
+        ∙ ap (λ (n : ℕ). Some (here, record { base = c.base; blocks = 1; form = c.form; at = behind_in c.form block c.at; before = record_number c.form block c.at c.before; left = n })) l in
+        ap (λ (x : Option (Spot × Cursor)). walked x (λ n. given_by m n journal)) w
 
     step_found : spot_at journal (here.start + record_head) ≡ here
     unfolding spot_at spot_with
@@ -113,26 +114,25 @@ module _ (journal : List ℕ) where
   abbrev Found : Spot → Cursor → Type 0
   Found s next = (spot_at journal (s.start + record_head) ≡ s) × ((s.start + record_head) / block_size * block_size + block_size ≤ length journal) × Reached next
 
-  given_again : (c next : Cursor) (s : Spot) → Reached c → c.base + block_size ≤ length journal → given_of c (block_at journal c.base) ≡ Walk.Next s next → Found s next
+  given_again : (c next : Cursor) (s : Spot) → Reached c → c.base + block_size ≤ length journal → given_of c (block_at journal c.base) ≡ Some (s, next) → Found s next
   unfolding given_of
   given_again c next s r fits e =
       let b = block_at journal c.base in
-      let (right, same) = when_was (step_right c.form b c.at c.before) (Walk.Next (spot_of c b) (moved_of c b)) Walk.End (Walk.Next s next) e
-      (λ z. let y : ◌≡◌ {A = ℕ} 0 1 = cc in omega arith) in
-      let f : spot_of c b ≡ s = cc in
-      let g : moved_of c b ≡ next = cc in
+      let (right, same) = some_was (step_right c.form b c.at c.before) (spot_of c b, moved_of c b) (s, next) e in
+      let f : spot_of c b ≡ s = ap (λ (x : Spot × Cursor). x.0) same in
+      let g : moved_of c b ≡ next = ap (λ (x : Spot × Cursor). x.1) same in
       let (x, y, z) = bounds c r right in
       let base : ((spot_of c b).start + record_head) / block_size * block_size ≡ c.base = let w = r.whole in omega arith in
       subst (λ (t : Spot). Found t next) f (step_found c r right, omega arith, subst Reached g (step_reached c r right))
 
-  walk_again : (c next : Cursor) (s : Spot) → Reached c → c.base + c.blocks * block_size ≤ length journal → walk_of c journal ≡ Walk.Next s next → Found s next
+  walk_again : (c next : Cursor) (s : Spot) → Reached c → c.base + c.blocks * block_size ≤ length journal → walk_of c journal ≡ Some (s, next) → Found s next
   unfolding walk_of entered_in
   walk_again c next s r fits e =
-      (when_elim (λ (w : Walk). w ≡ Walk.Next s next → Found s next) (c.blocks <? 1)
+      (when_elim (λ (w : Option (Spot × Cursor)). w ≡ Some (s, next) → Found s next) (c.blocks <? 1)
       (λ t e. absurd (let y : ◌≡◌ {A = ℕ} 0 1 = cc in omega arith))
-      (λ t. let some = ltb-false c.blocks 1 t in when_elim (λ (w : Walk). w ≡ Walk.Next s next → Found s next) (0 <? c.left)
+      (λ t. let some = ltb-false c.blocks 1 t in when_elim (λ (w : Option (Spot × Cursor)). w ≡ Some (s, next) → Found s next) (0 <? c.left)
       (λ t e. given_again c next s r (omega arith) e)
-      (λ t. when_elim (λ (w : Walk). w ≡ Walk.Next s next → Found s next) (c.blocks <? 2)
+      (λ t. when_elim (λ (w : Option (Spot × Cursor)). w ≡ Some (s, next) → Found s next) (c.blocks <? 2)
       (λ t e. absurd (let y : ◌≡◌ {A = ℕ} 0 1 = cc in omega arith))
       (λ t e.
       let two = ltb-false c.blocks 2 t in
@@ -150,13 +150,13 @@ module _ (journal : List ℕ) where
   all_again (suc n) c r fits s i = go (all_again n) (walk_of c journal) refl i
     where
       go : ((d : Cursor) → Reached d → d.base + d.blocks * block_size ≤ length journal → (s : Spot) → Memᴰ s (given_by n d journal) → Again s)
-          → (w : Walk) → walk_of c journal ≡ w → Memᴰ s (walked w (λ next. given_by n next journal)) → Again s
-      go later Walk.End e i = absurd (Memᴰ.not-nil i)
-      go later (Walk.Next t next) e (Memᴰ.head q) =
+          → (w : Option (Spot × Cursor)) → walk_of c journal ≡ w → Memᴰ s (walked w (λ next. given_by n next journal)) → Again s
+      go later None e i = absurd (Memᴰ.not-nil i)
+      go later (Some (t, next)) e (Memᴰ.head q) =
           let (stands, _) = gives_standing journal c next t fits e in
           let (a, b, _) = walk_again c next t r fits e in
           subst Again (sym q) (stands, a, b)
-      go later (Walk.Next t next) e (Memᴰ.tail i) =
+      go later (Some (t, next)) e (Memᴰ.tail i) =
           let (_, fits') = gives_standing journal c next t fits e in
           let (_, _, d) = walk_again c next t r fits e in
           later next d fits' s i
@@ -166,7 +166,7 @@ none_given : (journal : List ℕ) (n : ℕ) (c : Cursor) (s : Spot) → c.blocks
 unfolding given_by walked
 none_given journal zero c s h i = Memᴰ.not-nil i
 none_given journal (suc n) c s h i =
-    Memᴰ.not-nil (subst (λ (w : Walk). Memᴰ s (walked w (λ next. given_by n next journal))) (sym (walk_none c journal h)) i)
+    Memᴰ.not-nil (subst (λ (w : Option (Spot × Cursor)). Memᴰ s (walked w (λ next. given_by n next journal))) (sym (walk_none c journal h)) i)
 
 pub gives_again : GivesAgain
 unfolding entered_in

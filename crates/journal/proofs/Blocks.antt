@@ -1,7 +1,7 @@
 -- A block is read back to its messages: its fields and its sum by the law of their bytes, its records one by one.
 -- Assumes nothing.
 use mathlib.Core.Path.{◌≡◌, refl, sym, ap, ◌∙◌}
-use mathlib.Core.Bool.{Bool, true}
+use mathlib.Core.Bool.{true}
 use mathlib.Core.List.{List, [], ◌∷◌, ◌++◌, append_assoc, append-nil}
 use Prim.Native.Nat.{ℕ, ◌+◌, ◌*◌, ◌-◌, ◌≤◌, ◌<◌}
 use native.Mathlib.Omega.{arith}
@@ -17,12 +17,13 @@ use Rattle.big_endian.specs.Laws.{Bytes}
 use Rattle.big_endian.specs.Number.{number_at, bytes_of}
 use Rattle.big_endian.proofs.Number.{bytes_of-length, number_behind, number_of_bytes, bytes_cons, bytes_append, bytes_of-bytes}
 use Rattle.journal.specs.Limits.{block_size, records_at, records_end, record_head, number_size, mark, compact_mark}
-use Rattle.journal.specs.Block.{sum_from, record_of, records_of, framed_by, framed, block_of, compact_records, compact_framed, compact_of, first_at, records_in, sum_at, behind, ended_at, follows, record_right, record_start, behind_in, record_number, step_right, records_right, marked, form_of, form_right, sum_right, content_right, block_right, message_at, messages_from, last_from, messages_of, tail_with, tail_of}
+use Rattle.journal.specs.Block.{sum_from, record_of, records_of, framed_by, framed, block_of, compact_records, compact_framed, compact_of, first_at, records_in, sum_at, ended_at, follows, record_start, behind_in, record_number, step_right, records_right, marked, form_of, form_right, sum_right, content_right, block_right, message_at, messages_from, last_from, messages_of, tail_with, tail_of}
 use Rattle.journal.specs.Laws.{Allowed, Numbered, NextNumber, NumberedIn, records_with, block_with, last_number, BlockBack, CompactBack}
 use Rattle.journal.specs.declared.Form.{Form}
 use Rattle.journal.specs.declared.Form.TheVariants.{Log, Compact}
 use Rattle.journal.specs.declared.Tail.{Tail}
-use Rattle.journal.proofs.Lists.{number_in, drop_take, all_zeros, zeros_bytes}
+use Rattle.message.proofs.Kept.{all_zeros}
+use Rattle.journal.proofs.Lists.{number_in, drop_take, zeros_bytes}
 use Rattle.journal.proofs.Summing.{sum_most}
 use Rattle.journal.proofs.Records.{record_length, record_bytes, record_back}
 

@@ -1,32 +1,32 @@
 -- The messages of the records that a cursor gives are those that reading finds, block by block. Assumes nothing.
+use Rattle.std.specs.Prelude.{Option, Some, None}
 use mathlib.Core.Path.{◌≡◌, refl, sym, ap, ◌∙◌}
-use mathlib.Core.Bool.{true, false}
+use mathlib.Core.Bool.{true}
 use mathlib.Core.List.{List, [], ◌∷◌, ◌++◌, map}
 use Prim.Native.Nat.{ℕ, zero, suc, ◌+◌, ◌-◌, ◌*◌, ◌/◌, ◌≤◌, ◌<◌}
 use native.Mathlib.Omega.{arith}
 use borrow.Author.Tests.{ltb-false}
-use lib.ListN.{length, get_or, take, drop, length-append, length-drop}
-use lib.Seq.{length-take-le, get_or-take, get_or-drop, take-take, drop-drop}
+use lib.ListN.{length, get_or, take, drop, length-append}
+use lib.Seq.{get_or-take, get_or-drop, take-take, drop-drop}
 use Rattle.group.specs.Choice.{◌<?◌}
-use Rattle.group.proofs.Choice.{when_true, when_was}
+use Rattle.group.proofs.Choice.{when_true}
 use Rattle.group.proofs.Lists.{when_elim, le_or, eq_or}
 use Rattle.message.specs.Order.{Ordered}
 use Rattle.big_endian.specs.Number.{number_at}
 use Rattle.journal.specs.Limits.{block_size, records_at, records_end, record_head}
 use Rattle.journal.specs.Block.{first_at, records_in, length_at, record_start, behind_in, record_number, step_right, records_right, form_of, block_right, message_at, messages_from, messages_of, tail_of}
-use Rattle.journal.specs.Read.{Reads, fresh_tail, nothing, joined, found_from, found_in}
-use Rattle.journal.specs.Walk.{block_at, entered_in, cursor_of, spot_of, moved_of, given_of, walk_of, walked, given_by, message_on}
+use Rattle.journal.specs.Read.{Reads, fresh_tail, joined, found_from, found_in}
+use Rattle.journal.specs.Walk.{block_at, entered_in, spot_of, moved_of, given_of, walk_of, walked, given_by, message_on}
 use Rattle.journal.specs.Laws.{GivesAll, StandsIn, GivesStanding, GivesForward}
 use Rattle.journal.specs.declared.Cursor.{Cursor}
 use Rattle.journal.specs.declared.Form.{Form}
 use Rattle.journal.specs.declared.Spot.{Spot}
 use Rattle.journal.specs.declared.Tail.{Tail}
-use Rattle.journal.specs.declared.Walk.{Walk}
 use Rattle.journal.proofs.Lists.{drop_take}
 use Rattle.journal.proofs.Records.{Says, step_says}
 use Rattle.journal.proofs.Only.{block_says}
-use Rattle.journal.proofs.Walking.{messages_length}
-use Rattle.journal.proofs.Cursors.{start_behind, walk_here, walk_last, walk_on, cursor_none, cursor_first}
+use Rattle.journal.proofs.Walking.{some_was, messages_length}
+use Rattle.journal.proofs.Cursors.{start_behind, walk_here, walk_last, walk_on, cursor_first}
 use Rattle.group.proofs.Choice.{both_first, both_then}
 
 -- what stands in a block stands in the journal, as far behind the block's begin
@@ -74,11 +74,11 @@ module _ (journal : List ℕ) (base blocks : ℕ) (form : Form) (some : 1 ≤ bl
   step_given at before k m right =
       let c = standing at before (suc k) in
       let e : suc k - 1 ≡ k = omega arith in
-      let w : walk_of c journal ≡ Walk.Next (spot_of c here) (standing (behind_in form here at) (record_number form here at before) k) =
+      let w : walk_of c journal ≡ Some (spot_of c here, standing (behind_in form here at) (record_number form here at before) k) =
       sym (walk_here c journal some (omega arith))
-      ∙ sym (when_true (step_right form here at before) _ (Walk.Next (spot_of c here) (moved_of c here)) Walk.End right refl)
-      ∙ ap (λ (n : ℕ). Walk.Next (spot_of c here) (standing (behind_in form here at) (record_number form here at before) n)) e in
-      ap (λ (x : Walk). walked x (λ next. given_by m next journal)) w
+      ∙ sym (when_true (step_right form here at before) _ (Some (spot_of c here, moved_of c here)) None right refl)
+      ∙ ap (λ (n : ℕ). Some (spot_of c here, standing (behind_in form here at) (record_number form here at before) n)) e in
+      ap (λ (x : Option (Spot × Cursor)). walked x (λ next. given_by m next journal)) w
 
   block_given : (at before k n m : ℕ) → m ≡ k + n → records_right form here at before k ≡ true
       → (at' : ℕ) × (before' : ℕ)
@@ -107,7 +107,7 @@ module _ (journal : List ℕ) (base blocks : ℕ) (form : Form) (some : 1 ≤ bl
   unfolding given_by walked
   ended_last at before zero h = refl
   ended_last at before (suc n) h =
-      ap (λ (x : Walk). walked x (λ next. given_by n next journal)) (sym (walk_last (standing at before 0) journal some (omega arith) h))
+      ap (λ (x : Option (Spot × Cursor)). walked x (λ next. given_by n next journal)) (sym (walk_last (standing at before 0) journal some (omega arith) h))
 
   ended_on : (at before n : ℕ) → 2 ≤ blocks → 1 ≤ records_in (block_at journal (base + block_size))
       → given_by n (standing at before 0) journal
@@ -115,7 +115,7 @@ module _ (journal : List ℕ) (base blocks : ℕ) (form : Form) (some : 1 ≤ bl
   unfolding given_by entered_in
   ended_on at before zero h r = refl
   ended_on at before (suc n) h r =
-      ap (λ (x : Walk). walked x (λ next. given_by n next journal))
+      ap (λ (x : Option (Spot × Cursor)). walked x (λ next. given_by n next journal))
       (sym (walk_on (standing at before 0) journal (omega arith) h)
       ∙ walk_here (entered_in (block_at journal (base + block_size)) (base + block_size) (blocks - 1)) journal (omega arith) r)
 
@@ -189,15 +189,14 @@ gives_all journal =
     ∙ found_given journal fresh_tail 0 k)
 
 -- what is given stands in the journal
-given_stands : (journal : List ℕ) (c next : Cursor) (s : Spot) → c.base + block_size ≤ length journal → given_of c (block_at journal c.base) ≡ Walk.Next s next
+given_stands : (journal : List ℕ) (c next : Cursor) (s : Spot) → c.base + block_size ≤ length journal → given_of c (block_at journal c.base) ≡ Some (s, next)
     → StandsIn journal s × (next.base ≡ c.base) × (next.blocks ≡ c.blocks)
 unfolding given_of
 given_stands journal c next s fits e =
     let block = block_at journal c.base in
-    let (right, same) = when_was (step_right c.form block c.at c.before) (Walk.Next (spot_of c block) (moved_of c block)) Walk.End (Walk.Next s next) e
-    (λ z. let y : ◌≡◌ {A = ℕ} 0 1 = cc in omega arith) in
-    let f : spot_of c block ≡ s = cc in
-    let g : moved_of c block ≡ next = cc in
+    let (right, same) = some_was (step_right c.form block c.at c.before) (spot_of c block, moved_of c block) (s, next) e in
+    let f : spot_of c block ≡ s = ap (λ (x : Spot × Cursor). x.0) same in
+    let g : moved_of c block ≡ next = ap (λ (x : Spot × Cursor). x.1) same in
     let (_, says) = step_says block c.form c.at c.before right in
     let begins = says.begins in
     let size = says.size in
@@ -211,11 +210,11 @@ given_stands journal c next s fits e =
 pub gives_standing : GivesStanding
 unfolding walk_of entered_in
 gives_standing journal c next s fits e =
-    (when_elim (λ (w : Walk). w ≡ Walk.Next s next → StandsIn journal s × (next.base + next.blocks * block_size ≤ length journal)) (c.blocks <? 1)
+    (when_elim (λ (w : Option (Spot × Cursor)). w ≡ Some (s, next) → StandsIn journal s × (next.base + next.blocks * block_size ≤ length journal)) (c.blocks <? 1)
     (λ t e. absurd (let y : ◌≡◌ {A = ℕ} 0 1 = cc in omega arith))
-    (λ t. let some = ltb-false c.blocks 1 t in when_elim (λ (w : Walk). w ≡ Walk.Next s next → StandsIn journal s × (next.base + next.blocks * block_size ≤ length journal)) (0 <? c.left)
+    (λ t. let some = ltb-false c.blocks 1 t in when_elim (λ (w : Option (Spot × Cursor)). w ≡ Some (s, next) → StandsIn journal s × (next.base + next.blocks * block_size ≤ length journal)) (0 <? c.left)
     (λ t e. let (stands, b, k) = given_stands journal c next s (omega arith) e in (stands, omega arith))
-    (λ t. when_elim (λ (w : Walk). w ≡ Walk.Next s next → StandsIn journal s × (next.base + next.blocks * block_size ≤ length journal)) (c.blocks <? 2)
+    (λ t. when_elim (λ (w : Option (Spot × Cursor)). w ≡ Some (s, next) → StandsIn journal s × (next.base + next.blocks * block_size ≤ length journal)) (c.blocks <? 2)
     (λ t e. absurd (let y : ◌≡◌ {A = ℕ} 0 1 = cc in omega arith))
     (λ t e.
     let two = ltb-false c.blocks 2 t in
@@ -224,14 +223,13 @@ gives_standing journal c next s fits e =
     (stands, omega arith))))) e
 
 -- and the cursor goes forward
-given_forward : (c next : Cursor) (s : Spot) (block : List ℕ) → given_of c block ≡ Walk.Next s next
+given_forward : (c next : Cursor) (s : Spot) (block : List ℕ) → given_of c block ≡ Some (s, next)
     → (c.base + c.at ≤ s.start) × (s.start + record_head ≤ next.base + next.at) × (next.at ≤ records_end)
 unfolding given_of
 given_forward c next s block e =
-    let (right, same) = when_was (step_right c.form block c.at c.before) (Walk.Next (spot_of c block) (moved_of c block)) Walk.End (Walk.Next s next) e
-    (λ z. let y : ◌≡◌ {A = ℕ} 0 1 = cc in omega arith) in
-    let f : spot_of c block ≡ s = cc in
-    let g : moved_of c block ≡ next = cc in
+    let (right, same) = some_was (step_right c.form block c.at c.before) (spot_of c block, moved_of c block) (s, next) e in
+    let f : spot_of c block ≡ s = ap (λ (x : Spot × Cursor). x.0) same in
+    let g : moved_of c block ≡ next = ap (λ (x : Spot × Cursor). x.1) same in
     let (_, says) = step_says block c.form c.at c.before right in
     let ends = says.ends in
     let behind = start_behind c.form c.at in
@@ -240,11 +238,11 @@ given_forward c next s block e =
 pub gives_forward : GivesForward
 unfolding walk_of entered_in
 gives_forward journal c next s low e =
-    (when_elim (λ (w : Walk). w ≡ Walk.Next s next → (c.base + c.at ≤ s.start) × (s.start + record_head ≤ next.base + next.at) × (next.at ≤ records_end)) (c.blocks <? 1)
+    (when_elim (λ (w : Option (Spot × Cursor)). w ≡ Some (s, next) → (c.base + c.at ≤ s.start) × (s.start + record_head ≤ next.base + next.at) × (next.at ≤ records_end)) (c.blocks <? 1)
     (λ t e. absurd (let y : ◌≡◌ {A = ℕ} 0 1 = cc in omega arith))
-    (λ t. when_elim (λ (w : Walk). w ≡ Walk.Next s next → (c.base + c.at ≤ s.start) × (s.start + record_head ≤ next.base + next.at) × (next.at ≤ records_end)) (0 <? c.left)
+    (λ t. when_elim (λ (w : Option (Spot × Cursor)). w ≡ Some (s, next) → (c.base + c.at ≤ s.start) × (s.start + record_head ≤ next.base + next.at) × (next.at ≤ records_end)) (0 <? c.left)
     (λ t e. given_forward c next s (block_at journal c.base) e)
-    (λ t. when_elim (λ (w : Walk). w ≡ Walk.Next s next → (c.base + c.at ≤ s.start) × (s.start + record_head ≤ next.base + next.at) × (next.at ≤ records_end)) (c.blocks <? 2)
+    (λ t. when_elim (λ (w : Option (Spot × Cursor)). w ≡ Some (s, next) → (c.base + c.at ≤ s.start) × (s.start + record_head ≤ next.base + next.at) × (next.at ≤ records_end)) (c.blocks <? 2)
     (λ t e. absurd (let y : ◌≡◌ {A = ℕ} 0 1 = cc in omega arith))
     (λ t e.
     let entered = entered_in (block_at journal (c.base + block_size)) (c.base + block_size) (c.blocks - 1) in

@@ -1,14 +1,16 @@
 -- The laws of the writer that `specs/Laws.antt` states, by what holds after every call. Assumes nothing.
+use Rattle.group.specs.Question.{all_yes}
+use Rattle.std.specs.Prelude.{Ok, Err}
 use mathlib.Core.Path.{◌≡◌, refl, sym, ap, ◌∙◌, subst}
-use mathlib.Core.Bool.{Bool, true, false}
+use mathlib.Core.Bool.{true}
 use mathlib.Core.List.{List, [], ◌∷◌, ◌++◌, append_assoc, append-nil}
 use Prim.Native.Nat.{ℕ, ◌+◌, ◌%◌, ◌<◌}
 use native.Mathlib.Omega.{arith}
 use borrow.Author.Tests.{leb-true, leb-false}
 use lib.ListN.{length}
-use Rattle.group.specs.Choice.{when◌then◌else◌, ask◌or◌then◌, ◌and◌, ◌≤?◌, ◌=?◌}
+use Rattle.group.specs.Choice.{when◌then◌else◌, ◌≤?◌, ◌=?◌}
 use Rattle.group.specs.declared.Refusal.TheVariants.{UnsoundState, WrongJournal}
-use Rattle.group.specs.declared.Verdict.{Verdict}
+use Rattle.group.specs.Question.{Verdict}
 use Rattle.group.proofs.Choice.{when_true}
 use Rattle.group.specs.Question.{first_no, judged}
 use Rattle.group.proofs.Lists.{when_elim}
@@ -18,12 +20,11 @@ use Rattle.text.specs.LaidAt.{written_at}
 use Rattle.journal.specs.Limits.{block_size, records_at, records_end}
 use Rattle.journal.specs.Block.{record_of, records_of, follows}
 use Rattle.journal.specs.Read.{found_in, counted, read_of}
-use Rattle.journal.specs.Write.{Outcome, writer_after, writer_sound, allowed, begun, in_hand, refused, kept_of, write_verdict, closed_of, write_of, finish_of}
+use Rattle.journal.specs.Write.{Outcome, writer_after, writer_sound, begun, in_hand, refused, kept_of, write_verdict, closed_of, write_of, finish_of}
 use Rattle.journal.specs.Laws.{Fits, Allowed, handed, joint, messages_in, Writes, starts, keeps, closes, RoundTrip, InOrder, ReadFirstNo, WriteFirstNo, FinishFirstNo, WriterSound}
-use Rattle.journal.specs.declared.Reading.{Reading}
 use Rattle.journal.specs.declared.Tail.{Tail}
 use Rattle.journal.specs.declared.Writer.{Writer}
-use Rattle.journal.specs.declared.Answer.TheVariants.{Kept, Closed}
+use Rattle.journal.specs.declared.Answer.TheVariants.{Kept}
 use Rattle.journal.proofs.Records.{may, record_length}
 use Rattle.journal.proofs.Whole.{whole_append, whole_to, to_whole}
 use Rattle.journal.proofs.Rights.{Rights, rights_whole, rights_append, messages_append}
@@ -40,11 +41,11 @@ pub record Holds (start : Tail) (ms : List Ordered) (blocks : List (List ℕ)) (
   pub held : Pending tail pending w hand
 
 -- a message that was kept was accepted
-kept_by : (v : Verdict) (x : Outcome) (w : Writer) (hand : List ℕ) → (judged v (refused w hand) x).answer ≡ Kept
-    → (v ≡ Verdict.Accepted) × (judged v (refused w hand) x ≡ x)
+kept_by : (v : Verdict) (x : Outcome) (w : Writer) (hand : List ℕ) → (judged v (refused w hand) x).answer ≡ Ok Kept
+    → (v ≡ all_yes) × (judged v (refused w hand) x ≡ x)
 unfolding judged
-kept_by Verdict.Accepted x w hand e = (refl, refl)
-kept_by (Verdict.Refused r) x w hand e = absurd (let z : ◌≡◌ {A = ℕ} 0 1 = cc in omega arith)
+kept_by (Ok _) x w hand e = (refl, refl)
+kept_by (Err r) x w hand e = absurd (let z : ◌≡◌ {A = ℕ} 0 1 = cc in omega arith)
 
 -- a shutdown is never refused
 finished : (u : Tail) (ms : List Ordered) (w : Writer) (hand : List ℕ) → Pending u ms w hand → finish_of w hand ≡ closed_of w hand
@@ -80,7 +81,7 @@ module _ (start : Tail) (ms : List Ordered) (blocks : List (List ℕ)) (w : Writ
   out_order : (more : List (List ℕ)) → messages_in more ≡ h.pending → messages_in (blocks ++ more) ≡ ms
   out_order more e = messages_append blocks more ∙ rw e h.order
 
-  after_keep : (m : Ordered) → Fits m → (write_of w m hand).answer ≡ Kept → Next start (ms ++ (m ∷ [])) blocks (write_of w m hand)
+  after_keep : (m : Ordered) → Fits m → (write_of w m hand).answer ≡ Ok Kept → Next start (ms ++ (m ∷ [])) blocks (write_of w m hand)
   unfolding write_of kept_of handed
   after_keep m fits e =
       let (accepted, same) = kept_by (write_verdict w m) (kept_of w m hand) w hand e in
@@ -152,7 +153,7 @@ writer_sound_lem ms start blocks w hand r = let h = holds start ms blocks w hand
 
 pub read_first_no : ReadFirstNo
 unfolding read_of first_no judged
-read_first_no journal = judged_ask Reading.Refused (Reading.Read (counted (found_in journal))) (length journal % block_size =? 0) WrongJournal []
+read_first_no journal = judged_ask Err (Ok (counted (found_in journal))) (length journal % block_size =? 0) WrongJournal []
 
 pub write_first_no : WriteFirstNo
 unfolding write_of write_verdict first_no

@@ -1,15 +1,19 @@
 -- Numbers that stand in a list of bytes, parts of a list, and lists of zeros. Assumes nothing.
 use mathlib.Core.Path.{◌≡◌, refl, sym, ap, ◌∙◌}
-use mathlib.Core.Bool.{Bool, true, false}
+use mathlib.Core.Bool.{Bool, true, false, ◌&&◌}
 use mathlib.Core.List.{List, [], ◌∷◌, ◌++◌}
 use Prim.Native.Nat.{ℕ, zero, suc, ◌+◌, ◌-◌, ◌^◌, ◌≤◌, ◌<◌}
 use native.Mathlib.Nat.{sub-zero, zero-sub, suc-sub-suc}
 use native.Mathlib.Omega.{arith}
 use borrow.Author.Tests.{eq-eqb, ne_eqb}
-use lib.ListN.{length, take, drop, replicate, replicate-append-replicate}
-use lib.Seq.{drop-drop, drop_at, take-nil}
-use Rattle.group.specs.Choice.{when◌then◌else◌, ◌=?◌}
+use lib.Dec.{eqb}
+use lib.Pointwise.{pointwise}
+use lib.ListN.{length, get_or, take, drop, replicate}
+use lib.Seq.{drop-cons, drop-drop, drop_at, take-nil}
+use Rattle.group.specs.Choice.{when◌then◌else◌, ◌and◌, ◌=?◌}
+use Rattle.group.specs.Fold.{all}
 use Rattle.group.proofs.Choice.{both_hold}
+use Rattle.group.proofs.Lists.{eq_or}
 use Rattle.message.specs.Message.{all_zero}
 use Rattle.big_endian.specs.Laws.{Bytes}
 use Rattle.big_endian.specs.Number.{number_at, bytes_of}
@@ -30,11 +34,6 @@ drop_take (suc i) zero l = rw zero-sub
 drop_take (suc i) (suc n) [] = sym (take-nil (suc n - suc i))
 drop_take (suc i) (suc n) (x ∷ l) = rw suc-sub-suc (drop_take i n l)
 
-pub all_zeros : (k : ℕ) → all_zero (replicate k 0) ≡ true
-unfolding all_zero
-all_zeros zero = refl
-all_zeros (suc k) = both_hold (0 =? 0) (all_zero (replicate k 0)) (eq-eqb 0 0 refl) (all_zeros k)
-
 pub zeros_bytes : (k : ℕ) → Bytes (replicate k 0)
 unfolding Bytes
 zeros_bytes zero = λ i h. absurd (omega arith)
@@ -49,8 +48,24 @@ zero_byte b i = go (b =? 0)
     go true = refl
     go false = sym (ne_eqb (i + 1 - 0) 0 (λ z. omega arith))
 
--- zeros up to an index, and one more
-pub zeros_on : (at i : ℕ) → at ≤ i → ◌++◌ {A = ℕ} (replicate (i - at) 0) (0 ∷ []) ≡ replicate (i + 1 - at) 0
-zeros_on at i h =
-    let e : i - at + 1 ≡ i + 1 - at = omega arith in
-    replicate-append-replicate (i - at) 1 0 ∙ ap (λ (k : ℕ). replicate k 0) e
+-- bytes that begin a list, compared one by one
+eqb_flip : (a b : ℕ) → eqb a b ≡ eqb b a
+eqb_flip a b = eq_or a b (λ e. eq-eqb a b e ∙ sym (eq-eqb b a (sym e))) (λ n. ne_eqb a b n ∙ sym (ne_eqb b a (λ e. n (sym e))))
+
+also_and : (s t : Bool) → (s && t) ≡ s and t
+unfolding when◌then◌else◌
+also_and true t = refl
+also_and false t = refl
+
+pub begins_all : (bytes block : List ℕ) (i : ℕ) → i + length bytes ≤ length block
+    → pointwise eqb bytes (take (length bytes) (drop i block)) ≡ all (λ j b. get_or block j 0 =? b) i bytes
+unfolding all
+begins_all [] block i h = refl
+begins_all (b ∷ rest) block i h =
+    let x = get_or block i 0 in
+    let e : suc i ≡ i + 1 = omega arith in
+    ap (λ (l : List ℕ). pointwise eqb (b ∷ rest) (take (suc (length rest)) l)) (drop-cons block i 0 (omega arith))
+    ∙ also_and (eqb b x) (pointwise eqb rest (take (length rest) (drop (suc i) block)))
+    ∙ ap (λ (t : Bool). t and pointwise eqb rest (take (length rest) (drop (suc i) block))) (eqb_flip b x)
+    ∙ ap (λ (j : ℕ). (x =? b) and pointwise eqb rest (take (length rest) (drop j block))) e
+    ∙ ap (λ (t : Bool). (x =? b) and t) (begins_all rest block (i + 1) (omega arith))

@@ -1,17 +1,16 @@
 -- What a writer has in hand: the records of the messages since the last block, and how each call changes it. Assumes nothing.
 use mathlib.Core.Path.{◌≡◌, refl, sym, ap, ◌∙◌}
-use mathlib.Core.Bool.{Bool, true, false}
+use mathlib.Core.Bool.{true, false}
 use mathlib.Core.List.{List, [], ◌∷◌, ◌++◌, append_assoc, append-nil}
-use Prim.Native.Nat.{ℕ, ◌+◌, ◌*◌, ◌-◌, ◌≤◌}
+use Prim.Native.Nat.{ℕ, ◌+◌, ◌-◌, ◌≤◌}
 use native.Mathlib.Omega.{arith}
-use borrow.Author.Tests.{lt-ltb, le-leb, eq-eqb, ne_eqb, ltb-true, eqb-true}
+use borrow.Author.Tests.{eq-eqb, ne_eqb}
 use lib.ListN.{length, take, drop, length-append, length-drop, drop_of_length-le}
 use lib.Seq.{length-take-le, take_at, drop-append-le}
-use Rattle.group.specs.Choice.{when◌then◌else◌, ◌<?◌, ◌≤?◌, ◌=?◌}
-use Rattle.group.proofs.Choice.{when_true, when_false, both_hold}
+use Rattle.group.specs.Choice.{when◌then◌else◌, ◌=?◌}
 use Rattle.message.specs.Order.{Ordered}
 use Rattle.text.specs.LaidAt.{written_at}
-use Rattle.journal.specs.Limits.{block_size, records_at, records_end, record_head}
+use Rattle.journal.specs.Limits.{block_size, records_at, records_end}
 use Rattle.journal.specs.Block.{record_of, records_of, framed, block_of, ended_at, follows}
 use Rattle.journal.specs.Write.{writer_after, writer_sound, grown, in_hand}
 use Rattle.journal.specs.Laws.{Allowed, Numbered, handed, messages_in}

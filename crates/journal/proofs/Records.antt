@@ -1,4 +1,5 @@
 -- A record is read back from where it stands: each field by the law of its bytes. Assumes nothing.
+use Rattle.std.specs.Prelude.{Some, None}
 use mathlib.Core.Path.{◌≡◌, refl, sym, ap, ◌∙◌}
 use mathlib.Core.Bool.{true}
 use mathlib.Core.List.{List, [], ◌∷◌, ◌++◌, append_assoc}
@@ -20,7 +21,6 @@ use Rattle.journal.specs.Block.{record_of, length_at, behind, record_right, mess
 use Rattle.journal.specs.Read.{record_at, entry_of, held_by}
 use Rattle.journal.specs.Write.{allowed}
 use Rattle.journal.specs.Laws.{Allowed, RecordBack, EntryHolds, EntryWithin}
-use Rattle.journal.specs.declared.Entry.{Entry}
 use Rattle.journal.specs.declared.Record.{Record}
 use Rattle.journal.specs.declared.Form.{Form}
 use Rattle.journal.proofs.Lists.{number_in}
@@ -82,18 +82,18 @@ says_step block form at before h =
 
 -- a right record of a block is its entry
 pub entry_right : (block : List ℕ) (at : ℕ) (number : SequenceNumber) → length block ≡ block_size → Says block at number.0
-    → Entry.Right (record_at block at number) ≡ entry_of block at number
+    → Some (record_at block at number) ≡ entry_of block at number
 unfolding entry_of
 entry_right block at number n s =
     when_true (length block =? block_size and record_right block at number.0) _ _ _
     (both_hold (length block =? block_size) _ (eq-eqb (length block) block_size n) (says_right block at number.0 s)) refl
 
 -- and an entry was a right record of a block
-pub entry_was : (block : List ℕ) (at : ℕ) (number : SequenceNumber) (r : Record) → entry_of block at number ≡ Entry.Right r
+pub entry_was : (block : List ℕ) (at : ℕ) (number : SequenceNumber) (r : Record) → entry_of block at number ≡ Some r
     → (length block ≡ block_size) × (record_right block at number.0 ≡ true) × (record_at block at number ≡ r)
 unfolding entry_of
 entry_was block at number r e =
-    let (right, same) = when_was (length block =? block_size and record_right block at number.0) (Entry.Right (record_at block at number)) Entry.Wrong (Entry.Right r) e
+    let (right, same) = when_was (length block =? block_size and record_right block at number.0) (Some (record_at block at number)) None (Some r) e
     (λ z. let y : ◌≡◌ {A = ℕ} 0 1 = cc in omega arith) in
     (eqb-true (length block) block_size (both_first (length block =? block_size) _ right), both_then (length block =? block_size) _ right, (cc))
 

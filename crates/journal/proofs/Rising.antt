@@ -1,20 +1,19 @@
 -- The messages that reading finds may stand in records, and their numbers rise, in blocks of either form. Assumes nothing.
-use mathlib.Core.Path.{◌≡◌, refl, sym, ap, ◌∙◌}
-use mathlib.Core.Bool.{true, false}
+use mathlib.Core.Path.{◌≡◌, refl, ap, ◌∙◌}
+use mathlib.Core.Bool.{true}
 use mathlib.Core.List.{List, [], ◌∷◌, ◌++◌}
 use Prim.Native.Nat.{ℕ, zero, suc, ◌+◌, ◌-◌, ◌/◌, ◌≤◌, ◌<◌}
 use native.Mathlib.Omega.{arith}
 use borrow.Author.Tests.{ltb-true, eqb-true}
 use lib.ListN.{length, take, drop}
 use lib.Seq.{take_all}
-use Rattle.group.specs.Choice.{when◌then◌else◌, ◌<?◌, ◌=?◌}
 use Rattle.group.proofs.Lists.{when_elim, le_or}
 use Rattle.message.specs.Order.{Ordered}
 use Rattle.big_endian.specs.Laws.{Bytes}
 use Rattle.journal.specs.Limits.{block_size, records_at}
-use Rattle.journal.specs.Block.{first_at, records_in, follows, record_start, behind_in, record_number, form_of, block_right, message_at, messages_from, last_from, messages_of, tail_with, tail_of}
+use Rattle.journal.specs.Block.{first_at, records_in, follows, behind_in, record_number, form_of, block_right, message_at, messages_from, last_from, messages_of, tail_with, tail_of}
 use Rattle.journal.specs.Read.{Reads, found_from, found_in, fresh_tail}
-use Rattle.journal.specs.Laws.{NextNumber, NumberedIn, last_number, RisesIn}
+use Rattle.journal.specs.Laws.{NumberedIn, last_number, RisesIn}
 use Rattle.journal.specs.declared.Form.{Form}
 use Rattle.journal.specs.declared.Form.TheVariants.{Log, Compact}
 use Rattle.journal.specs.declared.Tail.{Tail}

@@ -1,16 +1,16 @@
 -- A sound writer stays sound: with one more record in hand, with that record alone, and closed. Assumes nothing.
-use mathlib.Core.Path.{◌≡◌, refl, sym, ap, ◌∙◌}
+use Rattle.group.specs.Question.{all_yes}
+use Rattle.std.specs.Prelude.{Err}
+use mathlib.Core.Path.{◌≡◌, refl, sym, ◌∙◌}
 use mathlib.Core.Bool.{Bool, true, false}
 use mathlib.Core.List.{List}
-use Prim.Native.Nat.{ℕ, ◌+◌, ◌*◌, ◌-◌, ◌≤◌, ◌<◌}
+use Prim.Native.Nat.{ℕ, ◌+◌, ◌*◌, ◌-◌, ◌≤◌}
 use native.Mathlib.Omega.{arith}
-use borrow.Author.Tests.{lt-ltb, le-ltb, le-leb, eq-eqb, ne_eqb, ltb-true, leb-true, eqb-true}
+use borrow.Author.Tests.{le-leb, eq-eqb, ne_eqb, ltb-true, leb-true, eqb-true}
 use lib.ListN.{length}
 use Rattle.group.specs.Choice.{when◌then◌else◌, ask◌or◌then◌, ◌and◌, ◌<?◌, ◌≤?◌, ◌=?◌}
-use Rattle.group.specs.Limits.{payload_most}
-use Rattle.group.specs.Question.{judged}
 use Rattle.group.specs.declared.Refusal.TheVariants.{UnsoundState, WrongJournal}
-use Rattle.group.specs.declared.Verdict.{Verdict}
+use Rattle.group.specs.Question.{Verdict}
 use Rattle.group.proofs.Choice.{says, when_true, when_false, both_hold, both_first, both_then}
 use Rattle.group.proofs.Lists.{when_elim, judged_elim, eq_or}
 use Rattle.message.specs.Order.{Ordered}
@@ -38,28 +38,6 @@ follows_positive t number e = go t.free e
 pub follows_next : (t : Tail) (number : ℕ) → t.free ≡ false → follows t number ≡ true → number ≡ t.last.0 + 1
 unfolding follows
 follows_next t number f e = eqb-true number (t.last.0 + 1) (when_false t.free _ _ _ f refl ∙ e)
-
--- the tests of a number in the code are those of the definition
-module _ (t : Tail) (number : ℕ) where
-  pub follows_below : number ≤ t.last.0 → false ≡ follows t number
-  unfolding follows when◌then◌else◌
-  follows_below h = go t.free
-    where
-      go : (b : Bool) → false ≡ (when b then t.last.0 <? number else number =? t.last.0 + 1)
-      go true = sym (le-ltb t.last.0 number h)
-      go false = sym (ne_eqb number (t.last.0 + 1) (λ z. omega arith))
-
-  pub follows_free : t.last.0 < number → t.free ≡ true → true ≡ follows t number
-  unfolding follows
-  follows_free h f = when_true t.free true _ _ f (sym (lt-ltb t.last.0 number h))
-
-  pub follows_one : t.last.0 < number → t.free ≡ false → (number - t.last.0 =? 1) ≡ follows t number
-  unfolding follows
-  follows_one h f =
-      when_false t.free _ _ _ f
-      (eq_or number (t.last.0 + 1)
-      (λ z. eq-eqb (number - t.last.0) 1 (omega arith) ∙ sym (eq-eqb number (t.last.0 + 1) z))
-      (λ z. ne_eqb (number - t.last.0) 1 (λ y. z (omega arith)) ∙ sym (ne_eqb number (t.last.0 + 1) z)))
 
 -- what `numbers_sound` says
 pub record Numbers (w : Writer) : Type 0 where
@@ -167,13 +145,13 @@ kept_sound_lem w m hand s a f =
     (λ t. grown_sound w m s f (leb-true _ _ t)) (λ t. begun_sound w m a f)
 
 -- a verdict that accepts
-accepts : (s a : Bool) → (ask s or Verdict.Refused UnsoundState then ask a or Verdict.Refused WrongJournal then Verdict.Accepted) ≡ Verdict.Accepted → (s ≡ true) × (a ≡ true)
+accepts : (s a : Bool) → (ask s or Err UnsoundState then ask a or Err WrongJournal then all_yes) ≡ all_yes → (s ≡ true) × (a ≡ true)
 unfolding when◌then◌else◌
 accepts true true e = (refl, refl)
 accepts true false e = absurd (let z : ◌≡◌ {A = ℕ} 0 1 = cc in omega arith)
 accepts false a e = absurd (let z : ◌≡◌ {A = ℕ} 0 1 = cc in omega arith)
 
-pub accepted_says : (w : Writer) (m : Ordered) → write_verdict w m ≡ Verdict.Accepted
+pub accepted_says : (w : Writer) (m : Ordered) → write_verdict w m ≡ all_yes
     → (writer_sound w ≡ true) × (allowed m ≡ true) × (follows w.tail m.number ≡ true)
 unfolding write_verdict
 accepted_says w m e =

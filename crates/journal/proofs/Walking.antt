@@ -1,8 +1,9 @@
 -- The laws by which loops go on: over the records of a block one record, over the blocks of a journal one block.
 -- Assumes nothing.
+use Rattle.std.specs.Prelude.{Option, Some, None}
 use mathlib.Core.Path.{◌≡◌, refl, sym, ap, ◌∙◌}
 use mathlib.Core.Bool.{Bool, true, false}
-use mathlib.Core.List.{List, [], ◌∷◌, ◌++◌}
+use mathlib.Core.List.{List, ◌++◌}
 use Prim.Native.Nat.{ℕ, zero, suc, ◌+◌, ◌*◌, ◌-◌, ◌/◌, ◌≤◌, ◌<◌}
 use native.Mathlib.Nat.{add-zero, zero-add, sub-zero}
 use native.Mathlib.Omega.{arith}
@@ -11,133 +12,130 @@ use lib.ListN.{length, take, drop, length-append}
 use lib.Seq.{drop-drop}
 use Rattle.group.specs.Choice.{when◌then◌else◌, ◌and◌, ◌≤?◌, ◌=?◌}
 use Rattle.group.specs.Limits.{largest_number}
-use Rattle.group.proofs.Choice.{when_true, when_false, when_was, both_hold, both_first, both_then, first_fails, then_fails}
-use Rattle.group.proofs.Lists.{when_elim, le_or}
+use Rattle.group.proofs.Choice.{when_true, when_false, both_hold, both_first, both_then, first_fails, then_fails}
+use Rattle.group.proofs.Lists.{when_elim}
 use Rattle.message.specs.Message.{all_zero}
 use Rattle.big_endian.specs.Number.{number_at}
-use Rattle.message.specs.Order.{Ordered}
 use Rattle.journal.specs.Limits.{block_size, records_at, records_end, record_head, number_size}
 use Rattle.journal.specs.Block.{first_at, records_in, behind, follows, record_right, record_start, behind_in, record_number, step_right, records_right, form_of, form_right, sum_right, content_right, block_right, messages_from, last_from, messages_of, tail_with, tail_of}
-use Rattle.journal.specs.Walk.{Passes, last_or, last_of}
+use Rattle.journal.specs.Walk.{passed_of, last_or, last_of}
 use Rattle.journal.specs.Read.{Reads, fresh_tail, nothing, joined, found_from, found_in, counted, next_of, record_at, entry_of}
-use Rattle.journal.specs.declared.Block.{Block}
-use Rattle.journal.specs.declared.Entry.{Entry}
 use Rattle.journal.specs.declared.Form.{Form}
 use Rattle.journal.specs.declared.Form.TheVariants.{Log, Compact}
 use Rattle.journal.specs.declared.Found.{Found}
+use Rattle.journal.specs.declared.Passed.{Passed}
 use Rattle.journal.specs.declared.Record.{Record}
 use Rattle.journal.specs.declared.Tail.{Tail}
 use Rattle.journal.proofs.Lists.{drop_take}
 use Rattle.journal.proofs.Records.{right_says, step_says, says_step, entry_right}
 
--- a number that is given if a test holds, and else 0
-pub given_says : (b : Bool) (v e : ℕ) → e ≡ (when b then v else 0) → (e ≡ 0 → ⊥) → (b ≡ true) × (e ≡ v)
-unfolding when◌then◌else◌
-given_says true v e g n = (refl, g)
-given_says false v e g n = absurd (n g)
+-- a value that is given if a test holds, and else none
+module _ {A : Type 0} where
+  pub some_was : (b : Bool) (v x : A) → (when b then Some v else None) ≡ Some x → (b ≡ true) × (v ≡ x)
+  unfolding when◌then◌else◌
+  some_was true v x e = (refl, (cc))
+  some_was false v x e = absurd (let y : ◌≡◌ {A = ℕ} 0 1 = cc in omega arith)
 
-pub given_none : (b : Bool) (v e : ℕ) → e ≡ (when b then v else 0) → e ≡ 0 → 1 ≤ v → b ≡ false
-unfolding when◌then◌else◌
-given_none true v e g n h = absurd (omega arith)
-given_none false v e g n h = refl
+  pub none_was : (b : Bool) (v : A) → (when b then Some v else None) ≡ None → b ≡ false
+  unfolding when◌then◌else◌
+  none_was true v e = absurd (let y : ◌≡◌ {A = ℕ} 0 1 = cc in omega arith)
+  none_was false v e = refl
 
 -- where the record at an index ends, worked out by its entry
 module _ (block : List ℕ) (at number : ℕ) where
-  right_was : (r : Record) → entry_of block at (record { 0 = number }) ≡ Entry.Right r
+  right_was : (r : Record) → entry_of block at (record { 0 = number }) ≡ Some r
       → (record_right block at number ≡ true) × (record_at block at (record { 0 = number }) ≡ r)
   unfolding entry_of
   right_was r e =
-      let (right, same) = when_was (length block =? block_size and record_right block at number) _ Entry.Wrong (Entry.Right r) e
-      (λ z. let y : ◌≡◌ {A = ℕ} 0 1 = cc in omega arith) in
-      (both_then (length block =? block_size) _ right, (cc))
+      let (right, same) = some_was (length block =? block_size and record_right block at number) _ r e in
+      (both_then (length block =? block_size) _ right, same)
 
-  pub end_right : (r : Record) → entry_of block at (record { 0 = number }) ≡ Entry.Right r
-      → r.start + r.length ≡ (when record_right block at number then behind block at else 0)
+  pub end_right : (r : Record) → entry_of block at (record { 0 = number }) ≡ Some r
+      → Some (r.start + r.length) ≡ (when record_right block at number then Some (behind block at) else None)
   end_right r e =
       let (right, same) = right_was r e in
-      when_true (record_right block at number) _ _ _ right (sym (ap (λ (x : Record). x.start + x.length) same))
+      when_true (record_right block at number) _ _ _ right (sym (ap (λ (x : Record). Some (x.start + x.length)) same))
 
-  pub end_within : (r : Record) → entry_of block at (record { 0 = number }) ≡ Entry.Right r → r.start + r.length ≤ records_end
+  pub end_within : (r : Record) → entry_of block at (record { 0 = number }) ≡ Some r → r.start + r.length ≤ records_end
   end_within r e =
       let (right, same) = right_was r e in
       rw (← same) (right_says block at number right).ends
 
-  pub end_wrong : length block ≡ block_size → entry_of block at (record { 0 = number }) ≡ Entry.Wrong
-      → 0 ≡ (when record_right block at number then behind block at else 0)
+  pub end_wrong : length block ≡ block_size → entry_of block at (record { 0 = number }) ≡ None
+      → None ≡ (when record_right block at number then Some (behind block at) else None)
   end_wrong n e =
-      when_elim (λ (x : ℕ). 0 ≡ x) (record_right block at number)
+      when_elim (λ (x : Option ℕ). None ≡ x) (record_right block at number)
       (λ t.
       let f = entry_right block at (record { 0 = number }) n (right_says block at number t) ∙ e in
       absurd (let y : ◌≡◌ {A = ℕ} 0 1 = cc in omega arith))
       (λ t. refl)
 
 -- a record is passed: by its number, and then by where it ends
-wrong_passes : (form : Form) (block : List ℕ) (at before number : ℕ) → (step_right form block at before ≡ true → ⊥) → Passes form block at before 0 number
-wrong_passes form block at before number w =
-    record {
-      ends = when_elim (λ (x : ℕ). 0 ≡ x) (step_right form block at before) (λ t. absurd (w t)) (λ t. refl);
-      numbered = λ n. absurd (n refl);
-    }
+wrong_passes : (form : Form) (block : List ℕ) (at before : ℕ) → (step_right form block at before ≡ true → ⊥) → None ≡ passed_of form block at before
+wrong_passes form block at before w =
+    when_elim (λ (x : Option Passed). None ≡ x) (step_right form block at before) (λ t. absurd (w t)) (λ t. refl)
 
 module _ (block : List ℕ) (at before : ℕ) where
-  pub passes_above : (number : ℕ) → largest_number ≤ before → Passes Log block at before 0 number
-  passes_above number h = wrong_passes Log block at before number (λ t. let m = (step_says block Log at before t).1.most in omega arith)
+  pub passes_above : largest_number ≤ before → None ≡ passed_of Log block at before
+  passes_above h = wrong_passes Log block at before (λ t. let m = (step_says block Log at before t).1.most in omega arith)
 
-  pub passes_log : (end : ℕ) → end ≡ (when record_right block at (before + 1) then behind block at else 0) → Passes Log block at before end (before + 1)
-  passes_log end e =
-      record {
-        ends = e ∙ ap (λ (b : Bool). when b then behind block at else 0) (says_step block Log at before (omega arith));
-        numbered = λ n. refl;
-      }
+  pub passes_short : records_end - number_size < at → None ≡ passed_of Compact block at before
+  passes_short h = wrong_passes Compact block at before (λ t. let m = (step_says block Compact at before t).1.begins in omega arith)
 
-  pub passes_short : (number : ℕ) → records_end - number_size < at → Passes Compact block at before 0 number
-  passes_short number h = wrong_passes Compact block at before number (λ t. let m = (step_says block Compact at before t).1.begins in omega arith)
+  pub passes_low : number_at number_size block at ≤ before → None ≡ passed_of Compact block at before
+  passes_low h = wrong_passes Compact block at before (λ t. let m = (step_says block Compact at before t).0 in omega arith)
 
-  pub passes_low : (number : ℕ) → number ≡ number_at number_size block at → number ≤ before → Passes Compact block at before 0 number
-  passes_low number e h = wrong_passes Compact block at before number (λ t. let m = (step_says block Compact at before t).0 in omega arith)
+  -- where the record ends, or that it is wrong
+  abbrev End : Form → Option ℕ → Type 0
+  End form end =
+      end
+      ≡ (when record_right block (record_start form at) (record_number form block at before) then Some (behind_in form block at) else None)
 
-  pub passes_compact : (number end : ℕ) → number ≡ number_at number_size block at → before < number
-      → end ≡ (when record_right block (at + number_size) number then behind block (at + number_size) else 0) → Passes Compact block at before end number
-  passes_compact number end e h g =
-      record {
-        ends = g ∙ ap (λ (b : Bool). when b then behind block (at + number_size) else 0) (rw e (says_step block Compact at before (rw e at h)));
-        numbered = λ n. e;
-      }
+  pub passes_right : (form : Form) (end : ℕ) → before < record_number form block at before → End form (Some end)
+      → Some (record { end = end; number = record_number form block at before }) ≡ passed_of form block at before
+  passes_right form end h e =
+      let (right, same) = some_was (record_right block (record_start form at) (record_number form block at before)) _ end (sym e) in
+      when_true (step_right form block at before) _ _ _ (sym (says_step block form at before h) ∙ right) (rw same)
+
+  pub passes_wrong : (form : Form) → before < record_number form block at before → End form None → None ≡ passed_of form block at before
+  passes_wrong form h e =
+      let wrong = none_was (record_right block (record_start form at) (record_number form block at before)) _ (sym e) in
+      when_false (step_right form block at before) _ _ _ (sym (says_step block form at before h) ∙ wrong) refl
 
 -- the loop over the records of a block: off, on, and the end
-module _ (form : Form) (block : List ℕ) (at before left whole : ℕ) (inv : whole ≡ last_or form block at before left) where
+module _ (form : Form) (block : List ℕ) (at before left : ℕ) (whole : Option ℕ) (inv : whole ≡ last_or form block at before left) where
   abbrev rest_right : Bool
   rest_right = records_right form block (behind_in form block at) (record_number form block at before) (left - 1)
 
   abbrev rest_last : ℕ
   rest_last = last_from form block (behind_in form block at) (record_number form block at before) (left - 1)
 
-  passed_step : 0 < left → whole ≡ (when step_right form block at before and rest_right then rest_last else 0)
+  passed_step : 0 < left → whole ≡ (when step_right form block at before and rest_right then Some rest_last else None)
   unfolding records_right last_from
   passed_step h = let e : left ≡ suc (left - 1) = omega arith in inv ∙ ap (last_or form block at before) e
 
-  pub passed_off : (end number : ℕ) → 0 < left → Passes form block at before end number → end ≡ 0 → 0 ≡ whole
-  passed_off end number h p z =
-      let w = given_none (step_right form block at before) (behind_in form block at) end p.ends z (omega arith) in
+  pub passed_off : 0 < left → None ≡ passed_of form block at before → None ≡ whole
+  passed_off h p =
+      let w = none_was (step_right form block at before) _ (sym p) in
       sym (passed_step h ∙ sym (when_false (step_right form block at before and rest_right) _ _ _ (first_fails (step_right form block at before) _ w) refl))
 
-  pub passed_on : (end number : ℕ) → 0 < left → Passes form block at before end number → (end ≡ 0 → ⊥)
-      → (end ≤ records_end) × (whole ≡ last_or form block end number (left - 1))
-  passed_on end number h p n =
-      let (right, same) = given_says (step_right form block at before) (behind_in form block at) end p.ends n in
+  pub passed_on : (p : Passed) → 0 < left → Some p ≡ passed_of form block at before
+      → (p.end ≤ records_end) × (whole ≡ last_or form block p.end p.number (left - 1))
+  passed_on p h e =
+      let (right, same) = some_was (step_right form block at before) _ p (sym e) in
       let (_, s) = step_says block form at before right in
       let most = s.ends in (
-        rw same most,
+        rw (← same) most,
         passed_step h
-            ∙ ap (λ (b : Bool). when b then rest_last else 0) (sym (when_true (step_right form block at before) _ _ _ right refl))
-            ∙ rw (same, p.numbered n),
+            ∙ ap (λ (b : Bool). when b then Some rest_last else None) (sym (when_true (step_right form block at before) _ _ _ right refl))
+            ∙ rw (← same),
       )
 
-  pub passed_done : left ≤ 0 → (z : Bool) → z ≡ all_zero (take (records_end - at) (drop at block)) → whole ≡ (when z then before else 0)
+  pub passed_done : left ≤ 0 → (z : Bool) → z ≡ all_zero (take (records_end - at) (drop at block)) → whole ≡ (when z then Some before else None)
   unfolding records_right last_from
   passed_done h z g =
       let e : left ≡ 0 = omega arith in
-      inv ∙ ap (last_or form block at before) e ∙ ap (λ (b : Bool). when b then before else 0) (ap all_zero (drop_take at records_end block) ∙ sym g)
+      inv ∙ ap (last_or form block at before) e ∙ ap (λ (b : Bool). when b then Some before else None) (ap all_zero (drop_take at records_end block) ∙ sym g)
 
 -- right records lie within the block, and their numbers rise
 pub records_within : (form : Form) (block : List ℕ) (at before k : ℕ) → at ≤ records_end → records_right form block at before k ≡ true
@@ -163,17 +161,17 @@ messages_length form block at before (suc k) = ap suc (messages_length form bloc
 
 -- what the code asks of a block's number, count and records
 module _ (t : Tail) (block : List ℕ) where
-  abbrev content_last : ℕ
-  content_last = when content_right t block then last_of block else 0
+  abbrev content_last : Option ℕ
+  content_last = when content_right t block then Some (last_of block) else None
 
-  unsaid : content_right t block ≡ false → 0 ≡ content_last
+  unsaid : content_right t block ≡ false → None ≡ content_last
   unsaid e = when_false (content_right t block) _ _ _ e refl
 
-  pub content_none : records_in block < 1 → 0 ≡ content_last
+  pub content_none : records_in block < 1 → None ≡ content_last
   unfolding content_right
   content_none h = unsaid (first_fails (1 ≤? records_in block) _ (lt-leb 1 (records_in block) h))
 
-  pub content_apart : follows t (first_at block) ≡ false → 0 ≡ content_last
+  pub content_apart : follows t (first_at block) ≡ false → None ≡ content_last
   unfolding content_right
   content_apart f = unsaid (then_fails (1 ≤? records_in block) _ (first_fails (follows t (first_at block)) _ f))
 
@@ -181,7 +179,7 @@ module _ (t : Tail) (block : List ℕ) where
       → last_or (form_of block) block records_at (first_at block - 1) (records_in block) ≡ content_last
   unfolding content_right
   content_is h f =
-      ap (λ (b : Bool). when b then last_of block else 0)
+      ap (λ (b : Bool). when b then Some (last_of block) else None)
       (when_true (1 ≤? records_in block) _ _ _ (le-leb 1 (records_in block) h) (when_true (follows t (first_at block)) _ _ _ f refl))
 
   -- what it says
@@ -195,13 +193,11 @@ module _ (t : Tail) (block : List ℕ) where
       let a = above some in
       (omega arith, fits)
 
-  pub last_says : (last : ℕ) → last ≡ content_last → 1 ≤ last → (content_right t block ≡ true) × (last ≡ last_of block)
-  last_says last e h = given_says (content_right t block) (last_of block) last e (λ z. omega arith)
+  pub last_says : (last : ℕ) → Some last ≡ content_last → (content_right t block ≡ true) × (last_of block ≡ last)
+  last_says last e = some_was (content_right t block) (last_of block) last (sym e)
 
-  pub last_none : (last : ℕ) → last ≡ content_last → last < 1 → content_right t block ≡ false
-  last_none last e h =
-      (when_elim (λ (x : ℕ). last ≡ x → content_right t block ≡ false) (content_right t block)
-      (λ r same. let (some, _) = content_says r in absurd (omega arith)) (λ f same. f)) e
+  pub last_none : None ≡ content_last → content_right t block ≡ false
+  last_none e = none_was (content_right t block) (last_of block) (sym e)
 
 -- what reading a block answers: right, with its messages and the tail behind them, or wrong
 abbrev pub found_one : List ℕ → Found
@@ -213,63 +209,55 @@ block_found block = rw (messages_length (form_of block) block records_at (first_
 
 module _ (t : Tail) (block : List ℕ) where
   pub next_right : length block ≡ block_size → form_right (form_of block) t block ≡ true → sum_right block ≡ true
-      → (last : ℕ) → last ≡ (when content_right t block then last_of block else 0) → 1 ≤ last
-      → Block.Right (record { blocks = 1; messages = records_in block; tail = tail_with (form_of block) last }) ≡ next_of t block
+      → (last : ℕ) → Some last ≡ (when content_right t block then Some (last_of block) else None)
+      → Some (record { blocks = 1; messages = records_in block; tail = tail_with (form_of block) last }) ≡ next_of t block
   unfolding next_of block_right
-  next_right n m s last e h =
-      let (c, same) = last_says t block last e h in
+  next_right n m s last e =
+      let (c, same) = last_says t block last e in
       when_true (block_right t block) _ _ _
       (both_hold (length block =? block_size) _ (eq-eqb (length block) block_size n)
-      (both_hold (form_right (form_of block) t block) _ m (both_hold (sum_right block) _ s c))) (rw same (ap Block.Right (block_found block)))
+      (both_hold (form_right (form_of block) t block) _ m (both_hold (sum_right block) _ s c))) (rw (← same) (ap Some (block_found block)))
 
-  pub next_short : (length block ≡ block_size → ⊥) → Block.Wrong ≡ next_of t block
+  pub next_short : (length block ≡ block_size → ⊥) → None ≡ next_of t block
   unfolding next_of block_right
   next_short n = when_false (block_right t block) _ _ _ (first_fails (length block =? block_size) _ (ne_eqb (length block) block_size n)) refl
 
-  pub next_unmarked : form_right (form_of block) t block ≡ false → Block.Wrong ≡ next_of t block
+  pub next_unmarked : form_right (form_of block) t block ≡ false → None ≡ next_of t block
   unfolding next_of block_right
   next_unmarked m =
       when_false (block_right t block) _ _ _ (then_fails (length block =? block_size) _ (first_fails (form_right (form_of block) t block) _ m)) refl
 
-  pub next_summed : sum_right block ≡ false → Block.Wrong ≡ next_of t block
+  pub next_summed : sum_right block ≡ false → None ≡ next_of t block
   unfolding next_of block_right
   next_summed s =
       when_false (block_right t block) _ _ _
       (then_fails (length block =? block_size) _ (then_fails (form_right (form_of block) t block) _ (first_fails (sum_right block) _ s))) refl
 
-  pub next_other : (last : ℕ) → last ≡ (when content_right t block then last_of block else 0) → last < 1 → Block.Wrong ≡ next_of t block
+  pub next_other : None ≡ (when content_right t block then Some (last_of block) else None) → None ≡ next_of t block
   unfolding next_of block_right
-  next_other last e h =
+  next_other e =
       when_false (block_right t block) _ _ _
       (then_fails (length block =? block_size) _
-      (then_fails (form_right (form_of block) t block) _ (then_fails (sum_right block) _ (last_none t block last e h)))) refl
+      (then_fails (form_right (form_of block) t block) _ (then_fails (sum_right block) _ (last_none t block e)))) refl
 
 -- what was found, with so many blocks and messages before it
 abbrev pub onto : ℕ → ℕ → Found → Found
 onto k m f = record { blocks = k + f.blocks; messages = m + f.messages; tail = f.tail }
 
 -- a right block's answer: what it says, and how many messages it can have
-pub right_was_found : (t : Tail) (block : List ℕ) (f : Found) → next_of t block ≡ Block.Right f
+pub right_was_found : (t : Tail) (block : List ℕ) (f : Found) → next_of t block ≡ Some f
     → (block_right t block ≡ true) × (found_one block ≡ f) × (f.messages ≤ 71)
 unfolding next_of block_right
 right_was_found t block f e =
-    let (right, same) = when_was (block_right t block) (Block.Right (found_one block)) Block.Wrong (Block.Right f) e
-    (λ z. let y : ◌≡◌ {A = ℕ} 0 1 = cc in omega arith) in
-    let q : found_one block ≡ f = cc in
+    let (right, q) = some_was (block_right t block) (found_one block) f e in
     let content = both_then (sum_right block) _ (both_then (form_right (form_of block) t block) _ (both_then (length block =? block_size) _ right)) in
     let (_, fits) = content_says t block content in
     let m = ap (λ (x : Found). x.messages) (block_found block ∙ q) in
     (right, q, omega arith)
 
-wrong_was : (t : Tail) (block : List ℕ) → next_of t block ≡ Block.Wrong → block_right t block ≡ false
-unfolding next_of when◌then◌else◌
-wrong_was t block e = go (block_right t block) refl e
-  where
-    go : (b : Bool) → block_right t block ≡ b
-        → (when b then Block.Right (found_one block) else Block.Wrong) ≡ Block.Wrong
-        → block_right t block ≡ false
-    go true r e = absurd (let y : ◌≡◌ {A = ℕ} 0 1 = cc in omega arith)
-    go false r e = r
+wrong_was : (t : Tail) (block : List ℕ) → next_of t block ≡ None → block_right t block ≡ false
+unfolding next_of
+wrong_was t block e = none_was (block_right t block) (found_one block) e
 
 -- the loop over the blocks of a journal: its start
 pub blocks_start : (journal : List ℕ) (t : Tail) → t ≡ fresh_tail
@@ -292,7 +280,7 @@ module _ (journal : List ℕ) (t : Tail) (k m total : ℕ) (whole : Found)
       let e : total - k ≡ suc (total - k - 1) = omega arith in
       inv ∙ ap (λ (x : ℕ). onto k m (counted (found_from t (drop (k * block_size) journal) x))) e
 
-  pub blocks_on : k < total → (f : Found) → next_of t here ≡ Block.Right f
+  pub blocks_on : k < total → (f : Found) → next_of t here ≡ Some f
       → (whole ≡ onto (k + 1) (m + f.messages) (counted (found_from f.tail (drop ((k + 1) * block_size) journal) (total - (k + 1))))) × (f.messages ≤ 71)
   blocks_on h f e =
       let (right, same, most) = right_was_found t here f e in
@@ -307,7 +295,7 @@ module _ (journal : List ℕ) (t : Tail) (k m total : ℕ) (whole : Found)
   ends_here : onto k m (counted (nothing t)) ≡ record { blocks = k; messages = m; tail = t }
   ends_here = rw (add-zero, add-zero)
 
-  pub blocks_off : k < total → next_of t here ≡ Block.Wrong → record { blocks = k; messages = m; tail = t } ≡ whole
+  pub blocks_off : k < total → next_of t here ≡ None → record { blocks = k; messages = m; tail = t } ≡ whole
   blocks_off h e =
       sym
       (blocks_step h

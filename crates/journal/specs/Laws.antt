@@ -1,5 +1,5 @@
 -- What is proved of the journal, besides the promises of reading and writing. `proofs/` has a proof of each statement.
-use Rattle.std.specs.Prelude.{◌≡◌, true, false, ℕ, ◌+◌, ◌*◌, ◌-◌, ◌/◌, ◌%◌, ◌≤◌, ◌<◌, length, get_or, take, drop}
+use Rattle.std.specs.Prelude.{◌≡◌, Some, Ok, Err, true, false, ℕ, ◌+◌, ◌*◌, ◌-◌, ◌/◌, ◌%◌, ◌≤◌, ◌<◌, length, get_or, take, drop}
 use mathlib.Core.List.{List, [], ◌∷◌, ◌++◌, Memᴰ, map}
 use Rattle.group.specs.Choice.{◌and◌, ◌=?◌}
 use Rattle.group.specs.Limits.{payload_most, largest_number}
@@ -14,14 +14,11 @@ use Rattle.journal.specs.Read.{joined, found_from, found_in, counted, read_of, e
 use Rattle.journal.specs.Walk.{cursor_of, walk_of, given_by, spot_at, message_on}
 use Rattle.journal.specs.Write.{writer_after, writer_sound, allowed, refused, kept_of, closed_of, write_of, finish_of}
 use Rattle.journal.specs.declared.Cursor.{Cursor}
-use Rattle.journal.specs.declared.Entry.{Entry}
 use Rattle.journal.specs.declared.Form.{Form}
 use Rattle.journal.specs.declared.Form.TheVariants.{Log, Compact}
-use Rattle.journal.specs.declared.Reading.{Reading}
 use Rattle.journal.specs.declared.Record.{Record}
 use Rattle.journal.specs.declared.Spot.{Spot}
 use Rattle.journal.specs.declared.Tail.{Tail}
-use Rattle.journal.specs.declared.Walk.{Walk}
 use Rattle.journal.specs.declared.Writer.{Writer}
 use Rattle.journal.specs.declared.Answer.TheVariants.{Kept, Closed}
 
@@ -127,10 +124,10 @@ messages_in (b ∷ rest) = messages_of b ++ messages_in rest
 pub data Writes (start : Tail) : List Ordered → List (List ℕ) → Writer → List ℕ → Type 0 where
   starts : {hand : List ℕ} → length hand ≡ block_size → Writes start [] [] (writer_after start) hand
   keeps : {ms : List Ordered} {blocks : List (List ℕ)} {w : Writer} {hand : List ℕ} → Writes start ms blocks w hand
-      → (m : Ordered) → Fits m → (write_of w m hand).answer ≡ Kept
+      → (m : Ordered) → Fits m → (write_of w m hand).answer ≡ Ok Kept
       → Writes start (ms ++ (m ∷ [])) (blocks ++ handed (write_of w m hand).bytes) (write_of w m hand).writer (write_of w m hand).hand
   closes : {ms : List Ordered} {blocks : List (List ℕ)} {w : Writer} {hand : List ℕ} → Writes start ms blocks w hand
-      → (finish_of w hand).answer ≡ Closed
+      → (finish_of w hand).answer ≡ Ok Closed
       → Writes start ms (blocks ++ handed (finish_of w hand).bytes) (finish_of w hand).writer (finish_of w hand).hand
 
 -- what was written behind a whole journal, and then a shutdown, are read back whole
@@ -138,7 +135,7 @@ abbrev pub RoundTrip : Type 0
 RoundTrip =
     (journal : List ℕ) (old ms : List Ordered) (start : Tail) (blocks : List (List ℕ)) (w : Writer) (hand : List ℕ)
     → WholeTo journal old start → Writes start ms blocks w hand
-    → ((finish_of w hand).answer ≡ Closed) × WholeTo (journal ++ joint (blocks ++ handed (finish_of w hand).bytes)) (old ++ ms) w.tail
+    → ((finish_of w hand).answer ≡ Ok Closed) × WholeTo (journal ++ joint (blocks ++ handed (finish_of w hand).bytes)) (old ++ ms) w.tail
 
 -- every message stands in one block, in order: those of the blocks handed out, then those in hand
 abbrev pub InOrder : Type 0
@@ -189,7 +186,7 @@ Resume =
 abbrev pub WholeRead : Type 0
 WholeRead =
     (journal : List ℕ) (ms : List Ordered) (t : Tail) → WholeTo journal ms t
-    → read_of journal ≡ Reading.Read (record { blocks = length journal / block_size; messages = length ms; tail = t })
+    → read_of journal ≡ Ok (record { blocks = length journal / block_size; messages = length ms; tail = t })
 
 -- the questions of reading, of writing and of shutdown
 abbrev pub read_questions : List ℕ → List Question
@@ -207,7 +204,7 @@ finish_questions w = record { yes = writer_sound w; refusal = UnsoundState } ∷
 -- each refuses with the first no of its questions, and accepts everything else
 abbrev pub ReadFirstNo : Type 0
 ReadFirstNo =
-    (journal : List ℕ) → read_of journal ≡ judged (first_no (read_questions journal)) Reading.Refused (Reading.Read (counted (found_in journal)))
+    (journal : List ℕ) → read_of journal ≡ judged (first_no (read_questions journal)) Err (Ok (counted (found_in journal)))
 
 abbrev pub WriteFirstNo : Type 0
 WriteFirstNo = (w : Writer) (m : Ordered) (hand : List ℕ) → write_of w m hand ≡ judged (first_no (write_questions w m)) (refused w hand) (kept_of w m hand)
@@ -228,13 +225,13 @@ StaysSound =
 -- what reading one record gives is the message that stands there
 abbrev pub EntryHolds : Type 0
 EntryHolds =
-    (block : List ℕ) (at : ℕ) (number : SequenceNumber) (r : Record) → entry_of block at number ≡ Entry.Right r
+    (block : List ℕ) (at : ℕ) (number : SequenceNumber) (r : Record) → entry_of block at number ≡ Some r
     → held_by block r ≡ message_at block at number.0
 
 -- and it lies within the block
 abbrev pub EntryWithin : Type 0
 EntryWithin =
-    (block : List ℕ) (at : ℕ) (number : SequenceNumber) (r : Record) → entry_of block at number ≡ Entry.Right r
+    (block : List ℕ) (at : ℕ) (number : SequenceNumber) (r : Record) → entry_of block at number ≡ Some r
     → (length block ≡ block_size) × (r.start ≡ at + record_head) × (r.length ≤ payload_most) × (r.start + r.length ≤ records_end)
 
 -- what a cursor over the right blocks of a journal gives are the records of the messages that reading finds
@@ -252,13 +249,13 @@ pub record StandsIn (journal : List ℕ) (s : Spot) : Type 0 where
 -- so stands what a cursor within the journal gives, and the cursor stays within it
 abbrev pub GivesStanding : Type 0
 GivesStanding =
-    (journal : List ℕ) (c next : Cursor) (s : Spot) → c.base + c.blocks * block_size ≤ length journal → walk_of c journal ≡ Walk.Next s next
+    (journal : List ℕ) (c next : Cursor) (s : Spot) → c.base + c.blocks * block_size ≤ length journal → walk_of c journal ≡ Some (s, next)
     → StandsIn journal s × (next.base + next.blocks * block_size ≤ length journal)
 
 -- a cursor goes forward: the record stands behind it, and the next cursor behind that record's head
 abbrev pub GivesForward : Type 0
 GivesForward =
-    (journal : List ℕ) (c next : Cursor) (s : Spot) → c.at ≤ records_end → walk_of c journal ≡ Walk.Next s next
+    (journal : List ℕ) (c next : Cursor) (s : Spot) → c.at ≤ records_end → walk_of c journal ≡ Some (s, next)
     → (c.base + c.at ≤ s.start) × (s.start + record_head ≤ next.base + next.at) × (next.at ≤ records_end)
 
 -- each record that a cursor over the right blocks gives is found again by where its payload stands, in a block of the journal

@@ -1,5 +1,5 @@
 -- Reading a journal: block by block, up to the first that is wrong.
-use Rattle.std.specs.Prelude.{true, List, [], ◌++◌, ℕ, zero, suc, ◌+◌, ◌/◌, ◌%◌, length, get_or, take, drop}
+use Rattle.std.specs.Prelude.{Option, Some, None, Result, Ok, Err, true, List, [], ◌++◌, ℕ, zero, suc, ◌+◌, ◌/◌, ◌%◌, length, get_or, take, drop}
 use Rattle.big_endian.specs.Number.{number_at}
 use Rattle.group.specs.Choice.{when◌then◌else◌, ask◌or◌then◌, ◌and◌, ◌=?◌}
 use Rattle.group.specs.declared.Refusal.TheVariants.{WrongJournal}
@@ -9,10 +9,8 @@ use Rattle.journal.specs.Limits.{block_size, record_head}
 use Rattle.journal.specs.Block.{length_at, record_right, block_right, messages_of, tail_of}
 use Rattle.journal.specs.declared.Tail.{Tail}
 use Rattle.journal.specs.declared.Found.{Found}
-use Rattle.journal.specs.declared.Reading.{Reading}
 use Rattle.journal.specs.declared.Record.{Record}
-use Rattle.journal.specs.declared.Entry.{Entry}
-use Rattle.journal.specs.declared.Block.{Block}
+use Rattle.group.specs.declared.Refusal.{Refusal}
 
 -- what reading finds: whole blocks, their messages, and the tail behind them
 pub record Reads : Type 0 where
@@ -49,17 +47,17 @@ abbrev pub counted : Reads → Found
 counted r = record { blocks = r.blocks; messages = length r.messages; tail = r.tail }
 
 -- a journal's length that is no multiple of a block's is refused before any block is looked at; a wrong block is no refusal
-unfoldable pub read_of : List ℕ → Reading
+unfoldable pub read_of : List ℕ → Result Found Refusal
 read_of journal =
-    ask length journal % block_size =? 0 or Reading.Refused WrongJournal then
-    Reading.Read (counted (found_in journal))
+    ask length journal % block_size =? 0 or Err WrongJournal then
+    Ok (counted (found_in journal))
 
 -- what reading one block behind a tail answers
-unfoldable pub next_of : Tail → List ℕ → Block
+unfoldable pub next_of : Tail → List ℕ → Option Found
 next_of t block =
     when block_right t block
-    then Block.Right (counted (record { blocks = 1; messages = messages_of block; tail = tail_of block }))
-    else Block.Wrong
+    then Some (counted (record { blocks = 1; messages = messages_of block; tail = tail_of block }))
+    else None
 
 -- where the record at an index of a block stands, and what it says
 abbrev pub record_at : List ℕ → ℕ → SequenceNumber → Record
@@ -73,9 +71,9 @@ record_at block at number =
     }
 
 -- what reading one record answers
-unfoldable pub entry_of : List ℕ → ℕ → SequenceNumber → Entry
+unfoldable pub entry_of : List ℕ → ℕ → SequenceNumber → Option Record
 entry_of block at number =
-    when length block =? block_size and record_right block at number.0 then Entry.Right (record_at block at number) else Entry.Wrong
+    when length block =? block_size and record_right block at number.0 then Some (record_at block at number) else None
 
 -- the message that such a record holds
 unfoldable pub held_by : List ℕ → Record → Ordered

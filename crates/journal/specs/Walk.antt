@@ -1,5 +1,5 @@
 -- Walking over the records of a block, and over those of the right blocks of a journal, one by one.
-use Rattle.std.specs.Prelude.{◌≡◌, Bool, List, [], ◌∷◌, map, ℕ, zero, suc, ◌+◌, ◌*◌, ◌-◌, ◌/◌, take, drop}
+use Rattle.std.specs.Prelude.{Option, Some, None, List, [], ◌∷◌, ℕ, zero, suc, ◌+◌, ◌*◌, ◌-◌, ◌/◌, take, drop}
 use Rattle.group.specs.Choice.{when◌then◌else◌, ◌<?◌, ◌=?◌}
 use Rattle.message.specs.Order.{Ordered}
 use Rattle.journal.specs.Limits.{block_size, records_at, record_head}
@@ -7,17 +7,19 @@ use Rattle.journal.specs.Block.{first_at, records_in, record_start, behind_in, r
 use Rattle.journal.specs.declared.Cursor.{Cursor}
 use Rattle.journal.specs.declared.Form.{Form}
 use Rattle.journal.specs.declared.Form.TheVariants.{Log}
+use Rattle.journal.specs.declared.Passed.{Passed}
 use Rattle.journal.specs.declared.Spot.{Spot}
-use Rattle.journal.specs.declared.Walk.{Walk}
 
--- a record was passed: it ends there, 0 if it is wrong, and has that number
-pub record Passes (form : Form) (block : List ℕ) (at before end number : ℕ) : Type 0 where
-  pub ends : end ≡ (when step_right form block at before then behind_in form block at else 0)
-  pub numbered : (end ≡ 0 → ⊥) → number ≡ record_number form block at before
+-- a right record that was passed: where it ends, and its number
+abbrev pub passed_of : Form → List ℕ → ℕ → ℕ → Option Passed
+passed_of form block at before =
+    when step_right form block at before
+    then Some (record { end = behind_in form block at; number = record_number form block at before })
+    else None
 
--- the last number of right records, else 0
-abbrev pub last_or : Form → List ℕ → ℕ → ℕ → ℕ → ℕ
-last_or form block at before k = when records_right form block at before k then last_from form block at before k else 0
+-- the last number of right records
+abbrev pub last_or : Form → List ℕ → ℕ → ℕ → ℕ → Option ℕ
+last_or form block at before k = when records_right form block at before k then Some (last_from form block at before k) else None
 
 -- the number of a block's last record
 abbrev pub last_of : List ℕ → ℕ
@@ -81,22 +83,22 @@ moved_of c block =
     }
 
 -- what the block in hand gives next
-unfoldable pub given_of : Cursor → List ℕ → Walk
+unfoldable pub given_of : Cursor → List ℕ → Option (Spot × Cursor)
 given_of c block =
-    when step_right c.form block c.at c.before then Walk.Next (spot_of c block) (moved_of c block) else Walk.End
+    when step_right c.form block c.at c.before then Some (spot_of c block, moved_of c block) else None
 
 -- what a cursor gives next: of the block in hand or, behind its last record, of the next block
-unfoldable pub walk_of : Cursor → List ℕ → Walk
+unfoldable pub walk_of : Cursor → List ℕ → Option (Spot × Cursor)
 walk_of c journal =
-    when c.blocks <? 1 then Walk.End else
+    when c.blocks <? 1 then None else
     when 0 <? c.left then given_of c (block_at journal c.base) else
-    when c.blocks <? 2 then Walk.End else
+    when c.blocks <? 2 then None else
     given_of (entered_in (block_at journal (c.base + block_size)) (c.base + block_size) (c.blocks - 1)) (block_at journal (c.base + block_size))
 
 -- the records that a cursor gives, at most so many
-unfoldable pub walked : Walk → (Cursor → List Spot) → List Spot
-walked Walk.End rest = []
-walked (Walk.Next s c) rest = s ∷ rest c
+unfoldable pub walked : Option (Spot × Cursor) → (Cursor → List Spot) → List Spot
+walked None rest = []
+walked (Some (s, c)) rest = s ∷ rest c
 
 unfoldable pub given_by : ℕ → Cursor → List ℕ → List Spot
 given_by zero c journal = []

@@ -1,5 +1,6 @@
 -- Writing a journal: records gather in the block in hand, which is handed out when the next does not fit, and at shutdown.
-use Rattle.std.specs.Prelude.{◌≡◌, Bool, false, List, [], ◌++◌, ℕ, ◌+◌, ◌*◌, ◌-◌, length, take, drop}
+use Rattle.group.specs.Question.{all_yes}
+use Rattle.std.specs.Prelude.{◌≡◌, Result, Ok, Err, Bool, false, List, [], ℕ, ◌+◌, ◌*◌, ◌-◌, length, take, drop}
 use Rattle.group.specs.Choice.{when◌then◌else◌, ask◌or◌then◌, ◌and◌, ◌<?◌, ◌≤?◌, ◌=?◌}
 use Rattle.group.specs.Lent.{front}
 use Rattle.group.specs.Limits.{members_most, payload_most}
@@ -8,7 +9,7 @@ use Rattle.group.specs.declared.MemberNumber.{MemberNumber}
 use Rattle.group.specs.declared.Refusal.{Refusal}
 use Rattle.group.specs.declared.Refusal.TheVariants.{UnsoundState, WrongJournal}
 use Rattle.group.specs.declared.SequenceNumber.{SequenceNumber}
-use Rattle.group.specs.declared.Verdict.{Verdict}
+use Rattle.group.specs.Question.{Verdict}
 use Rattle.message.specs.Order.{Ordered}
 use Rattle.text.specs.LaidAt.{written_at}
 use Rattle.journal.specs.Limits.{records_at, records_end, record_head}
@@ -16,22 +17,31 @@ use Rattle.journal.specs.Block.{record_of, block_of, ended_at, follows}
 use Rattle.journal.specs.declared.Tail.{Tail}
 use Rattle.journal.specs.declared.Writer.{Writer}
 use Rattle.journal.specs.declared.Answer.{Answer}
-use Rattle.journal.specs.declared.Answer.TheVariants.{Kept, Closed, Refused}
+use Rattle.journal.specs.declared.Answer.TheVariants.{Kept, Closed}
 use Rattle.journal.specs.declared.Step.{Step}
 
 -- what a call leaves: the writer, its answer, the block in hand, and the bytes that it lays at the front of the lent output
 pub record Outcome : Type 0 where
   pub writer : Writer
-  pub answer : Answer
+  pub answer : Result Answer Refusal
   pub hand : List ℕ
   pub bytes : List ℕ
 
 -- what a call gives back
-abbrev pub step_of : Outcome → Step
-step_of o = record { writer = o.writer; answer = o.answer; written = length o.bytes }
+abbrev pub told_of : Result Answer Refusal → Writer → ℕ → Result Step Refusal
+told_of (Ok answer) writer written = Ok (record { writer = writer; answer = answer; written = written })
+told_of (Err refusal) writer written = Err refusal
+
+abbrev pub step_of : Outcome → Result Step Refusal
+step_of o = told_of o.answer o.writer (length o.bytes)
+
+-- and its answer alone
+abbrev pub answer_in : Result Step Refusal → Result Answer Refusal
+answer_in (Ok step) = Ok step.answer
+answer_in (Err refusal) = Err refusal
 
 -- what a call gives back, and what it leaves in the block in hand and in the lent output
-pub record Done (o : Outcome) (r : Step) (hand lent after : List ℕ) : Type 0 where
+pub record Done (o : Outcome) (r : Result Step Refusal) (hand lent after : List ℕ) : Type 0 where
   pub step : r ≡ step_of o
   pub held : hand ≡ o.hand
   pub lays : after ≡ front o.bytes lent
@@ -95,21 +105,21 @@ in_hand w hand = block_of w.first.0 w.records (drop records_at (take w.used hand
 
 -- a refusal changes nothing
 abbrev pub refused : Writer → List ℕ → Refusal → Outcome
-refused w hand refusal = record { writer = w; answer = Refused refusal; hand = hand; bytes = [] }
+refused w hand refusal = record { writer = w; answer = Err refusal; hand = hand; bytes = [] }
 
 -- a message that may be kept: its record goes behind the others, or begins the next block
 unfoldable pub kept_of : Writer → Ordered → List ℕ → Outcome
 kept_of w m hand =
     when w.used + length (record_of m) ≤? records_end
-    then record { writer = grown w m; answer = Kept; hand = written_at w.used (record_of m) hand; bytes = [] }
-    else record { writer = begun m; answer = Kept; hand = written_at records_at (record_of m) hand; bytes = in_hand w hand }
+    then record { writer = grown w m; answer = Ok Kept; hand = written_at w.used (record_of m) hand; bytes = [] }
+    else record { writer = begun m; answer = Ok Kept; hand = written_at records_at (record_of m) hand; bytes = in_hand w hand }
 
 -- the questions of writing: 1, and 21 for a record that may not be, or a number that may not follow
 unfoldable pub write_verdict : Writer → Ordered → Verdict
 write_verdict w m =
-    ask writer_sound w or Verdict.Refused UnsoundState then
-    ask allowed m and follows w.tail m.number or Verdict.Refused WrongJournal then
-    Verdict.Accepted
+    ask writer_sound w or Err UnsoundState then
+    ask allowed m and follows w.tail m.number or Err WrongJournal then
+    all_yes
 
 unfoldable pub write_of : Writer → Ordered → List ℕ → Outcome
 write_of w m hand = judged (write_verdict w m) (refused w hand) (kept_of w m hand)
@@ -119,7 +129,7 @@ abbrev pub closed_of : Writer → List ℕ → Outcome
 closed_of w hand =
     record {
       writer = writer_after w.tail;
-      answer = Closed;
+      answer = Ok Closed;
       hand = hand;
       bytes = when w.records =? 0 then [] else in_hand w hand;
     }

@@ -14,21 +14,14 @@ use group::Refusal;
 use std::env::FillError;
 use std::io;
 use std::rt::Env;
-use text::{Numeral, number, put_text};
-use workload::{Answer, Load};
+use text::{number, put_text};
+use workload::Load;
 
 // How many bytes of lines are gathered before they are written.
 const GATHERED: usize = 4096;
 
 // The bytes of an argument that is looked at, at most.
 const WORD_MOST: usize = 4096;
-
-// A load, and the index behind the line that was laid.
-#[derive(Clone, Copy)]
-struct Placed {
-    load: Load,
-    next: usize,
-}
 
 // Lines that were gathered: the load behind them, how many events are left, and how many bytes the lines have.
 #[derive(Clone, Copy)]
@@ -41,30 +34,20 @@ struct Part {
 // What opening the load answered, and the sink behind the load.
 #[derive(Drop)]
 struct Printed<'a, W> {
-    answer: Answer,
+    answer: Result<(), Refusal>,
     sink: Sink<'a, W>,
 }
 
-// Lays a line behind others.
-fn put_line(line: [u8; Load::LINE], size: usize, out: &mut [u8], at: usize) -> usize
-    requires size_le_line_room { size ≤ line_room }
-    requires line_room_in_bounds { at + line_room ≤ length out.old }
-    ensures { LaidAt at (take size line) out.old out.new result }
-{
-    put_text(&line[..size], out, at)
-}
-
 // Lays the line of the next event behind others.
-fn put_next(load: Load, out: &mut [u8], at: usize) -> Placed
+fn put_next(load: &mut Load, out: &mut [u8], at: usize) -> usize
     requires { at + line_room ≤ length out.old }
-    ensures laid { LaidAt at (next_of load).bytes out.old out.new result.next }
-    ensures load { result.load ≡ (next_of load).load }
+    ensures laid { LaidAt at (next_of load.old).bytes out.old out.new result }
+    ensures load { load.new ≡ (next_of load.old).load }
 {
-    let mut line = [0u8; Load::LINE];
+    let mut line = [0; Load::LINE];
     let step = load.next(&mut line);
-    let behind = step.load;
-    let next = put_line(line, step.written, out, at);
-    Placed { load: behind, next }
+    *load = step.load;
+    put_text(&line[..step.written], out, at)
 }
 
 // Lays the lines of events at the front, while there are any and the output has room for one more.
@@ -72,14 +55,10 @@ fn gather(mut load: Load, events: u32, out: &mut [u8]) -> Part
     ensures { Gathers load events out.old out.new result }
 {
     let mut left = events;
-    let mut size: usize = 0;
-    while left > 0 {
-        if out.len() - size < Load::LINE {
-            return Part { load, left, size };
-        }
-        let placed = put_next(load, out, size);
-        load = placed.load;
-        size = placed.next;
+    let mut size = 0;
+    // kept: a while, since it ends where there is no room, and how many events are left is a part of the result.
+    while left > 0 && out.len() - size >= Load::LINE {
+        size = put_next(&mut load, out, size);
         left -= 1;
     }
     Part { load, left, size }
@@ -90,30 +69,15 @@ fn put_events<'a, W: io::Write>(mut load: Load, events: u32, mut sink: Sink<'a, 
     ensures { Takes W.contents sink.entry (lines_from load events) result }
 {
     let mut left = events;
-    while left > 0 {
-        if sink.failed() {
-            return sink;
-        }
-        let mut text = [0u8; GATHERED];
+    // kept: a while, since a turn takes as many events as have room.
+    while left > 0 && !sink.failed() {
+        let mut text = [0; GATHERED];
         let part = gather(load, left, &mut text);
-        let size = part.size;
-        sink = sink.write(&text[..size]);
+        sink = sink.write(&text[..part.size]);
         load = part.load;
         left = part.left;
     }
     sink
-}
-
-// Hands on a first line.
-fn put_first<'a, W: io::Write>(
-    line: [u8; Load::LINE],
-    size: usize,
-    sink: Sink<'a, W>,
-) -> Sink<'a, W>
-    requires { size ≤ line_room }
-    ensures { Takes W.contents sink.entry (take size line) result }
-{
-    sink.write(&line[..size])
 }
 
 // Prints a whole load; nothing, where it is refused.
@@ -126,36 +90,29 @@ fn put_load<'a, W: io::Write>(
 ) -> Printed<'a, W>
     ensures { Prints W.contents seed n group events sink.entry result }
 {
-    let mut line = [0u8; Load::LINE];
+    let mut line = [0; Load::LINE];
     let step = Load::open(seed, n, group, &mut line);
     let answer = step.answer;
-    match answer {
-        Answer::Written => {
-            let load = step.load;
-            let first = put_first(line, step.written, sink);
-            let last = put_events(load, events, first);
-            Printed { answer, sink: last }
-        }
-        Answer::Refused(_) => Printed { answer, sink },
+    if let Err(_) = answer {
+        return Printed { answer, sink };
+    }
+    let first = sink.write(&line[..step.written]);
+    Printed {
+        answer,
+        sink: put_events(step.load, events, first),
     }
 }
 
 // Whether there is such an argument.
 fn is_there(rt: &HostRuntime, index: usize) -> bool {
-    let mut word = [0u8; WORD_MOST];
-    match rt.arg(index, &mut word) {
-        Err(FillError::NotPresent) => false,
-        _ => true,
-    }
+    let mut word = [0; WORD_MOST];
+    !matches!(rt.arg(index, &mut word), Err(FillError::NotPresent))
 }
 
 // The number that an argument is.
-fn argument(rt: &HostRuntime, index: usize) -> Numeral {
-    let mut word = [0u8; WORD_MOST];
-    let size = match rt.arg(index, &mut word) {
-        Ok(size) => size,
-        Err(_) => 0,
-    };
+fn argument(rt: &HostRuntime, index: usize) -> Option<u32> {
+    let mut word = [0; WORD_MOST];
+    let size = rt.arg(index, &mut word).unwrap_or(0);
     number(&word[..size])
 }
 
@@ -172,9 +129,7 @@ fn say_refused(rt: &HostRuntime, refusal: Refusal) {
 fn print(rt: &HostRuntime, seed: u32, n: u32, group: u32, events: u32) {
     let mut output = rt.stdout();
     let sink = Sink::to(&mut output);
-    let printed = put_load(seed, n, group, events, sink);
-    let answer = printed.answer;
-    if let Answer::Refused(refusal) = answer {
+    if let Err(refusal) = put_load(seed, n, group, events, sink).answer {
         say_refused(rt, refusal);
     }
 }
@@ -184,21 +139,14 @@ fn main(rt: HostRuntime) {
     if !is_there(&rt, 4) || is_there(&rt, 5) {
         return usage(&rt);
     }
-    let seed = argument(&rt, 1);
-    let n = argument(&rt, 2);
-    let group = argument(&rt, 3);
-    let events = argument(&rt, 4);
-    let Numeral::Of(seed) = seed else {
-        return usage(&rt);
-    };
-    let Numeral::Of(n) = n else {
-        return usage(&rt);
-    };
-    let Numeral::Of(group) = group else {
-        return usage(&rt);
-    };
-    let Numeral::Of(events) = events else {
-        return usage(&rt);
-    };
-    print(&rt, seed, n, group, events)
+    if let (Some(seed), Some(n), Some(group), Some(events)) = (
+        argument(&rt, 1),
+        argument(&rt, 2),
+        argument(&rt, 3),
+        argument(&rt, 4),
+    ) {
+        print(&rt, seed, n, group, events)
+    } else {
+        usage(&rt)
+    }
 }

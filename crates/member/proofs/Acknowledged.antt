@@ -1,7 +1,7 @@
 -- A member's reach, the end of the row that it took or holds, and what it acknowledges of it in its packets: what is accepted. The reach
 -- lies between what it took and the order's length, below every missing number, and no call lowers it, nor the last number that it knows
 -- to be accepted. Other proofs know of both only what these laws say. Assumes nothing.
-use mathlib.Core.Path.{◌≡◌, sym, ap, ◌∙◌}
+use mathlib.Core.Path.{◌≡◌, ap, ◌∙◌}
 use mathlib.Core.Logic.{◌≢◌}
 use mathlib.Core.Bool.{false}
 use mathlib.Core.List.{List}

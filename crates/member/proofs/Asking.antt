@@ -1,5 +1,7 @@
 -- Every call of a member answers the first no of its questions, or a step that is no refusal: the call is what its questions come
 -- to, before that step. Assumes nothing.
+use Rattle.group.specs.Question.{all_yes}
+use Rattle.std.specs.Prelude.{Ok, Err}
 use mathlib.Core.Path.{◌≡◌, refl, sym, ap, ◌∙◌}
 use mathlib.Core.Bool.{Bool, true, false}
 use mathlib.Core.List.{List, [], ◌∷◌, ◌++◌}
@@ -13,17 +15,17 @@ use Rattle.group.specs.Members.{is_in, expected_of}
 use Rattle.group.specs.Question.{Question, first_no, judged}
 use Rattle.group.specs.declared.MemberNumber.{MemberNumber}
 use Rattle.group.specs.declared.Refusal.{Refusal}
-use Rattle.group.specs.declared.Verdict.{Verdict}
+use Rattle.group.specs.Question.{Verdict}
 use Rattle.group.proofs.Choice.{says}
 use Rattle.group.proofs.Lists.{when_elim}
 use Rattle.group.proofs.Question.{judged_ask, judged_append, judged_same}
 use Rattle.packet.specs.Laws.{read_questions}
 use Rattle.packet.specs.Packet.{broadcast_kind, poll_kind, offer_kind, accept_kind, header_of, known_kind, from_elected, content_of, payload_at, read_of}
 use Rattle.packet.specs.declared.Header.{Header}
-use Rattle.packet.specs.declared.Reading.{Reading}
+use Rattle.packet.specs.Answers.{Reading}
 use Rattle.packet.proofs.Laws.{read_first_no}
 use Rattle.packet.proofs.Verdicts.{askable, readable}
-use Rattle.member.specs.Calls.{Outcome, answered, refused, request_packet, status_packet, call_verdict, submit_verdict, with_waiting, submit_of, repeat_of, status_of, with_accepted, gap_up_to, kept_of, message_step, broadcast_of, confirms, none_missing, confirmed_of, offer_of, poll_of, content_step, read_step, receive_of, is_ready, took_of, take_of}
+use Rattle.member.specs.Calls.{Outcome, answered, refused, request_packet, status_packet, call_verdict, submit_verdict, submit_of, repeat_of, status_of, with_accepted, gap_up_to, kept_of, message_step, broadcast_of, confirms, none_missing, confirmed_of, offer_of, poll_of, content_step, read_step, receive_of, is_ready, took_of, take_of}
 use Rattle.member.specs.Laws.{call_questions, fields_questions, submit_questions, repeat_questions, receive_questions, FirstNo, SubmitFirstNo, RepeatFirstNo, StatusFirstNo, TakeFirstNo, ReceiveFirstNo}
 use Rattle.window.specs.Places.{is_held, lowest_missing}
 use Rattle.member.specs.declared.Answer.{Answer}
@@ -66,7 +68,7 @@ asked m questions o step e accepts =
     }
 
 -- questions 1 and 2, and those after them
-call_asked : (m : Member) (room : ℕ) (rest : List Question) (x step : Outcome) → (call_verdict m room ≡ Verdict.Accepted → x ≡ judged (first_no rest) (refused m) step)
+call_asked : (m : Member) (room : ℕ) (rest : List Question) (x step : Outcome) → (call_verdict m room ≡ all_yes → x ≡ judged (first_no rest) (refused m) step)
     → judged (call_verdict m room) (refused m) x ≡ judged (first_no (call_questions m room ++ rest)) (refused m) step
 unfolding call_verdict first_no
 call_asked m room rest x step e =
@@ -189,19 +191,19 @@ ask_same true z f = f refl
 ask_same false z f = refl
 
 -- a reading that is a verdict is received as that verdict
-read_judged : (m : Member) (v : Verdict) (h : Header) (payload : List ℕ) → read_step m (judged v Reading.Refused (Reading.Fields h)) payload ≡ judged v (refused m) (read_step m (Reading.Fields h) payload)
+read_judged : (m : Member) (v : Verdict) (h : Header) (payload : List ℕ) → read_step m (judged v Err (Ok h)) payload ≡ judged v (refused m) (read_step m (Ok h) payload)
 unfolding judged read_step
-read_judged m Verdict.Accepted h payload = refl
-read_judged m (Verdict.Refused r) h payload = refl
+read_judged m (Ok _) h payload = refl
+read_judged m (Err r) h payload = refl
 
 -- fields that were read go down questions 6 to 9
-fields_asked : (m : Member) (packet : List ℕ) → Sound m → first_no (read_questions packet) ≡ Verdict.Accepted
-    → read_step m (Reading.Fields (header_of packet)) (payload_at packet)
+fields_asked : (m : Member) (packet : List ℕ) → Sound m → first_no (read_questions packet) ≡ all_yes
+    → read_step m (Ok (header_of packet)) (payload_at packet)
     ≡ judged (first_no (fields_questions m (header_of packet))) (refused m) (accepted_step m (header_of packet) (payload_at packet))
 unfolding read_step judged
 fields_asked m packet s e =
     let h = header_of packet in
-    let r : read_of packet ≡ Reading.Fields h = read_first_no packet ∙ ap (λ (v : Verdict). judged v Reading.Refused (Reading.Fields h)) e in
+    let r : read_of packet ≡ Ok h = read_first_no packet ∙ ap (λ (v : Verdict). judged v Err (Ok h)) e in
     let a = askable h _ _ (readable packet h r).fields in
     let step = accepted_step m h (payload_at packet) in
     let elected = survivor_lt m.group (stands m s) m.group.elected.0 s.elected_in in

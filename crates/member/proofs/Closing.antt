@@ -1,5 +1,6 @@
 -- What the closing round does with a terminal's member: the next number is handed over and held, taken, and acknowledged; and a
 -- fresh member is a fresh terminal's. Assumes nothing.
+use Rattle.group.specs.Question.{all_yes}
 use mathlib.Core.Path.{◌≡◌, refl, sym, ap, ◌∙◌, subst}
 use mathlib.Core.Bool.{true}
 use mathlib.Core.List.{List, []}
@@ -8,12 +9,11 @@ use native.Mathlib.Omega.{arith}
 use borrow.Author.Tests.{le-leb, leb-true, leb-false, lt-ltb, ltb-true, ltb-false, eq-eqb, eqb-false}
 use lib.ListN.{length}
 use Rattle.group.specs.Choice.{when◌then◌else◌, ◌<?◌, ◌≤?◌, ◌=?◌}
-use Rattle.group.specs.Limits.{members_most, held_most, longest_packet, largest_number}
+use Rattle.group.specs.Limits.{held_most, longest_packet, largest_number}
 use Rattle.group.specs.Question.{judged}
 use Rattle.group.specs.declared.Group.{Group}
 use Rattle.group.specs.declared.MemberNumber.{MemberNumber}
 use Rattle.group.specs.declared.SequenceNumber.{SequenceNumber}
-use Rattle.group.specs.declared.Verdict.{Verdict}
 use Rattle.group.proofs.Choice.{says, when_true}
 use Rattle.group.proofs.Members.{Standing}
 use Rattle.group.specs.Members.{is_in}
@@ -33,7 +33,7 @@ use Rattle.window.specs.Places.{message_at, is_held, lowest_missing}
 use Rattle.member.specs.State.{Member, acknowledged_of, fresh_member}
 use Rattle.member.specs.declared.Answer.{Answer}
 use Rattle.member.proofs.Acknowledged.{acknowledged_took}
-use Rattle.member.proofs.Invariant.{Content, Seat, Terminal}
+use Rattle.member.proofs.Invariant.{Terminal}
 use Rattle.window.proofs.Keeping.{empty_none}
 use Rattle.member.proofs.Keeping.{fresh_none, fresh_typed, fresh_sound}
 use Rattle.window.proofs.Missing.{held_same}
@@ -42,7 +42,7 @@ use Rattle.member.proofs.Soundness.{sound_of_lem, of_sound}
 use Rattle.member.proofs.Writes.{status_allowed}
 
 -- a sound state and the longest packet's room go past questions 1 and 2
-pub call_accepted : (m : Member) → sound_of m ≡ true → call_verdict m longest_packet ≡ Verdict.Accepted
+pub call_accepted : (m : Member) → sound_of m ≡ true → call_verdict m longest_packet ≡ all_yes
 unfolding call_verdict when◌then◌else◌
 call_accepted m h = rw h
 

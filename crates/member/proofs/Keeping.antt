@@ -1,13 +1,13 @@
 -- Each change of a member's state keeps it within its types and sound, the facts that it does not touch as they are; and a fresh
 -- state is sound. Assumes nothing.
-use mathlib.Core.Path.{◌≡◌, refl, ap}
+use mathlib.Core.Path.{◌≡◌, refl}
 use mathlib.Core.Bool.{Bool, true, false}
 use mathlib.Core.List.{List}
 use Prim.Native.Nat.{ℕ, ◌+◌, ◌-◌, ◌≤◌, ◌<◌}
 use native.Mathlib.Omega.{arith}
 use lib.ListN.{length, set, get_or-replicate, length-replicate}
 use Rattle.group.specs.Choice.{when◌then◌else◌}
-use Rattle.group.specs.Limits.{members_most, held_most, waiting_most, payload_most, largest_number}
+use Rattle.group.specs.Limits.{held_most, waiting_most, payload_most, largest_number}
 use Rattle.group.specs.declared.Group.{Group}
 use Rattle.group.specs.declared.MemberNumber.{MemberNumber}
 use Rattle.group.proofs.Choice.{says}
@@ -16,9 +16,9 @@ use Rattle.message.specs.Message.{Message, message_of, empty_message, blank}
 use Rattle.message.proofs.Kept.{kept_zero, empty_zero}
 use Rattle.member.specs.Calls.{with_waiting, with_accepted, with_held, with_taken, is_own}
 use Rattle.member.specs.Laws.{Typed}
-use Rattle.window.specs.Places.{place_of, message_at, queue_place, queued_at}
+use Rattle.window.specs.Places.{place_of, message_at, queue_place}
 use Rattle.member.specs.State.{Member, first_count, fresh_member}
-use Rattle.window.proofs.Keeping.{empty_none, held_places, taken_places, queue_length, queued_each, waiting_more, waiting_less}
+use Rattle.window.proofs.Keeping.{empty_none, held_places, taken_places, queue_length, waiting_more, waiting_less}
 use Rattle.window.proofs.Missing.{set_length}
 use Rattle.window.proofs.Row.{larger_le, le_larger}
 use Rattle.window.proofs.Soundness.{HeldSound, WaitingSound}

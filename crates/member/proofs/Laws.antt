@@ -1,7 +1,9 @@
 -- Every call of a member keeps the state within its types and sound, and writes nothing or a packet that reading accepts: the
 -- call's text, a choice at a time. Assumes nothing.
+use Rattle.group.specs.Question.{all_yes}
+use Rattle.std.specs.Prelude.{Ok}
 use mathlib.Core.Path.{◌≡◌, refl, ap, ◌∙◌}
-use mathlib.Core.Bool.{Bool, true, false}
+use mathlib.Core.Bool.{true}
 use mathlib.Core.List.{List, [], ◌∷◌}
 use mathlib.Core.Logic.{◌⊎◌, inl, inr}
 use Prim.Native.Nat.{ℕ, ◌+◌, ◌-◌, ◌≤◌, ◌<◌}
@@ -13,7 +15,6 @@ use Rattle.group.specs.Limits.{header_size, payload_most, waiting_most, largest_
 use Rattle.group.specs.Members.{needed_of}
 use Rattle.group.specs.declared.MemberNumber.{MemberNumber}
 use Rattle.group.specs.declared.Refusal.{Refusal}
-use Rattle.group.specs.declared.Verdict.{Verdict}
 use Rattle.group.proofs.Choice.{when_was, both_first, both_then, says}
 use Rattle.group.proofs.Question.{accepted≢}
 use Rattle.group.proofs.Lists.{when_elim, judged_elim, All}
@@ -24,11 +25,10 @@ use Rattle.packet.specs.Packet.{header_of, obeys, content_of, fields_of, packet_
 use Rattle.packet.specs.declared.Header.{Header}
 use Rattle.packet.specs.declared.Packet.{Packet}
 use Rattle.packet.specs.declared.Packet.TheVariants.{Request, Broadcast, Gap, Status, Poll, Offer, Confirm, Accept, Invitation, Result}
-use Rattle.packet.specs.declared.Reading.{Reading}
 use Rattle.packet.proofs.Facts.{KnownBy}
 use Rattle.packet.proofs.Laws.{read_written, fields_content}
 use Rattle.packet.proofs.Verdicts.{readable, askable}
-use Rattle.member.specs.Calls.{Outcome, answered, first_waiting, request_packet, status_packet, call_verdict, submit_verdict, with_waiting, submit_of, repeat_of, status_of, read_step, receive_of, with_accepted, with_held, with_taken, is_ready, took_of, take_of}
+use Rattle.member.specs.Calls.{Outcome, answered, first_waiting, request_packet, status_packet, call_verdict, submit_verdict, with_waiting, submit_of, repeat_of, status_of, read_step, receive_of, with_accepted, with_taken, is_ready, took_of, take_of}
 use Rattle.member.specs.Laws.{Typed, Keeps, WritesPacket, SubmitKeeps, RepeatKeeps, StatusKeeps, ReceiveKeeps, TakeKeeps}
 use Rattle.member.specs.Sound.{sound_of}
 use Rattle.window.specs.Places.{message_at, is_held}
@@ -41,9 +41,9 @@ use Rattle.member.proofs.Soundness.{Sound, sound_of_lem, of_sound}
 use Rattle.member.proofs.Writes.{Own, request_allowed, status_allowed}
 
 -- what a call that goes past questions 1 and 2 was asked
-pub call_sound : (m : Member) (room : ℕ) → call_verdict m room ≡ Verdict.Accepted → sound_of m ≡ true
+pub call_sound : (m : Member) (room : ℕ) → call_verdict m room ≡ all_yes → sound_of m ≡ true
 unfolding call_verdict
-call_sound m room e = (when_was (sound_of m) _ _ Verdict.Accepted e (accepted≢ Refusal.UnsoundState)).0
+call_sound m room e = (when_was (sound_of m) _ _ all_yes e (accepted≢ Refusal.UnsoundState)).0
 
 -- what a submission that is accepted was asked
 pub record Submittable (m : Member) (size : ℕ) : Type 0 where
@@ -51,12 +51,12 @@ pub record Submittable (m : Member) (size : ℕ) : Type 0 where
   pub less : m.waiting < waiting_most
   pub left : m.submitted < largest_number
 
-pub submittable : (m : Member) (size : ℕ) → submit_verdict m size ≡ Verdict.Accepted → Submittable m size
+pub submittable : (m : Member) (size : ℕ) → submit_verdict m size ≡ all_yes → Submittable m size
 unfolding submit_verdict
 submittable m size e =
-    let a = when_was (size ≤? payload_most) _ _ Verdict.Accepted e (accepted≢ Refusal.LongPayload) in
-    let b = when_was (m.waiting <? waiting_most) _ _ Verdict.Accepted a.1 (accepted≢ Refusal.AlreadyWaiting) in
-    let c = when_was (m.submitted <? largest_number) _ _ Verdict.Accepted b.1 (accepted≢ Refusal.NumbersUsedUp) in
+    let a = when_was (size ≤? payload_most) _ _ all_yes e (accepted≢ Refusal.LongPayload) in
+    let b = when_was (m.waiting <? waiting_most) _ _ all_yes a.1 (accepted≢ Refusal.AlreadyWaiting) in
+    let c = when_was (m.submitted <? largest_number) _ _ all_yes b.1 (accepted≢ Refusal.NumbersUsedUp) in
     record { short = leb-true size payload_most a.0; less = ltb-true m.waiting waiting_most b.0; left = ltb-true m.submitted largest_number c.0 }
 
 module _ (m : Member) (typed : Typed m) where
@@ -75,7 +75,7 @@ module _ (m : Member) (typed : Typed m) where
   quiet answer = (same answer [], inl refl)
 
 writes : (bytes : List ℕ) (g : ℕ) (content : Packet) (payload : List ℕ) → bytes ≡ packet_of (fields_of g content) payload → Allowed (fields_of g content) payload
-    → (bytes ≡ []) ⊎ ((h : Header) × (read_of bytes ≡ Reading.Fields h))
+    → (bytes ≡ []) ⊎ ((h : Header) × (read_of bytes ≡ Ok h))
 writes bytes g content payload e a = inr (fields_of g content, ap read_of e ∙ (read_written (fields_of g content) payload a).0)
 
 request_writes : (m : Member) (answer : Answer) → Typed m → Sound m → 1 ≤ m.waiting → WritesPacket (record { member = m; answer = answer; bytes = request_packet m })
@@ -179,7 +179,7 @@ own_writes o = go o.bytes refl
     go (b ∷ rest) e (k, _) = writes o.bytes o.member.group.number k.content k.payload (e ∙ k.bytes_are) k.allowed
 
 -- what was read of a packet may be held, if it is a message
-pub read_keepable : (m : Member) (packet : List ℕ) → (header_of packet).a ≤ largest_number → Right m → (h : Header) → read_of packet ≡ Reading.Fields h
+pub read_keepable : (m : Member) (packet : List ℕ) → (header_of packet).a ≤ largest_number → Right m → (h : Header) → read_of packet ≡ Ok h
     → ((fields_of h.group (content_of h)).a ≤ largest_number) × Keepable Right m (content_of h) (payload_at packet)
 read_keepable m packet most right h e =
     let r = readable packet h e in

@@ -1,14 +1,15 @@
 -- A call that is refused leaves the lent output, and its outcome the state, by the law of the first no; so do a repeat and a status of the state.
 -- Assumes nothing.
+use Rattle.std.specs.Prelude.{Ok, Err}
 use mathlib.Core.Path.{◌≡◌, refl, sym, ap, ◌∙◌, subst}
 use mathlib.Core.List.{List, [], ◌++◌}
 use Prim.Native.Nat.{ℕ}
 use lib.ListN.{length, drop}
 use Rattle.group.specs.Question.{Question, first_no}
 use Rattle.group.specs.declared.Refusal.{Refusal}
-use Rattle.group.specs.declared.Verdict.{Verdict}
+use Rattle.group.specs.Question.{Verdict}
 use Rattle.group.proofs.Lists.{when_elim, judged_elim}
-use Rattle.member.specs.Calls.{Outcome, answered, refused, repeat_of, status_of}
+use Rattle.member.specs.Calls.{Outcome, answered, repeat_of, status_of}
 use Rattle.member.specs.Laws.{FirstNo, RepeatLeaves, StatusLeaves}
 use Rattle.member.specs.Promise.{Told}
 use Rattle.member.specs.State.{Member}
@@ -22,8 +23,8 @@ unfolding answered
 refusal_is {m} {questions} {o} f refusal e = go (first_no questions) refl
   where
     go : (v : Verdict) → first_no questions ≡ v → (o.member ≡ m) × (o.bytes ≡ [])
-    go Verdict.Accepted z = absurd (f.accepts refusal z e)
-    go (Verdict.Refused q) z = let y = f.refuses q z in (ap (λ (p : Outcome). p.member) y, ap (λ (p : Outcome). p.bytes) y)
+    go (Ok _) z = absurd (f.accepts refusal z e)
+    go (Err q) z = let y = f.refuses q z in (ap (λ (p : Outcome). p.member) y, ap (λ (p : Outcome). p.bytes) y)
 
 -- so the lent output is as it was
 pub lent_left : {m : Member} {questions : List Question} {o : Outcome} {reply : Reply} {before after : List ℕ} → FirstNo m questions o → (refusal : Refusal)

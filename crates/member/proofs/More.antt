@@ -1,17 +1,19 @@
 -- What a take says of the next one: the place of the following number is another, and as much is accepted. Assumes nothing.
+use Rattle.group.specs.Question.{all_yes}
+use Rattle.std.specs.Prelude.{Ok, Err}
 use mathlib.Core.Path.{◌≡◌, refl, sym, ap, ◌∙◌}
 use mathlib.Core.Bool.{Bool, true, false}
 use Prim.Native.Nat.{ℕ, ◌+◌, ◌≤◌}
 use native.Mathlib.Omega.{arith}
-use borrow.Author.Tests.{leb-true, ltb-true}
+use borrow.Author.Tests.{leb-true}
 use lib.Seq.{get_or-set_other}
-use Rattle.group.proofs.Choice.{when_was, both_first, both_then}
+use Rattle.group.proofs.Choice.{when_was, both_then}
 use Rattle.group.proofs.Question.{accepted≢}
 use Rattle.group.specs.Choice.{when◌then◌else◌, ◌and◌, ◌<?◌, ◌≤?◌}
 use Rattle.group.specs.Limits.{longest_packet}
 use Rattle.group.specs.Question.{judged}
 use Rattle.group.specs.declared.Refusal.{Refusal}
-use Rattle.group.specs.declared.Verdict.{Verdict}
+use Rattle.group.specs.Question.{Verdict}
 use Rattle.message.specs.Message.{Message, empty_message, blank}
 use Rattle.member.specs.Calls.{Outcome, answered, refused, call_verdict, with_taken, is_ready, took_of, take_of}
 use Rattle.member.specs.Laws.{Typed, is_took, more_of, MoreSays}
@@ -19,7 +21,6 @@ use Rattle.member.specs.Sound.{sound_of}
 use Rattle.member.specs.State.{Member}
 use Rattle.member.specs.declared.Answer.{Answer}
 use Rattle.member.proofs.Keeping.{taken_sound}
-use Rattle.member.proofs.Laws.{call_sound}
 use Rattle.member.proofs.Soundness.{sound_of_lem, of_sound}
 use Rattle.window.specs.Places.{place_of, message_at, is_held}
 
@@ -35,15 +36,15 @@ ready_next m x =
     ∙ ap (λ (y : Message). (0 <? y.count) and t + 2 ≤? m.accepted.0) other
 
 -- a state past questions 1 and 2
-taken_called : (m : Member) (room : ℕ) (x : Message) → Typed m → call_verdict m room ≡ Verdict.Accepted → m.taken.0 + 1 ≤ m.accepted.0 → call_verdict (with_taken m x) room ≡ Verdict.Accepted
+taken_called : (m : Member) (room : ℕ) (x : Message) → Typed m → call_verdict m room ≡ all_yes → m.taken.0 + 1 ≤ m.accepted.0 → call_verdict (with_taken m x) room ≡ all_yes
 unfolding call_verdict when◌then◌else◌
 taken_called m room x typed e ready =
-    let a = when_was (sound_of m) _ _ Verdict.Accepted e (accepted≢ Refusal.UnsoundState) in
-    let b = when_was (longest_packet ≤? room) _ _ Verdict.Accepted a.1 (accepted≢ Refusal.ShortOutput) in
+    let a = when_was (sound_of m) _ _ all_yes e (accepted≢ Refusal.UnsoundState) in
+    let b = when_was (longest_packet ≤? room) _ _ all_yes a.1 (accepted≢ Refusal.ShortOutput) in
     rw (of_sound (with_taken m x) (taken_sound m typed x (sound_of_lem m a.0) ready), b.0)
 
 -- a take, by what its questions and its test come to
-took_or : (m : Member) (room : ℕ) → call_verdict m room ≡ Verdict.Accepted → is_took (take_of m room).answer ≡ is_ready m (m.taken.0 + 1)
+took_or : (m : Member) (room : ℕ) → call_verdict m room ≡ all_yes → is_took (take_of m room).answer ≡ is_ready m (m.taken.0 + 1)
 unfolding take_of took_of answered judged is_took when◌then◌else◌
 took_or m room e = rw e (go (is_ready m (m.taken.0 + 1)))
   where
@@ -69,11 +70,11 @@ stays m room answer o more took =
 by_verdict : (m : Member) (room : ℕ) → Typed m → (v : Verdict) (t : Bool) → call_verdict m room ≡ v → is_ready m (m.taken.0 + 1) ≡ t
     → more_of (take_of m room).answer ≡ is_took (take_of (take_of m room).member room).answer
 unfolding judged took_of is_ready more_of is_took when◌then◌else◌
-by_verdict m room typed (Verdict.Refused refusal) t e r = stays m room (Answer.Refused refusal) (taking m room (Verdict.Refused refusal) t e r) refl refl
-by_verdict m room typed Verdict.Accepted false e r = stays m room Answer.None (taking m room Verdict.Accepted false e r) refl refl
-by_verdict m room typed Verdict.Accepted true e r =
+by_verdict m room typed (Err refusal) t e r = stays m room (Answer.Refused refusal) (taking m room (Err refusal) t e r) refl refl
+by_verdict m room typed (Ok _) false e r = stays m room Answer.None (taking m room all_yes false e r) refl refl
+by_verdict m room typed (Ok _) true e r =
     let x = message_at m.held (m.taken.0 + 1) in
-    let o : take_of m room ≡ took_of m x = taking m room Verdict.Accepted true e r in
+    let o : take_of m room ≡ took_of m x = taking m room all_yes true e r in
     let ready = leb-true (m.taken.0 + 1) m.accepted.0 (both_then (is_held m.held (m.taken.0 + 1)) _ r) in
     ap (λ (y : Outcome). more_of y.answer) o
     ∙ sym

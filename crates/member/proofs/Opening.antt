@@ -1,13 +1,12 @@
 -- A member whose arrays are all zero is a fresh one, and opening leaves it. Assumes nothing.
-use mathlib.Core.Path.{◌≡◌, refl, sym, ap, ◌∙◌}
-use mathlib.Core.List.{List}
-use Prim.Native.Nat.{ℕ, ◌*◌}
+use mathlib.Core.Path.{◌≡◌, ap, ◌∙◌}
+use Prim.Native.Nat.{◌*◌}
 use lib.ListN.{replicate}
 use Rattle.group.specs.Limits.{held_most, waiting_most, payload_most}
 use Rattle.group.specs.Wording.{verdict_wording}
 use Rattle.group.specs.declared.Group.{Group}
 use Rattle.group.specs.declared.MemberNumber.{MemberNumber}
-use Rattle.group.specs.declared.Verdict.{Verdict}
+use Rattle.group.specs.Question.{Verdict}
 use Rattle.store.proofs.Places.{messages_none}
 use Rattle.member.specs.Calls.{Opening}
 use Rattle.member.specs.Promise.{Opens}

@@ -1,5 +1,6 @@
 -- Each call of a terminal's member owes the group what demand 3's invariant asks: the state that it leaves is a terminal's, and
 -- the packets that it wrote say what is so. Assumes nothing.
+use Rattle.std.specs.Prelude.{Ok}
 use mathlib.Core.Path.{◌≡◌, refl, sym, ap, ◌∙◌, subst}
 use mathlib.Core.Bool.{false}
 use mathlib.Core.Logic.{◌⊎◌, inl, inr}
@@ -26,15 +27,14 @@ use Rattle.packet.specs.Packet.{header_of, content_of, fields_of, payload_at, re
 use Rattle.packet.specs.declared.Header.{Header}
 use Rattle.packet.specs.declared.Packet.{Packet}
 use Rattle.packet.specs.declared.Packet.TheVariants.{Request, Broadcast, Gap, Status, Poll, Offer, Confirm, Accept, Invitation, Result}
-use Rattle.packet.specs.declared.Reading.{Reading}
 use Rattle.packet.proofs.Facts.{ordered, Voice, Facts, Says, Known, KnownBy, Louder}
 use Rattle.packet.proofs.Laws.{read_written, content_fields}
 use Rattle.packet.proofs.RoundTrip.{header_back}
 use Rattle.member.specs.Calls.{Outcome, answered, request_packet, call_verdict, submit_verdict, with_waiting, submit_of, repeat_of, status_of, with_accepted, with_held, read_step, receive_of}
 use Rattle.member.specs.Order.{accepted_by}
-use Rattle.member.specs.State.{Member, acknowledged_of}
+use Rattle.member.specs.State.{Member}
 use Rattle.member.specs.declared.Answer.{Answer}
-use Rattle.member.proofs.Invariant.{requested_by, voice_of, Content, Seat, Terminal, MemberGood, first_requested, requested_grows}
+use Rattle.member.proofs.Invariant.{requested_by, voice_of, Content, Terminal, MemberGood, first_requested, requested_grows}
 use Rattle.member.proofs.Keeping.{waiting_typed, waiting_sound_lem}
 use Rattle.member.proofs.Laws.{Right, submittable, read_keepable}
 use Rattle.member.proofs.Acknowledged.{Up, up_refl, up_row, up_waiting, up_accepted, up_held}
@@ -282,13 +282,13 @@ module _ (group : Group) (i acknowledged accepted : ℕ) (order took : List Orde
 
       module _ (bytes : List ℕ) (k : Known group.number facts bytes) where
         -- what is read of a packet that the group knows
-        known_read : (read_of bytes ≡ Reading.Fields (fields_of group.number k.content)) × (payload_at bytes ≡ k.payload)
+        known_read : (read_of bytes ≡ Ok (fields_of group.number k.content)) × (payload_at bytes ≡ k.payload)
         known_read = rw k.bytes_are (read_written (fields_of group.number k.content) k.payload k.allowed)
 
         known_most : (header_of bytes).a ≤ largest_number
         known_most = rw (k.bytes_are, header_back (fields_of group.number k.content) k.payload k.allowed.0) k.allowed.0.a
 
-        known_keepable : (e : Header) → read_of bytes ≡ Reading.Fields e → ((fields_of e.group (content_of e)).a ≤ largest_number) × Keepable (Here m h) m (content_of e) (payload_at bytes)
+        known_keepable : (e : Header) → read_of bytes ≡ Ok e → ((fields_of e.group (content_of e)).a ≤ largest_number) × Keepable (Here m h) m (content_of e) (payload_at bytes)
         known_keepable e r =
             let z = known_read.0 in
             let q : e ≡ fields_of group.number k.content = cc in

@@ -1,4 +1,6 @@
 -- What a step was promised, carried up to the call that took it; and what a verdict's yes says. Assumes nothing.
+use Rattle.group.specs.Question.{all_yes}
+use Rattle.std.specs.Prelude.{Ok, Err}
 use mathlib.Core.Path.{◌≡◌, refl, sym, ap, ◌∙◌, subst}
 use mathlib.Core.Bool.{Bool, true, false}
 use mathlib.Core.List.{List, []}
@@ -14,15 +16,13 @@ use Rattle.group.specs.Question.{judged}
 use Rattle.group.specs.declared.Group.{Group}
 use Rattle.group.specs.declared.Refusal.{Refusal}
 use Rattle.group.specs.declared.SequenceNumber.{SequenceNumber}
-use Rattle.group.specs.declared.Verdict.{Verdict}
-use Rattle.group.specs.declared.Verdict.TheVariants.{Accepted, Refused}
+use Rattle.group.specs.Question.{Verdict}
 use Rattle.group.proofs.Choice.{when_true, when_eq, when_ne, when_was, both_first, both_then, says}
-use Rattle.message.specs.Message.{Message, empty_message, payload_of, blank}
+use Rattle.message.specs.Message.{Message, empty_message, payload_of}
 use Rattle.packet.specs.Packet.{obeys, content_of, fields_of, packet_of, payload_at, read_of, from_elected}
 use Rattle.packet.specs.declared.Header.{Header}
 use Rattle.packet.specs.declared.Packet.{Packet}
-use Rattle.packet.specs.declared.Reading.{Reading}
-use Rattle.packet.specs.declared.Reading.TheVariants.{Fields}
+use Rattle.packet.specs.Answers.{Reading}
 use Rattle.packet.proofs.Laws.{fields_content}
 use Rattle.packet.proofs.Verdicts.{readable, askable}
 use Rattle.window.specs.Places.{place_of, message_at, queue_place, lowest_missing, smaller_of}
@@ -30,10 +30,10 @@ use Rattle.window.specs.Sound.{place_sound}
 use Rattle.window.specs.Steps.{Counted}
 use Rattle.window.proofs.Row.{lowest_reached, lowest_behind}
 use Rattle.member.specs.Calls.{Outcome, answered, gap_packet, call_verdict, refused, submit_verdict, gap_up_to, is_own, with_taken, is_ready, took_of, content_step, read_step}
-use Rattle.member.specs.Promise.{reply_of, Changed, Told}
+use Rattle.member.specs.Promise.{Changed, Told}
 use Rattle.member.specs.Sound.{sound_of}
 use Rattle.member.specs.State.{Member, reach_of, acknowledged_of, first_count}
-use Rattle.member.specs.Steps.{Spoken, Replied, member_of, read_ours}
+use Rattle.member.specs.Steps.{Replied, member_of, read_ours}
 use Rattle.member.specs.View.{Stored, view_of}
 use Rattle.member.specs.Wording.{wording_of}
 use Rattle.member.specs.declared.Answer.{Answer}
@@ -113,32 +113,32 @@ module _ (m : Member) (last : ℕ) (end : SequenceNumber) (e : end.0 ≡ reach_o
 
 module _ {A : Type 0} (v : Verdict) (refused : Refusal → A) (accepted : A) where
   -- what a verdict that is known comes to
-  pub judged_yes : v ≡ Accepted → accepted ≡ judged v refused accepted
+  pub judged_yes : v ≡ all_yes → accepted ≡ judged v refused accepted
   unfolding judged
   judged_yes e = rw e
 
-  pub judged_no : (q : Refusal) → v ≡ Refused q → refused q ≡ judged v refused accepted
+  pub judged_no : (q : Refusal) → v ≡ Err q → refused q ≡ judged v refused accepted
   unfolding judged
   judged_no q e = rw e
 
-accepted≢ : (q : Refusal) → Refused q ≡ Accepted → ⊥
+accepted≢ : (q : Refusal) → Err q ≡ all_yes → ⊥
 accepted≢ q e = let z : ◌≡◌ {A = ℕ} 0 1 = cc in omega arith
 
 -- what questions 1 and 2 have said
-pub asked : (m : Member) (room : ℕ) → call_verdict m room ≡ Accepted → (sound_of m ≡ true) × (longest_packet ≤ room)
+pub asked : (m : Member) (room : ℕ) → call_verdict m room ≡ all_yes → (sound_of m ≡ true) × (longest_packet ≤ room)
 unfolding call_verdict
 asked m room e =
-    let s = when_was (sound_of m) _ _ Accepted e (accepted≢ Refusal.UnsoundState) in
-    let l = when_was (longest_packet ≤? room) _ _ Accepted s.1 (accepted≢ Refusal.ShortOutput) in
+    let s = when_was (sound_of m) _ _ all_yes e (accepted≢ Refusal.UnsoundState) in
+    let l = when_was (longest_packet ≤? room) _ _ all_yes s.1 (accepted≢ Refusal.ShortOutput) in
     (s.0, leb-true longest_packet room l.0)
 
 -- what questions 13, 14 and 16 have said
-pub asked_submission : (m : Member) (size : ℕ) → submit_verdict m size ≡ Accepted → (size ≤ payload_most) × (m.waiting < waiting_most) × (m.submitted < largest_number)
+pub asked_submission : (m : Member) (size : ℕ) → submit_verdict m size ≡ all_yes → (size ≤ payload_most) × (m.waiting < waiting_most) × (m.submitted < largest_number)
 unfolding submit_verdict
 asked_submission m size e =
-    let s = when_was (size ≤? payload_most) _ _ Accepted e (accepted≢ Refusal.LongPayload) in
-    let w = when_was (m.waiting <? waiting_most) _ _ Accepted s.1 (accepted≢ Refusal.AlreadyWaiting) in
-    let u = when_was (m.submitted <? largest_number) _ _ Accepted w.1 (accepted≢ Refusal.NumbersUsedUp) in
+    let s = when_was (size ≤? payload_most) _ _ all_yes e (accepted≢ Refusal.LongPayload) in
+    let w = when_was (m.waiting <? waiting_most) _ _ all_yes s.1 (accepted≢ Refusal.AlreadyWaiting) in
+    let u = when_was (m.submitted <? largest_number) _ _ all_yes w.1 (accepted≢ Refusal.NumbersUsedUp) in
     (leb-true size payload_most s.0, ltb-true m.waiting waiting_most w.0, ltb-true m.submitted largest_number u.0)
 
 module _ (m : Member) (e : sound_of m ≡ true) where
@@ -203,42 +203,42 @@ took m m' message more written x y e n l =
     }
 
 -- of a packet that was read the fields of its content obey their kind
-pub read_obeys : (packet : List ℕ) (h : Header) (g : ℕ) (content : Packet) → read_of packet ≡ Fields h → h.group ≡ g → content ≡ content_of h → obeys (fields_of g content) (payload_at packet) ≡ true
+pub read_obeys : (packet : List ℕ) (h : Header) (g : ℕ) (content : Packet) → read_of packet ≡ Ok h → h.group ≡ g → content ≡ content_of h → obeys (fields_of g content) (payload_at packet) ≡ true
 read_obeys packet h g content e n z =
     let r = readable packet h e in
     let f = fields_content h (length packet - header_size) (payload_at packet) r.fields in
     let y : fields_of g content ≡ h = (λ i. fields_of (sym n i) (z i)) ∙ f in
     ap (λ (x : Header). obeys x (payload_at packet)) y ∙ (askable h (length packet - header_size) (payload_at packet) r.fields).obey
 
-fields≢ : (h : Header) (q : Refusal) → Reading.Refused q ≡ Fields h → ⊥
+fields≢ : (h : Header) (q : Refusal) → Err q ≡ Ok h → ⊥
 fields≢ h q e = let z : ◌≡◌ {A = ℕ} 0 1 = cc in omega arith
 
 -- fields that reading gives at this end were read, byte 1 is the elected member's where it has to be, and they are of our group
-pub read_ours_lem : (group : Group) (reading : Reading) (h : Header) → read_ours group reading ≡ Fields h
-    → (reading ≡ Fields h) × (from_elected group (content_of h) ≡ true) × (h.group ≡ group.number)
+pub read_ours_lem : (group : Group) (reading : Reading) (h : Header) → read_ours group reading ≡ Ok h
+    → (reading ≡ Ok h) × (from_elected group (content_of h) ≡ true) × (h.group ≡ group.number)
 unfolding read_ours
-read_ours_lem group (Fields k) h e =
-    let f = when_was (from_elected group (content_of k)) _ _ (Fields h) e (fields≢ h Refusal.ForbiddenFields) in
-    let g = when_was (k.group =? group.number) _ _ (Fields h) f.1 (fields≢ h Refusal.OtherGroup) in
+read_ours_lem group (Ok k) h e =
+    let f = when_was (from_elected group (content_of k)) _ _ (Ok h) e (fields≢ h Refusal.ForbiddenFields) in
+    let g = when_was (k.group =? group.number) _ _ (Ok h) f.1 (fields≢ h Refusal.OtherGroup) in
     let same : k ≡ h = cc in
-    (ap Fields same, subst (λ (x : Header). from_elected group (content_of x) ≡ true) same f.0, subst (λ (x : Header). x.group ≡ group.number) same (eqb-true k.group group.number g.0))
-read_ours_lem group (Reading.Refused q) h e = absurd (fields≢ h q e)
+    (ap Ok same, subst (λ (x : Header). from_elected group (content_of x) ≡ true) same f.0, subst (λ (x : Header). x.group ≡ group.number) same (eqb-true k.group group.number g.0))
+read_ours_lem group (Err q) h e = absurd (fields≢ h q e)
 
 module _ (m : Member) (payload : List ℕ) where
   -- the step goes by what reading gives at this end
-  pub ours : (reading : Reading) (h : Header) → read_ours m.group reading ≡ Fields h → content_step m (content_of h) payload ≡ read_step m reading payload
+  pub ours : (reading : Reading) (h : Header) → read_ours m.group reading ≡ Ok h → content_step m (content_of h) payload ≡ read_step m reading payload
   unfolding read_step
   ours reading h e =
       let r = read_ours_lem m.group reading h e in
       rw r.0 (when_true (from_elected m.group (content_of h)) _ _ _ r.1 (when_eq h.group m.group.number _ _ _ r.2 refl))
 
-  pub others : (reading : Reading) (q : Refusal) → read_ours m.group reading ≡ Reading.Refused q → refused m q ≡ read_step m reading payload
+  pub others : (reading : Reading) (q : Refusal) → read_ours m.group reading ≡ Err q → refused m q ≡ read_step m reading payload
   unfolding read_ours read_step when◌then◌else◌
-  others (Fields h) q e = go (from_elected m.group (content_of h)) (h.group =? m.group.number) e
+  others (Ok h) q e = go (from_elected m.group (content_of h)) (h.group =? m.group.number) e
     where
-      go : (a b : Bool) → (when a then (when b then Fields h else Reading.Refused Refusal.OtherGroup) else Reading.Refused Refusal.ForbiddenFields) ≡ Reading.Refused q
+      go : (a b : Bool) → (when a then (when b then Ok h else Err Refusal.OtherGroup) else Err Refusal.ForbiddenFields) ≡ Err q
           → refused m q ≡ (when a then (when b then content_step m (content_of h) payload else refused m Refusal.OtherGroup) else refused m Refusal.ForbiddenFields)
       go true true f = absurd (fields≢ h q (sym f))
       go true false f = let z : Refusal.OtherGroup ≡ q = cc in ap (refused m) (sym z)
       go false b f = let z : Refusal.ForbiddenFields ≡ q = cc in ap (refused m) (sym z)
-  others (Reading.Refused r) q e = let z : r ≡ q = cc in ap (refused m) (sym z)
+  others (Err r) q e = let z : r ≡ q = cc in ap (refused m) (sym z)

@@ -1,11 +1,11 @@
 -- What a packet call comes to, whatever is to be kept of the member's state: the state is the same, more is accepted or a message is held
 -- in it, and what is written is the member's own gap, status or confirmation. Its proof is the call's text, a choice at a time. Assumes
 -- nothing.
+use Rattle.std.specs.Prelude.{Ok, Err}
 use mathlib.Core.Path.{◌≡◌, refl}
 use mathlib.Core.Bool.{true, false}
 use mathlib.Core.List.{List}
 use Prim.Native.Nat.{ℕ, ◌+◌, ◌-◌, ◌≤◌, ◌<◌}
-use native.Mathlib.Nat.{le_refl}
 use native.Mathlib.Omega.{arith}
 use borrow.Author.Tests.{leb-true, leb-false, ltb-true, ltb-false, eqb-true, eqb-false}
 use Rattle.group.specs.Choice.{◌and◌, ◌<?◌, ◌≤?◌, ◌=?◌}
@@ -22,11 +22,11 @@ use Rattle.packet.specs.Packet.{content_of, fields_of, written, from_elected}
 use Rattle.packet.specs.declared.Header.{Header}
 use Rattle.packet.specs.declared.Packet.{Packet}
 use Rattle.packet.specs.declared.Packet.TheVariants.{Request, Broadcast, Gap, Status, Poll, Offer, Confirm, Accept, Invitation, Result}
-use Rattle.packet.specs.declared.Reading.{Reading}
+use Rattle.packet.specs.Answers.{Reading}
 use Rattle.window.specs.Places.{smaller_of, is_held, lowest_missing}
 use Rattle.member.specs.Calls.{Outcome, answered, with_accepted, with_held, gap_up_to, kept_of, message_step, broadcast_of, confirms, none_missing, confirmed_of, offer_of, poll_of, content_step, read_step}
 use Rattle.member.specs.Laws.{Typed}
-use Rattle.member.specs.State.{Member, acknowledged_of}
+use Rattle.member.specs.State.{Member}
 use Rattle.member.specs.declared.Answer.{Answer}
 use Rattle.window.proofs.Missing.{lowest_is}
 use Rattle.member.proofs.Acknowledged.{Up, up_refl, up_trans, up_accepted, up_held, reach_none, acknowledged_missing}
@@ -171,14 +171,14 @@ module _ (S : Member → Type 0) (typed-of : (m : Member) → S m → Typed m) (
   content_heard g (Result sender attempt elected number) payload most keep = same (Answer.Refused Refusal.OtherEnd)
 
   pub read_heard : (reading : Reading) (payload : List ℕ)
-      → ((h : Header) → reading ≡ Reading.Fields h → ((fields_of h.group (content_of h)).a ≤ largest_number) × Keepable S m (content_of h) payload)
+      → ((h : Header) → reading ≡ Ok h → ((fields_of h.group (content_of h)).a ≤ largest_number) × Keepable S m (content_of h) payload)
       → Heard S m (read_step m reading payload)
   unfolding read_step
-  read_heard (Reading.Fields h) payload keep =
+  read_heard (Ok h) payload keep =
       let k = keep h refl in
       when_elim (Heard S m) (from_elected m.group (content_of h))
       (λ _. when_elim (Heard S m) (h.group =? m.group.number)
       (λ _. content_heard h.group (content_of h) payload k.0 k.1)
       (λ _. same (Answer.Refused Refusal.OtherGroup)))
       (λ _. same (Answer.Refused Refusal.ForbiddenFields))
-  read_heard (Reading.Refused refusal) payload keep = same (Answer.Refused refusal)
+  read_heard (Err refusal) payload keep = same (Answer.Refused refusal)

@@ -1,4 +1,5 @@
 -- A submission that no question refuses, as the code takes it: the head's two numbers grow, and the message lies in the place of its count. Assumes nothing.
+use Rattle.group.specs.Question.{all_yes}
 use mathlib.Core.Path.{◌≡◌, refl, sym, ap, ◌∙◌, subst}
 use mathlib.Core.List.{List}
 use Prim.Native.Nat.{ℕ, ◌+◌, ◌-◌, ◌≤◌, ◌<◌}
@@ -6,19 +7,17 @@ use native.Mathlib.Omega.{arith}
 use lib.ListN.{length, set}
 use lib.Seq.{get_or-set_same}
 use Rattle.group.specs.Lent.{Laid}
-use Rattle.group.specs.Limits.{waiting_most, payload_most, largest_number}
-use Rattle.group.specs.declared.Verdict.{Verdict}
+use Rattle.group.specs.Limits.{largest_number}
+use Rattle.group.specs.Question.{Verdict}
 use Rattle.group.proofs.Choice.{when_eq, when_ne}
 use Rattle.message.specs.Message.{Message, message_of, payload_of, blank}
 use Rattle.message.proofs.Kept.{kept_payload}
 use Rattle.window.specs.Places.{queue_place, queued_at}
 use Rattle.window.specs.Steps.{Counted}
-use Rattle.member.specs.Calls.{answered, call_verdict, submit_verdict, submit_of, request_packet, with_waiting}
-use Rattle.member.specs.State.{Member, first_count}
+use Rattle.member.specs.Calls.{call_verdict, submit_verdict, submit_of, request_packet, with_waiting}
 use Rattle.member.specs.Steps.{Replied, member_of, empty_handed, request_in}
 use Rattle.member.specs.declared.Answer.{Answer}
 use Rattle.member.specs.declared.Head.{Head}
-use Rattle.member.specs.declared.Reply.{Reply}
 use Rattle.member.proofs.Outcomes.{replied_as, left_as, quiet, sent, judged_yes}
 use Rattle.member.proofs.View.{request_is}
 
@@ -48,7 +47,7 @@ module _ (head : Head) (queue held queue' : List Message) (payload : List ℕ)
       sym (ap payload_of (ap (λ (c : ℕ). queued_at queue' c) count_is ∙ ap (λ (q : List Message). queued_at q (head.submitted + 1)) e ∙ get_or-set_same queue (queue_place (head.submitted + 1)) _ blank inside)
       ∙ kept_payload head.number (head.submitted + 1) payload)
 
-  module _ {x : List ℕ} (v : call_verdict (member_of head queue held) (length x) ≡ Verdict.Accepted) (w : submit_verdict (member_of head queue held) (length payload) ≡ Verdict.Accepted) where
+  module _ {x : List ℕ} (v : call_verdict (member_of head queue held) (length x) ≡ all_yes) (w : submit_verdict (member_of head queue held) (length payload) ≡ all_yes) where
     -- behind one that waits nothing is written
     pub submits_behind : (head.waiting ≡ 0 → ⊥)
         → Replied (member_of (grown head) queue' held) (submit_of (member_of head queue held) payload (length x)) (record { answer = Answer.Queued (head.submitted + 1); written = 0 }) x x

@@ -25,7 +25,7 @@ use Rattle.member.specs.Order.{took_by}
 use Rattle.member.specs.State.{Member, first_count}
 use Rattle.window.specs.Places.{message_at, is_held, queue_place, queued_at}
 use Rattle.member.specs.declared.Answer.{Answer}
-use Rattle.member.proofs.Invariant.{Content, Seat, Terminal, MemberGood}
+use Rattle.member.proofs.Invariant.{Content, Terminal, MemberGood}
 use Rattle.member.proofs.Ordering.{louder}
 use Rattle.member.proofs.Acknowledged.{Up, up_row, up_took}
 use Rattle.window.proofs.Keeping.{empty_none, queue_one, queued_each}

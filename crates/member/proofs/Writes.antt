@@ -1,14 +1,12 @@
 -- The packets that a member writes are allowed, and its own: a sound state within its types has fields that fit and obey their
 -- kind. Assumes nothing.
 use mathlib.Core.Path.{◌≡◌, refl}
-use mathlib.Core.Bool.{true}
 use mathlib.Core.Option.{some}
 use mathlib.Core.List.{List, []}
-use Prim.Native.Nat.{ℕ, ◌+◌, ◌-◌, ◌≤◌, ◌<◌}
+use Prim.Native.Nat.{ℕ, ◌≤◌, ◌<◌}
 use native.Mathlib.Nat.{le_refl}
 use native.Mathlib.Omega.{arith}
-use lib.ListN.{length}
-use Rattle.group.specs.Limits.{payload_most, longest_packet, largest_number}
+use Rattle.group.specs.Limits.{longest_packet, largest_number}
 use Rattle.group.specs.Members.{needed_of}
 use Rattle.group.proofs.Lists.{at, All}
 use Rattle.message.proofs.Kept.{payload_short}

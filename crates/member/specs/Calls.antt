@@ -1,4 +1,6 @@
 -- The member's calls: each goes down its questions in their order, and then takes its step.
+use Rattle.group.specs.Question.{all_yes}
+use Rattle.std.specs.Prelude.{Ok, Err}
 use Rattle.std.specs.Prelude.{Bool, true, false, List, [], ℕ, ◌+◌, ◌-◌, length, set}
 use Rattle.group.specs.Choice.{when◌then◌else◌, ask◌or◌then◌, ◌and◌, ◌<?◌, ◌≤?◌, ◌=?◌}
 use Rattle.group.specs.Limits.{held_most, waiting_most, payload_most, longest_packet, largest_number}
@@ -7,15 +9,13 @@ use Rattle.group.specs.Opening.{description_of, open_of}
 use Rattle.group.specs.Question.{judged}
 use Rattle.group.specs.declared.MemberNumber.{MemberNumber}
 use Rattle.group.specs.declared.SequenceNumber.{SequenceNumber}
-use Rattle.group.specs.declared.Opened.{Opened}
-use Rattle.group.specs.declared.Opened.TheVariants.{Open}
+use Rattle.group.specs.Opening.{Opened}
 use Rattle.group.specs.declared.Refusal.{Refusal}
-use Rattle.group.specs.declared.Verdict.{Verdict}
+use Rattle.group.specs.Question.{Verdict}
 use Rattle.message.specs.Message.{Message, message_of, empty_message, payload_of}
 use Rattle.packet.specs.Packet.{content_of, fields_of, packet_of, payload_at, read_of, from_elected}
 use Rattle.packet.specs.declared.Packet.{Packet}
-use Rattle.packet.specs.declared.Reading.{Reading}
-use Rattle.packet.specs.declared.Reading.TheVariants.{Fields}
+use Rattle.packet.specs.Answers.{Reading}
 use Rattle.member.specs.Sound.{sound_of}
 use Rattle.window.specs.Places.{smaller_of, larger_of, place_of, message_at, is_held, queue_place, queued_at, lowest_missing}
 use Rattle.member.specs.State.{Member, acknowledged_of, first_count, fresh_member}
@@ -58,17 +58,17 @@ confirm_packet m number = packet_of (fields_of m.group.number (Packet.Confirm m.
 -- questions 1 and 2, of every call
 unfoldable pub call_verdict : Member → ℕ → Verdict
 call_verdict m room =
-    ask sound_of m or Verdict.Refused Refusal.UnsoundState then
-    ask longest_packet ≤? room or Verdict.Refused Refusal.ShortOutput then
-    Verdict.Accepted
+    ask sound_of m or Err Refusal.UnsoundState then
+    ask longest_packet ≤? room or Err Refusal.ShortOutput then
+    all_yes
 
 -- questions 13, 14 and 16 of a submission of `size` bytes
 unfoldable pub submit_verdict : Member → ℕ → Verdict
 submit_verdict m size =
-    ask size ≤? payload_most or Verdict.Refused Refusal.LongPayload then
-    ask m.waiting <? waiting_most or Verdict.Refused Refusal.AlreadyWaiting then
-    ask m.submitted <? largest_number or Verdict.Refused Refusal.NumbersUsedUp then
-    Verdict.Accepted
+    ask size ≤? payload_most or Err Refusal.LongPayload then
+    ask m.waiting <? waiting_most or Err Refusal.AlreadyWaiting then
+    ask m.submitted <? largest_number or Err Refusal.NumbersUsedUp then
+    all_yes
 
 -- u grows by 1, and the message waits behind those that do
 unfoldable pub with_waiting : Member → List ℕ → Member
@@ -217,11 +217,11 @@ content_step m (Packet.Result sender attempt elected number) payload = refused m
 
 -- a packet that was read: question 6 of byte 1, then 7
 unfoldable pub read_step : Member → Reading → List ℕ → Outcome
-read_step m (Fields h) payload =
+read_step m (Ok h) payload =
     ask from_elected m.group (content_of h) or refused m Refusal.ForbiddenFields then
     ask h.group =? m.group.number or refused m Refusal.OtherGroup then
     content_step m (content_of h) payload
-read_step m (Reading.Refused refusal) payload = refused m refusal
+read_step m (Err refusal) payload = refused m refusal
 
 -- the call for packets
 unfoldable pub receive_of : Member → List ℕ → ℕ → Outcome
@@ -276,11 +276,11 @@ pub record Opening : Type 0 where
 
 -- opening: question 18, n 1 to 16 and the member number below n, then 24. Where it is refused, the state is all zero
 abbrev pub not_opened : Refusal → Opening
-not_opened refusal = record { member = fresh_member (description_of 0 0 0) (record { 0 = 0 }); verdict = Verdict.Refused refusal }
+not_opened refusal = record { member = fresh_member (description_of 0 0 0) (record { 0 = 0 }); verdict = Err refusal }
 
 unfoldable pub opened_of : Opened → MemberNumber → Opening
-opened_of (Open group) number = record { member = fresh_member group number; verdict = Verdict.Accepted }
-opened_of (Opened.Refused refusal) number = not_opened refusal
+opened_of (Ok group) number = record { member = fresh_member group number; verdict = all_yes }
+opened_of (Err refusal) number = not_opened refusal
 
 unfoldable pub fresh_of : ℕ → MemberNumber → ℕ → ℕ → Opening
 fresh_of n number group resilience =

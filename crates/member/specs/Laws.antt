@@ -1,14 +1,14 @@
 -- What is proved of the member's meaning. `proofs/` has a proof of each statement.
+use Rattle.group.specs.Question.{all_yes}
+use Rattle.std.specs.Prelude.{Ok, Err}
 use Rattle.std.specs.Prelude.{◌≡◌, Bool, true, false, List, [], ◌∷◌, ◌++◌, ◌⊎◌, ℕ, ◌≤◌, length}
 use Rattle.group.specs.Choice.{when◌then◌else◌, ◌<?◌, ◌≤?◌, ◌=?◌}
 use Rattle.group.specs.Limits.{held_most, waiting_most, payload_most, longest_packet, largest_number}
 use Rattle.group.specs.Question.{Question, first_no}
 use Rattle.group.specs.declared.Refusal.{Refusal}
-use Rattle.group.specs.declared.Verdict.{Verdict}
 use Rattle.packet.specs.Laws.{read_questions}
 use Rattle.packet.specs.Packet.{broadcast_kind, poll_kind, offer_kind, accept_kind, header_of, read_of, content_of, from_elected}
 use Rattle.packet.specs.declared.Header.{Header}
-use Rattle.packet.specs.declared.Reading.{Reading}
 use Rattle.member.specs.Calls.{Outcome, refused, submit_of, repeat_of, status_of, take_of, receive_of}
 use Rattle.member.specs.Promise.{Told}
 use Rattle.member.specs.Sound.{sound_of}
@@ -50,8 +50,8 @@ repeat_questions m room = call_questions m room ++ (record { yes = 1 ≤? m.wait
 -- demand 1: a refusal is answered exactly if some question says no, with the first one's number; then the state is the same
 -- and nothing is written. Every other input is accepted
 pub record FirstNo (m : Member) (questions : List Question) (o : Outcome) : Type 0 where
-  pub refuses : (refusal : Refusal) → first_no questions ≡ Verdict.Refused refusal → o ≡ refused m refusal
-  pub accepts : (refusal : Refusal) → first_no questions ≡ Verdict.Accepted → o.answer ≡ Answer.Refused refusal → ⊥
+  pub refuses : (refusal : Refusal) → first_no questions ≡ Err refusal → o ≡ refused m refusal
+  pub accepts : (refusal : Refusal) → first_no questions ≡ all_yes → o.answer ≡ Answer.Refused refusal → ⊥
 
 abbrev pub SubmitFirstNo : Type 0
 SubmitFirstNo = (m : Member) (payload : List ℕ) (room : ℕ) → FirstNo m (submit_questions m payload room) (submit_of m payload room)
@@ -84,7 +84,7 @@ pub record Keeps (m : Member) (o : Outcome) : Type 0 where
 
 -- it writes nothing or a packet that reading accepts
 abbrev pub WritesPacket : Outcome → Type 0
-WritesPacket o = (o.bytes ≡ []) ⊎ ((h : Header) × (read_of o.bytes ≡ Reading.Fields h))
+WritesPacket o = (o.bytes ≡ []) ⊎ ((h : Header) × (read_of o.bytes ≡ Ok h))
 
 abbrev pub SubmitKeeps : Type 0
 SubmitKeeps = (m : Member) (payload : List ℕ) (room : ℕ) → Typed m → Keeps m (submit_of m payload room) × WritesPacket (submit_of m payload room)

@@ -4,7 +4,7 @@ use Rattle.group.specs.Lent.{front}
 use Rattle.group.specs.Wording.{verdict_wording}
 use Rattle.group.specs.declared.MemberNumber.{MemberNumber}
 use Rattle.group.specs.declared.SequenceNumber.{SequenceNumber}
-use Rattle.group.specs.declared.Verdict.{Verdict}
+use Rattle.group.specs.Question.{Verdict}
 use Rattle.member.specs.Calls.{Outcome, Opening, submit_of, repeat_of, status_of, take_of, receive_of, fresh_of}
 use Rattle.member.specs.State.{reach_of}
 use Rattle.member.specs.View.{Stored, view_of}

@@ -1,4 +1,6 @@
 -- What the steps inside the code promise, in terms of the meaning. No call's promise speaks of these.
+use Rattle.group.specs.Question.{all_yes}
+use Rattle.std.specs.Prelude.{Ok, Err}
 use Rattle.std.specs.Prelude.{◌≡◌, Bool, List, [], ℕ, ◌+◌, ◌-◌, length}
 use Rattle.group.specs.Choice.{ask◌or◌then◌, ◌and◌, ◌=?◌}
 use Rattle.group.specs.Lent.{front}
@@ -6,12 +8,10 @@ use Rattle.group.specs.Limits.{held_most, largest_number}
 use Rattle.group.specs.Members.{is_in, expected_of}
 use Rattle.group.specs.declared.Group.{Group}
 use Rattle.group.specs.declared.Refusal.{Refusal}
-use Rattle.group.specs.declared.Verdict.{Verdict}
 use Rattle.message.specs.Message.{Message}
 use Rattle.packet.specs.Packet.{content_of, fields_of, packet_of, from_elected}
 use Rattle.packet.specs.declared.Packet.{Packet}
-use Rattle.packet.specs.declared.Reading.{Reading}
-use Rattle.packet.specs.declared.Reading.TheVariants.{Fields}
+use Rattle.packet.specs.Answers.{Reading}
 use Rattle.window.specs.Places.{message_at, smaller_of, larger_of}
 use Rattle.window.specs.Steps.{Counted, lowest_uncounted, row_counted}
 use Rattle.member.specs.Calls.{Outcome, call_verdict, submit_verdict, submit_of, took_of, confirms}
@@ -68,11 +68,11 @@ confirms_by head counts number answer =
 
 -- a reading at this end: question 6 of byte 1, then 7
 unfoldable pub read_ours : Group → Reading → Reading
-read_ours group (Fields h) =
-    ask from_elected group (content_of h) or Reading.Refused Refusal.ForbiddenFields then
-    ask h.group =? group.number or Reading.Refused Refusal.OtherGroup then
-    Fields h
-read_ours group (Reading.Refused refusal) = Reading.Refused refusal
+read_ours group (Ok h) =
+    ask from_elected group (content_of h) or Err Refusal.ForbiddenFields then
+    ask h.group =? group.number or Err Refusal.OtherGroup then
+    Ok h
+read_ours group (Err refusal) = Err refusal
 
 -- the request of a count and a payload, by a head and the counts of the places
 unfoldable pub request_in : Head → List ℕ → ℕ → List ℕ → List ℕ
@@ -95,8 +95,8 @@ Hears head held head' held' step r before after =
 abbrev pub Submits : Head → List ℕ → List Message → List Message → List ℕ → Done → List ℕ → List ℕ → Type 0
 Submits head counts queue queue' payload r before after =
     (held : List Message) → Counted counts held
-    → call_verdict (member_of head queue held) (length before) ≡ Verdict.Accepted
-    → submit_verdict (member_of head queue held) (length payload) ≡ Verdict.Accepted
+    → call_verdict (member_of head queue held) (length before) ≡ all_yes
+    → submit_verdict (member_of head queue held) (length payload) ≡ all_yes
     → Replied (member_of r.head queue' held) (submit_of (member_of head queue held) payload (length before)) r.reply before after
 
 -- a take of the following number, which is held

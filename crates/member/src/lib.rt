@@ -3,6 +3,7 @@
 #![tactic(auto)]
 
 ghost use Rattle.std.specs.Prelude.{◌≡◌, [], ◌+◌, ◌-◌, ◌*◌, ◌≤◌, ◌<◌, length, take, get_or};
+ghost use Rattle.group.specs.Question.{all_yes};
 ghost use Rattle.group.specs.Lent.{Laid};
 ghost use Rattle.group.specs.Limits.{held_most, waiting_most, payload_most, longest_packet, largest_number};
 ghost use Rattle.packet.specs.Packet.{fields_verdict, fields_of, packet_of};
@@ -14,12 +15,12 @@ ghost use Rattle.member.specs.View.{Sized, whole, view_of};
 ghost use Rattle.member.specs.Promise.{Ended};
 ghost use Rattle.member.specs.Steps.{empty_handed, accepting, confirms_by, request_in, Tells, Hears, Submits, Hands};
 
-use group::{Group, MemberNumber, Refusal, SequenceNumber, Verdict};
+use group::{Group, MemberNumber, Refusal, SequenceNumber};
 use packet::Packet;
 
 // The numbers of a member: they go by value.
 #[repr(C)]
-#[derive(Clone, Copy)]
+#[derive(Clone, Copy, Debug, PartialEq, Eq)]
 pub struct Head {
     pub group: Group,
     pub number: MemberNumber,
@@ -30,7 +31,7 @@ pub struct Head {
 }
 
 // What a call answers. What a take hands out goes with its payload, which lies at the front of the lent output.
-#[derive(Clone, Copy)]
+#[derive(Clone, Copy, Debug, PartialEq, Eq)]
 pub enum Answer {
     Refused(Refusal),
     Sent,
@@ -53,36 +54,37 @@ pub enum Answer {
 }
 
 // What a call says: its answer, and how many bytes it wrote to the front of the lent output.
-#[derive(Clone, Copy)]
+#[derive(Clone, Copy, Debug, PartialEq, Eq)]
 pub struct Reply {
     pub answer: Answer,
     pub written: usize,
 }
 
 // What the work of a call gives back: the next head, and what the caller is told.
-#[derive(Clone, Copy)]
+#[derive(Clone, Copy, Debug, PartialEq, Eq)]
 pub struct Done {
     pub head: Head,
     pub reply: Reply,
 }
 
 // What the work of opening gives back.
-#[derive(Clone, Copy)]
+#[derive(Clone, Copy, Debug, PartialEq, Eq)]
 pub struct Begun {
     pub head: Head,
-    pub verdict: Verdict,
+    pub verdict: Result<(), Refusal>,
 }
 
 // Lays a packet without payload at the front of the output, and gives its length.
+#[tactic(auto, using(packet::proofs::Permitted::laid_whole))]
 fn put_bare(packet: Packet, group: u32, out: &mut [u8]) -> usize
-    requires { (fields_verdict (fields_of group packet) 0 [] ≡ Verdict.Accepted) × (longest_packet ≤ length out.old) }
+    requires { (fields_verdict (fields_of group packet) 0 [] ≡ all_yes) × (longest_packet ≤ length out.old) }
     ensures { Laid (packet_of (fields_of group packet) []) result out.old out.new }
 {
-    let none = [0u8; 0];
-    packet.put(group, &none, out)
+    packet.put(group, &[], out)
 }
 
 // Question 1.
+#[tactic(auto, using(group::proofs::Choice::choices), unfolding(crate::specs::Sound::sound_of, crate::specs::View::view_of))]
 pub fn sound(
     head: Head,
     queued: &[u32],
@@ -97,11 +99,10 @@ pub fn sound(
     requires { Sized (whole head queued.now held.now queued_originators.now queued_lengths.now held_originators.now held_lengths.now queued_payloads.now held_payloads.now) }
     ensures { result ≡ sound_of (view_of (whole head queued.now held.now queued_originators.now queued_lengths.now held_originators.now held_lengths.now queued_payloads.now held_payloads.now)) }
 {
-    let number = head.number;
-    if window::frame_sound(head.group, number, head.taken, head.accepted) {
-        let mask = store::mask();
-        if window::waiting_sound(
-            number,
+    let mask = store::mask();
+    window::frame_sound(head.group, head.number, head.taken, head.accepted)
+        && window::waiting_sound(
+            head.number,
             head.submitted,
             head.waiting,
             queued,
@@ -109,23 +110,20 @@ pub fn sound(
             queued_lengths,
             queued_payloads,
             &mask,
-        ) {
-            return window::held_sound(
-                head.group.n,
-                head.taken,
-                held,
-                held_originators,
-                held_lengths,
-                held_payloads,
-                &mask,
-            );
-        }
-        return false;
-    }
-    false
+        )
+        && window::held_sound(
+            head.group.n,
+            head.taken,
+            held,
+            held_originators,
+            held_lengths,
+            held_payloads,
+            &mask,
+        )
 }
 
 // Questions 1 and 2, of every call.
+#[tactic(auto, using(group::proofs::Choice::choices), unfolding(crate::specs::Calls::call_verdict))]
 pub fn ask(
     head: Head,
     queued: &[u32],
@@ -137,11 +135,11 @@ pub fn ask(
     queued_payloads: &[u8],
     held_payloads: &[u8],
     room: usize,
-) -> Verdict
+) -> Result<(), Refusal>
     requires { Sized (whole head queued.now held.now queued_originators.now queued_lengths.now held_originators.now held_lengths.now queued_payloads.now held_payloads.now) }
     ensures { result ≡ call_verdict (view_of (whole head queued.now held.now queued_originators.now queued_lengths.now held_originators.now held_lengths.now queued_payloads.now held_payloads.now)) room }
 {
-    if sound(
+    if !sound(
         head,
         queued,
         held,
@@ -152,31 +150,33 @@ pub fn ask(
         queued_payloads,
         held_payloads,
     ) {
-        if room < Group::PACKET {
-            return Verdict::Refused(Refusal::ShortOutput);
-        }
-        return Verdict::Accepted;
+        return Err(Refusal::UnsoundState);
     }
-    Verdict::Refused(Refusal::UnsoundState)
+    if room < Group::PACKET {
+        return Err(Refusal::ShortOutput);
+    }
+    Ok(())
 }
 
 // Questions 13, 14 and 16 of a submission of `size` bytes.
-pub fn ask_submission(head: Head, size: usize) -> Verdict
+#[tactic(auto, using(group::proofs::Choice::choices), unfolding(crate::specs::Calls::submit_verdict))]
+pub fn ask_submission(head: Head, size: usize) -> Result<(), Refusal>
     ensures { result ≡ submit_verdict (empty_handed head) size }
 {
     if Group::PAYLOAD < size {
-        return Verdict::Refused(Refusal::LongPayload);
+        return Err(Refusal::LongPayload);
     }
     if Group::WAITING <= (head.waiting as usize) {
-        return Verdict::Refused(Refusal::AlreadyWaiting);
+        return Err(Refusal::AlreadyWaiting);
     }
-    if head.submitted < Group::LARGEST {
-        return Verdict::Accepted;
+    if Group::LARGEST <= head.submitted {
+        return Err(Refusal::NumbersUsedUp);
     }
-    Verdict::Refused(Refusal::NumbersUsedUp)
+    Ok(())
 }
 
 // Lays a request with a payload at the front of the output, and gives its length. It acknowledges the accepted of the row.
+#[tactic(auto, using(group::proofs::Choice::choices, packet::proofs::Permitted::request_fields, packet::proofs::Permitted::laid_whole, crate::proofs::View::requested), unfolding(window::specs::Places::smaller_of))]
 fn put_request(
     head: Head,
     held: &[u32; Group::HELD],
@@ -187,12 +187,10 @@ fn put_request(
     requires { (1 ≤ count) × (length payload.now ≤ payload_most) × (longest_packet ≤ length out.old) }
     ensures { Laid (request_in head held.now count payload.now) result out.old out.new }
 {
-    let sender = head.number;
     let end = window::row_end(held, head.taken);
-    let taken = window::earlier(end, head.accepted);
     let packet = Packet::Request {
-        sender,
-        taken,
+        sender: head.number,
+        taken: end.min(head.accepted),
         count,
     };
     packet.put(head.group.number, payload, out)
@@ -209,8 +207,7 @@ pub fn put_first(
     requires { (1 ≤ head.waiting) × (head.waiting ≤ head.submitted) × (length lengths.now ≡ waiting_most) × (get_or lengths.now (queue_place (head.submitted - head.waiting + 1)) 0 ≤ payload_most) × (length payloads.now ≡ waiting_most * payload_most) × (longest_packet ≤ length out.old) }
     ensures { Laid (request_in head held.now (head.submitted - head.waiting + 1) (take (get_or lengths.now (queue_place (head.submitted - head.waiting + 1)) 0) (part_of payloads.now (queue_place (head.submitted - head.waiting + 1))))) result out.old out.new }
 {
-    let last = head.submitted;
-    let count = last - head.waiting + 1;
+    let count = head.submitted - head.waiting + 1;
     let at = window::queue_place(count as usize);
     let base = at * Group::PAYLOAD;
     let end = base + (lengths[at] as usize);
@@ -218,40 +215,43 @@ pub fn put_first(
 }
 
 // Lays a status packet at the front of the output, and gives its length. It acknowledges the accepted of the row that ends there.
+#[tactic(auto, using(group::proofs::Choice::choices, packet::proofs::Permitted::status_fields, crate::proofs::View::status_laid), unfolding(window::specs::Places::smaller_of))]
 pub fn put_status(head: Head, end: SequenceNumber, out: &mut [u8]) -> usize
     requires { longest_packet ≤ length out.old }
     ensures { Laid (packet_of (fields_of head.group.number (Packet.Status head.number (record { 0 = smaller_of end.0 head.accepted.0 }))) []) result out.old out.new }
 {
-    let sender = head.number;
-    let taken = window::earlier(end, head.accepted);
-    let packet = Packet::Status { sender, taken };
+    let packet = Packet::Status {
+        sender: head.number,
+        taken: end.min(head.accepted),
+    };
     put_bare(packet, head.group.number, out)
 }
 
 // Lays a gap packet from the number behind the row's end up to `last` at the front of the output, and gives its length.
+#[tactic(auto, using(group::proofs::Choice::choices, packet::proofs::Permitted::gap_fields, crate::proofs::View::gap_laid, window::proofs::Row::smaller_le), unfolding(window::specs::Places::smaller_of))]
 fn put_gap(head: Head, end: SequenceNumber, last: SequenceNumber, out: &mut [u8]) -> usize
     requires { (end.0 < last.0) × (longest_packet ≤ length out.old) }
     ensures { Laid (packet_of (fields_of head.group.number (Packet.Gap head.number (record { 0 = smaller_of end.0 head.accepted.0 }) (record { 0 = end.0 + 1 }) last)) []) result out.old out.new }
 {
-    let sender = head.number;
-    let taken = window::earlier(end, head.accepted);
-    let first = SequenceNumber(end.0 + 1);
     let packet = Packet::Gap {
-        sender,
-        taken,
-        first,
+        sender: head.number,
+        taken: end.min(head.accepted),
+        first: SequenceNumber(end.0 + 1),
         last,
     };
     put_bare(packet, head.group.number, out)
 }
 
 // Lays the confirmation of an offered number at the front of the output, and gives its length.
+#[tactic(auto, using(packet::proofs::Permitted::confirm_fields))]
 fn put_confirm(head: Head, number: SequenceNumber, out: &mut [u8]) -> usize
     requires { (1 ≤ number.0) × (longest_packet ≤ length out.old) }
     ensures { Laid (packet_of (fields_of head.group.number (Packet.Confirm head.number number)) []) result out.old out.new }
 {
-    let sender = head.number;
-    let packet = Packet::Confirm { sender, number };
+    let packet = Packet::Confirm {
+        sender: head.number,
+        number,
+    };
     put_bare(packet, head.group.number, out)
 }
 
@@ -268,7 +268,7 @@ fn gap_up_to(
     ensures { Tells head held.now (λ m. gap_up_to m last.0 gapped (answered m whole)) result out.old out.new }
 {
     let end = window::row_end(held, head.taken);
-    if last.0 <= end.0 {
+    if last <= end {
         return Reply {
             answer: whole,
             written: 0,
@@ -288,7 +288,7 @@ pub fn poll(head: Head, held: &[u32; Group::HELD], top: SequenceNumber, out: &mu
 {
     let last = window::reach(top, head.taken);
     let end = window::row_end(held, head.taken);
-    if last.0 <= end.0 {
+    if last <= end {
         let written = put_status(head, end, out);
         return Reply {
             answer: Answer::Status,
@@ -349,19 +349,17 @@ fn message_step(
     requires { (length payload.now ≤ payload_most) × (longest_packet ≤ length out.old) }
     ensures { Hears head (messages_in held.old held_originators.old held_lengths.old held_payloads.old) head (messages_in held.new held_originators.new held_lengths.new held_payloads.new) (λ m. message_step m originator number.0 count payload.now) result out.old out.new }
 {
-    let taken = head.taken;
-    if number.0 <= taken.0 {
+    if number <= head.taken {
         return Reply {
             answer: Answer::Old,
             written: 0,
         };
     }
-    if (taken.0 as usize) + Group::HELD < (number.0 as usize) {
-        let last = SequenceNumber(taken.0 + (Group::HELD as u32));
+    if (head.taken.0 as usize) + Group::HELD < (number.0 as usize) {
+        let last = SequenceNumber(head.taken.0 + (Group::HELD as u32));
         return gap_up_to(head, held, last, Answer::BeyondGap, Answer::Beyond, out);
     }
-    let place = window::place(number, 0);
-    if 0 < held[place] {
+    if held[window::place(number, 0)] != 0 {
         return Reply {
             answer: Answer::Old,
             written: 0,
@@ -382,12 +380,14 @@ fn message_step(
 }
 
 // All up to a number are accepted.
-fn accept_up_to(mut head: Head, number: SequenceNumber) -> Head
+#[tactic(auto, using(group::proofs::Choice::choices), unfolding(window::specs::Places::larger_of))]
+fn accept_up_to(head: Head, number: SequenceNumber) -> Head
     ensures { result ≡ accepting head number.0 }
 {
-    let accepted = window::later(head.accepted, number);
-    head.accepted = accepted;
-    head
+    Head {
+        accepted: head.accepted.max(number),
+        ..head
+    }
 }
 
 // A broadcast: it accepts all up to its number, also where a gap packet is written.
@@ -406,9 +406,9 @@ pub fn broadcast(
     requires { (length payload.now ≤ payload_most) × (longest_packet ≤ length out.old) }
     ensures { Hears head (messages_in held.old held_originators.old held_lengths.old held_payloads.old) result.head (messages_in held.new held_originators.new held_lengths.new held_payloads.new) (λ m. broadcast_of m originator number.0 count payload.now) result.reply out.old out.new }
 {
-    let next = accept_up_to(head, number);
+    let head = accept_up_to(head, number);
     let reply = message_step(
-        next,
+        head,
         held,
         held_originators,
         held_lengths,
@@ -419,48 +419,25 @@ pub fn broadcast(
         payload,
         out,
     );
-    Done { head: next, reply }
+    Done { head, reply }
 }
 
 // Whether an offer with that answer is confirmed, if nothing is missing: the message is held, or was taken.
+#[tactic(auto, unfolding(crate::specs::Calls::confirms))]
 fn has(answer: Answer) -> bool
     ensures { result ≡ confirms answer }
 {
-    match answer {
-        Answer::Refused(_) => false,
-        Answer::Sent => false,
-        Answer::Queued(_) => false,
-        Answer::Old => true,
-        Answer::Kept => true,
-        Answer::KeptGap => false,
-        Answer::Beyond => false,
-        Answer::BeyondGap => false,
-        Answer::Gap => false,
-        Answer::Status => false,
-        Answer::None => false,
-        Answer::Noted => false,
-        Answer::Took {
-            number: _,
-            originator: _,
-            count: _,
-            more: _,
-        } => false,
-    }
+    matches!(answer, Answer::Old | Answer::Kept)
 }
 
 // Whether an offer with that answer is confirmed: nothing up to its number is missing, and the member is expected to confirm.
+#[tactic(auto, using(group::proofs::Choice::choices), unfolding(crate::specs::Steps::confirms_by, window::specs::Steps::first_uncounted))]
 fn confirmed(head: Head, held: &[u32; Group::HELD], number: SequenceNumber, answer: Answer) -> bool
     ensures { result ≡ confirms_by head held.now number.0 answer }
 {
-    if has(answer) {
-        let first = window::lowest_missing(held, head.taken, number);
-        if first.0 == 0 {
-            let group = head.group;
-            return group.expects(head.number);
-        }
-        return false;
-    }
-    false
+    has(answer)
+        && window::lowest_missing(held, head.taken, number).is_none()
+        && head.group.expects(head.number)
 }
 
 // An offer: it accepts nothing.
@@ -491,10 +468,9 @@ pub fn offer(
         payload,
         out,
     );
-    let answer = reply.answer;
-    if confirmed(head, held, number, answer) {
+    if confirmed(head, held, number, reply.answer) {
         let written = put_confirm(head, number, out);
-        return Reply { answer, written };
+        return Reply { written, ..reply };
     }
     reply
 }
@@ -503,10 +479,13 @@ pub fn offer(
 pub fn noted(head: Head, number: SequenceNumber) -> Done
     ensures { result ≡ record { head = accepting head number.0; reply = record { answer = Answer.Noted; written = 0 } } }
 {
-    let next = accept_up_to(head, number);
-    let answer = Answer::Noted;
-    let reply = Reply { answer, written: 0 };
-    Done { head: next, reply }
+    Done {
+        head: accept_up_to(head, number),
+        reply: Reply {
+            answer: Answer::Noted,
+            written: 0,
+        },
+    }
 }
 
 // A submission that no question refuses: its request is written, or, behind one that waits, nothing.
@@ -525,14 +504,13 @@ pub fn submitted(
 {
     let count = head.submitted + 1;
     let place = window::queue_place(count as usize);
-    let number = head.number;
     window::keep(
         queued,
         queued_originators,
         queued_lengths,
         queued_payloads,
         place,
-        number,
+        head.number,
         count,
         payload,
     );
@@ -544,7 +522,7 @@ pub fn submitted(
         let reply = Reply { answer, written };
         return Done { head, reply };
     }
-    head.waiting = head.waiting + 1;
+    head.waiting += 1;
     let answer = Answer::Queued(count);
     let reply = Reply { answer, written: 0 };
     Done { head, reply }
@@ -552,6 +530,7 @@ pub fn submitted(
 
 // The following number is handed out: its payload goes to the front of the output, its place is made empty, and if it is the member's
 // own that waits first, the next is first.
+#[tactic(auto, using(group::proofs::Choice::says))]
 pub fn hand_out(
     mut head: Head,
     queued: &mut [u32; Group::WAITING],
@@ -592,8 +571,7 @@ pub fn hand_out(
             queued_payloads,
             first,
         );
-        head.waiting = head.waiting - 1;
-        return Done { head, reply };
+        head.waiting -= 1;
     }
     Done { head, reply }
 }

@@ -1,7 +1,7 @@
 // The calls of a member on its head and on lent arrays: each asks its questions, then takes its step.
 #![tactic(auto)]
 
-ghost use Rattle.std.specs.Prelude.{◌≡◌, true, ◌≤◌, length};
+ghost use Rattle.std.specs.Prelude.{◌≡◌, true, ◌≤◌, length, Err};
 ghost use Rattle.group.specs.Limits.{payload_most, longest_packet};
 ghost use Rattle.group.specs.Opening.{description_of};
 ghost use Rattle.packet.specs.Packet.{obeys, fields_of, read_of};
@@ -11,9 +11,9 @@ ghost use Rattle.member.specs.View.{whole};
 ghost use Rattle.member.specs.Promise.{Begins, Submitted, Received, Taken, Repeated, Reported};
 ghost use Rattle.member.specs.Steps.{read_ours, Hears};
 
-use group::{Group, MemberNumber, Opened, Refusal, Verdict};
+use group::{Group, MemberNumber, Refusal};
 use member::{Answer, Begun, Done, Head, Reply};
-use packet::{Packet, Reading};
+use packet::{Header, Packet};
 
 // A no: nothing is written.
 fn refused(refusal: Refusal) -> Reply
@@ -29,28 +29,25 @@ fn refused(refusal: Refusal) -> Reply
 fn declined(head: Head, refusal: Refusal) -> Done
     ensures { result ≡ record { head = head; reply = record { answer = Answer.Refused refusal; written = 0 } } }
 {
-    let reply = refused(refusal);
-    Done { head, reply }
+    Done {
+        head,
+        reply: refused(refusal),
+    }
 }
 
 // Reads a packet at this end: questions 3 to 6, then 6 of byte 1, and 7.
-fn read_ours(group: Group, packet: &[u8]) -> Reading
+#[tactic(auto, using(group::proofs::Choice::choices), unfolding(member::specs::Steps::read_ours))]
+fn read_ours(group: Group, packet: &[u8]) -> Result<Header, Refusal>
     ensures { result ≡ read_ours group (read_of packet.now) }
 {
-    let r = packet::read(packet);
-    match r {
-        Reading::Fields(h) => {
-            let said = Packet::of(h);
-            if said.from_elected(group) {
-                if h.group == group.number {
-                    return Reading::Fields(h);
-                }
-                return Reading::Refused(Refusal::OtherGroup);
-            }
-            Reading::Refused(Refusal::ForbiddenFields)
-        }
-        Reading::Refused(q) => Reading::Refused(q),
+    let header = packet::read(packet)?;
+    if !Packet::of(header).from_elected(group) {
+        return Err(Refusal::ForbiddenFields);
     }
+    if header.group != group.number {
+        return Err(Refusal::OtherGroup);
+    }
+    Ok(header)
 }
 
 // What a packet of our group says: questions 8 and 9.
@@ -72,29 +69,25 @@ fn content(
             originator,
             number,
             count,
-            floor: _,
+            ..
         } => {
-            if originator.0 < head.group.n {
-                return member::broadcast(
-                    head,
-                    held,
-                    held_originators,
-                    held_lengths,
-                    held_payloads,
-                    originator,
-                    number,
-                    count,
-                    payload,
-                    out,
-                );
+            if head.group.n <= originator.0 {
+                return declined(head, Refusal::UnknownMember);
             }
-            declined(head, Refusal::UnknownMember)
+            member::broadcast(
+                head,
+                held,
+                held_originators,
+                held_lengths,
+                held_payloads,
+                originator,
+                number,
+                count,
+                payload,
+                out,
+            )
         }
-        Packet::Poll {
-            elected: _,
-            top,
-            floor: _,
-        } => {
+        Packet::Poll { top, .. } => {
             let reply = member::poll(head, held, top, out);
             Done { head, reply }
         }
@@ -102,78 +95,37 @@ fn content(
             originator,
             number,
             count,
-            floor: _,
+            ..
         } => {
-            if originator.0 < head.group.n {
-                let reply = member::offer(
-                    head,
-                    held,
-                    held_originators,
-                    held_lengths,
-                    held_payloads,
-                    originator,
-                    number,
-                    count,
-                    payload,
-                    out,
-                );
-                return Done { head, reply };
+            if head.group.n <= originator.0 {
+                return declined(head, Refusal::UnknownMember);
             }
-            declined(head, Refusal::UnknownMember)
+            let reply = member::offer(
+                head,
+                held,
+                held_originators,
+                held_lengths,
+                held_payloads,
+                originator,
+                number,
+                count,
+                payload,
+                out,
+            );
+            Done { head, reply }
         }
-        Packet::Accept { elected: _, number } => member::noted(head, number),
-        Packet::Request {
-            sender: _,
-            taken: _,
-            count: _,
-        } => declined(head, Refusal::OtherEnd),
-        Packet::Gap {
-            sender: _,
-            taken: _,
-            first: _,
-            last: _,
-        } => declined(head, Refusal::OtherEnd),
-        Packet::Status {
-            sender: _,
-            taken: _,
-        } => declined(head, Refusal::OtherEnd),
-        Packet::Confirm {
-            sender: _,
-            number: _,
-        } => declined(head, Refusal::OtherEnd),
-        Packet::Invitation {
-            sender: _,
-            attempt: _,
-        } => declined(head, Refusal::OtherEnd),
-        Packet::Reply {
-            sender: _,
-            attempt: _,
-            number: _,
-        } => declined(head, Refusal::OtherEnd),
-        Packet::Result {
-            sender: _,
-            attempt: _,
-            elected: _,
-            number: _,
-        } => declined(head, Refusal::OtherEnd),
+        Packet::Accept { number, .. } => member::noted(head, number),
+        _ => declined(head, Refusal::OtherEnd),
     }
 }
 
 // An opening that is refused.
 fn unopened(refusal: Refusal) -> Begun
-    ensures { result ≡ record { head = record { group = description_of 0 0 0; number = record { 0 = 0 }; taken = record { 0 = 0 }; accepted = record { 0 = 0 }; submitted = 0; waiting = 0 }; verdict = Verdict.Refused refusal } }
+    ensures { result ≡ record { head = record { group = description_of 0 0 0; number = record { 0 = 0 }; taken = record { 0 = 0 }; accepted = record { 0 = 0 }; submitted = 0; waiting = 0 }; verdict = Err refusal } }
 {
-    let none = Group {
-        n: 0,
-        resilience: 0,
-        survivors: 0,
-        elected: MemberNumber(0),
-        number: 0,
-    };
-    let head = member::idle(none, MemberNumber(0));
     Begun {
-        head,
-        verdict: Verdict::Refused(refusal),
+        head: member::idle(Group::default(), MemberNumber::default()),
+        verdict: Err(refusal),
     }
 }
 
@@ -195,27 +147,23 @@ pub fn open_on(
 ) -> Begun
     ensures { Begins (whole head queued.old held.old queued_originators.old queued_lengths.old held_originators.old held_lengths.old queued_payloads.old held_payloads.old) n number group resilience result.verdict (whole result.head queued.new held.new queued_originators.new queued_lengths.new held_originators.new held_lengths.new queued_payloads.new held_payloads.new) }
 {
-    *queued = [0u32; Group::WAITING];
-    *held = [0u32; Group::HELD];
-    *queued_originators = [0u8; Group::WAITING];
-    *queued_lengths = [0u8; Group::WAITING];
-    *held_originators = [0u8; Group::HELD];
-    *held_lengths = [0u8; Group::HELD];
-    *queued_payloads = [0u8; Group::WAITING_BYTES];
-    *held_payloads = [0u8; Group::HELD_BYTES];
+    *queued = [0; Group::WAITING];
+    *held = [0; Group::HELD];
+    *queued_originators = [0; Group::WAITING];
+    *queued_lengths = [0; Group::WAITING];
+    *held_originators = [0; Group::HELD];
+    *held_lengths = [0; Group::HELD];
+    *queued_payloads = [0; Group::WAITING_BYTES];
+    *held_payloads = [0; Group::HELD_BYTES];
     if n <= number.0 {
         return unopened(Refusal::Opening);
     }
-    let opened = Group::fresh(n, group, resilience);
-    match opened {
-        Opened::Open(g) => {
-            let head = member::idle(g, number);
-            Begun {
-                head,
-                verdict: Verdict::Accepted,
-            }
-        }
-        Opened::Refused(q) => unopened(q),
+    match Group::fresh(n, group, resilience) {
+        Ok(group) => Begun {
+            head: member::idle(group, number),
+            verdict: Ok(()),
+        },
+        Err(refusal) => unopened(refusal),
     }
 }
 
@@ -235,7 +183,7 @@ pub fn submit_on(
 ) -> Done
     ensures { Submitted (whole head queued.old held.old queued_originators.old queued_lengths.old held_originators.old held_lengths.old queued_payloads.old held_payloads.old) payload.now out.old result.reply (whole result.head queued.new held.new queued_originators.new queued_lengths.new held_originators.new held_lengths.new queued_payloads.new held_payloads.new) out.new }
 {
-    let v = member::ask(
+    if let Err(refusal) = member::ask(
         head,
         queued,
         held,
@@ -246,32 +194,22 @@ pub fn submit_on(
         queued_payloads,
         held_payloads,
         out.len(),
-    );
-    match v {
-        Verdict::Accepted => {
-            let w = member::ask_submission(head, payload.len());
-            match w {
-                Verdict::Accepted => member::submitted(
-                    head,
-                    held,
-                    queued,
-                    queued_originators,
-                    queued_lengths,
-                    queued_payloads,
-                    payload,
-                    out,
-                ),
-                Verdict::Refused(q) => {
-                    let reply = refused(q);
-                    Done { head, reply }
-                }
-            }
-        }
-        Verdict::Refused(q) => {
-            let reply = refused(q);
-            Done { head, reply }
-        }
+    ) {
+        return declined(head, refusal);
     }
+    if let Err(refusal) = member::ask_submission(head, payload.len()) {
+        return declined(head, refusal);
+    }
+    member::submitted(
+        head,
+        held,
+        queued,
+        queued_originators,
+        queued_lengths,
+        queued_payloads,
+        payload,
+        out,
+    )
 }
 
 // The work of a packet: questions 1 to 9, then the step.
@@ -290,7 +228,7 @@ pub fn receive_on(
 ) -> Done
     ensures { Received (whole head queued.old held.old queued_originators.old queued_lengths.old held_originators.old held_lengths.old queued_payloads.old held_payloads.old) packet.now out.old result.reply (whole result.head queued.new held.new queued_originators.new queued_lengths.new held_originators.new held_lengths.new queued_payloads.new held_payloads.new) out.new }
 {
-    let v = member::ask(
+    if let Err(refusal) = member::ask(
         head,
         queued,
         held,
@@ -301,34 +239,24 @@ pub fn receive_on(
         queued_payloads,
         held_payloads,
         out.len(),
-    );
-    match v {
-        Verdict::Accepted => {
-            let r = read_ours(head.group, packet);
-            match r {
-                Reading::Fields(h) => {
-                    let end = Group::HEADER + packet::payload_length(packet);
-                    content(
-                        head,
-                        held,
-                        held_originators,
-                        held_lengths,
-                        held_payloads,
-                        Packet::of(h),
-                        &packet[Group::HEADER..end],
-                        out,
-                    )
-                }
-                Reading::Refused(q) => {
-                    let reply = refused(q);
-                    Done { head, reply }
-                }
-            }
+    ) {
+        return declined(head, refusal);
+    }
+    match read_ours(head.group, packet) {
+        Ok(header) => {
+            let end = Group::HEADER + packet::payload_length(packet);
+            content(
+                head,
+                held,
+                held_originators,
+                held_lengths,
+                held_payloads,
+                Packet::of(header),
+                &packet[Group::HEADER..end],
+                out,
+            )
         }
-        Verdict::Refused(q) => {
-            let reply = refused(q);
-            Done { head, reply }
-        }
+        Err(refusal) => declined(head, refusal),
     }
 }
 
@@ -347,7 +275,7 @@ pub fn take_on(
 ) -> Done
     ensures { Taken (whole head queued.old held.old queued_originators.old queued_lengths.old held_originators.old held_lengths.old queued_payloads.old held_payloads.old) out.old result.reply (whole result.head queued.new held.new queued_originators.new queued_lengths.new held_originators.new held_lengths.new queued_payloads.new held_payloads.new) out.new }
 {
-    let v = member::ask(
+    if let Err(refusal) = member::ask(
         head,
         queued,
         held,
@@ -358,33 +286,27 @@ pub fn take_on(
         queued_payloads,
         held_payloads,
         out.len(),
-    );
-    match v {
-        Verdict::Accepted => {
-            let following = window::place(head.taken, 1);
-            if window::ready(held[following], head.taken, head.accepted) {
-                return member::hand_out(
-                    head,
-                    queued,
-                    queued_originators,
-                    queued_lengths,
-                    queued_payloads,
-                    held,
-                    held_originators,
-                    held_lengths,
-                    held_payloads,
-                    out,
-                );
-            }
-            let answer = Answer::None;
-            let reply = Reply { answer, written: 0 };
-            Done { head, reply }
-        }
-        Verdict::Refused(q) => {
-            let reply = refused(q);
-            Done { head, reply }
-        }
+    ) {
+        return declined(head, refusal);
     }
+    let following = window::place(head.taken, 1);
+    if window::ready(held[following], head.taken, head.accepted) {
+        return member::hand_out(
+            head,
+            queued,
+            queued_originators,
+            queued_lengths,
+            queued_payloads,
+            held,
+            held_originators,
+            held_lengths,
+            held_payloads,
+            out,
+        );
+    }
+    let answer = Answer::None;
+    let reply = Reply { answer, written: 0 };
+    Done { head, reply }
 }
 
 // The work of a repeat: question 15.
@@ -402,7 +324,7 @@ pub fn repeat_on(
 ) -> Reply
     ensures { Repeated (whole head queued.now held.now queued_originators.now queued_lengths.now held_originators.now held_lengths.now queued_payloads.now held_payloads.now) out.old result out.new }
 {
-    let v = member::ask(
+    if let Err(refusal) = member::ask(
         head,
         queued,
         held,
@@ -413,19 +335,15 @@ pub fn repeat_on(
         queued_payloads,
         held_payloads,
         out.len(),
-    );
-    match v {
-        Verdict::Accepted => {
-            if 1 <= head.waiting {
-                let written = member::put_first(head, held, queued_lengths, queued_payloads, out);
-                return Reply {
-                    answer: Answer::Sent,
-                    written,
-                };
-            }
-            refused(Refusal::NothingWaiting)
-        }
-        Verdict::Refused(q) => refused(q),
+    ) {
+        return refused(refusal);
+    }
+    if head.waiting == 0 {
+        return refused(Refusal::NothingWaiting);
+    }
+    Reply {
+        answer: Answer::Sent,
+        written: member::put_first(head, held, queued_lengths, queued_payloads, out),
     }
 }
 
@@ -444,7 +362,7 @@ pub fn status_on(
 ) -> Reply
     ensures { Reported (whole head queued.now held.now queued_originators.now queued_lengths.now held_originators.now held_lengths.now queued_payloads.now held_payloads.now) out.old result out.new }
 {
-    let v = member::ask(
+    if let Err(refusal) = member::ask(
         head,
         queued,
         held,
@@ -455,16 +373,12 @@ pub fn status_on(
         queued_payloads,
         held_payloads,
         out.len(),
-    );
-    match v {
-        Verdict::Accepted => {
-            let end = window::row_end(held, head.taken);
-            let written = member::put_status(head, end, out);
-            Reply {
-                answer: Answer::Sent,
-                written,
-            }
-        }
-        Verdict::Refused(q) => refused(q),
+    ) {
+        return refused(refusal);
+    }
+    let end = window::row_end(held, head.taken);
+    Reply {
+        answer: Answer::Sent,
+        written: member::put_status(head, end, out),
     }
 }

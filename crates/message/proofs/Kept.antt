@@ -11,10 +11,10 @@ use Rattle.group.specs.Limits.{payload_most}
 use Rattle.group.specs.declared.MemberNumber.{MemberNumber}
 use Rattle.message.specs.Message.{Message, all_zero, message_of, empty_message, payload_of, zero_behind, is_empty}
 
-zeros : (k : ℕ) → all_zero (replicate k 0) ≡ true
+pub all_zeros : (k : ℕ) → all_zero (replicate k 0) ≡ true
 unfolding all_zero when◌then◌else◌
-zeros zero = refl
-zeros (suc k) = zeros k
+all_zeros zero = refl
+all_zeros (suc k) = all_zeros k
 
 pub kept_payload : (m : MemberNumber) (count : ℕ) (payload : List ℕ) → payload_of (message_of m count payload) ≡ payload
 unfolding payload_of message_of
@@ -28,7 +28,7 @@ payload_short m h = simp length-take (omega arith)
 pub kept_zero : (m : MemberNumber) (count : ℕ) (payload : List ℕ) → zero_behind (message_of m count payload) ≡ true
 unfolding zero_behind message_of
 kept_zero m count payload =
-    ap all_zero (drop_at payload (replicate (payload_most - length payload) 0) (length payload) refl) ∙ zeros (payload_most - length payload)
+    ap all_zero (drop_at payload (replicate (payload_most - length payload) 0) (length payload) refl) ∙ all_zeros (payload_most - length payload)
 
 pub empty_zero : is_empty empty_message ≡ true
 unfolding is_empty zero_behind empty_message all_zero when◌then◌else◌

@@ -1,31 +1,32 @@
 -- The bytes from an index on, joined by `|`, are zero exactly if all are, one byte at a time. Assumes nothing.
 use mathlib.Core.Path.{◌≡◌, refl, sym, ap, ◌∙◌}
 use mathlib.Core.Bool.{Bool, true, false}
-use mathlib.Core.List.{List}
+use mathlib.Core.List.{List, [], ◌∷◌, ◌++◌}
 use Prim.Native.Nat.{ℕ, ◌+◌, ◌-◌, ◌≤◌, ◌<◌}
 use native.Mathlib.Numerals.{add-one}
 use native.Mathlib.Omega.{arith}
 use borrow.Author.Tests.{eq-eqb, ne_eqb, eqb-true, eqb-false}
 use lib.Bits.{bit_and, bit_or, or_add_and, and_le_l, and_le_r}
-use lib.ListN.{length, get_or, drop, drop_of_length-le}
+use lib.ListN.{length, get_or, take, drop, drop_of_length-le}
+use Rattle.std.proofs.lemmas.List.{take_more}
 use lib.Seq.{drop-cons}
 use Rattle.group.specs.Choice.{when◌then◌else◌, ◌and◌, ◌=?◌}
 use Rattle.group.proofs.Choice.{both_hold, first_fails, then_fails}
 use Rattle.group.proofs.Lists.{le_or}
 use Rattle.message.specs.Message.{all_zero}
 
-and_assoc : (a b c : Bool) → (a and b) and c ≡ a and (b and c)
+pub and_assoc : (a b c : Bool) → (a and b) and c ≡ a and (b and c)
 unfolding when◌then◌else◌
 and_assoc true b c = refl
 and_assoc false b c = refl
 
-and_true : (a : Bool) → a and true ≡ a
+pub and_true : (a : Bool) → a and true ≡ a
 unfolding when◌then◌else◌
 and_true true = refl
 and_true false = refl
 
 -- two bytes joined by `|` are zero exactly if both are
-or_zero : (a b : ℕ) → (bit_or a b =? 0) ≡ a =? 0 and b =? 0
+pub or_zero : (a b : ℕ) → (bit_or a b =? 0) ≡ a =? 0 and b =? 0
 or_zero a b = go (a =? 0) refl (b =? 0) refl
   where
     -- neither byte is above the two joined
@@ -40,6 +41,21 @@ or_zero a b = go (a =? 0) refl (b =? 0) refl
         ∙ sym (then_fails (a =? 0) (b =? 0) q)
     go false p u q =
         ne_eqb (bit_or a b) 0 (λ z. eqb-false a 0 p (let l = and_le_r a b in omega (arith, sum))) ∙ sym (first_fails (a =? 0) (b =? 0) p)
+
+pub zero_append : (xs ys : List ℕ) → all_zero (xs ++ ys) ≡ all_zero xs and all_zero ys
+unfolding all_zero when◌then◌else◌
+zero_append [] ys = refl
+zero_append (x ∷ xs) ys = ap (λ (b : Bool). x =? 0 and b) (zero_append xs ys) ∙ sym (and_assoc (x =? 0) (all_zero xs) (all_zero ys))
+
+-- bytes joined by `|`, and one more
+pub zero_joined : (seen b : ℕ) (bytes : List ℕ) → (seen =? 0) ≡ all_zero bytes → (bit_or seen b =? 0) ≡ all_zero (bytes ++ (b ∷ []))
+unfolding all_zero
+zero_joined seen b bytes e =
+    rw (or_zero seen b, zero_append bytes (b ∷ []), e, and_true (b =? 0)) refl
+
+-- the next of them
+pub zero_next : (bytes : List ℕ) (i seen : ℕ) → i < length bytes → (seen =? 0) ≡ all_zero (take i bytes) → (bit_or seen (get_or bytes i 0) =? 0) ≡ all_zero (take (i + 1) bytes)
+zero_next bytes i seen h e = rw (take_more bytes i 0 h) (zero_joined seen (get_or bytes i 0) (take i bytes) e)
 
 either_true : (t u : Bool) → u ≡ true → (when t then true else u) ≡ true
 unfolding when◌then◌else◌

@@ -1,5 +1,7 @@
 -- An event that is refused, or names a packet or member not there, leaves the group as it was: where the answer is a refusal,
 -- some question said no, and then the state is the same and nothing is written. Assumes nothing.
+use Rattle.group.specs.Question.{all_yes}
+use Rattle.std.specs.Prelude.{Ok, Err}
 use mathlib.Core.Path.{◌≡◌, refl, sym, ap, ◌∙◌}
 use mathlib.Core.Bool.{true, false}
 use mathlib.Core.Option.{Option, none, some}
@@ -13,8 +15,7 @@ use Rattle.group.specs.Choice.{◌<?◌}
 use Rattle.group.specs.Limits.{longest_packet}
 use Rattle.group.specs.Question.{Question, first_no}
 use Rattle.group.specs.declared.Refusal.{Refusal}
-use Rattle.group.specs.declared.Verdict.{Verdict}
-use Rattle.group.specs.declared.Verdict.TheVariants.{Accepted, Refused}
+use Rattle.group.specs.Question.{Verdict}
 use Rattle.member.proofs.Asking as memberAsking
 use Rattle.member.specs.Calls as member
 use Rattle.member.specs.Laws as memberLaws
@@ -37,8 +38,8 @@ unfolding member.answered
 unchanged_member m questions o h refusal e = go (first_no questions) refl
   where
     go : (v : Verdict) → first_no questions ≡ v → (o.member ≡ m) × (o.bytes ≡ [])
-    go Accepted d = absurd (h.accepts refusal d e)
-    go (Refused r) d = rw (h.refuses r d) (refl, refl)
+    go (Ok _) d = absurd (h.accepts refusal d e)
+    go (Err r) d = rw (h.refuses r d) (refl, refl)
 
 unchanged_sequencer : (s : Sequencer) (questions : List Question) (o : sequencer.Outcome) → sequencerLaws.FirstNo s questions o
     → (refusal : Refusal) → o.answer ≡ sequencerAnswer.Answer.Refused refusal → (o.sequencer ≡ s) × (o.bytes ≡ [])
@@ -46,8 +47,8 @@ unfolding sequencer.answered
 unchanged_sequencer s questions o h refusal e = go (first_no questions) refl
   where
     go : (v : Verdict) → first_no questions ≡ v → (o.sequencer ≡ s) × (o.bytes ≡ [])
-    go Accepted d = absurd (h.accepts refusal d e)
-    go (Refused r) d = rw (h.refuses r d) (refl, refl)
+    go (Ok _) d = absurd (h.accepts refusal d e)
+    go (Err r) d = rw (h.refuses r d) (refl, refl)
 
 set_same : {A : Type 0} (l : List A) (i : ℕ) (d : A) → i < length l → set l i (get_or l i d) ≡ l
 set_same [] i d h = absurd (not-suc-le-zero h)

@@ -1,4 +1,5 @@
 -- Every event keeps the invariant; so does every list of events, from a fresh group on. Assumes nothing.
+use Rattle.std.specs.Prelude.{Ok}
 use mathlib.Core.Path.{◌≡◌, refl, sym, ap, ◌∙◌, subst, fun_ext}
 use mathlib.Core.Logic.{◌≢◌}
 use mathlib.Core.Bool.{Bool, true, false}
@@ -16,7 +17,7 @@ use Rattle.group.specs.Choice.{when◌then◌else◌, ◌<?◌, ◌=?◌}
 use Rattle.group.specs.Limits.{members_most, largest_number, longest_packet}
 use Rattle.group.proofs.Members.{in_all, Standing, fresh_standing}
 use Rattle.group.specs.Opening.{description_of, open_of}
-use Rattle.group.specs.declared.Opened.{Opened}
+use Rattle.group.specs.Opening.{Opened}
 use Rattle.group.specs.declared.Group as description
 use Rattle.member.proofs.Acknowledged.{acknowledged_most}
 use Rattle.member.proofs.Closing.{fresh_terminal_lem}
@@ -231,7 +232,7 @@ module _ (group : description.Group) (hn : group.n ≤ members_most) (hg : group
 
 -- a fresh group
 module _ (n g r : ℕ) (o : Opens n g r) where
-  open_group : open_of n g r ≡ Opened.Open (description_of n g r)
+  open_group : open_of n g r ≡ Ok (description_of n g r)
   unfolding open_of
   open_group =
       let a = o.least in

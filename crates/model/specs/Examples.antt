@@ -1,5 +1,6 @@
 -- The table of proved examples: document 01's marked sentences, in its order, and the schedule at its end, each computed.
 -- `proofs/Examples.antt` computes them.
+use Rattle.std.specs.Prelude.{Ok, Err}
 use Rattle.std.specs.Prelude.{◌≡◌, List, [], ◌∷◌, ◌++◌, map, ℕ, zero, suc, ◌+◌, length, replicate}
 use Rattle.group.specs.Members.{all_of}
 use Rattle.group.specs.Limits.{header_size, payload_most, longest_packet, places_most, held_most}
@@ -14,8 +15,8 @@ use Rattle.model.specs.Log.{order, taken, owed, history_of}
 use Rattle.model.specs.World.{Event, submit, take, status, copy, hand_member, hand_sequencer, Answer, by_sequencer, by_member, World, run, fresh}
 use Rattle.packet.specs.Packet.{packet_of, fields_of, read_of, write_of}
 use Rattle.packet.specs.declared.Packet.{Packet}
-use Rattle.packet.specs.declared.Reading.{Reading}
-use Rattle.packet.specs.declared.Writing.{Writing}
+use Rattle.packet.specs.Answers.{Reading}
+use Rattle.packet.specs.Answers.{Writing}
 use Rattle.history.specs.Note.{with_taken}
 use Rattle.history.specs.Repeat.{repeats_of}
 use Rattle.history.specs.State.{Acknowledgement, floor_of, no_acknowledgement}
@@ -83,15 +84,15 @@ pub record Examples : Type 0 where
   -- payload 240 goes, 241 is 13: submitted, and written
   pub submit_240 : (member.submit_of (holding 0) (replicate 240 1) longest_packet).answer ≡ memberAnswer.Answer.Sent
   pub submit_241 : (member.submit_of (holding 0) (replicate 241 1) longest_packet).answer ≡ memberAnswer.Answer.Refused Refusal.LongPayload
-  pub write_240 : (write_of (fields_of 7 (Packet.Request (record { 0 = 1 }) (record { 0 = 0 }) 1)) (replicate 240 1) longest_packet).answer ≡ Writing.Bytes 260
-  pub write_241 : (write_of (fields_of 7 (Packet.Request (record { 0 = 1 }) (record { 0 = 0 }) 1)) (replicate 241 1) longest_packet).answer ≡ Writing.Refused Refusal.LongPayload
+  pub write_240 : (write_of (fields_of 7 (Packet.Request (record { 0 = 1 }) (record { 0 = 0 }) 1)) (replicate 240 1) longest_packet).answer ≡ Ok 260
+  pub write_241 : (write_of (fields_of 7 (Packet.Request (record { 0 = 1 }) (record { 0 = 0 }) 1)) (replicate 241 1) longest_packet).answer ≡ Err Refusal.LongPayload
   -- packet of 19 or 261 bytes: 3; 20: goes on
-  pub packet_19 : read_of (replicate 19 0) ≡ Reading.Refused Refusal.PacketSize
-  pub packet_261 : read_of (replicate 261 0) ≡ Reading.Refused Refusal.PacketSize
-  pub packet_20 : read_of (replicate 20 0) ≡ Reading.Refused Refusal.UnknownKind
-  pub packet_20_status : read_of (status_of 1 0) ≡ Reading.Fields (fields_of 7 (Packet.Status (record { 0 = 1 }) (record { 0 = 0 })))
+  pub packet_19 : read_of (replicate 19 0) ≡ Err Refusal.PacketSize
+  pub packet_261 : read_of (replicate 261 0) ≡ Err Refusal.PacketSize
+  pub packet_20 : read_of (replicate 20 0) ≡ Err Refusal.UnknownKind
+  pub packet_20_status : read_of (status_of 1 0) ≡ Ok (fields_of 7 (Packet.Status (record { 0 = 1 }) (record { 0 = 0 })))
   -- both bytes of L are read: a status of 20 bytes with L = 256 is 5
-  pub packet_length_256 : read_of (0x04 ∷ 0x01 ∷ 0x01 ∷ 0x00 ∷ 0x00 ∷ 0x00 ∷ 0x00 ∷ 0x07 ∷ replicate 12 0) ≡ Reading.Refused Refusal.PayloadLength
+  pub packet_length_256 : read_of (0x04 ∷ 0x01 ∷ 0x01 ∷ 0x00 ∷ 0x00 ∷ 0x00 ∷ 0x00 ∷ 0x07 ∷ replicate 12 0) ≡ Err Refusal.PayloadLength
   -- with t + 1 to t + 7 held, t + 8 is Kept and then t + 9 Beyond
   pub eighth : (member.receive_of (holding 7) (broadcast 8) longest_packet).answer ≡ memberAnswer.Answer.Kept
   pub ninth : (member.receive_of (holding 8) (broadcast 9) longest_packet).answer ≡ memberAnswer.Answer.Beyond
@@ -141,7 +142,7 @@ pub record Examples : Type 0 where
   pub asleep_given : taken 0 (run (run (fresh 1 7 0) asleep) (closing (run (fresh 1 7 0) asleep))).log ≡ alone_message
   -- group 7, member 1, first message "ab", in hexadecimal
   pub ab_written : request 0 1 (0x61 ∷ 0x62 ∷ []) ≡ ab
-  pub ab_read : read_of ab ≡ Reading.Fields (fields_of 7 (Packet.Request (record { 0 = 1 }) (record { 0 = 0 }) 1))
+  pub ab_read : read_of ab ≡ Ok (fields_of 7 (Packet.Request (record { 0 = 1 }) (record { 0 = 0 }) 1))
   -- the schedule at the document's end: sent, numbered 1, kept, took 1 1 1 6162 last, none
   pub schedule_answers : answers (run (fresh 2 7 0) schedule)
       ≡ by_member memberAnswer.Answer.Sent ab

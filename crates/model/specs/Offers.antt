@@ -1,10 +1,12 @@
 -- Examples of offers, each computed: one that is lost, repeated and confirmed; two accepted by one confirmation; an acceptance before its
 -- message; confirmations that are not expected or come late; a message that nobody takes before r members have it; what a closing round
 -- leaves. `proofs/Examples.antt` computes them.
+use Rattle.group.specs.Question.{all_yes}
+use Rattle.std.specs.Prelude.{Err}
 use Rattle.std.specs.Prelude.{◌≡◌, true, false, List, [], ◌∷◌, ◌++◌, ℕ, drop}
 use Rattle.group.specs.Limits.{longest_packet}
 use Rattle.group.specs.declared.Refusal.{Refusal}
-use Rattle.group.specs.declared.Verdict.{Verdict}
+use Rattle.group.specs.Question.{Verdict}
 use Rattle.member.specs.Calls as member
 use Rattle.member.specs.declared.Answer as memberAnswer
 use Rattle.message.specs.Order.{Ordered}
@@ -151,7 +153,7 @@ pub record Offers : Type 0 where
   -- a copy of an accepted message is a broadcast
   pub copied : drop 12 (answers (run (fresh 3 7 1) (lost ++ (copy 1 ∷ [])))) ≡ by_sequencer sequencerAnswer.Answer.Sent (broadcast_of 2 1) ∷ []
   -- opening: r below n goes, r = n is 24, and the member's number is asked before
-  pub opens : (sequencer.fresh_of 3 7 2).verdict ≡ Verdict.Accepted
-  pub opens_not : (sequencer.fresh_of 3 7 3).verdict ≡ Verdict.Refused Refusal.Resilience
-  pub opens_member : (member.fresh_of 3 (record { 0 = 2 }) 7 3).verdict ≡ Verdict.Refused Refusal.Resilience
-  pub opens_18_first : (member.fresh_of 3 (record { 0 = 3 }) 7 3).verdict ≡ Verdict.Refused Refusal.Opening
+  pub opens : (sequencer.fresh_of 3 7 2).verdict ≡ all_yes
+  pub opens_not : (sequencer.fresh_of 3 7 3).verdict ≡ Err Refusal.Resilience
+  pub opens_member : (member.fresh_of 3 (record { 0 = 2 }) 7 3).verdict ≡ Err Refusal.Resilience
+  pub opens_18_first : (member.fresh_of 3 (record { 0 = 3 }) 7 3).verdict ≡ Err Refusal.Opening

@@ -1,5 +1,7 @@
 -- The laws that `specs/Laws.antt` states: the round trips by the laws of a packet's parts, the first no by going down the
 -- questions, the two ways of saying a packet by its kind. Assumes nothing.
+use Rattle.group.specs.Question.{all_yes}
+use Rattle.std.specs.Prelude.{Ok, Err}
 use mathlib.Core.Path.{◌≡◌, refl, sym, ap, ◌∙◌}
 use mathlib.Core.Bool.{true, false}
 use mathlib.Core.List.{List, [], ◌∷◌}
@@ -10,7 +12,7 @@ use Rattle.group.specs.Choice.{when◌then◌else◌, ask◌or◌then◌, ◌≤
 use Rattle.group.specs.Limits.{header_size, payload_most, longest_packet}
 use Rattle.group.specs.Question.{Question, first_no, judged}
 use Rattle.group.specs.declared.Refusal.TheVariants.{ShortOutput, PacketSize, UnknownKind, PayloadLength, ForbiddenFields, LongPayload}
-use Rattle.group.specs.declared.Verdict.{Verdict}
+use Rattle.group.specs.Question.{Verdict}
 use Rattle.group.proofs.Choice.{says}
 use Rattle.group.proofs.Question.{judged_ask, first_no-append}
 use Rattle.packet.specs.Laws.{Fits, ReadWritten, WriteRead, SameFieldsSamePacket, OnePacket, ReadFirstNo, WriteFirstNo, ContentFields, FieldsContent}
@@ -18,7 +20,7 @@ use Rattle.packet.specs.Packet.{header_of, length_at, payload_at, known_kind, pa
 use Rattle.packet.specs.declared.Header.{Header}
 use Rattle.packet.specs.declared.Packet.{Packet}
 use Rattle.packet.specs.declared.Packet.TheVariants.{Request, Broadcast, Gap, Status, Poll, Offer, Confirm, Accept, Invitation, Reply, Result}
-use Rattle.packet.specs.declared.Reading.{Reading}
+use Rattle.packet.specs.Answers.{Reading}
 use Rattle.packet.proofs.RoundTrip.{packet_length, payload_back, length_back, header_back, packet_bytes, header_fits, packet_back}
 use Rattle.packet.proofs.Verdicts.{read_by, accepted, writable, askable, readable}
 
@@ -36,8 +38,8 @@ read_written h payload (fits, allowed) =
     let w = writable h payload longest_packet allowed in
     let p = packet_of h payload in
     let n = packet_length h payload in
-    let v : Verdict.Accepted ≡ fields_verdict h (length payload) (payload_at p) = rw (payload_back h payload) (sym w.fields) in
-    let r = read_by p h (length payload) Verdict.Accepted (omega arith) (omega arith) (sym (header_back h payload fits)) (sym (length_back h payload (omega arith))) v in
+    let v : all_yes ≡ fields_verdict h (length payload) (payload_at p) = rw (payload_back h payload) (sym w.fields) in
+    let r = read_by p h (length payload) all_yes (omega arith) (omega arith) (sym (header_back h payload fits)) (sym (length_back h payload (omega arith))) v in
     (sym r, payload_back h payload)
 
 pub write_read : WriteRead
@@ -58,12 +60,12 @@ one_packet h payload bytes allowed =
 
 pub read_first_no : ReadFirstNo
 unfolding read_of fields_verdict first_no
-read_first_no p = judged_ask Reading.Refused (Reading.Fields (header_of p)) _ PacketSize (fields_questions (header_of p) (length_at p) (payload_at p))
+read_first_no p = judged_ask Err (Ok (header_of p)) _ PacketSize (fields_questions (header_of p) (length_at p) (payload_at p))
 
 pub write_first_no : WriteFirstNo
 unfolding write_verdict fields_verdict first_no
 write_first_no h payload room =
-    ap (λ (v : Verdict). ask longest_packet ≤? room or Verdict.Refused ShortOutput then v)
+    ap (λ (v : Verdict). ask longest_packet ≤? room or Err ShortOutput then v)
     (first_no-append (fields_questions h (length payload) payload) (record { yes = length payload ≤? payload_most; refusal = LongPayload } ∷ []))
 
 pub content_fields : ContentFields

@@ -1,4 +1,6 @@
 -- What a verdict makes of a reading and of a writing. Assumes nothing.
+use Rattle.group.specs.Question.{all_yes}
+use Rattle.std.specs.Prelude.{Ok, Err}
 use mathlib.Core.Path.{◌≡◌, refl, sym, ap, ◌∙◌, subst}
 use mathlib.Core.Logic.{◌≢◌}
 use mathlib.Core.Bool.{true}
@@ -15,8 +17,7 @@ use Rattle.group.specs.Members.{is_in}
 use Rattle.group.specs.Question.{judged}
 use Rattle.group.specs.declared.Refusal.{Refusal}
 use Rattle.group.specs.declared.Refusal.TheVariants.{ShortOutput, PacketSize, UnknownKind, PayloadLength, ForbiddenFields, LongPayload}
-use Rattle.group.specs.declared.Verdict.{Verdict}
-use Rattle.group.specs.declared.Verdict.TheVariants.{Accepted, Refused}
+use Rattle.group.specs.Question.{Verdict}
 use Rattle.group.proofs.Choice.{choices, tests, when_was, both_first, both_then}
 use Rattle.group.proofs.Members.{in_lt}
 use Rattle.group.proofs.Question.{accepted≢, judged_was}
@@ -24,13 +25,13 @@ use Rattle.big_endian.specs.Laws.{Bytes}
 use Rattle.big_endian.proofs.Number.{number_behind, number_fits}
 use Rattle.packet.specs.Packet.{accept_kind, reply_kind, result_kind, header_of, length_at, payload_at, survivors_size, survivors_in, known_kind, payload_fits, obeys, fields_verdict, read_of, packet_of, write_verdict, write_of, Named}
 use Rattle.packet.specs.declared.Header.{Header}
-use Rattle.packet.specs.declared.Reading.{Reading}
-use Rattle.packet.specs.declared.Writing.{Writing}
+use Rattle.packet.specs.Answers.{Reading}
+use Rattle.packet.specs.Answers.{Writing}
 
 -- a packet of the right size is read as its verdict says
 pub read_by : (p : List ℕ) (h : Header) (l : ℕ) (v : Verdict) → header_size ≤ length p → length p ≤ longest_packet
     → h ≡ header_of p → l ≡ length_at p → v ≡ fields_verdict h l (payload_at p)
-    → judged v Reading.Refused (Reading.Fields h) ≡ read_of p
+    → judged v Err (Ok h) ≡ read_of p
 unfolding read_of
 read_by p h l v lo hi eh el ev = rw (ev, eh, el) (search (choices, tests, rules) depth 9)
 
@@ -41,12 +42,12 @@ pub record Askable (h : Header) (l : ℕ) (payload : List ℕ) : Type 0 where
   pub obey : obeys h payload ≡ true
   pub size : length payload ≡ l
 
-pub askable : (h : Header) (l : ℕ) (payload : List ℕ) → fields_verdict h l payload ≡ Accepted → Askable h l payload
+pub askable : (h : Header) (l : ℕ) (payload : List ℕ) → fields_verdict h l payload ≡ all_yes → Askable h l payload
 unfolding fields_verdict payload_fits
 askable h l payload e =
-    let k = when_was _ _ _ Accepted e (accepted≢ UnknownKind) in
-    let f = when_was _ _ _ Accepted k.1 (accepted≢ PayloadLength) in
-    let o = when_was _ _ _ Accepted f.1 (accepted≢ ForbiddenFields) in
+    let k = when_was _ _ _ all_yes e (accepted≢ UnknownKind) in
+    let f = when_was _ _ _ all_yes k.1 (accepted≢ PayloadLength) in
+    let o = when_was _ _ _ all_yes f.1 (accepted≢ ForbiddenFields) in
     let s = both_first (length payload =? l) _ f.0 in
     record { known = k.0; fits = f.0; obey = o.0; size = eqb-true (length payload) l s }
 
@@ -92,18 +93,18 @@ pub record Readable (p : List ℕ) (h : Header) : Type 0 where
   pub short : length p ≤ longest_packet
   pub header : h ≡ header_of p
   pub l : length p - header_size ≡ length_at p
-  pub fields : fields_verdict h (length p - header_size) (payload_at p) ≡ Accepted
+  pub fields : fields_verdict h (length p - header_size) (payload_at p) ≡ all_yes
   pub payload : length (payload_at p) ≤ payload_most
 
-fields≢ : (h : Header) (r : Refusal) → Reading.Refused r ≡ Reading.Fields h → ⊥
+fields≢ : (h : Header) (r : Refusal) → Err r ≡ Ok h → ⊥
 fields≢ h r e = let z : ◌≡◌ {A = ℕ} 0 1 = cc in omega arith
 
-pub readable : (p : List ℕ) (h : Header) → read_of p ≡ Reading.Fields h → Readable p h
+pub readable : (p : List ℕ) (h : Header) → read_of p ≡ Ok h → Readable p h
 unfolding read_of
 readable p h e =
     let v = fields_verdict (header_of p) (length_at p) (payload_at p) in
-    let w = when_was (header_size ≤? length p and length p ≤? longest_packet) _ _ (Reading.Fields h) e (fields≢ h PacketSize) in
-    let j = judged_was v Reading.Refused (Reading.Fields (header_of p)) (Reading.Fields h) (fields≢ h) w.1 in
+    let w = when_was (header_size ≤? length p and length p ≤? longest_packet) _ _ (Ok h) e (fields≢ h PacketSize) in
+    let j = judged_was v Err (Ok (header_of p)) (Ok h) (fields≢ h) w.1 in
     let lo = leb-true header_size (length p) (both_first (header_size ≤? length p) _ w.0) in
     let hi = leb-true (length p) longest_packet (both_then (header_size ≤? length p) _ w.0) in
     let s : length p - header_size ≡ length_at p = sym (length-drop header_size p) ∙ (askable (header_of p) (length_at p) (payload_at p) j.0).size in
@@ -123,7 +124,7 @@ unfolding obeys when◌then◌else◌
 result_named h payload k o = both_then (is_in (survivors_in payload) h.member.0) (is_in (survivors_in payload) h.b) (rw k at o)
 
 -- what was read has a meaning
-pub read_named : (p : List ℕ) → Bytes p → (h : Header) → read_of p ≡ Reading.Fields h → Named h
+pub read_named : (p : List ℕ) → Bytes p → (h : Header) → read_of p ≡ Ok h → Named h
 read_named p bytes h e =
     let r = readable p h e in
     let a = askable h (length p - header_size) (payload_at p) r.fields in (
@@ -139,7 +140,7 @@ read_named p bytes h e =
     )
 
 -- the part of a packet that was read, from byte 20 to 20 + L, is its payload
-pub payload_part : (p : List ℕ) (h : Header) → read_of p ≡ Reading.Fields h
+pub payload_part : (p : List ℕ) (h : Header) → read_of p ≡ Ok h
     → (header_size + length_at p ≡ length p) × (take (header_size + length_at p - header_size) (payload_at p) ≡ payload_at p)
 payload_part p h e =
     let r = readable p h e in
@@ -148,40 +149,40 @@ payload_part p h e =
 -- what a writing that is accepted was asked
 pub record Writable (h : Header) (payload : List ℕ) (room : ℕ) : Type 0 where
   pub enough : longest_packet ≤ room
-  pub fields : fields_verdict h (length payload) payload ≡ Accepted
+  pub fields : fields_verdict h (length payload) payload ≡ all_yes
   pub short : length payload ≤ payload_most
 
-pub writable : (h : Header) (payload : List ℕ) (room : ℕ) → write_verdict h payload room ≡ Accepted → Writable h payload room
+pub writable : (h : Header) (payload : List ℕ) (room : ℕ) → write_verdict h payload room ≡ all_yes → Writable h payload room
 unfolding write_verdict
 writable h payload room e =
     let size = length payload in
-    let long = when size ≤? payload_most then Accepted else Refused LongPayload in
-    let w = when_was (longest_packet ≤? room) (judged (fields_verdict h size payload) Refused long) (Refused ShortOutput) Accepted e (accepted≢ ShortOutput) in
-    let j = judged_was (fields_verdict h size payload) Refused long Accepted accepted≢ w.1 in
-    let s = when_was (size ≤? payload_most) Accepted (Refused LongPayload) Accepted j.1 (accepted≢ LongPayload) in
+    let long = when size ≤? payload_most then all_yes else Err LongPayload in
+    let w = when_was (longest_packet ≤? room) (judged (fields_verdict h size payload) Err long) (Err ShortOutput) all_yes e (accepted≢ ShortOutput) in
+    let j = judged_was (fields_verdict h size payload) Err long all_yes accepted≢ w.1 in
+    let s = when_was (size ≤? payload_most) all_yes (Err LongPayload) all_yes j.1 (accepted≢ LongPayload) in
     record { enough = leb-true longest_packet room w.0; fields = j.0; short = leb-true size payload_most s.0 }
 
 -- a writing that the output is long enough for goes by the verdict on the fields, and then by the payload's length
 pub write_by : (h : Header) (payload : List ℕ) (room : ℕ) (v : Verdict) → longest_packet ≤ room → v ≡ fields_verdict h (length payload) payload
-    → judged v Refused (when length payload ≤? payload_most then Accepted else Refused LongPayload) ≡ write_verdict h payload room
+    → judged v Err (when length payload ≤? payload_most then all_yes else Err LongPayload) ≡ write_verdict h payload room
 unfolding write_verdict
 write_by h payload room v e ev = rw ev (search (choices, rules) depth 9)
 
 -- a writing of which all that holds is accepted
-pub accepted : (h : Header) (payload : List ℕ) (room : ℕ) → Writable h payload room → write_verdict h payload room ≡ Accepted
+pub accepted : (h : Header) (payload : List ℕ) (room : ℕ) → Writable h payload room → write_verdict h payload room ≡ all_yes
 unfolding judged
 accepted h payload room w =
     let s = w.short in
-    sym (write_by h payload room Accepted w.enough (sym w.fields)) ∙ sym (search (choices, rules) depth 9)
+    sym (write_by h payload room all_yes w.enough (sym w.fields)) ∙ sym (search (choices, rules) depth 9)
 
 module _ (h : Header) (payload : List ℕ) (room : ℕ) where
   -- what is answered and written, where the verdict is known
-  pub written_not : (r : Refusal) → write_verdict h payload room ≡ Refused r
-      → (Writing.Refused r ≡ (write_of h payload room).answer) × ([] ≡ (write_of h payload room).bytes)
+  pub written_not : (r : Refusal) → write_verdict h payload room ≡ Err r
+      → (Err r ≡ (write_of h payload room).answer) × ([] ≡ (write_of h payload room).bytes)
   unfolding write_of judged
   written_not r e = rw e (refl, refl)
 
-  pub written : write_verdict h payload room ≡ Accepted
-      → (Writing.Bytes (header_size + length payload) ≡ (write_of h payload room).answer) × (packet_of h payload ≡ (write_of h payload room).bytes)
+  pub written : write_verdict h payload room ≡ all_yes
+      → (Ok (header_size + length payload) ≡ (write_of h payload room).answer) × (packet_of h payload ≡ (write_of h payload room).bytes)
   unfolding write_of judged
   written e = rw e (refl, refl)

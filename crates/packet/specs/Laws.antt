@@ -1,15 +1,17 @@
 -- What is proved of packets, besides the promises of reading and writing. `proofs/Laws.antt` has a proof of each statement.
+use Rattle.group.specs.Question.{all_yes}
+use Rattle.std.specs.Prelude.{Ok, Err}
 use Rattle.std.specs.Prelude.{◌≡◌, List, [], ◌∷◌, ℕ, ◌≤◌, ◌<◌, length}
 use Rattle.group.specs.Choice.{◌and◌, ◌≤?◌}
 use Rattle.group.specs.Limits.{header_size, payload_most, longest_packet, largest_number}
 use Rattle.group.specs.Question.{Question, first_no, judged}
 use Rattle.group.specs.declared.Refusal.TheVariants.{ShortOutput, PacketSize, UnknownKind, PayloadLength, ForbiddenFields, LongPayload}
-use Rattle.group.specs.declared.Verdict.{Verdict}
+use Rattle.group.specs.Question.{Verdict}
 use Rattle.big_endian.specs.Laws.{Bytes}
 use Rattle.packet.specs.Packet.{header_of, length_at, payload_at, known_kind, payload_fits, obeys, fields_verdict, read_of, packet_of, write_verdict, content_of, fields_of}
 use Rattle.packet.specs.declared.Header.{Header}
 use Rattle.packet.specs.declared.Packet.{Packet}
-use Rattle.packet.specs.declared.Reading.{Reading}
+use Rattle.packet.specs.Answers.{Reading}
 
 -- fields that their types can hold
 pub record Fits (h : Header) : Type 0 where
@@ -22,11 +24,11 @@ pub record Fits (h : Header) : Type 0 where
 
 -- fields and a payload that a packet may have: writing accepts them where the lent output is long enough
 abbrev pub Allowed : Header → List ℕ → Type 0
-Allowed h payload = Fits h × (write_verdict h payload longest_packet ≡ Verdict.Accepted)
+Allowed h payload = Fits h × (write_verdict h payload longest_packet ≡ all_yes)
 
 -- a packet that reads to these fields and this payload
 abbrev pub Reads : List ℕ → Header → List ℕ → Type 0
-Reads p h payload = (read_of p ≡ Reading.Fields h) × (payload_at p ≡ payload)
+Reads p h payload = (read_of p ≡ Ok h) × (payload_at p ≡ payload)
 
 -- reading what was written gives fields and payload back
 abbrev pub ReadWritten : Type 0
@@ -58,7 +60,7 @@ read_questions p =
 
 -- reading refuses with the first no of its questions, and accepts everything else
 abbrev pub ReadFirstNo : Type 0
-ReadFirstNo = (p : List ℕ) → read_of p ≡ judged (first_no (read_questions p)) Reading.Refused (Reading.Fields (header_of p))
+ReadFirstNo = (p : List ℕ) → read_of p ≡ judged (first_no (read_questions p)) Err (Ok (header_of p))
 
 -- the questions of writing, 2, 4, 5, 6 and 13
 abbrev pub write_questions : Header → List ℕ → ℕ → List Question
@@ -79,4 +81,4 @@ abbrev pub ContentFields : Type 0
 ContentFields = (group : ℕ) (packet : Packet) → content_of (fields_of group packet) ≡ packet
 
 abbrev pub FieldsContent : Type 0
-FieldsContent = (h : Header) (l : ℕ) (payload : List ℕ) → fields_verdict h l payload ≡ Verdict.Accepted → fields_of h.group (content_of h) ≡ h
+FieldsContent = (h : Header) (l : ℕ) (payload : List ℕ) → fields_verdict h l payload ≡ all_yes → fields_of h.group (content_of h) ≡ h

@@ -1,3 +1,4 @@
+pub mod Answers
 pub mod Packet
 pub mod Wording
 pub mod Laws

@@ -1,5 +1,7 @@
 -- Packets: 20 bytes of header and then L payload bytes. Byte 0 is the kind, byte 1 a member number, bytes 2-3 L,
 -- bytes 4-7 the group number, then A (8-11), B (12-15), C (16-19). Numbers are big-endian.
+use Rattle.group.specs.Question.{all_yes}
+use Rattle.std.specs.Prelude.{Ok, Err}
 use Rattle.std.specs.Prelude.{Bool, true, List, [], ◌∷◌, ◌++◌, ℕ, ◌+◌, ◌-◌, ◌<◌, ◌≤◌, length, get_or, drop}
 use Rattle.group.specs.Choice.{when◌then◌else◌, ask◌or◌then◌, ◌and◌, ◌<?◌, ◌≤?◌, ◌=?◌}
 use Rattle.group.specs.Limits.{header_size, payload_most, longest_packet}
@@ -7,13 +9,13 @@ use Rattle.group.specs.Members.{is_in}
 use Rattle.group.specs.Question.{judged}
 use Rattle.group.specs.declared.Group.{Group}
 use Rattle.group.specs.declared.Refusal.TheVariants.{ShortOutput, PacketSize, UnknownKind, PayloadLength, ForbiddenFields, LongPayload}
-use Rattle.group.specs.declared.Verdict.{Verdict}
+use Rattle.group.specs.Question.{Verdict}
 use Rattle.big_endian.specs.Number.{number_at, bytes_of}
 use Rattle.packet.specs.declared.Header.{Header}
 use Rattle.packet.specs.declared.Packet.{Packet}
 use Rattle.packet.specs.declared.Packet.TheVariants.{Request, Broadcast, Gap, Status, Poll, Offer, Confirm, Accept, Invitation, Reply, Result}
-use Rattle.packet.specs.declared.Reading.{Reading}
-use Rattle.packet.specs.declared.Writing.{Writing}
+use Rattle.packet.specs.Answers.{Reading}
+use Rattle.packet.specs.Answers.{Writing}
 
 -- the kinds
 abbrev pub request_kind : ℕ
@@ -113,16 +115,16 @@ obeys h payload =
 -- questions 4, 5 and 6 of fields and L before a payload
 unfoldable pub fields_verdict : Header → ℕ → List ℕ → Verdict
 fields_verdict h l payload =
-    ask known_kind h.kind or Verdict.Refused UnknownKind then
-    ask payload_fits h.kind l (length payload) or Verdict.Refused PayloadLength then
-    ask obeys h payload or Verdict.Refused ForbiddenFields then
-    Verdict.Accepted
+    ask known_kind h.kind or Err UnknownKind then
+    ask payload_fits h.kind l (length payload) or Err PayloadLength then
+    ask obeys h payload or Err ForbiddenFields then
+    all_yes
 
 -- reading a packet: question 3, then 4 to 6
 unfoldable pub read_of : List ℕ → Reading
 read_of p =
-    ask header_size ≤? length p and length p ≤? longest_packet or Reading.Refused PacketSize then
-    judged (fields_verdict (header_of p) (length_at p) (payload_at p)) Reading.Refused (Reading.Fields (header_of p))
+    ask header_size ≤? length p and length p ≤? longest_packet or Err PacketSize then
+    judged (fields_verdict (header_of p) (length_at p) (payload_at p)) Err (Ok (header_of p))
 
 -- the 20 bytes of fields and L
 unfoldable pub header_bytes : Header → ℕ → List ℕ
@@ -137,9 +139,9 @@ packet_of h payload = header_bytes h (length payload) ++ payload
 -- it is 2 in kind 11, and zero in kinds 3, 4, 5 and 7 to 10
 unfoldable pub write_verdict : Header → List ℕ → ℕ → Verdict
 write_verdict h payload room =
-    ask longest_packet ≤? room or Verdict.Refused ShortOutput then
-    judged (fields_verdict h (length payload) payload) Verdict.Refused
-    (ask length payload ≤? payload_most or Verdict.Refused LongPayload then Verdict.Accepted)
+    ask longest_packet ≤? room or Err ShortOutput then
+    judged (fields_verdict h (length payload) payload) Err
+    (ask length payload ≤? payload_most or Err LongPayload then all_yes)
 
 -- what writing answers, and the bytes that it lays at the front of the lent output
 pub record Written : Type 0 where
@@ -149,8 +151,8 @@ pub record Written : Type 0 where
 unfoldable pub write_of : Header → List ℕ → ℕ → Written
 write_of h payload room =
     judged (write_verdict h payload room)
-    (λ refusal. record { answer = Writing.Refused refusal; bytes = [] })
-    (record { answer = Writing.Bytes (header_size + length payload); bytes = packet_of h payload })
+    (λ refusal. record { answer = Err refusal; bytes = [] })
+    (record { answer = Ok (header_size + length payload); bytes = packet_of h payload })
 
 -- what the fields of each kind mean
 unfoldable pub content_of : Header → Packet

@@ -10,10 +10,10 @@ ghost use Rattle.packet.specs.Packet.{accept_kind, invitation_kind, reply_kind, 
 ghost use Rattle.packet.specs.declared.Packet.TheVariants.{Invitation, Reply, Result};
 ghost use Rattle.packet.specs.Wording.{reading_wording, writing_wording};
 
-use group::{Group, MemberNumber, Refusal, SequenceNumber, Verdict};
+use group::{Group, MemberNumber, Refusal, SequenceNumber};
 
 // The fields of a header as they stand in its bytes. L is not among them: it is the payload's length.
-#[derive(Clone, Copy)]
+#[derive(Clone, Copy, Debug, PartialEq, Eq)]
 pub struct Header {
     pub kind: u8,
     pub member: MemberNumber,
@@ -23,22 +23,8 @@ pub struct Header {
     pub c: u32,
 }
 
-// What reading a packet answers.
-#[derive(Clone, Copy)]
-pub enum Reading {
-    Fields(Header),
-    Refused(Refusal),
-}
-
-// What writing a packet answers: how many bytes it wrote, or what is refused.
-#[derive(Clone, Copy)]
-pub enum Writing {
-    Bytes(usize),
-    Refused(Refusal),
-}
-
 // What the fields of each kind mean.
-#[derive(Clone, Copy)]
+#[derive(Clone, Copy, Debug, PartialEq, Eq)]
 pub enum Packet {
     Request {
         sender: MemberNumber,
@@ -97,21 +83,18 @@ pub enum Packet {
     },
 }
 
+#[tactic(auto, unfolding(crate::specs::Packet::header_of))]
 fn header_at(packet: &[u8]) -> Header
     requires { header_size ≤ length packet.now }
     ensures { result ≡ header_of packet.now }
 {
-    let group = big_endian::u32_at(packet, 4);
-    let a = big_endian::u32_at(packet, 8);
-    let b = big_endian::u32_at(packet, 12);
-    let c = big_endian::u32_at(packet, 16);
     Header {
         kind: packet[0],
         member: MemberNumber(packet[1]),
-        group,
-        a,
-        b,
-        c,
+        group: big_endian::u32_at(packet, 4),
+        a: big_endian::u32_at(packet, 8),
+        b: big_endian::u32_at(packet, 12),
+        c: big_endian::u32_at(packet, 16),
     }
 }
 
@@ -120,8 +103,7 @@ pub fn payload_length(packet: &[u8]) -> usize
     requires { header_size ≤ length packet.now }
     ensures { result ≡ length_at packet.now }
 {
-    let l = big_endian::u16_at(packet, 2);
-    l as usize
+    big_endian::u16_at(packet, 2) as usize
 }
 
 impl Header {
@@ -152,171 +134,102 @@ impl Header {
     pub const SURVIVORS: usize = 2;
 
     // Of a message's packet A and B are at least 1 and C is below A.
+    #[tactic(auto, using(group::proofs::Choice::choices), unfolding(crate::specs::Packet::message_obeys))]
     fn message_obeys(self) -> bool
         ensures { result ≡ message_obeys self }
     {
-        if self.a < 1 {
-            return false;
-        }
-        if self.b < 1 {
-            return false;
-        }
-        self.c < self.a
+        1 <= self.a && 1 <= self.b && self.c < self.a
     }
 
     // Of a confirmation and of an acceptance A is at least 1, B and C are zero.
+    #[tactic(auto, using(group::proofs::Choice::choices))]
     fn number_alone(self) -> bool
         ensures { result ≡ (1 ≤? self.a and self.b =? 0 and self.c =? 0) }
     {
-        if self.a < 1 {
-            return false;
-        }
-        if self.b != 0 {
-            return false;
-        }
-        self.c == 0
+        1 <= self.a && self.b == 0 && self.c == 0
     }
 
     // Of a result the sender and B are among the survivors that its payload names.
+    #[tactic(auto, using(group::proofs::Choice::choices))]
     fn among(self, payload: &[u8]) -> bool
         requires { survivors_size ≤ length payload.now }
         ensures { result ≡ (is_in (survivors_in payload.now) self.member.0 and is_in (survivors_in payload.now) self.b) }
     {
         let survivors = big_endian::u16_at(payload, 0);
-        if group::is_in(survivors, self.member) {
-            if self.b < 16 {
-                return group::is_in(survivors, MemberNumber(self.b as u8));
-            }
-            return false;
-        }
-        false
-    }
-
-    // Question 6 of kinds 9 to 11: of an invitation B and C are zero, of a reply C is.
-    fn reset_obeys(self, payload: &[u8]) -> bool
-        requires { (accept_kind < self.kind) × (known_kind self.kind ≡ true) × (payload_fits self.kind (length payload.now) (length payload.now) ≡ true) }
-        ensures { result ≡ (when self.kind =? invitation_kind then self.b =? 0 and self.c =? 0 else when self.kind =? reply_kind then self.c =? 0 else (is_in (survivors_in payload.now) self.member.0 and is_in (survivors_in payload.now) self.b)) }
-    {
-        if self.kind == Header::INVITATION {
-            if self.b != 0 {
-                return false;
-            }
-            return self.c == 0;
-        }
-        if self.kind == Header::REPLY {
-            return self.c == 0;
-        }
-        self.among(payload)
+        group::is_in(survivors, self.member)
+            && self.b < 16
+            && group::is_in(survivors, MemberNumber(self.b as u8))
     }
 
     // Question 6: do A, B, C obey the kind, and are sender and B of kind 11 among its survivors?
+    #[tactic(auto, using(group::proofs::Choice::choices), unfolding(crate::specs::Packet::obeys))]
     fn obeys(self, payload: &[u8]) -> bool
         requires { (known_kind self.kind ≡ true) × (payload_fits self.kind (length payload.now) (length payload.now) ≡ true) }
         ensures { result ≡ obeys self payload.now }
     {
-        if self.kind == Header::REQUEST {
-            if self.b < 1 {
-                return false;
-            }
-            return self.c == 0;
+        match self.kind {
+            Header::REQUEST => 1 <= self.b && self.c == 0,
+            Header::BROADCAST | Header::OFFER => self.message_obeys(),
+            Header::GAP => self.a < self.b && self.b <= self.c,
+            Header::STATUS | Header::INVITATION => self.b == 0 && self.c == 0,
+            Header::POLL => self.b == 0 && self.c <= self.a,
+            Header::CONFIRM | Header::ACCEPT => self.number_alone(),
+            Header::REPLY => self.c == 0,
+            _ => self.among(payload),
         }
-        if self.kind == Header::BROADCAST {
-            return self.message_obeys();
-        }
-        if self.kind == Header::GAP {
-            if self.b <= self.a {
-                return false;
-            }
-            return self.b <= self.c;
-        }
-        if self.kind == Header::STATUS {
-            if self.b != 0 {
-                return false;
-            }
-            return self.c == 0;
-        }
-        if self.kind == Header::POLL {
-            if self.b != 0 {
-                return false;
-            }
-            return self.c <= self.a;
-        }
-        if self.kind == Header::OFFER {
-            return self.message_obeys();
-        }
-        if self.kind == Header::CONFIRM {
-            return self.number_alone();
-        }
-        if self.kind == Header::ACCEPT {
-            return self.number_alone();
-        }
-        self.reset_obeys(payload)
     }
 }
 
 // Question 4: is the kind 1 to 11?
+#[tactic(auto, using(group::proofs::Choice::choices), unfolding(crate::specs::Packet::known_kind))]
 fn known(kind: u8) -> bool
     ensures { result ≡ known_kind kind }
 {
-    if kind < Header::REQUEST {
-        return false;
-    }
-    kind <= Header::RESULT
+    Header::REQUEST <= kind && kind <= Header::RESULT
 }
 
 // Question 5: is the payload L bytes long, L 2 in kind 11, and zero in kinds 3, 4, 5 and 7 to 10?
+#[tactic(auto, using(group::proofs::Choice::choices), unfolding(crate::specs::Packet::payload_fits))]
 fn fits(kind: u8, l: usize, size: usize) -> bool
     ensures { result ≡ payload_fits kind l size }
 {
-    if size != l {
-        return false;
-    }
-    if kind < Header::GAP {
-        return true;
-    }
-    if kind == Header::OFFER {
-        return true;
-    }
-    if kind == Header::RESULT {
-        return l == Header::SURVIVORS;
-    }
-    l == 0
+    size == l
+        && match kind {
+            0..=Header::BROADCAST | Header::OFFER => true,
+            Header::RESULT => l == Header::SURVIVORS,
+            _ => l == 0,
+        }
 }
 
 // Questions 4 to 6 of fields and L before a payload.
-fn ask_fields(h: Header, l: usize, payload: &[u8]) -> Verdict
+#[tactic(auto, using(group::proofs::Choice::choices), unfolding(crate::specs::Packet::fields_verdict))]
+fn ask_fields(h: Header, l: usize, payload: &[u8]) -> Result<(), Refusal>
     ensures { result ≡ fields_verdict h l payload.now }
 {
-    if known(h.kind) {
-        if fits(h.kind, l, payload.len()) {
-            if h.obeys(payload) {
-                return Verdict::Accepted;
-            }
-            return Verdict::Refused(Refusal::ForbiddenFields);
-        }
-        return Verdict::Refused(Refusal::PayloadLength);
+    if !known(h.kind) {
+        return Err(Refusal::UnknownKind);
     }
-    Verdict::Refused(Refusal::UnknownKind)
+    if !fits(h.kind, l, payload.len()) {
+        return Err(Refusal::PayloadLength);
+    }
+    if !h.obeys(payload) {
+        return Err(Refusal::ForbiddenFields);
+    }
+    Ok(())
 }
 
 // Reads the fields of a packet: questions 3 to 6. Its payload is its part from byte 20 on.
-pub fn read(packet: &[u8]) -> Reading
+#[tactic(auto, using(group::proofs::Choice::choices), unfolding(crate::specs::Packet::read_of, group::specs::Question::judged))]
+pub fn read(packet: &[u8]) -> Result<Header, Refusal>
     ensures answer { result ≡ read_of packet.now }
     ensures wording { reading_wording result ≡ reading_wording (read_of packet.now) }
 {
-    if packet.len() < Group::HEADER {
-        return Reading::Refused(Refusal::PacketSize);
+    if packet.len() < Group::HEADER || Group::PACKET < packet.len() {
+        return Err(Refusal::PacketSize);
     }
-    if Group::PACKET < packet.len() {
-        return Reading::Refused(Refusal::PacketSize);
-    }
-    let h = header_at(packet);
-    let l = payload_length(packet);
-    let v = ask_fields(h, l, &packet[Group::HEADER..]);
-    match v {
-        Verdict::Accepted => Reading::Fields(h),
-        Verdict::Refused(q) => Reading::Refused(q),
-    }
+    let header = header_at(packet);
+    ask_fields(header, payload_length(packet), &packet[Group::HEADER..])?;
+    Ok(header)
 }
 
 // The 20 bytes of fields and L.
@@ -346,134 +259,100 @@ fn lay(h: Header, payload: &[u8], out: &mut [u8])
 }
 
 // Questions 2, 4, 5, 6 and 13 of writing.
-fn ask_writing(h: Header, payload: &[u8], room: usize) -> Verdict
+#[tactic(auto, using(group::proofs::Choice::choices), unfolding(crate::specs::Packet::write_verdict, group::specs::Question::judged))]
+fn ask_writing(h: Header, payload: &[u8], room: usize) -> Result<(), Refusal>
     ensures { result ≡ write_verdict h payload.now room }
 {
     if room < Group::PACKET {
-        return Verdict::Refused(Refusal::ShortOutput);
+        return Err(Refusal::ShortOutput);
     }
-    let v = ask_fields(h, payload.len(), payload);
-    match v {
-        Verdict::Accepted => {
-            if Group::PAYLOAD < payload.len() {
-                return Verdict::Refused(Refusal::LongPayload);
-            }
-            Verdict::Accepted
-        }
-        Verdict::Refused(q) => Verdict::Refused(q),
+    ask_fields(h, payload.len(), payload)?;
+    if Group::PAYLOAD < payload.len() {
+        return Err(Refusal::LongPayload);
     }
+    Ok(())
 }
 
-// Writes the packet of fields and a payload to the front of the output.
-pub fn write(h: Header, payload: &[u8], out: &mut [u8]) -> Writing
+// Writes the packet of fields and a payload to the front of the output, and gives how many bytes it wrote.
+#[tactic(auto, using(group::proofs::Choice::choices), unfolding(crate::specs::Packet::write_of, group::specs::Question::judged))]
+pub fn write(h: Header, payload: &[u8], out: &mut [u8]) -> Result<usize, Refusal>
     ensures answer { result ≡ (write_of h payload.now (length out.old)).answer }
     ensures lent { out.new ≡ front (write_of h payload.now (length out.old)).bytes out.old }
     ensures wording { writing_wording result ≡ writing_wording (write_of h payload.now (length out.old)).answer }
 {
-    let v = ask_writing(h, payload, out.len());
-    match v {
-        Verdict::Accepted => {
-            lay(h, payload, out);
-            Writing::Bytes(Group::HEADER + payload.len())
-        }
-        Verdict::Refused(q) => Writing::Refused(q),
-    }
+    ask_writing(h, payload, out.len())?;
+    lay(h, payload, out);
+    Ok(Group::HEADER + payload.len())
 }
 
 impl Packet {
-    // What the fields of kinds 9 to 11 mean.
-    fn of_reset(h: Header) -> Self
-        requires { (accept_kind < h.kind) × Named h }
-        ensures { result ≡ (when h.kind =? invitation_kind then Invitation h.member h.a else when h.kind =? reply_kind then Reply h.member h.a (record { 0 = h.b }) else Result h.member h.a (record { 0 = h.b }) (record { 0 = h.c })) }
-    {
-        let member = h.member;
-        if h.kind == Header::INVITATION {
-            return Packet::Invitation {
-                sender: member,
-                attempt: h.a,
-            };
-        }
-        if h.kind == Header::REPLY {
-            return Packet::Reply {
-                sender: member,
-                attempt: h.a,
-                number: SequenceNumber(h.b),
-            };
-        }
-        Packet::Result {
-            sender: member,
-            attempt: h.a,
-            elected: MemberNumber(h.b as u8),
-            number: SequenceNumber(h.c),
-        }
-    }
-
     // What the fields of each kind mean.
+    #[tactic(auto, using(group::proofs::Choice::choices), unfolding(crate::specs::Packet::content_of))]
     pub fn of(h: Header) -> Self
         requires { Named h }
         ensures { result ≡ content_of h }
     {
-        let member = h.member;
-        if h.kind == Header::REQUEST {
-            return Packet::Request {
-                sender: member,
+        match h.kind {
+            Header::REQUEST => Packet::Request {
+                sender: h.member,
                 taken: SequenceNumber(h.a),
                 count: h.b,
-            };
-        }
-        if h.kind == Header::BROADCAST {
-            return Packet::Broadcast {
-                originator: member,
+            },
+            Header::BROADCAST => Packet::Broadcast {
+                originator: h.member,
                 number: SequenceNumber(h.a),
                 count: h.b,
                 floor: SequenceNumber(h.c),
-            };
-        }
-        if h.kind == Header::GAP {
-            return Packet::Gap {
-                sender: member,
+            },
+            Header::GAP => Packet::Gap {
+                sender: h.member,
                 taken: SequenceNumber(h.a),
                 first: SequenceNumber(h.b),
                 last: SequenceNumber(h.c),
-            };
-        }
-        if h.kind == Header::STATUS {
-            return Packet::Status {
-                sender: member,
+            },
+            Header::STATUS => Packet::Status {
+                sender: h.member,
                 taken: SequenceNumber(h.a),
-            };
-        }
-        if h.kind == Header::POLL {
-            return Packet::Poll {
-                elected: member,
+            },
+            Header::POLL => Packet::Poll {
+                elected: h.member,
                 top: SequenceNumber(h.a),
                 floor: SequenceNumber(h.c),
-            };
-        }
-        if h.kind == Header::OFFER {
-            return Packet::Offer {
-                originator: member,
+            },
+            Header::OFFER => Packet::Offer {
+                originator: h.member,
                 number: SequenceNumber(h.a),
                 count: h.b,
                 floor: SequenceNumber(h.c),
-            };
-        }
-        if h.kind == Header::CONFIRM {
-            return Packet::Confirm {
-                sender: member,
+            },
+            Header::CONFIRM => Packet::Confirm {
+                sender: h.member,
                 number: SequenceNumber(h.a),
-            };
-        }
-        if h.kind == Header::ACCEPT {
-            return Packet::Accept {
-                elected: member,
+            },
+            Header::ACCEPT => Packet::Accept {
+                elected: h.member,
                 number: SequenceNumber(h.a),
-            };
+            },
+            Header::INVITATION => Packet::Invitation {
+                sender: h.member,
+                attempt: h.a,
+            },
+            Header::REPLY => Packet::Reply {
+                sender: h.member,
+                attempt: h.a,
+                number: SequenceNumber(h.b),
+            },
+            _ => Packet::Result {
+                sender: h.member,
+                attempt: h.a,
+                elected: MemberNumber(h.b as u8),
+                number: SequenceNumber(h.c),
+            },
         }
-        Packet::of_reset(h)
     }
 
     // The fields that mean it, in the group of that number.
+    #[tactic(auto, unfolding(crate::specs::Packet::fields_of))]
     pub fn fields(self, group: u32) -> Header
         ensures { result ≡ fields_of group self }
     {
@@ -602,62 +481,14 @@ impl Packet {
     }
 
     // Question 6 at an end: is byte 1 of a poll and of an acceptance the elected member?
+    #[tactic(auto, using(group::proofs::Choice::choices), unfolding(crate::specs::Packet::from_elected))]
     pub fn from_elected(self, group: Group) -> bool
         ensures { result ≡ from_elected group self }
     {
         match self {
-            Packet::Request {
-                sender: _,
-                taken: _,
-                count: _,
-            } => true,
-            Packet::Broadcast {
-                originator: _,
-                number: _,
-                count: _,
-                floor: _,
-            } => true,
-            Packet::Gap {
-                sender: _,
-                taken: _,
-                first: _,
-                last: _,
-            } => true,
-            Packet::Status {
-                sender: _,
-                taken: _,
-            } => true,
-            Packet::Poll {
-                elected,
-                top: _,
-                floor: _,
-            } => elected.0 == group.elected.0,
-            Packet::Offer {
-                originator: _,
-                number: _,
-                count: _,
-                floor: _,
-            } => true,
-            Packet::Confirm {
-                sender: _,
-                number: _,
-            } => true,
-            Packet::Accept { elected, number: _ } => elected.0 == group.elected.0,
-            Packet::Invitation {
-                sender: _,
-                attempt: _,
-            } => true,
-            Packet::Reply {
-                sender: _,
-                attempt: _,
-                number: _,
-            } => true,
-            Packet::Result {
-                sender: _,
-                attempt: _,
-                elected: _,
-                number: _,
-            } => true,
+            Packet::Poll { elected, .. } => elected == group.elected,
+            Packet::Accept { elected, .. } => elected == group.elected,
+            _ => true,
         }
     }
 
@@ -666,11 +497,6 @@ impl Packet {
     pub fn put(self, group: u32, payload: &[u8], out: &mut [u8]) -> usize
         ensures { Laid (write_of (fields_of group self) payload.now (length out.old)).bytes result out.old out.new }
     {
-        let h = self.fields(group);
-        let w = write(h, payload, out);
-        match w {
-            Writing::Bytes(size) => size,
-            Writing::Refused(_) => 0,
-        }
+        write(self.fields(group), payload, out).unwrap_or(0)
     }
 }

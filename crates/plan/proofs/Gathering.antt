@@ -4,13 +4,15 @@ use mathlib.Core.Path.{◌≡◌, refl, sym, ap, ◌∙◌}
 use mathlib.Core.Logic.{◌⊎◌, inl, inr}
 use mathlib.Core.Bool.{true, false}
 use mathlib.Core.List.Memᴰ
-use mathlib.Core.List.{List, [], ◌∷◌, ◌++◌, map}
+use mathlib.Core.List.{List, [], ◌∷◌, map}
 use Prim.Native.Nat.{ℕ, zero, suc, ◌+◌, ◌*◌, ◌-◌, ◌≤◌, ◌<◌}
 use native.Mathlib.Omega.{arith}
 use borrow.Author.Tests.{le-leb, lt-leb, leb-true}
-use lib.ListN.{length, get_or, take, drop, length-drop, length-map}
+use lib.ListN.{length, get_or, take, drop, length-drop}
 use lib.Seq.{length-take-le, get_or-take, get_or-drop}
-use Rattle.group.specs.Choice.{when◌then◌else◌, ◌≤?◌, ◌=?◌}
+use Rattle.std.specs.Prelude.{Result, Ok, Err, Option, Some, None}
+use Rattle.group.specs.declared.Refusal.{Refusal}
+use Rattle.group.specs.Choice.{◌≤?◌, ◌=?◌}
 use Rattle.group.proofs.Choice.{when_true, when_false, both_first, first_fails}
 use Rattle.group.proofs.Lists.{when_elim}
 use Rattle.message.specs.Order.{Ordered}
@@ -18,15 +20,18 @@ use Rattle.big_endian.specs.Number.{number_at}
 use Rattle.journal.specs.Limits.{block_size, record_head}
 use Rattle.journal.specs.Block.{length_at, message_at}
 use Rattle.journal.specs.Laws.{StandsIn}
-use Rattle.journal.specs.Walk.{entered_in, cursor_of, walk_of, walked, given_by, message_on}
+use Rattle.journal.specs.Walk.{entered_in, cursor_of, walk_of, walked, given_by}
 use Rattle.journal.specs.declared.Cursor.{Cursor}
 use Rattle.journal.specs.declared.Spot.{Spot}
-use Rattle.journal.specs.declared.Walk.{Walk}
 use Rattle.journal.proofs.Given.{gives_standing}
-use Rattle.plan.specs.Units.{sets, unit_of, placed, latest_from, latest}
+use Rattle.plan.specs.Units.{sets, unit_of, placed, latest_from}
 use Rattle.plan.specs.Laws.{◌among◌, Rises}
-use Rattle.plan.specs.Table.{units_most, Holds, Noted, length_before, Stands, AllStand, spotted, rows_with, NotedSpot, rows_in, Stood, Gathered}
-use Rattle.plan.proofs.Placing.{bool_or, placed_elim, placed_from, placed_rises}
+use Rattle.plan.specs.declared.Row.{Row}
+use Rattle.plan.specs.Table.{row_for, Noted, length_before, AllStand, spotted, rows_with, NotedSpot, rows_in, Stood, Gathered}
+use Rattle.plan.proofs.Placing.{placed_elim, placed_from, placed_rises}
+
+abbrev row_with : ℕ → ℕ → Row
+row_with unit start = record { unit = unit; start = start }
 
 -- a record that stands in a journal, by where its payload does
 module _ (journal : List ℕ) (s : Spot) (stands : StandsIn journal s) where
@@ -65,9 +70,9 @@ module _ (journal : List ℕ) (s : Spot) (stands : StandsIn journal s) where
       rw (number_payload k i (omega arith), at_payload (i + k) (omega arith), e)
 
   -- whether it sets a unit
-  pub spot_short : s.end - start < 3 → false ≡ sets (spotted journal s)
+  pub spot_short : s.end - start < 3 → (3 ≤? s.end - start) ≡ sets (spotted journal s)
   unfolding sets
-  spot_short h = let n = payload_length in sym (first_fails (3 ≤? length payload) _ (lt-leb 3 (length payload) (omega arith)))
+  spot_short h = let n = payload_length in lt-leb 3 (s.end - start) h ∙ sym (first_fails (3 ≤? length payload) _ (lt-leb 3 (length payload) (omega arith)))
 
   pub spot_begins : 3 ≤ s.end - start → (get_or journal start 0 =? 3) ≡ sets (spotted journal s)
   unfolding sets
@@ -100,23 +105,17 @@ module _ (journal : List ℕ) (s : Spot) (stands : StandsIn journal s) where
       }
 
   -- noting it
-  pub spot_unnoted : (units places : List ℕ) (count : ℕ) → count ≤ units_most → sets (spotted journal s) ≡ false → NotedSpot journal s units places count units places count
-  spot_unnoted units places count most f =
-      record {
-        units_size = refl;
-        places_size = refl;
-        held = λ rows r h k. rw (sym (when_false (sets (spotted journal s)) rows (placed (spotted journal s) rows) rows f refl)) h;
-        many = λ rows r h k. absurd (omega arith);
-      }
+  pub spot_unnoted : (table : List Row) → sets (spotted journal s) ≡ false → NotedSpot journal s table (Ok tt) table
+  spot_unnoted table f =
+      record { held = λ rows r h. rw (sym (when_false (sets (spotted journal s)) rows (placed (spotted journal s) rows) rows f refl)) h }
 
-  pub spot_noted : (units places units' places' : List ℕ) (count count' unit : ℕ) → sets (spotted journal s) ≡ true → unit_of (spotted journal s) ≡ unit
-      → Noted units places count unit start units' places' count' → NotedSpot journal s units places count units' places' count'
-  spot_noted units places units' places' count count' unit t u n =
+  pub spot_noted : (table table' : List Row) (r : Result (Unit {0}) Refusal) (unit : ℕ) → sets (spotted journal s) ≡ true → unit_of (spotted journal s) ≡ unit
+      → Noted table (record { unit = unit; start = start }) r table' → NotedSpot journal s table r table'
+  spot_noted table table' r unit t u n =
       record {
-        units_size = n.units_size;
-        places_size = n.places_size;
-        held = λ rows r h k. rw (sym (when_true (sets (spotted journal s)) (placed (spotted journal s) rows) (placed (spotted journal s) rows) rows t refl)) (n.held rows (spotted journal s) r h u refl k);
-        many = λ rows r h k. rw (sym (when_true (sets (spotted journal s)) (placed (spotted journal s) rows) (placed (spotted journal s) rows) rows t refl)) (n.many rows (spotted journal s) r h u k);
+        held = λ rows rise h.
+            rw (sym (when_true (sets (spotted journal s)) (placed (spotted journal s) rows) (placed (spotted journal s) rows) rows t refl))
+            (n.held rows (spotted journal s) rise h (ap (λ (x : ℕ). row_with x start) (sym u)));
       }
 
   -- what holds of rows holds with it
@@ -149,28 +148,25 @@ latest_length rows (m ∷ ms) =
     (λ t. latest_length rows ms)
 
 -- what a loop over the records of a journal has come to
-pub record Progress (journal : List ℕ) (whole : List Ordered) (units places : List ℕ) (count : ℕ) (cursor : Cursor) (left : ℕ) : Type 0 where
-  pub units_size : length units ≡ units_most
-  pub places_size : length places ≡ units_most
-  pub most : count ≤ units_most
+pub record Progress (journal : List ℕ) (whole : List Ordered) (table : List Row) (cursor : Cursor) (left : ℕ) : Type 0 where
   pub within : cursor.base + cursor.blocks * block_size ≤ length journal
   pub rows : List Ordered
   pub rise : Rises unit_of rows
   pub stood : (y : Ordered) → y among rows → Stood journal y
-  pub held : Holds rows units places count
+  pub held : table ≡ map row_for rows
   pub rest : latest_from rows (map (spotted journal) (given_by left cursor journal)) ≡ whole
 
-pub given_next : (journal : List ℕ) (c next : Cursor) (s : Spot) (left : ℕ) → 0 < left → walk_of c journal ≡ Walk.Next s next
+pub given_next : (journal : List ℕ) (c next : Cursor) (s : Spot) (left : ℕ) → 0 < left → walk_of c journal ≡ Some (s, next)
     → given_by left c journal ≡ s ∷ given_by (left - 1) next journal
 unfolding given_by walked
 given_next journal c next s left h e =
     let l : left ≡ suc (left - 1) = omega arith in
-    ap (λ (k : ℕ). given_by k c journal) l ∙ ap (λ (w : Walk). walked w (λ n. given_by (left - 1) n journal)) e
+    ap (λ (k : ℕ). given_by k c journal) l ∙ ap (λ (w : Option (Spot × Cursor)). walked w (λ n. given_by (left - 1) n journal)) e
 
-pub given_end : (journal : List ℕ) (c : Cursor) (left : ℕ) → walk_of c journal ≡ Walk.End → given_by left c journal ≡ []
+pub given_end : (journal : List ℕ) (c : Cursor) (left : ℕ) → walk_of c journal ≡ None → given_by left c journal ≡ []
 unfolding given_by walked
 given_end journal c zero e = refl
-given_end journal c (suc k) e = ap (λ (w : Walk). walked w (λ n. given_by k n journal)) e
+given_end journal c (suc k) e = ap (λ (w : Option (Spot × Cursor)). walked w (λ n. given_by k n journal)) e
 
 -- the rows that stand, by index
 pub each_at : (journal : List ℕ) (rows : List Ordered) → ((y : Ordered) → y among rows → Stood journal y) → AllStand journal (map (λ (m : Ordered). m.number) rows)
@@ -178,88 +174,65 @@ each_at journal [] all i h = absurd (omega arith)
 each_at journal (m ∷ rows) all zero h = (all m (Memᴰ.head refl)).stands
 each_at journal (m ∷ rows) all (suc i) h = each_at journal rows (λ y k. all y (Memᴰ.tail k)) i (omega arith)
 
-pub progress_start : (journal : List ℕ) (blocks messages : ℕ) (units places : List ℕ) (cursor : Cursor) → cursor ≡ cursor_of journal blocks
-    → cursor.base + cursor.blocks * block_size ≤ length journal → length units ≡ units_most → length places ≡ units_most
-    → Progress journal (rows_in journal blocks messages) units places 0 cursor messages
-unfolding Rises
-progress_start journal blocks messages units places cursor e fits u p =
-    record {
-      units_size = u;
-      places_size = p;
-      most = omega arith;
-      within = fits;
-      rows = [];
-      rise = tt;
-      stood = λ y i. absurd (Memᴰ.not-nil i);
-      held = record { many = refl; units_held = refl; places_held = refl };
-      rest = rw e refl;
-    }
-
-module _ (journal : List ℕ) (whole : List Ordered) (units places : List ℕ) (count : ℕ) (cursor : Cursor) (left : ℕ)
-    (p : Progress journal whole units places count cursor left) where
-  pub progress_stands : (s : Spot) (next : Cursor) → walk_of cursor journal ≡ Walk.Next s next → StandsIn journal s
-  progress_stands s next e = (gives_standing journal cursor next s p.within e).0
-
-  rest_with : (s : Spot) (next : Cursor) → 0 < left → walk_of cursor journal ≡ Walk.Next s next
-      → latest_from (rows_with journal s p.rows) (map (spotted journal) (given_by (left - 1) next journal)) ≡ whole
-  unfolding latest_from
-  rest_with s next h e =
-      sym (ap (λ (l : List Spot). latest_from p.rows (map (spotted journal) l)) (given_next journal cursor next s left h e)) ∙ p.rest
-
-  pub progress_on : (s : Spot) (next : Cursor) (units' places' : List ℕ) (count' : ℕ) → 0 < left → walk_of cursor journal ≡ Walk.Next s next
-      → NotedSpot journal s units places count units' places' count' → count' ≤ units_most → Progress journal whole units' places' count' next (left - 1)
-  progress_on s next units' places' count' h e n k =
-      let (stands, within) = gives_standing journal cursor next s p.within e in
-      record {
-        units_size = n.units_size ∙ p.units_size;
-        places_size = n.places_size ∙ p.places_size;
-        most = k;
-        within = within;
-        rows = rows_with journal s p.rows;
-        rise = rows_rise journal s stands p.rows p.rise;
-        stood = rows_stood journal s stands p.rows p.stood;
-        held = n.held p.rows p.rise p.held k;
-        rest = rest_with s next h e;
-      }
-
-  pub progress_many : (s : Spot) (next : Cursor) (units' places' : List ℕ) (count' : ℕ) → 0 < left → walk_of cursor journal ≡ Walk.Next s next
-      → NotedSpot journal s units places count units' places' count' → units_most < count' → Gathered journal whole units' places' count'
-  progress_many s next units' places' count' h e n k =
-      record {
-        units_size = n.units_size ∙ p.units_size;
-        places_size = n.places_size ∙ p.places_size;
-        held = λ l. absurd (omega arith);
-        stood = λ l. absurd (omega arith);
-        many = λ l.
-            let a = n.many p.rows p.rise p.held k in
-            let b = latest_length (rows_with journal s p.rows) (map (spotted journal) (given_by (left - 1) next journal)) in
-            let c = ap length (rest_with s next h e) in
-            omega arith;
-      }
-
-  ended : p.rows ≡ whole → Gathered journal whole units places count
-  ended e =
-      record {
-        units_size = p.units_size;
-        places_size = p.places_size;
-        held = λ l. rw (← e) p.held;
-        stood = λ l. rw (← e) p.stood;
-        many = λ l. let m = p.most in absurd (omega arith);
-      }
-
-  pub progress_end : walk_of cursor journal ≡ Walk.End → Gathered journal whole units places count
-  unfolding latest_from
-  progress_end e = ended (sym (ap (λ (l : List Spot). latest_from p.rows (map (spotted journal) l)) (given_end journal cursor left e)) ∙ p.rest)
-
-  pub progress_done : left ≤ 0 → Gathered journal whole units places count
-  unfolding latest_from given_by
-  progress_done h =
-      let z : left ≡ 0 = omega arith in
-      ended (sym (ap (λ (k : ℕ). latest_from p.rows (map (spotted journal) (given_by k cursor journal))) z) ∙ p.rest)
-
 -- a cursor over the right blocks of a journal stands within it
 pub cursor_within : (journal : List ℕ) (blocks : ℕ) (cursor : Cursor) → cursor ≡ cursor_of journal blocks → blocks * block_size ≤ length journal
     → cursor.base + cursor.blocks * block_size ≤ length journal
 unfolding cursor_of entered_in
 cursor_within journal blocks cursor e h =
     rw e (when_elim (λ (c : Cursor). c.base + c.blocks * block_size ≤ length journal) (blocks =? 0) (λ t. omega arith) (λ t. omega arith))
+
+pub progress_start : (journal : List ℕ) (blocks messages left : ℕ) (table : List Row) (cursor : Cursor) → left ≡ messages → cursor ≡ cursor_of journal blocks
+    → blocks * block_size ≤ length journal → table ≡ [] → Progress journal (rows_in journal blocks messages) table cursor left
+unfolding Rises
+progress_start journal blocks messages left table cursor l e fits t =
+    record {
+      within = cursor_within journal blocks cursor e fits;
+      rows = [];
+      rise = tt;
+      stood = λ y i. absurd (Memᴰ.not-nil i);
+      held = t;
+      rest = rw (e, l) refl;
+    }
+
+module _ (journal : List ℕ) (whole : List Ordered) (table : List Row) (cursor : Cursor) (left : ℕ) (p : Progress journal whole table cursor left) where
+  pub progress_stands : (s : Spot) (next : Cursor) → walk_of cursor journal ≡ Some (s, next) → StandsIn journal s
+  progress_stands s next e = (gives_standing journal cursor next s p.within e).0
+
+  rest_with : (s : Spot) (next : Cursor) → 0 < left → walk_of cursor journal ≡ Some (s, next)
+      → latest_from (rows_with journal s p.rows) (map (spotted journal) (given_by (left - 1) next journal)) ≡ whole
+  unfolding latest_from
+  rest_with s next h e =
+      sym (ap (λ (l : List Spot). latest_from p.rows (map (spotted journal) l)) (given_next journal cursor next s left h e)) ∙ p.rest
+
+  pub progress_on : (s : Spot) (next : Cursor) (u : Unit {0}) (table' : List Row) (left' : ℕ) → left ≡ left' + 1 → walk_of cursor journal ≡ Some (s, next)
+      → NotedSpot journal s table (Ok u) table' → Progress journal whole table' next left'
+  progress_on s next u table' left' h e n =
+      let (stands, within) = gives_standing journal cursor next s p.within e in
+      let l : left - 1 ≡ left' = omega arith in
+      record {
+        within = within;
+        rows = rows_with journal s p.rows;
+        rise = rows_rise journal s stands p.rows p.rise;
+        stood = rows_stood journal s stands p.rows p.stood;
+        held = n.held p.rows p.rise p.held;
+        rest = rw l at (rest_with s next (omega arith) e);
+      }
+
+  pub progress_many : (s : Spot) (next : Cursor) (refusal : Refusal) (table' : List Row) → 0 < left → walk_of cursor journal ≡ Some (s, next)
+      → NotedSpot journal s table (Err refusal) table' → Gathered journal whole (Err refusal) table'
+  progress_many s next refusal table' h e n =
+      let (q, a) = n.held p.rows p.rise p.held in
+      let b = latest_length (rows_with journal s p.rows) (map (spotted journal) (given_by (left - 1) next journal)) in
+      let c = ap length (rest_with s next h e) in
+      record { held = (q, omega arith) }
+
+  ended : p.rows ≡ whole → (u : Unit {0}) → Gathered journal whole (Ok u) table
+  ended e u = record { held = (rw (← e) p.held, rw (← e) p.stood) }
+
+  pub progress_end : walk_of cursor journal ≡ None → (u : Unit {0}) → Gathered journal whole (Ok u) table
+  unfolding latest_from
+  progress_end e = ended (sym (ap (λ (l : List Spot). latest_from p.rows (map (spotted journal) l)) (given_end journal cursor left e)) ∙ p.rest)
+
+  pub progress_done : left ≡ 0 → (u : Unit {0}) → Gathered journal whole (Ok u) table
+  unfolding latest_from given_by
+  progress_done z = ended (sym (ap (λ (k : ℕ). latest_from p.rows (map (spotted journal) (given_by k cursor journal))) z) ∙ p.rest)

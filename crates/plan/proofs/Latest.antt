@@ -7,7 +7,9 @@ use mathlib.Core.List.{List, [], ◌∷◌, map}
 use Prim.Native.Nat.{ℕ, zero, suc, ◌+◌, ◌-◌, ◌≤◌, ◌<◌}
 use native.Mathlib.Omega.{arith}
 use borrow.Author.Tests.{eq-eqb, ne_eqb, eqb-true}
-use lib.ListN.{take}
+use lib.ListN.{length}
+use Rattle.std.specs.Prelude.{Result, Ok, Option, Some, None}
+use Rattle.group.specs.declared.Refusal.{Refusal}
 use Rattle.group.specs.Choice.{when◌then◌else◌, ◌and◌, ◌=?◌}
 use Rattle.group.proofs.Choice.{when_true, when_false}
 use Rattle.group.proofs.Lists.{eq_or, when_elim}
@@ -17,22 +19,21 @@ use Rattle.journal.specs.Laws.{StandsIn}
 use Rattle.journal.specs.Walk.{entered_in, cursor_of, walk_of, given_by, spot_at, message_on}
 use Rattle.journal.specs.declared.Cursor.{Cursor}
 use Rattle.journal.specs.declared.Spot.{Spot}
-use Rattle.journal.specs.declared.Walk.{Walk}
 use Rattle.journal.proofs.Given.{gives_all, gives_forward}
 use Rattle.journal.proofs.Again.{gives_again}
 use Rattle.plan.specs.Units.{sets, unit_of, latest}
 use Rattle.plan.specs.Kept.{not_in, last_ones}
 use Rattle.plan.specs.Laws.{◌among◌, Rises}
-use Rattle.plan.specs.Table.{units_most, spotted, rows_in, Gathered}
+use Rattle.plan.specs.Table.{units_most, starts_of, spotted, rows_in, Gathered}
 use Rattle.plan.specs.Calls.{recorded_in, laid_in, rewrite_of, Lays, FoundIn}
 use Rattle.plan.specs.Pack.{Apart, sorted, Spotted, AllSpotted, messages_at, blocks_for}
-use Rattle.plan.specs.declared.Answer.{Answer}
+use Rattle.plan.specs.declared.Row.{Row}
 use Rattle.plan.proofs.Placing.{bool_or, one_by}
 use Rattle.plan.proofs.Keeping.{in_first, in_other, in_not, keep_last, kept_elim}
 use Rattle.plan.proofs.Counting.{still_rises}
 use Rattle.plan.proofs.Rows.{units_rise, row_of, highest_wins, every_unit}
 use Rattle.plan.proofs.Gathering.{given_next, given_end}
-use Rattle.plan.proofs.Planning.{found_within, asked_laid}
+use Rattle.plan.proofs.Planning.{found_within, asked_laid, starts_are}
 use Rattle.plan.proofs.Sorting.{same, sorted_is}
 
 abbrev number : Ordered → ℕ
@@ -257,9 +258,9 @@ given_rises journal zero c low = (tt, λ y i. absurd (Memᴰ.not-nil i))
 given_rises journal (suc left) c low = go (given_rises journal left) (walk_of c journal) refl
   where
     go : ((next : Cursor) → next.at ≤ records_end → Rising-from journal (next.base + next.at + record_head) (given_by left next journal))
-        → (w : Walk) → walk_of c journal ≡ w → Rising-from journal (c.base + c.at + record_head) (given_by (suc left) c journal)
-    go later Walk.End e = subst (Rising-from journal (c.base + c.at + record_head)) (sym (given_end journal c (suc left) e)) (tt, λ y i. absurd (Memᴰ.not-nil i))
-    go later (Walk.Next s next) e =
+        → (w : Option (Spot × Cursor)) → walk_of c journal ≡ w → Rising-from journal (c.base + c.at + record_head) (given_by (suc left) c journal)
+    go later None e = subst (Rising-from journal (c.base + c.at + record_head)) (sym (given_end journal c (suc left) e)) (tt, λ y i. absurd (Memᴰ.not-nil i))
+    go later (Some (s, next)) e =
         let (a, b, d) = gives_forward journal c next s low e in
         let (r, far) = later next d in
         let l : suc left - 1 ≡ left = omega arith in
@@ -277,8 +278,8 @@ unfolding cursor_of entered_in
 cursor_low journal blocks = when_elim (λ (c : Cursor). c.at ≤ records_end) (blocks =? 0) (λ t. omega arith) (λ t. omega arith)
 
 -- the whole journal
-module _ (journal : List ℕ) (blocks messages : ℕ) (f : FoundIn journal blocks messages) (units places : List ℕ) (count : ℕ)
-    (g : Gathered journal (rows_in journal blocks messages) units places count) (most : count ≤ units_most) where
+module _ (journal : List ℕ) (blocks messages : ℕ) (f : FoundIn journal blocks messages) (table : List Row) (u : Unit {0})
+    (g : Gathered journal (rows_in journal blocks messages) (Ok u) table) (few : length table ≤ units_most) where
   abbrev spots : List Spot
   spots = given_by messages (cursor_of journal blocks) journal
 
@@ -291,24 +292,27 @@ module _ (journal : List ℕ) (blocks messages : ℕ) (f : FoundIn journal block
       let (stands, found, within) = gives_again journal blocks messages s (found_within journal blocks messages f) (last_from_lem journal spots s i) in
       (stands, found, record { within = within; stands = rw found stands })
 
-  pub rewrite_apart : Apart (take count places)
-  rewrite_apart = rw (g.held most).places_held (latest_apart (map (spotted journal) spots) spots_rise)
+  starts : starts_of table ≡ map number (latest (map (spotted journal) spots))
+  starts = starts_are journal blocks messages f table u g few
 
-  module _ (order : List ℕ) (e : take count order ≡ sorted [] (take count places)) where
-    order_is : take count order ≡ places_of journal (last_spots journal spots)
+  pub rewrite_apart : Apart (starts_of table)
+  rewrite_apart = rw starts (latest_apart (map (spotted journal) spots) spots_rise)
+
+  module _ (order : List Row) (e : starts_of order ≡ sorted [] (starts_of table)) where
+    order_is : starts_of order ≡ places_of journal (last_spots journal spots)
     order_is =
-        e ∙ ap (sorted []) (g.held most).places_held ∙ latest_sorted (map (spotted journal) spots) spots_rise
+        e ∙ ap (sorted []) starts ∙ latest_sorted (map (spotted journal) spots) spots_rise
         ∙ ap (map number) (sym (last_spotted journal spots))
 
-    pub rewrite_spotted : AllSpotted journal (take count order)
+    pub rewrite_spotted : AllSpotted journal (starts_of order)
     rewrite_spotted = rw order_is (again_spotted journal (last_spots journal spots) (λ s i. (again s i).2))
 
-    order_messages : messages_at journal (take count order) ≡ last_ones (recorded_in journal)
+    order_messages : messages_at journal (starts_of order) ≡ last_ones (recorded_in journal)
     order_messages =
         let given : map (message_on journal) spots ≡ recorded_in journal = rw (f.blocks_are, f.messages_are) (gives_all journal) in
         ap (messages_at journal) order_is ∙ again_messages journal (last_spots journal spots) (λ s i. (again s i).1) ∙ last_messages journal spots ∙ ap last_ones given
 
-    pub rewrite_laid : (room : ℕ) (r : Answer) (lent after : List ℕ) → Lays (laid_in (blocks_for (messages_at journal (take count order))) room) r lent after
+    pub rewrite_laid : (room : ℕ) (r : Result ℕ Refusal) (lent after : List ℕ) → Lays (laid_in (blocks_for (messages_at journal (starts_of order))) room) r lent after
         → Lays (rewrite_of journal room) r lent after
     unfolding rewrite_of
-    rewrite_laid room r lent after l = asked_laid journal blocks messages f units places count g _ room r lent after most (rw order_messages at l)
+    rewrite_laid room r lent after l = asked_laid journal blocks messages f table u g few _ room r lent after (rw order_messages at l)

@@ -1,33 +1,36 @@
--- A message in its unit's place is one entry of both tables: the one found, or a new one. Assumes nothing.
-use mathlib.Core.Path.{◌≡◌, refl, sym, ap, ◌∙◌}
-use mathlib.Core.Bool.{true, false}
+-- A message in its unit's place is one row of the table: the one found, or a new one. Assumes nothing.
+use mathlib.Core.Path.{◌≡◌, refl, sym, ap, subst, ◌∙◌}
 use mathlib.Core.List.Memᴰ
-use mathlib.Core.List.{List, [], ◌∷◌, ◌++◌, map}
+use mathlib.Core.List.{List, [], ◌∷◌, map}
 use Prim.Native.Nat.{ℕ, zero, suc, ◌+◌, ◌≤◌, ◌<◌}
 use native.Mathlib.Omega.{arith}
 use native.Mathlib.Numerals.{add-one}
-use lib.ListN.{length, get_or, set, take, drop, length-map, length-set}
-use borrow.Author.Tests.{lt-ltb, eq-eqb, ltb-true, eqb-true}
-use lib.Seq.{length-take-le, take-set-lt, set-get_or, get_or-take}
-use Rattle.group.specs.Choice.{◌and◌, ◌<?◌, ◌=?◌}
-use Rattle.group.proofs.Choice.{when_lt, when_nlt, both_hold, both_first, both_then}
+use lib.ListN.{length, get_or, set, take, length-map}
+use lib.Seq.{length-take-le, take-set-lt}
+use Rattle.std.specs.Prelude.{Result, Ok, Err, MatchResult}
+use Rattle.std.specs.List.{copy_within}
+use Rattle.std.specs.List.Sorted.{IsSearchInRange, IsBinarySearchResult, IsNonDecreasingBy}
+use Rattle.std.specs.Ordering.{nat_cmp, ordering_index}
+use Rattle.std.proofs.lemmas.Bool.Decides.{nat_tests}
+use Rattle.std.proofs.lemmas.Cmp.{ranked}
+use Rattle.std.proofs.lemmas.List.{map-set}
+use Rattle.group.specs.declared.Refusal.TheVariants.{ManyUnits}
+use Rattle.group.proofs.Choice.{when_lt, when_nlt}
+use Rattle.group.proofs.Lists.{eq_or}
 use Rattle.message.specs.Order.{Ordered}
 use Rattle.plan.specs.Units.{unit_of, placed}
 use Rattle.plan.specs.Laws.{◌among◌, Rises}
-use Rattle.plan.specs.Table.{units_most, place_of, Rising, Place, inserted, Holds, Noted}
+use Rattle.plan.specs.Table.{units_most, place_of, Rising, inserted, row_for, Noted}
+use Rattle.plan.specs.declared.Row.{Row}
 use Rattle.plan.proofs.Placing.{order_or, placed_below, placed_same, placed_above}
+use Rattle.plan.proofs.Tables.{Bounds, place_is, made_room}
+
+pub map_inserted : {A B : Type 0} (f : A → B) (i : ℕ) (x : A) (l : List A) → map f (inserted i x l) ≡ inserted i (f x) (map f l)
+map_inserted f zero x l = refl
+map_inserted f (suc i) x [] = refl
+map_inserted {B = B} f (suc i) x (y ∷ l) = ap (λ (r : List B). f y ∷ r) (map_inserted f i x l)
 
 module _ {A : Type 0} (f : A → ℕ) where
-  pub map_inserted : (i : ℕ) (x : A) (l : List A) → map f (inserted i x l) ≡ inserted i (f x) (map f l)
-  map_inserted zero x l = refl
-  map_inserted (suc i) x [] = refl
-  map_inserted (suc i) x (y ∷ l) = ap (λ (r : List ℕ). f y ∷ r) (map_inserted i x l)
-
-  pub map_set : (l : List A) (i : ℕ) (x : A) → map f (set l i x) ≡ set (map f l) i (f x)
-  map_set [] i x = refl
-  map_set (y ∷ l) zero x = refl
-  map_set (y ∷ l) (suc i) x = ap (λ (r : List ℕ). f y ∷ r) (map_set l i x)
-
   at_among : (l : List A) (i : ℕ) (n : ℕ) → i < length l → ((y : A) → y among l → n < f y) → n < get_or (map f l) i 0
   at_among [] i n h less = absurd (omega arith)
   at_among (y ∷ l) zero n h less = less y (Memᴰ.head refl)
@@ -85,81 +88,98 @@ inserted_length zero x l = refl
 inserted_length (suc i) x [] = refl
 inserted_length (suc i) x (y ∷ l) = ap suc (inserted_length i x l)
 
--- noting, where the search gave index i
-module _ (units places : List ℕ) (count unit start i : ℕ) (size : length units ≡ units_most) (room : length places ≡ units_most) (most : count ≤ units_most)
-    (p : Place unit (take count units) i) where
-  -- the index is that of the message among the rows
-  found : (rows : List Ordered) (m : Ordered) → Rises unit_of rows → Holds rows units places count → unit_of m ≡ unit → i ≡ index_of m rows
-  found rows m r h e = rw (e, ← h.units_held) (p.found (rw h.units_held (rising unit_of rows r)))
+-- a row in a table of some rows, and among them
+entry : (rows : List Ordered) (i : ℕ) (d : Row) → i < length rows → (get_or (map row_for rows) i d).unit ≡ get_or (map unit_of rows) i 0
+entry [] i d h = absurd (omega arith)
+entry (m ∷ rows) zero d h = refl
+entry (m ∷ rows) (suc i) d h = entry rows i d (omega arith)
 
-  apart : (at : ℕ) → (at <? count and get_or units at 0 =? unit) ≡ false → at < count → get_or units at 0 ≡ unit → ⊥
-  apart at f h e =
-      let t = both_hold (at <? count) (get_or units at 0 =? unit) (lt-ltb _ _ h) (eq-eqb _ _ e) in
-      let z : ◌≡◌ {A = ℕ} 0 1 = cc in
-      omega arith
+-- a search by unit among rows ends at the row of a message's unit, or at the place for one
+module _ (rows : List Ordered) (rise : Rises unit_of rows) (m : Ordered) (table : List Row) (is : table ≡ map row_for rows) where
+  sized : length table ≡ length rows
+  sized = ap length is ∙ length-map rows row_for
 
-  -- the same entry, seen in the rows
-  entry : (rows : List Ordered) → Holds rows units places count → i < count → get_or (map unit_of rows) i 0 ≡ get_or units i 0
-  entry rows h k = ap (λ (l : List ℕ). get_or l i 0) (sym h.units_held) ∙ get_or-take count units i 0 k
+  unit_at : (i : ℕ) (d : Row) → i < length rows → (get_or table i d).unit ≡ get_or (map unit_of rows) i 0
+  unit_at i d h = ap (λ (t : List Row). (get_or t i d).unit) is ∙ entry rows i d h
 
-  other : (rows : List Ordered) (m : Ordered) → Rises unit_of rows → Holds rows units places count → unit_of m ≡ unit
-      → (i <? count and get_or units i 0 =? unit) ≡ false → placed m rows ≡ inserted i m rows
-  other rows m r h e f =
-      let same = found rows m r h e in
-      let n = h.many in
-      rw (← same) at (placed_into m rows (rw (← same) (λ k g. apart i f (omega arith) (sym (entry rows h (omega arith)) ∙ g ∙ e))))
+  units_rise : (i j : ℕ) (d : Row) → i ≤ j → j < length table → (get_or table i d).unit ≤ (get_or table j d).unit
+  units_rise i j d h k =
+      let n = sized in
+      let l = length-map rows unit_of in
+      let u = unit_at i d (omega arith) in
+      let v = unit_at j d (omega arith) in
+      eq_or i j (λ e. let w = ap (λ (a : ℕ). get_or (map unit_of rows) a 0) e in omega arith)
+      (λ e. let w = rising unit_of rows rise i j (omega arith) (omega arith) in omega arith)
 
-  pub noted_over : (i <? count and get_or units i 0 =? unit) ≡ true → Noted units places count unit start units (set places i start) count
-  noted_over t =
-      let k = ltb-true i count (both_first _ _ t) in
-      let v = eqb-true (get_or units i 0) unit (both_then _ _ t) in
-      let over : (rows : List Ordered) (m : Ordered) → Rises unit_of rows → Holds rows units places count → unit_of m ≡ unit → placed m rows ≡ set rows i m =
-      λ rows m r h e.
-      let same = found rows m r h e in
-      let n = h.many in
-      rw (← same) at (placed_over m rows (rw (← same) (omega arith)) (rw (← same) (entry rows h k ∙ v ∙ sym e))) in
+  compared : IsNonDecreasingBy (λ (y : Row). ordering_index (nat_cmp y.unit (unit_of m))) table
+  compared i j d h k = let w = units_rise i j d h k in grind (arith, nat_tests)
+
+  pub searched : (r : Result ℕ ℕ) → IsSearchInRange r (length table) → IsBinarySearchResult (λ (y : Row). nat_cmp y.unit (unit_of m)) table r
+      → MatchResult r (λ i. (i < length rows) × (placed m rows ≡ set rows i m)) (λ i. (i ≤ length rows) × (placed m rows ≡ inserted i m rows))
+  searched (Ok i) low found =
+      let n = sized in
+      let l = length-map rows unit_of in
+      let e : get_or (map unit_of rows) i 0 ≡ unit_of m = sym (unit_at i (row_for m) (omega arith)) ∙ ranked _ (unit_of m) _ (sym (found (row_for m))) in
+      let b : Bounds (unit_of m) (map unit_of rows) i i =
       record {
-        units_size = refl;
-        places_size = length-set places i start;
-        held = λ rows m r h e f _.
-            let n = h.many in
-            let o = over rows m r h e in
-            rw o (record {
-              many = length-set rows i m ∙ n;
-              units_held = h.units_held
-                  ∙ sym (map_set unit_of rows i m ∙ ap (set (map unit_of rows) i) (e ∙ sym v ∙ sym (entry rows h k)) ∙ set-get_or (map unit_of rows) i 0);
-              places_held = take-set-lt count places i start k ∙ ap (λ (l : List ℕ). set l i start) h.places_held
-                  ∙ sym (map_set (λ (x : Ordered). x.number) rows i m ∙ ap (set (map (λ (x : Ordered). x.number) rows) i) f);
-            });
-        many = λ rows m r h e x. absurd (omega arith);
+        below = λ k h. let w = rising unit_of rows rise k i h (omega arith) in omega arith;
+        above = λ k h x. eq_or i k (λ q. rw q at (let w : unit_of m ≤ get_or (map unit_of rows) i 0 = omega arith in w)) (λ q. let w = rising unit_of rows rise i k (omega arith) x in omega arith);
+      } in
+      let same : i ≡ index_of m rows = place_is (unit_of m) (map unit_of rows) i (omega arith) b in
+      (omega arith, rw (← same) at (placed_over m rows (omega arith) (rw (← same) e)))
+  searched (Err i) low parted =
+      let n = sized in
+      let l = length-map rows unit_of in
+      let (under, over) = parted compared in
+      let b : Bounds (unit_of m) (map unit_of rows) i i =
+      record {
+        below = λ k h. rw (unit_at k (row_for m) (omega arith)) at (ranked _ (unit_of m) _ (sym (under k (row_for m) (omega arith) h)));
+        above = λ k h x. let w = ranked _ (unit_of m) _ (sym (over k (row_for m) h (omega arith))) in let v = unit_at k (row_for m) (omega arith) in omega arith;
+      } in
+      let same : i ≡ index_of m rows = place_is (unit_of m) (map unit_of rows) i (omega arith) b in
+      let none : i < length rows → get_or (map unit_of rows) i 0 ≡ unit_of m → ⊥ =
+      λ h q. let w = ranked _ (unit_of m) _ (sym (over i (row_for m) (omega arith) (omega arith))) in let v = unit_at i (row_for m) h in omega arith in
+      (omega arith, rw (← same) at (placed_into m rows (rw (← same) none)))
+
+-- noting a row, where the search among those that are used gave that
+module _ (table : List Row) (count : ℕ) (row : Row) (fits : count ≤ length table) where
+  abbrev Search : Result ℕ ℕ → Type 0
+  Search r = IsSearchInRange r (length (take count table)) × IsBinarySearchResult (λ (y : Row). nat_cmp y.unit row.unit) (take count table) r
+
+  found : (r : Result ℕ ℕ) → Search r → (rows : List Ordered) (m : Ordered) → Rises unit_of rows → take count table ≡ map row_for rows → row ≡ row_for m
+      → MatchResult r (λ i. (i < length rows) × (placed m rows ≡ set rows i m)) (λ i. (i ≤ length rows) × (placed m rows ≡ inserted i m rows))
+  found r s rows m rise is e =
+      searched rows rise m (take count table) is r s.0 (subst (λ (u : ℕ). IsBinarySearchResult (λ (y : Row). nat_cmp y.unit u) (take count table) r) (ap (λ (x : Row). x.unit) e) s.1)
+
+  many : (rows : List Ordered) → take count table ≡ map row_for rows → length rows ≡ count
+  many rows is = sym (length-map rows row_for) ∙ sym (ap length is) ∙ length-take-le count table fits
+
+  pub noted_over : (i : ℕ) → Search (Ok i) → Noted (take count table) row (Ok tt) (take count (set table i row))
+  noted_over i s =
+      record {
+        held = λ rows m rise is e.
+            let (h, p) = found (Ok i) s rows m rise is e in
+            let n = many rows is in
+            take-set-lt count table i row (omega arith) ∙ ap (λ (l : List Row). set l i row) is ∙ ap (set (map row_for rows) i) e
+            ∙ sym (map-set row_for rows i m) ∙ ap (map row_for) (sym p);
       }
 
-  pub noted_full : (i <? count and get_or units i 0 =? unit) ≡ false → units_most ≤ count → Noted units places count unit start units places (units_most + 1)
-  noted_full f full =
+  pub noted_full : (i : ℕ) → Search (Err i) → count ≡ units_most → Noted (take count table) row (Err ManyUnits) (take count table)
+  noted_full i s full =
       record {
-        units_size = refl;
-        places_size = refl;
-        held = λ rows m r h e g x. absurd (omega arith);
-        many = λ rows m r h e x. let o = ap length (other rows m r h e f) ∙ inserted_length i m rows in let n = h.many in omega arith;
+        held = λ rows m rise is e.
+            let (h, p) = found (Err i) s rows m rise is e in
+            let n = many rows is in
+            let l = ap length p ∙ inserted_length i m rows in
+            (refl, omega arith);
       }
 
-  pub noted_new : (units' places' : List ℕ) → (i <? count and get_or units i 0 =? unit) ≡ false
-      → (take (count + 1) units' ≡ inserted i unit (take count units)) × (length units' ≡ length units)
-      → (take (count + 1) places' ≡ inserted i start (take count places)) × (length places' ≡ length places)
-      → count < units_most → Noted units places count unit start units' places' (count + 1)
-  noted_new units' places' f u q less =
+  pub noted_new : (i : ℕ) → Search (Err i) → count < length table → Noted (take count table) row (Ok tt) (take (count + 1) (set (copy_within table i count (i + 1)) i row))
+  noted_new i s less =
       record {
-        units_size = u.1;
-        places_size = q.1;
-        held = λ rows m r h e g x.
-            let n = h.many in
-            let o = other rows m r h e f in
-            let l = inserted_length i m rows in
-            rw o (record {
-              many = omega arith;
-              units_held = u.0 ∙ rw h.units_held (ap (λ (y : ℕ). inserted i y (map unit_of rows)) (sym e) ∙ sym (map_inserted unit_of i m rows));
-              places_held = q.0 ∙ rw h.places_held
-                  (ap (λ (y : ℕ). inserted i y (map (λ (x : Ordered). x.number) rows)) (sym g) ∙ sym (map_inserted (λ (x : Ordered). x.number) i m rows));
-            });
-        many = λ rows m r h e x. absurd (omega arith);
+        held = λ rows m rise is e.
+            let (h, p) = found (Err i) s rows m rise is e in
+            let n = many rows is in
+            made_room table count i row (omega arith) less ∙ ap (λ (l : List Row). inserted i row l) is ∙ ap (λ (x : Row). inserted i x (map row_for rows)) e
+            ∙ sym (map_inserted row_for i m rows) ∙ ap (map row_for) (sym p);
       }

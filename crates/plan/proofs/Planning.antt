@@ -1,37 +1,37 @@
 -- The plan of the gathered rows is the plan of the journal's messages: a plan goes by payloads alone. Assumes nothing.
 use mathlib.Core.Path.{◌≡◌, refl, sym, ap, ◌∙◌}
-use mathlib.Core.Bool.{true, false}
+use mathlib.Core.Bool.{false}
 use mathlib.Core.List.Memᴰ
 use mathlib.Core.List.{List, [], ◌∷◌, ◌++◌, map, append_assoc}
 use Prim.Native.Nat.{ℕ, zero, suc, ◌+◌, ◌*◌, ◌-◌, ◌/◌, ◌%◌, ◌≤◌, ◌<◌}
 use native.Mathlib.Omega.{arith}
 use borrow.Author.Tests.{le-leb, lt-leb, eq-eqb, eqb-true}
-use lib.ListN.{length, get_or, take, drop, length-map, length-drop}
+use lib.ListN.{length, get_or, take, drop, length-map, length-take, length-drop}
 use lib.Seq.{length-take-le, get_or-take, get_or-drop, drop-drop}
-use Rattle.group.specs.Choice.{when◌then◌else◌, ◌≤?◌, ◌=?◌}
+use Rattle.std.specs.Prelude.{Result, Ok, Err}
+use Rattle.group.specs.Choice.{◌≤?◌, ◌=?◌}
 use Rattle.group.specs.Lent.{front}
 use Rattle.group.specs.declared.Refusal.{Refusal}
-use Rattle.group.specs.declared.Refusal.TheVariants.{WrongJournal, ManyUnits, NoRoom}
+use Rattle.group.specs.declared.Refusal.TheVariants.{WrongJournal, NoRoom}
 use Rattle.group.proofs.Choice.{when_true, when_false, when_was}
 use Rattle.group.proofs.Lists.{when_elim}
 use Rattle.message.specs.Order.{Ordered}
 use Rattle.big_endian.specs.Number.{number_at, bytes_of}
-use Rattle.journal.specs.Limits.{block_size, record_head}
+use Rattle.journal.specs.Limits.{block_size}
 use Rattle.journal.specs.Block.{block_right, tail_of}
 use Rattle.journal.specs.Read.{Reads, fresh_tail, found_from, found_in, counted, read_of}
 use Rattle.journal.specs.Walk.{cursor_of, given_by, message_on}
 use Rattle.journal.specs.declared.Found.{Found}
-use Rattle.journal.specs.declared.Reading.{Reading}
 use Rattle.journal.specs.declared.Spot.{Spot}
 use Rattle.journal.specs.declared.Tail.{Tail}
 use Rattle.journal.proofs.Lists.{drop_take}
 use Rattle.journal.proofs.Given.{gives_all}
 use Rattle.plan.specs.Units.{sets, unit_of, description_of, placed, latest_from, latest, plan_bytes}
 use Rattle.plan.specs.Laws.{◌among◌}
-use Rattle.plan.specs.Table.{units_most, Holds, length_before, Stands, AllStand, row_at, plan_at, spotted, rows_in, Stood, Gathered}
+use Rattle.plan.specs.declared.Row.{Row}
+use Rattle.plan.specs.Table.{units_most, row_for, starts_of, length_before, AllStand, row_at, plan_at, spotted, rows_in, Stood, Gathered}
 use Rattle.plan.specs.Calls.{Outcome, refused, written, recorded_in, laid_in, asked_of, plan_of, Lays, FoundIn}
 use Rattle.plan.specs.Wording.{wording_of}
-use Rattle.plan.specs.declared.Answer.{Answer}
 use Rattle.plan.proofs.Placing.{bool_or, order_or, placed_below, placed_same, placed_above}
 use Rattle.plan.proofs.Keeping.{latest_set, latest_not}
 use Rattle.plan.proofs.Gathering.{each_at}
@@ -146,67 +146,81 @@ found_within journal blocks messages f =
     omega arith
 
 -- the clauses of a promise
-pub lays_says : {o : Outcome} {r : Answer} {lent after : List ℕ} → Lays o r lent after
+pub lays_says : {o : Outcome} {r : Result ℕ Refusal} {lent after : List ℕ} → Lays o r lent after
     → (r ≡ o.answer) × ((after ≡ front o.bytes lent) × (wording_of r ≡ wording_of o.answer))
 lays_says l = (l.answers, (l.lent, ap wording_of l.answers))
 
 -- the last question
 module _ (bytes : List ℕ) (room : ℕ) where
-  pub lays_short : (lent : List ℕ) → room < length bytes → Lays (laid_in bytes room) (Answer.Refused NoRoom) lent lent
+  pub lays_short : (lent : List ℕ) → room < length bytes → Lays (laid_in bytes room) (Err NoRoom) lent lent
   unfolding laid_in
   lays_short lent h =
       let e : refused NoRoom ≡ laid_in bytes room = when_false (length bytes ≤? room) _ _ _ (lt-leb (length bytes) room h) refl in
       rw (← e) (record { answers = refl; lent = refl })
 
-  pub lays_all : (lent after : List ℕ) (size : ℕ) → length bytes ≤ room → size ≡ length bytes → after ≡ front bytes lent → Lays (laid_in bytes room) (Answer.Bytes size) lent after
+  pub lays_all : (lent after : List ℕ) (size : ℕ) → length bytes ≤ room → size ≡ length bytes → after ≡ front bytes lent → Lays (laid_in bytes room) (Ok size) lent after
   unfolding laid_in
   lays_all lent after size h n l =
       let e : written bytes ≡ laid_in bytes room = when_true (length bytes ≤? room) _ _ _ (le-leb (length bytes) room h) refl in
-      rw (← e) (record { answers = ap Answer.Bytes n; lent = l })
+      rw (← e) (record { answers = ap Ok n; lent = l })
+
+-- the rows that a table uses are not too many
+pub few_used : (t : List Row) (k : ℕ) → k ≤ units_most → length (take k t) ≤ units_most
+few_used t k h = let n = length-take k t in omega arith
+
+-- where the payloads of messages' rows stand
+pub starts_for : (rows : List Ordered) → starts_of (map row_for rows) ≡ map (λ (m : Ordered). m.number) rows
+starts_for [] = refl
+starts_for (m ∷ rows) = ap (λ (l : List ℕ). m.number ∷ l) (starts_for rows)
 
 -- the questions before it
-module _ (journal : List ℕ) (blocks messages : ℕ) (f : FoundIn journal blocks messages) (units places : List ℕ) (count : ℕ)
-    (g : Gathered journal (rows_in journal blocks messages) units places count) where
-  pub asked_many : (bytes : List ℕ) (room : ℕ) (lent : List ℕ) → units_most < count → Lays (asked_of journal bytes room) (Answer.Refused ManyUnits) lent lent
+module _ (journal : List ℕ) (blocks messages : ℕ) (f : FoundIn journal blocks messages) (table : List Row) where
+  pub asked_many : (refusal : Refusal) → Gathered journal (rows_in journal blocks messages) (Err refusal) table → (bytes : List ℕ) (room : ℕ) (lent : List ℕ)
+      → Lays (asked_of journal bytes room) (Err refusal) lent lent
   unfolding asked_of
-  asked_many bytes room lent h =
+  asked_many refusal g bytes room lent =
       let (_, n) = rows_plan journal blocks messages f in
-      let m = g.many h in
-      let e : refused ManyUnits ≡ asked_of journal bytes room =
+      let (q, m) = g.held in
+      let e : refused refusal ≡ asked_of journal bytes room =
       when_true (length journal % block_size =? 0) _ _ _ (eq-eqb _ _ f.sized)
-      (when_false (length (latest (recorded_in journal)) ≤? units_most) _ _ _ (lt-leb (length (latest (recorded_in journal))) units_most (omega arith)) refl) in
+      (when_false (length (latest (recorded_in journal)) ≤? units_most) _ _ _ (lt-leb (length (latest (recorded_in journal))) units_most (omega arith)) (ap refused q)) in
       rw (← e) (record { answers = refl; lent = refl })
 
-  pub asked_laid : (bytes : List ℕ) (room : ℕ) (r : Answer) (lent after : List ℕ) → count ≤ units_most → Lays (laid_in bytes room) r lent after → Lays (asked_of journal bytes room) r lent after
-  unfolding asked_of
-  asked_laid bytes room r lent after h l =
-      let (_, n) = rows_plan journal blocks messages f in
-      let m = (g.held h).many in
-      let e : laid_in bytes room ≡ asked_of journal bytes room =
-      when_true (length journal % block_size =? 0) _ _ _ (eq-eqb _ _ f.sized)
-      (when_true (length (latest (recorded_in journal)) ≤? units_most) _ _ _ (le-leb (length (latest (recorded_in journal))) units_most (omega arith)) refl) in
-      rw (← e) l
-
-  pub plan_many : (room : ℕ) (lent : List ℕ) → units_most < count → Lays (plan_of journal room) (Answer.Refused ManyUnits) lent lent
+  pub plan_many : (refusal : Refusal) → Gathered journal (rows_in journal blocks messages) (Err refusal) table → (room : ℕ) (lent : List ℕ)
+      → Lays (plan_of journal room) (Err refusal) lent lent
   unfolding plan_of
-  plan_many room lent h = asked_many _ room lent h
+  plan_many refusal g room lent = asked_many refusal g _ room lent
 
-  pub plan_stands : count ≤ units_most → AllStand journal (take count places)
-  plan_stands h = rw (g.held h).places_held (each_at journal (rows_in journal blocks messages) (g.stood h))
+  module _ (u : Unit {0}) (g : Gathered journal (rows_in journal blocks messages) (Ok u) table) (few : length table ≤ units_most) where
+    pub asked_laid : (bytes : List ℕ) (room : ℕ) (r : Result ℕ Refusal) (lent after : List ℕ) → Lays (laid_in bytes room) r lent after → Lays (asked_of journal bytes room) r lent after
+    unfolding asked_of
+    asked_laid bytes room r lent after l =
+        let (_, n) = rows_plan journal blocks messages f in
+        let m = ap length g.held.0 ∙ length-map (rows_in journal blocks messages) row_for in
+        let e : laid_in bytes room ≡ asked_of journal bytes room =
+        when_true (length journal % block_size =? 0) _ _ _ (eq-eqb _ _ f.sized)
+        (when_true (length (latest (recorded_in journal)) ≤? units_most) _ _ _ (le-leb (length (latest (recorded_in journal))) units_most (omega arith)) refl) in
+        rw (← e) l
 
-  pub plan_laid : (room : ℕ) (r : Answer) (lent after : List ℕ) → count ≤ units_most → Lays (laid_in (plan_at journal (take count places)) room) r lent after → Lays (plan_of journal room) r lent after
-  unfolding plan_of
-  plan_laid room r lent after h l =
-      let (same, _) = rows_plan journal blocks messages f in
-      let p : plan_at journal (take count places) ≡ plan_bytes (latest (recorded_in journal)) =
-      ap (plan_at journal) (g.held h).places_held ∙ stood_plan journal (rows_in journal blocks messages) (g.stood h) ∙ same in
-      asked_laid _ room r lent after h (rw p at l)
+    pub starts_are : starts_of table ≡ map (λ (m : Ordered). m.number) (rows_in journal blocks messages)
+    starts_are = ap starts_of g.held.0 ∙ starts_for (rows_in journal blocks messages)
+
+    pub plan_stands : AllStand journal (starts_of table)
+    plan_stands = rw starts_are (each_at journal (rows_in journal blocks messages) g.held.1)
+
+    pub plan_laid : (room : ℕ) (r : Result ℕ Refusal) (lent after : List ℕ) → Lays (laid_in (plan_at journal (starts_of table)) room) r lent after → Lays (plan_of journal room) r lent after
+    unfolding plan_of
+    plan_laid room r lent after l =
+        let (same, _) = rows_plan journal blocks messages f in
+        let p : plan_at journal (starts_of table) ≡ plan_bytes (latest (recorded_in journal)) =
+        ap (plan_at journal) starts_are ∙ stood_plan journal (rows_in journal blocks messages) g.held.1 ∙ same in
+        asked_laid _ room r lent after (rw p at l)
 
 -- what reading the journal says of it
-pub read_found : (journal : List ℕ) (found : Found) → read_of journal ≡ Reading.Read found → FoundIn journal found.blocks found.messages
+pub read_found : (journal : List ℕ) (found : Found) → read_of journal ≡ Ok found → FoundIn journal found.blocks found.messages
 unfolding read_of
 read_found journal found e =
-    let (t, same) = when_was (length journal % block_size =? 0) (Reading.Read (counted (found_in journal))) (Reading.Refused WrongJournal) (Reading.Read found) e
+    let (t, same) = when_was (length journal % block_size =? 0) (Ok (counted (found_in journal))) (Err WrongJournal) (Ok found) e
     (λ z. let y : ◌≡◌ {A = ℕ} 0 1 = cc in omega arith) in
     let f : counted (found_in journal) ≡ found = cc in
     record {
@@ -215,14 +229,14 @@ read_found journal found e =
       messages_are = ap (λ (x : Found). x.messages) (sym f);
     }
 
-read_wrong : (journal : List ℕ) (r : Refusal) → read_of journal ≡ Reading.Refused r → ((length journal % block_size =? 0) ≡ false) × (r ≡ WrongJournal)
+read_wrong : (journal : List ℕ) (r : Refusal) → read_of journal ≡ Err r → ((length journal % block_size =? 0) ≡ false) × (r ≡ WrongJournal)
 unfolding read_of
 read_wrong journal r e =
-    (when_elim (λ (x : Reading). x ≡ Reading.Refused r → ((length journal % block_size =? 0) ≡ false) × (r ≡ WrongJournal)) (length journal % block_size =? 0)
+    (when_elim (λ (x : Result Found Refusal). x ≡ Err r → ((length journal % block_size =? 0) ≡ false) × (r ≡ WrongJournal)) (length journal % block_size =? 0)
     (λ t e. absurd (let y : ◌≡◌ {A = ℕ} 0 1 = cc in omega arith)) (λ t e. (t, (cc)))) e
 
-pub asked_refused : (journal bytes : List ℕ) (r : Refusal) (room : ℕ) (lent : List ℕ) → read_of journal ≡ Reading.Refused r
-    → Lays (asked_of journal bytes room) (Answer.Refused r) lent lent
+pub asked_refused : (journal bytes : List ℕ) (r : Refusal) (room : ℕ) (lent : List ℕ) → read_of journal ≡ Err r
+    → Lays (asked_of journal bytes room) (Err r) lent lent
 unfolding asked_of
 asked_refused journal bytes r room lent e =
     let (t, same) = read_wrong journal r e in

@@ -1,14 +1,16 @@
 -- The plan of a table, row by row: how long it is, and that each row is laid behind those before it. Assumes nothing.
 use mathlib.Core.Path.{◌≡◌, refl, sym, ap, ◌∙◌}
 use mathlib.Core.List.{List, [], ◌∷◌, ◌++◌, append_assoc, append-nil}
-use Prim.Native.Nat.{ℕ, suc, ◌+◌, ◌-◌, ◌≤◌, ◌<◌}
+use Prim.Native.Nat.{ℕ, ◌+◌, ◌-◌, ◌≤◌, ◌<◌}
 use native.Mathlib.Omega.{arith}
 use native.Mathlib.Numerals.{add-one}
-use lib.ListN.{length, get_or, take, drop, length-append, length-drop, take-append-drop}
-use lib.Seq.{length-take-le, take-suc, take_all, get_or-take}
+use lib.ListN.{length, get_or, take, drop, length-append, length-drop, length-map, take-append-drop}
+use lib.Seq.{length-take-le, take-suc, take_all}
+use Rattle.std.proofs.lemmas.List.{get_or-map}
 use Rattle.big_endian.specs.Number.{number_at, bytes_of}
 use Rattle.big_endian.proofs.Number.{bytes_of-length}
-use Rattle.plan.specs.Table.{length_before, Stands, AllStand, row_at, plan_at}
+use Rattle.plan.specs.declared.Row.{Row}
+use Rattle.plan.specs.Table.{starts_of, length_before, Stands, AllStand, row_at, plan_at}
 
 pub row_length : (journal : List ℕ) (start : ℕ) → Stands journal start → length (row_at journal start) ≡ length_before journal start + 1
 unfolding row_at
@@ -47,32 +49,37 @@ module _ (journal : List ℕ) where
       let r = row_length journal (get_or places i 0) s in
       omega arith
 
--- the same of the part of a table that is used
-module _ (journal places : List ℕ) (count i : ℕ) (fits : count ≤ length places) (h : i < count) (all : AllStand journal (take count places)) where
-  used : length (take count places) ≡ count
-  used = length-take-le count places fits
+-- what is read past the end of a table
+abbrev pub no_row : Row
+no_row = record { unit = 0; start = 0 }
 
-  entry : get_or (take count places) i 0 ≡ get_or places i 0
-  entry = get_or-take count places i 0 h
+-- the same of the rows of a table
+module _ (journal : List ℕ) (rows : List Row) (i : ℕ) (h : i < length rows) (all : AllStand journal (starts_of rows)) where
+  abbrev start : ℕ
+  start = (get_or rows i no_row).start
 
-  pub stands_at : Stands journal (get_or places i 0)
-  stands_at = let n = used in rw entry at (all i (omega arith))
+  entry : get_or (starts_of rows) i 0 ≡ start
+  entry = get_or-map (λ (row : Row). row.start) rows i no_row 0 h
 
-  pub table_on : plan_at journal (take (i + 1) (take count places)) ≡ plan_at journal (take i (take count places)) ++ row_at journal (get_or places i 0)
-  table_on = let n = used in plan_on journal (take count places) i (omega arith) ∙ rw entry
+  pub starts_length : length (starts_of rows) ≡ length rows
+  starts_length = length-map rows (λ (row : Row). row.start)
 
-  pub table_size : length (plan_at journal (take (i + 1) (take count places)))
-      ≡ length (plan_at journal (take i (take count places))) + (length_before journal (get_or places i 0) + 1)
+  pub stands_at : Stands journal start
+  stands_at = let n = starts_length in rw entry at (all i (omega arith))
+
+  pub table_on : plan_at journal (take (i + 1) (starts_of rows)) ≡ plan_at journal (take i (starts_of rows)) ++ row_at journal start
+  table_on = let n = starts_length in rw entry at (plan_on journal (starts_of rows) i (omega arith))
+
+  pub table_size : length (plan_at journal (take (i + 1) (starts_of rows))) ≡ length (plan_at journal (take i (starts_of rows))) + (length_before journal start + 1)
   table_size =
-      ap length table_on ∙ length-append (plan_at journal (take i (take count places))) (row_at journal (get_or places i 0))
-      ∙ ap (λ (n : ℕ). length (plan_at journal (take i (take count places))) + n) (row_length journal (get_or places i 0) stands_at)
+      ap length table_on ∙ length-append (plan_at journal (take i (starts_of rows))) (row_at journal start)
+      ∙ ap (λ (n : ℕ). length (plan_at journal (take i (starts_of rows))) + n) (row_length journal start stands_at)
 
-  pub table_room_lem : length (plan_at journal (take i (take count places))) + length_before journal (get_or places i 0) + 1 ≤ length (plan_at journal (take count places))
-  table_room_lem = let n = used in rw entry at (plan_room journal (take count places) i (omega arith) (rw entry stands_at))
+  pub table_room_lem : length (plan_at journal (take i (starts_of rows))) + length_before journal start + 1 ≤ length (plan_at journal (starts_of rows))
+  table_room_lem = let n = starts_length in rw entry at (plan_room journal (starts_of rows) i (omega arith) (rw entry stands_at))
 
--- all of it
-pub table_all : (journal places : List ℕ) (count i : ℕ) → count ≤ length places → i ≡ count
-    → plan_at journal (take i (take count places)) ≡ plan_at journal (take count places)
-table_all journal places count i fits e =
-    let n = length-take-le count places fits in
-    ap (plan_at journal) (take_all i (take count places) (omega arith))
+-- all of them
+pub table_all : (journal : List ℕ) (rows : List Row) (i : ℕ) → length rows ≤ i → plan_at journal (take i (starts_of rows)) ≡ plan_at journal (starts_of rows)
+table_all journal rows i e =
+    let n = length-map rows (λ (row : Row). row.start) in
+    ap (plan_at journal) (take_all i (starts_of rows) (omega arith))

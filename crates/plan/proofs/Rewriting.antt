@@ -3,13 +3,12 @@ use mathlib.Core.Path.{◌≡◌, refl, sym, ap, ◌∙◌}
 use mathlib.Core.Bool.{Bool, true, false}
 use mathlib.Core.List.Memᴰ
 use mathlib.Core.List.{List, [], ◌∷◌, ◌++◌, flatten}
-use Prim.Native.Nat.{ℕ, zero, suc, ◌+◌, ◌-◌, ◌*◌, ◌/◌, ◌%◌, ◌≤◌, ◌<◌}
+use Prim.Native.Nat.{ℕ, ◌+◌, ◌%◌, ◌≤◌}
 use native.Mathlib.Omega.{arith}
 use borrow.Author.Tests.{eq-eqb}
 use lib.ListN.{length, length-append}
 use Rattle.group.specs.Choice.{when◌then◌else◌, ask◌or◌then◌, ◌≤?◌, ◌=?◌}
-use Rattle.group.specs.Limits.{payload_most}
-use Rattle.group.specs.Question.{Question, first_no, judged}
+use Rattle.group.specs.Question.{first_no, judged}
 use Rattle.group.specs.declared.Refusal.{Refusal}
 use Rattle.group.specs.declared.Refusal.TheVariants.{WrongJournal, ManyUnits, NoRoom}
 use Rattle.group.proofs.Lists.{when_elim}
@@ -19,20 +18,20 @@ use Rattle.big_endian.specs.Number.{bytes_of}
 use Rattle.big_endian.proofs.Number.{bytes_of-length}
 use Rattle.journal.specs.Limits.{block_size, records_at, records_end, number_size}
 use Rattle.journal.specs.Block.{record_of, compact_records, compact_of, block_right, messages_of, tail_with, tail_of}
-use Rattle.journal.specs.Read.{Reads, fresh_tail, nothing, found_from, found_in}
-use Rattle.journal.specs.Laws.{Allowed, NumberedIn, last_number, Whole, WholeTo}
+use Rattle.journal.specs.Read.{Reads, fresh_tail, found_from}
+use Rattle.journal.specs.Laws.{Allowed, NumberedIn, last_number, Whole}
 use Rattle.journal.specs.declared.Form.TheVariants.{Compact}
 use Rattle.journal.specs.declared.Tail.{Tail}
 use Rattle.journal.proofs.Records.{may, record_length}
 use Rattle.journal.proofs.Blocks.{compact_length, compact_back}
 use Rattle.journal.proofs.Whole.{whole_cons, whole_to}
 use Rattle.journal.proofs.Rising.{rising_from, rising_parts, found_rising}
-use Rattle.plan.specs.Units.{sets, unit_of, latest, plan_bytes}
-use Rattle.plan.specs.Kept.{not_in, last_ones, total, packed, record_size, records_room, compact_block, blocks_of, rewritten}
+use Rattle.plan.specs.Units.{latest, plan_bytes}
+use Rattle.plan.specs.Kept.{last_ones, total, packed, record_size, records_room, compact_block, blocks_of, rewritten}
 use Rattle.plan.specs.Laws.{◌among◌, Short, Filled}
 use Rattle.plan.specs.Calls.{Outcome, refused, recorded_in, laid_in, asked_of, plan_of, rewrite_of}
 use Rattle.plan.specs.Table.{units_most}
-use Rattle.plan.specs.declared.Answer.{Answer}
+use Rattle.std.specs.Prelude.{Ok}
 use Rattle.plan.specs.Claims.{RewrittenWhole, SamePlanBytes, SamePlanAnswered, FewestInJournals, GoesOnBytes, RewriteTwiceBytes, PlanFirstNo, RewriteFirstNo}
 use Rattle.plan.proofs.Keeping.{kept_elim, same_plan, goes_on, rewrite_twice}
 use Rattle.plan.proofs.Packing.{packed_whole, packed_fits}
@@ -117,13 +116,13 @@ same_plan_bytes journal bytes =
     ap (λ (ms : List Ordered). plan_bytes (latest ms)) (rewritten_read journal bytes) ∙ ap plan_bytes (same_plan (recorded_in journal))
 
 -- a call that lays bytes found a whole number of blocks, and laid those
-asked_was : (journal bytes : List ℕ) (room size : ℕ) → (asked_of journal bytes room).answer ≡ Answer.Bytes size
+asked_was : (journal bytes : List ℕ) (room size : ℕ) → (asked_of journal bytes room).answer ≡ Ok size
     → ((length journal % block_size =? 0) ≡ true) × ((asked_of journal bytes room).bytes ≡ bytes)
 unfolding asked_of laid_in
 asked_was journal bytes room size e =
-    (when_elim (λ (o : Outcome). o.answer ≡ Answer.Bytes size → ((length journal % block_size =? 0) ≡ true) × (o.bytes ≡ bytes)) (length journal % block_size =? 0)
-    (λ t. when_elim (λ (o : Outcome). o.answer ≡ Answer.Bytes size → ((length journal % block_size =? 0) ≡ true) × (o.bytes ≡ bytes)) (length (latest (recorded_in journal)) ≤? units_most)
-    (λ u. when_elim (λ (o : Outcome). o.answer ≡ Answer.Bytes size → ((length journal % block_size =? 0) ≡ true) × (o.bytes ≡ bytes)) (length bytes ≤? room)
+    (when_elim (λ (o : Outcome). o.answer ≡ Ok size → ((length journal % block_size =? 0) ≡ true) × (o.bytes ≡ bytes)) (length journal % block_size =? 0)
+    (λ t. when_elim (λ (o : Outcome). o.answer ≡ Ok size → ((length journal % block_size =? 0) ≡ true) × (o.bytes ≡ bytes)) (length (latest (recorded_in journal)) ≤? units_most)
+    (λ u. when_elim (λ (o : Outcome). o.answer ≡ Ok size → ((length journal % block_size =? 0) ≡ true) × (o.bytes ≡ bytes)) (length bytes ≤? room)
     (λ v e. (t, refl)) (λ v e. absurd (let z : ◌≡◌ {A = ℕ} 0 1 = cc in omega arith)))
     (λ u e. absurd (let z : ◌≡◌ {A = ℕ} 0 1 = cc in omega arith)))
     (λ t e. absurd (let z : ◌≡◌ {A = ℕ} 0 1 = cc in omega arith))) e

@@ -1,19 +1,28 @@
 -- Numbers put in order rise, and are the same numbers; there is one such list. Assumes nothing.
 use mathlib.Core.Path.{◌≡◌, refl, sym, ap, subst, ◌∙◌}
+use mathlib.Core.Bool.{false}
 use mathlib.Core.Logic.{◌⊎◌, inl, inr, ◌≢◌}
 use mathlib.Core.List.Memᴰ
-use mathlib.Core.List.{List, [], ◌∷◌, ◌++◌, map}
-use Prim.Native.Nat.{ℕ, zero, suc, ◌+◌, ◌≤◌, ◌<◌}
+use mathlib.Core.List.{List, [], ◌∷◌}
+use Prim.Native.Nat.{ℕ, zero, suc, ◌≤◌, ◌<◌}
 use native.Mathlib.Omega.{arith}
 use native.Mathlib.Numerals.{add-one}
-use lib.ListN.{length, get_or, take}
-use lib.Seq.{take-suc}
+use borrow.Author.Tests.{eq-eqb, ne_eqb}
+use lib.Dec.{eqb}
+use lib.ListN.{length-map}
+use Rattle.std.specs.List.{AllByRecursion, IsDistinct}
+use Rattle.std.specs.List.{Contains}
+use Rattle.std.specs.List.Sorted.{IsPermutation, IsNonDecreasing, IsNonDecreasingBy}
+use Rattle.std.proofs.lemmas.Bool.Decides.{nat_tests}
+use Rattle.std.proofs.lemmas.List.{get_or-map}
+use Rattle.std.proofs.lemmas.List.Sorted.{IsPermutation-sym, IsPermutation-map, Contains-permutation}
+use Rattle.std.proofs.lemmas.Map.Keys.{IsDistinct-IsPermutation}
 use Rattle.group.proofs.Choice.{when_lt, when_nlt}
-use Rattle.group.proofs.Lists.{le_or}
+use Rattle.group.proofs.Lists.{eq_or, le_or}
 use Rattle.plan.specs.Laws.{◌among◌, Rises}
-use Rattle.plan.specs.Table.{place_of, Rising, Place, inserted}
+use Rattle.plan.specs.Table.{place_of, inserted, starts_of}
 use Rattle.plan.specs.Pack.{Apart, sorted}
-use Rattle.plan.proofs.Noting.{rising}
+use Rattle.plan.specs.declared.Row.{Row}
 
 abbrev pub same : ℕ → ℕ
 same n = n
@@ -153,38 +162,70 @@ sorted_is xs ys a r f g =
     go z (inl i) = absurd (Memᴰ.not-nil i)
     go z (inr i) = f z i
 
--- one more of a table
-take_among : (i : ℕ) (l : List ℕ) (y : ℕ) → y among take i l → y among l
-take_among zero l y m = absurd (Memᴰ.not-nil m)
-take_among (suc i) [] y m = m
-take_among (suc i) (x ∷ l) y m = go (take_among i l y) m
+-- one of a list, by its index
+among_at : (l : List ℕ) (z : ℕ) → z among l → Contains l z
+among_at [] z i = absurd (Memᴰ.not-nil i)
+among_at (x ∷ l) z i = go (among_at l z) i
   where
-    go : (y among take i l → y among l) → y among (x ∷ take i l) → y among (x ∷ l)
-    go f (Memᴰ.head e) = Memᴰ.head e
-    go f (Memᴰ.tail m) = Memᴰ.tail (f m)
+    go : (z among l → Contains l z) → z among (x ∷ l) → Contains (x ∷ l) z
+    go f (Memᴰ.head e) = (0, omega arith, sym e)
+    go f (Memᴰ.tail i) = let (k, h, e) = f i in (suc k, omega arith, e)
 
-apart_take : (i : ℕ) (l : List ℕ) → Apart l → Apart (take i l)
-unfolding Apart
-apart_take zero l a = tt
-apart_take (suc i) [] a = tt
-apart_take (suc i) (x ∷ l) a = (λ y m. a.0 y (take_among i l y m), apart_take i l a.1)
+at_among : (l : List ℕ) (z : ℕ) → Contains l z → z among l
+at_among [] z (k, h, e) = absurd (omega arith)
+at_among (x ∷ l) z (zero, h, e) = Memᴰ.head (sym e)
+at_among (x ∷ l) z (suc k, h, e) = Memᴰ.tail (at_among l z (k, omega arith, e))
 
-sorted_snoc : (done xs : List ℕ) (x : ℕ) → sorted done (xs ++ (x ∷ [])) ≡ among_with x (sorted done xs)
-unfolding sorted
-sorted_snoc done [] x = refl
-sorted_snoc done (y ∷ xs) x = sorted_snoc (among_with y done) xs x
+-- numbers of which no two are equal do not fall: they rise
+each_apart : (x : ℕ) (l : List ℕ) → ((y : ℕ) → y among l → x ≢ y) → AllByRecursion (λ (y : ℕ). eqb x y ≡ false) l
+each_apart x [] f = tt
+each_apart x (y ∷ l) f = (ne_eqb x y (f y (Memᴰ.head refl)), each_apart x l (λ z i. f z (Memᴰ.tail i)))
 
-map_same : (l : List ℕ) → map same l ≡ l
-map_same [] = refl
-map_same (x ∷ l) = ap (λ (r : List ℕ). x ∷ r) (map_same l)
+distinct : (l : List ℕ) → Apart l → IsDistinct eqb l
+unfolding Apart IsDistinct
+distinct [] a = tt
+distinct (x ∷ l) a = (each_apart x l a.0, distinct l a.1)
 
-module _ (l : List ℕ) (a : Apart l) (i : ℕ) (order : List ℕ) (held : take i order ≡ sorted [] (take i l)) where
-  order_rises : Rising (take i order)
-  unfolding Rises
-  order_rises = rw held (subst Rising (map_same (sorted [] (take i l))) (rising same (sorted [] (take i l)) (sorted_rises [] (take i l) tt (apart_take i l a) (λ x y m n. absurd (Memᴰ.not-nil n)))))
+apart_each : (x : ℕ) (l : List ℕ) → AllByRecursion (λ (y : ℕ). eqb x y ≡ false) l → (y : ℕ) → y among l → x ≢ y
+apart_each x [] d y i = absurd (Memᴰ.not-nil i)
+apart_each x (z ∷ l) d y i = go (apart_each x l d.1 y) i
+  where
+    first : x ≡ z → ⊥
+    first q = let t = eq-eqb x z q in let f = d.0 in let w : ◌≡◌ {A = ℕ} 0 1 = cc in omega arith
 
-  pub order_on_lem : (after : List ℕ) (at x : ℕ) → i < length l → x ≡ get_or l i 0 → Place x (take i order) at → take (i + 1) after ≡ inserted at x (take i order)
-      → take (i + 1) after ≡ sorted [] (take (i + 1) l)
-  order_on_lem after at x h e p t =
-      t ∙ ap (λ (n : ℕ). inserted n x (take i order)) (p.found order_rises) ∙ ap (among_with x) held ∙ ap (λ (n : ℕ). among_with n (sorted [] (take i l))) e
-      ∙ sym (sorted_snoc [] (take i l) (get_or l i 0)) ∙ ap (sorted []) (sym (take-suc l i 0 h)) ∙ ap (λ (n : ℕ). sorted [] (take n l)) (sym (add-one i))
+    go : (y among l → x ≢ y) → y among (z ∷ l) → x ≢ y
+    go f (Memᴰ.head e) = λ q. first (q ∙ e)
+    go f (Memᴰ.tail i) = f i
+
+rises_from : (l : List ℕ) → IsDistinct eqb l → IsNonDecreasing l → Rises same l
+unfolding Rises IsDistinct
+rises_from [] d up = tt
+rises_from (x ∷ l) d up = (
+  λ y i. let (k, h, e) = among_at l y i in let u = up 0 (suc k) y (omega arith) (omega arith) in let n = apart_each x l d.0 y i in eq_or x y (λ q. absurd (n q)) (λ q. omega arith),
+  rises_from l d.1 (λ i j z h k. up (suc i) (suc j) z (omega arith) (omega arith)),
+)
+
+-- what the library's sort makes of such numbers is the list in order
+pub sorted_so : (xs ys : List ℕ) → Apart xs → IsPermutation xs ys → IsNonDecreasing ys → ys ≡ sorted [] xs
+sorted_so xs ys a p up =
+    let d = IsDistinct-IsPermutation eqb eqb_flips xs ys p (distinct xs a) in
+    let q = IsPermutation-sym xs ys p in
+    sym (sorted_is xs ys a (rises_from ys d up) (λ z i. at_among ys z (Contains-permutation xs ys z p (among_at xs z i)))
+    (λ z i. at_among xs z (Contains-permutation ys xs z q (among_at ys z i))))
+  where
+    eqb_flips : (x y : ℕ) → eqb x y ≡ eqb y x
+    eqb_flips x y = grind (arith, nat_tests)
+
+pub starts_sorted : (rows rows' : List Row) → Apart (starts_of rows) → IsPermutation rows rows' → IsNonDecreasingBy (λ (row : Row). row.start) rows'
+    → starts_of rows' ≡ sorted [] (starts_of rows)
+starts_sorted rows rows' a p up =
+    sorted_so (starts_of rows) (starts_of rows') a (IsPermutation-map (λ (row : Row). row.start) rows rows' p) (starts_up rows' up)
+  where
+    starts_up : (l : List Row) → IsNonDecreasingBy (λ (row : Row). row.start) l → IsNonDecreasing (starts_of l)
+    starts_up l up i j z h k =
+        let d : Row = record { unit = 0; start = z } in
+        let n = length-map l (λ (row : Row). row.start) in
+        let a = get_or-map (λ (row : Row). row.start) l i d z (omega arith) in
+        let b = get_or-map (λ (row : Row). row.start) l j d z (omega arith) in
+        let u = up i j d h (omega arith) in
+        omega arith

@@ -1,12 +1,14 @@
--- The records at the places of a table, packed one at a time: what was packed and what is left come to the whole. Assumes nothing.
+-- The records of the rows of a table, packed one at a time: what was packed and what is left come to the whole. Assumes nothing.
 use mathlib.Core.Path.{◌≡◌, refl, sym, ap, subst, ◌∙◌}
 use mathlib.Core.List.Memᴰ
 use mathlib.Core.List.{List, [], ◌∷◌}
 use Prim.Native.Nat.{ℕ, suc, ◌+◌, ◌*◌, ◌-◌, ◌/◌, ◌≤◌, ◌<◌}
 use native.Mathlib.Omega.{arith}
 use native.Mathlib.Numerals.{add-one}
-use lib.ListN.{length, get_or, take, drop, drop_of_length-le}
-use lib.Seq.{length-take-le, drop-cons, get_or-take}
+use lib.ListN.{length, get_or, take, drop, length-map, length-replicate, drop_of_length-le}
+use lib.Seq.{drop-cons}
+use Rattle.std.proofs.lemmas.List.{get_or-map}
+use Rattle.std.specs.Prelude.{Some, None}
 use Rattle.group.proofs.Choice.{when_le, when_nle, when_eq, when_ne}
 use Rattle.group.proofs.Lists.{le_or}
 use Rattle.message.specs.Order.{Ordered}
@@ -19,13 +21,15 @@ use Rattle.journal.specs.Laws.{StandsIn}
 use Rattle.journal.specs.Walk.{alone_in, alone_at, walk_of, given_by, spot_with, spot_at, message_on}
 use Rattle.journal.specs.declared.Cursor.{Cursor}
 use Rattle.journal.specs.declared.Spot.{Spot}
-use Rattle.journal.specs.declared.Walk.{Walk}
 use Rattle.journal.proofs.Given.{gives_standing}
 use Rattle.plan.specs.Kept.{record_size, records_room}
 use Rattle.plan.specs.Laws.{◌among◌}
 use Rattle.plan.specs.Pack.{Spotted, AllSpotted, messages_at, Packs, packs, fresh_packer, numbered, grown_to, kept_by, packed_by, Sound}
+use Rattle.plan.specs.Table.{starts_of}
 use Rattle.plan.specs.declared.Packer.{Packer}
+use Rattle.plan.specs.declared.Row.{Row}
 use Rattle.plan.proofs.Gathering.{given_next, given_end}
+use Rattle.plan.proofs.Printing.{no_row}
 use Rattle.plan.proofs.Filling.{numbered_length, message_small, written_length, closed_length}
 
 -- a record of the journal, laid with its number before it
@@ -51,37 +55,38 @@ unfolding spot_at alone_in
 seeking_start journal start base cursor b e h = rw e (record { within = omega arith; rest = ap (λ (n : ℕ). spot_with start (given_by block_size (alone_at journal n) journal)) b })
 
 module _ (journal : List ℕ) (start : ℕ) (cursor : Cursor) (left : ℕ) (p : Seeking journal start cursor left) where
-  pub seeking_stands : (s : Spot) (next : Cursor) → walk_of cursor journal ≡ Walk.Next s next → StandsIn journal s
+  pub seeking_stands : (s : Spot) (next : Cursor) → walk_of cursor journal ≡ Some (s, next) → StandsIn journal s
   seeking_stands s next e = (gives_standing journal cursor next s p.within e).0
 
-  pub seeking_found : (s : Spot) (next : Cursor) → 0 < left → walk_of cursor journal ≡ Walk.Next s next → s.start + record_head ≡ start → s ≡ spot_at journal start
+  pub seeking_found : (s : Spot) (next : Cursor) → 0 < left → walk_of cursor journal ≡ Some (s, next) → s.start + record_head ≡ start → s ≡ spot_at journal start
   unfolding spot_with
   seeking_found s next h e q =
       when_eq (s.start + record_head) start s s _ q refl ∙ sym (ap (spot_with start) (given_next journal cursor next s left h e)) ∙ p.rest
 
-  pub seeking_on : (s : Spot) (next : Cursor) → 0 < left → walk_of cursor journal ≡ Walk.Next s next → (s.start + record_head ≡ start → ⊥) → Seeking journal start next (left - 1)
+  pub seeking_on : (s : Spot) (next : Cursor) (left' : ℕ) → left ≡ left' + 1 → walk_of cursor journal ≡ Some (s, next) → (s.start + record_head ≡ start → ⊥) → Seeking journal start next left'
   unfolding spot_with
-  seeking_on s next h e q =
+  seeking_on s next left' h e q =
+      let l : left - 1 ≡ left' = omega arith in
       record {
         within = (gives_standing journal cursor next s p.within e).1;
-        rest = when_ne (s.start + record_head) start _ s _ q refl ∙ sym (ap (spot_with start) (given_next journal cursor next s left h e)) ∙ p.rest;
+        rest = when_ne (s.start + record_head) start _ s _ q (ap (λ (k : ℕ). spot_with start (given_by k next journal)) (sym l)) ∙ sym (ap (spot_with start) (given_next journal cursor next s left (omega arith) e)) ∙ p.rest;
       }
 
   abbrev none : Spot
   none = record { number = record { 0 = 0 }; start = 0; end = 0 }
 
-  pub seeking_end : walk_of cursor journal ≡ Walk.End → none ≡ spot_at journal start
+  pub seeking_end : walk_of cursor journal ≡ None → none ≡ spot_at journal start
   unfolding spot_with
   seeking_end e = sym (ap (spot_with start) (given_end journal cursor left e)) ∙ p.rest
 
-  pub seeking_none : left ≤ 0 → none ≡ spot_at journal start
+  pub seeking_none : left ≡ 0 → none ≡ spot_at journal start
   unfolding spot_with given_by
-  seeking_none h = let z : left ≡ 0 = omega arith in sym (ap (λ (k : ℕ). spot_with start (given_by k cursor journal)) z) ∙ p.rest
+  seeking_none z = sym (ap (λ (k : ℕ). spot_with start (given_by k cursor journal)) z) ∙ p.rest
 
 -- what holds of packing, where so many records of `most` are left and the output has that room
 pub record Fit (most room left : ℕ) (x : Packs) : Type 0 where
   pub sound : Sound x.packer left most
-  pub hand_size : length x.hand ≡ block_size
+  pub hand_size : length x.packer.hand ≡ block_size
   pub out_size : length x.out ≡ room
 
 module _ (most room left : ℕ) (x : Packs) (f : Fit most room left x) where
@@ -114,7 +119,7 @@ module _ (most room left : ℕ) (x : Packs) (f : Fit most room left x) where
       subst (Fit most room (left - 1)) (when_le (x.packer.used + record_size m) records_room _ _ _ q refl)
       (record {
         sound = record { room = q; few = omega arith; some = λ k. omega arith; met = omega arith; held = λ k. omega arith };
-        hand_size = written_length x.packer.used (numbered m) x.hand (omega arith) ∙ z;
+        hand_size = written_length x.packer.used (numbered m) x.packer.hand (omega arith) ∙ z;
         out_size = f.out_size;
       }))
       (λ q.
@@ -123,63 +128,63 @@ module _ (most room left : ℕ) (x : Packs) (f : Fit most room left x) where
       subst (Fit most room (left - 1)) (when_nle (x.packer.used + record_size m) records_room _ _ _ q refl)
       (record {
         sound = record { room = small; few = omega arith; some = λ k. omega arith; met = omega arith; held = λ k. omega arith };
-        hand_size = written_length 0 (numbered m) x.hand (omega arith) ∙ z;
-        out_size = closed_length x.packer x.hand x.out u z ∙ f.out_size;
+        hand_size = written_length 0 (numbered m) x.packer.hand (omega arith) ∙ z;
+        out_size = closed_length x.packer x.out u z ∙ f.out_size;
       }))
 
--- what a loop over the places of a table has come to
-pub record Stepping (journal places : List ℕ) (count room : ℕ) (whole x : Packs) (i : ℕ) : Type 0 where
-  pub most : i ≤ count
-  pub fit : Fit count room (count - i) x
-  pub rest : packed_by x (messages_at journal (drop i (take count places))) ≡ whole
+-- what a loop over the rows of a table has come to
+pub record Stepping (journal : List ℕ) (rows : List Row) (room : ℕ) (whole x : Packs) (i : ℕ) : Type 0 where
+  pub fit : Fit (length rows) room (length rows - i) x
+  pub rest : packed_by x (messages_at journal (drop i (starts_of rows))) ≡ whole
 
-pub stepping_start : (journal places : List ℕ) (count : ℕ) (hand out : List ℕ) (packer : Packer) → length hand ≡ block_size → packer ≡ fresh_packer
-    → Stepping journal places count (length out) (packed_by (packs fresh_packer hand out) (messages_at journal (take count places))) (packs packer hand out) 0
-stepping_start journal places count hand out packer h p =
+pub stepping_start : (journal : List ℕ) (rows : List Row) (out : List ℕ) (packer : Packer) → packer ≡ fresh_packer
+    → Stepping journal rows (length out) (packed_by (packs fresh_packer out) (messages_at journal (starts_of rows))) (packs packer out) 0
+stepping_start journal rows out packer p =
     record {
-      most = omega arith;
       fit =
           rw p
           (record {
             sound = record { room = omega arith; few = omega arith; some = λ k. k; met = omega arith; held = λ k. absurd (omega arith) };
-            hand_size = h;
+            hand_size = length-replicate {A = ℕ} 512 0;
             out_size = refl;
           });
       rest = rw p refl;
     }
 
-module _ (journal places : List ℕ) (count room : ℕ) (whole x : Packs) (i : ℕ) (fits : count ≤ length places) (all : AllSpotted journal (take count places))
-    (p : Stepping journal places count room whole x i) where
-  pub stepping_spotted : i < count → Spotted journal (get_or places i 0)
-  stepping_spotted h =
-      let n = length-take-le count places fits in
-      rw (get_or-take count places i 0 h) at (all i (omega arith))
+module _ (journal : List ℕ) (rows : List Row) (room : ℕ) (whole x : Packs) (i : ℕ) (all : AllSpotted journal (starts_of rows))
+    (p : Stepping journal rows room whole x i) where
+  abbrev start : Row → ℕ
+  start row = row.start
 
-  pub stepping_on : (s : Spot) (y : Packs) → i < count → s ≡ spot_at journal (get_or places i 0) → y ≡ kept_by x (message_on journal s)
-      → Stepping journal places count room whole y (i + 1)
+  pub stepping_spotted : i < length rows → Spotted journal (get_or rows i no_row).start
+  stepping_spotted h =
+      let n = length-map rows start in
+      rw (get_or-map start rows i no_row 0 h) at (all i (omega arith))
+
+  pub stepping_on : (s : Spot) (y : Packs) → i < length rows → s ≡ spot_at journal (get_or rows i no_row).start → y ≡ kept_by x (message_on journal s)
+      → Stepping journal rows room whole y (i + 1)
   unfolding packed_by
   stepping_on s y h e q =
-      let n = length-take-le count places fits in
-      let l : count - (i + 1) ≡ count - i - 1 = omega arith in
-      let m = message_on journal (spot_at journal (get_or places i 0)) in
+      let n = length-map rows start in
+      let l : length rows - (i + 1) ≡ length rows - i - 1 = omega arith in
+      let m = message_on journal (spot_at journal (get_or rows i no_row).start) in
       let y-is : y ≡ kept_by x m = q ∙ ap (λ (t : Spot). kept_by x (message_on journal t)) e in
-      let next : drop i (take count places) ≡ get_or places i 0 ∷ drop (i + 1) (take count places) =
-      drop-cons (take count places) i 0 (omega arith) ∙ ap (λ (k : ℕ). k ∷ drop (suc i) (take count places)) (get_or-take count places i 0 h)
-      ∙ ap (λ (k : ℕ). get_or places i 0 ∷ drop k (take count places)) (sym (add-one i)) in
+      let next : drop i (starts_of rows) ≡ (get_or rows i no_row).start ∷ drop (i + 1) (starts_of rows) =
+      drop-cons (starts_of rows) i 0 (omega arith) ∙ ap (λ (k : ℕ). k ∷ drop (suc i) (starts_of rows)) (get_or-map start rows i no_row 0 h)
+      ∙ ap (λ (k : ℕ). (get_or rows i no_row).start ∷ drop k (starts_of rows)) (sym (add-one i)) in
       record {
-        most = omega arith;
-        fit = rw (y-is, l) (fit_kept count room (count - i) x p.fit m (message_small journal (spot_at journal (get_or places i 0)) (stepping_spotted h).stands) (omega arith));
-        rest = ap (λ (z : Packs). packed_by z (messages_at journal (drop (i + 1) (take count places)))) y-is
+        fit = rw (y-is, l) (fit_kept (length rows) room (length rows - i) x p.fit m (message_small journal (spot_at journal (get_or rows i no_row).start) (stepping_spotted h).stands) (omega arith));
+        rest = ap (λ (z : Packs). packed_by z (messages_at journal (drop (i + 1) (starts_of rows)))) y-is
             ∙ sym (ap (λ (k : List ℕ). packed_by x (messages_at journal k)) next) ∙ p.rest;
       }
 
-  pub stepping_done : count ≤ i → (x ≡ whole) × (Sound x.packer 0 count × (length x.hand ≡ block_size))
+  pub stepping_done : length rows ≤ i → (x ≡ whole) × Sound x.packer 0 (length rows)
   unfolding packed_by
   stepping_done h =
-      let n = length-take-le count places fits in
-      let z : drop i (take count places) ≡ [] = drop_of_length-le (take count places) {i = i} (omega arith) in (
+      let n = length-map rows start in
+      let z : drop i (starts_of rows) ≡ [] = drop_of_length-le (starts_of rows) {i = i} (omega arith) in (
         sym (ap (λ (k : List ℕ). packed_by x (messages_at journal k)) z) ∙ p.rest,
-        ((fit_less count room (count - i) x p.fit 0 (omega arith)).sound, p.fit.hand_size),
+        (fit_less (length rows) room (length rows - i) x p.fit 0 (omega arith)).sound,
       )
 
 -- the messages there have room in a block

@@ -1,5 +1,5 @@
 -- The two calls: the plan of a journal, and the journal rewritten. Both read the blocks before the first wrong one.
-use Rattle.std.specs.Prelude.{◌≡◌, List, [], ℕ, ◌%◌, length}
+use Rattle.std.specs.Prelude.{◌≡◌, List, [], ℕ, ◌%◌, length, Result, Ok, Err}
 use Rattle.group.specs.Choice.{ask◌or◌then◌, ◌≤?◌, ◌=?◌}
 use Rattle.group.specs.Lent.{front}
 use Rattle.group.specs.declared.Refusal.{Refusal}
@@ -10,18 +10,17 @@ use Rattle.journal.specs.Read.{found_in}
 use Rattle.plan.specs.Units.{latest, plan_bytes}
 use Rattle.plan.specs.Kept.{rewritten}
 use Rattle.plan.specs.Table.{units_most}
-use Rattle.plan.specs.declared.Answer.{Answer}
 
 -- what a call comes to: its answer, and the bytes that it lays at the front of the lent output
 pub record Outcome : Type 0 where
-  pub answer : Answer
+  pub answer : Result ℕ Refusal
   pub bytes : List ℕ
 
 abbrev pub refused : Refusal → Outcome
-refused refusal = record { answer = Answer.Refused refusal; bytes = [] }
+refused refusal = record { answer = Err refusal; bytes = [] }
 
 abbrev pub written : List ℕ → Outcome
-written bytes = record { answer = Answer.Bytes (length bytes); bytes = bytes }
+written bytes = record { answer = Ok (length bytes); bytes = bytes }
 
 -- the messages that a journal's right blocks have
 abbrev pub recorded_in : List ℕ → List Ordered
@@ -48,7 +47,7 @@ unfoldable pub rewrite_of : List ℕ → ℕ → Outcome
 rewrite_of journal room = asked_of journal (rewritten (recorded_in journal)) room
 
 -- an answer and the output at exit are those of an outcome
-pub record Lays (o : Outcome) (r : Answer) (before after : List ℕ) : Type 0 where
+pub record Lays (o : Outcome) (r : Result ℕ Refusal) (before after : List ℕ) : Type 0 where
   pub answers : r ≡ o.answer
   pub lent : after ≡ front o.bytes before
 

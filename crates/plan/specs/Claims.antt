@@ -1,5 +1,5 @@
 -- What is proved of a journal's bytes. `proofs/Rewriting.antt` has a proof of each statement.
-use Rattle.std.specs.Prelude.{◌≡◌, List, [], ◌∷◌, ◌++◌, ℕ, ◌%◌, ◌≤◌, length}
+use Rattle.std.specs.Prelude.{◌≡◌, List, [], ◌∷◌, ◌++◌, ℕ, ◌%◌, ◌≤◌, length, Ok}
 use Rattle.group.specs.Choice.{◌≤?◌, ◌=?◌}
 use Rattle.group.specs.Question.{Question, first_no, judged}
 use Rattle.group.specs.declared.Refusal.TheVariants.{WrongJournal, ManyUnits, NoRoom}
@@ -12,7 +12,6 @@ use Rattle.plan.specs.Units.{latest, plan_bytes}
 use Rattle.plan.specs.Kept.{last_ones, rewritten}
 use Rattle.plan.specs.Table.{units_most}
 use Rattle.plan.specs.Calls.{refused, written, recorded_in, plan_of, rewrite_of}
-use Rattle.plan.specs.declared.Answer.{Answer}
 
 -- the rewritten journal is whole, and has the latest record of each unit
 abbrev pub RewrittenWhole : Type 0
@@ -27,7 +26,7 @@ SamePlanBytes =
 -- in the calls: of what a rewriting laid the plan is answered and laid as of the journal, whatever output is lent for it
 abbrev pub SamePlanAnswered : Type 0
 SamePlanAnswered =
-    (journal : List ℕ) (room size next : ℕ) → Bytes journal → (rewrite_of journal room).answer ≡ Answer.Bytes size
+    (journal : List ℕ) (room size next : ℕ) → Bytes journal → (rewrite_of journal room).answer ≡ Ok size
     → plan_of (rewrite_of journal room).bytes next ≡ plan_of journal next
 
 -- no other journal that gives it, of either mark, has fewer records

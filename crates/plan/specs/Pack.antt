@@ -1,6 +1,6 @@
 -- How the latest records are put in order and packed into compacted blocks: they gather in the block in hand, which is laid at its
 -- place in the output when the next does not fit, and at the end.
-use Rattle.std.specs.Prelude.{◌≡◌, ◌≢◌, List, [], ◌∷◌, ◌++◌, map, ℕ, ◌+◌, ◌*◌, ◌/◌, ◌≤◌, ◌<◌, length, get_or, take}
+use Rattle.std.specs.Prelude.{◌≡◌, ◌≢◌, List, [], ◌∷◌, ◌++◌, map, ℕ, ◌+◌, ◌*◌, ◌/◌, ◌≤◌, ◌<◌, length, get_or, take, replicate}
 use Rattle.group.specs.Choice.{when◌then◌else◌, ◌<?◌, ◌≤?◌, ◌=?◌}
 use Rattle.group.specs.Lent.{front}
 use Rattle.message.specs.Order.{Ordered}
@@ -37,18 +37,21 @@ AllSpotted journal places = (i : ℕ) → i < length places → Spotted journal 
 abbrev pub messages_at : List ℕ → List ℕ → List Ordered
 messages_at journal places = map (λ (start : ℕ). message_on journal (spot_at journal start)) places
 
--- what packing has come to: its numbers, the block in hand, and the output
+-- what packing has come to: the packer, and the output
 pub record Packs : Type 0 where
   pub packer : Packer
-  pub hand : List ℕ
   pub out : List ℕ
 
-abbrev pub packs : Packer → List ℕ → List ℕ → Packs
-packs packer hand out = record { packer = packer; hand = hand; out = out }
+abbrev pub packs : Packer → List ℕ → Packs
+packs packer out = record { packer = packer; out = out }
 
 -- no block, and no record in hand
 abbrev pub fresh_packer : Packer
-fresh_packer = record { first = 0; records = 0; used = 0; blocks = 0 }
+fresh_packer = record { hand = replicate block_size 0; first = 0; records = 0; used = 0; blocks = 0 }
+
+-- the same numbers, and another block in hand
+abbrev pub with_hand : List ℕ → Packer → Packer
+with_hand hand p = record { hand = hand; first = p.first; records = p.records; used = p.used; blocks = p.blocks }
 
 -- a message's record, its number before it
 abbrev pub numbered : Ordered → List ℕ
@@ -58,6 +61,7 @@ numbered m = bytes_of number_size m.number ++ record_of m
 unfoldable pub grown_to : Packer → ℕ → ℕ → Packer
 grown_to p number used =
     record {
+      hand = p.hand;
       first = when p.records =? 0 then number else p.first;
       records = p.records + 1;
       used = used;
@@ -66,21 +70,21 @@ grown_to p number used =
 
 -- a record that begins the next block
 abbrev pub begun_with : Packer → ℕ → ℕ → Packer
-begun_with p number used = record { first = number; records = 1; used = used; blocks = p.blocks + 1 }
+begun_with p number used = record { hand = p.hand; first = number; records = 1; used = used; blocks = p.blocks + 1 }
 
 -- the output with the block in hand behind those before it, if there is room
-unfoldable pub closed_in : Packer → List ℕ → List ℕ → List ℕ
-closed_in p hand out =
+unfoldable pub closed_in : Packer → List ℕ → List ℕ
+closed_in p out =
     when p.blocks <? length out / block_size
-    then written_at (p.blocks * block_size) (compact_of p.first p.records (take p.used hand)) out
+    then written_at (p.blocks * block_size) (compact_of p.first p.records (take p.used p.hand)) out
     else out
 
 -- a record is kept: it goes behind the others, or begins the next block
 unfoldable pub kept_by : Packs → Ordered → Packs
 kept_by s m =
     when s.packer.used + record_size m ≤? records_room
-    then packs (grown_to s.packer m.number (s.packer.used + record_size m)) (written_at s.packer.used (numbered m) s.hand) s.out
-    else packs (begun_with s.packer m.number (record_size m)) (written_at 0 (numbered m) s.hand) (closed_in s.packer s.hand s.out)
+    then packs (grown_to (with_hand (written_at s.packer.used (numbered m) s.packer.hand) s.packer) m.number (s.packer.used + record_size m)) s.out
+    else packs (begun_with (with_hand (written_at 0 (numbered m) s.packer.hand) s.packer) m.number (record_size m)) (closed_in s.packer s.out)
 
 unfoldable pub packed_by : Packs → List Ordered → Packs
 packed_by s [] = s

@@ -1,7 +1,9 @@
--- How rows are kept while a journal is read: two tables beside each other, of unit numbers, rising, and of the indices in the
--- journal at which the payloads stand.
-use Rattle.std.specs.Prelude.{◌≡◌, List, [], ◌∷◌, ◌++◌, map, ℕ, ◌+◌, ◌-◌, ◌≤◌, ◌<◌, length, get_or, take, drop}
+-- How rows are kept while a journal is read: a table of unit numbers, rising, each with the index in the journal at which its payload
+-- stands.
+use Rattle.std.specs.Prelude.{◌≡◌, List, [], ◌∷◌, ◌++◌, map, ℕ, ◌+◌, ◌-◌, ◌≤◌, ◌<◌, length, get_or, take, drop, Result, MatchResult}
 use Rattle.group.specs.Choice.{when◌then◌else◌, ◌<?◌}
+use Rattle.group.specs.declared.Refusal.{Refusal}
+use Rattle.group.specs.declared.Refusal.TheVariants.{ManyUnits}
 use Rattle.message.specs.Order.{Ordered}
 use Rattle.journal.specs.Limits.{record_head}
 use Rattle.journal.specs.Walk.{cursor_of, given_by, message_on}
@@ -9,6 +11,7 @@ use Rattle.journal.specs.declared.Spot.{Spot}
 use Rattle.big_endian.specs.Number.{number_at, bytes_of}
 use Rattle.plan.specs.Units.{sets, unit_of, placed, latest}
 use Rattle.plan.specs.Laws.{◌among◌, Rises}
+use Rattle.plan.specs.declared.Row.{Row}
 
 -- the most units of a plan
 abbrev pub units_most : ℕ
@@ -23,30 +26,21 @@ place_of number (x ∷ rest) = when x <? number then place_of number rest + 1 el
 abbrev pub Rising : List ℕ → Type 0
 Rising l = (i j : ℕ) → i < j → j < length l → get_or l i 0 < get_or l j 0
 
--- what a search in a part of a table gives
-pub record Place (number : ℕ) (l : List ℕ) (index : ℕ) : Type 0 where
-  pub within : index ≤ length l
-  pub found : Rising l → index ≡ place_of number l
-
 -- a list with one more element at an index
 abbrev pub inserted : {A : Type 0} → ℕ → A → List A → List A
 inserted i x l = take i l ++ (x ∷ drop i l)
 
--- the tables hold these rows, whose messages have the index of their payload for a number
-pub record Holds (rows : List Ordered) (units places : List ℕ) (count : ℕ) : Type 0 where
-  pub many : length rows ≡ count
-  pub units_held : take count units ≡ map unit_of rows
-  pub places_held : take count places ≡ map (λ (m : Ordered). m.number) rows
+-- the row of a message that has the index of its payload for a number, and where the payloads of some rows stand
+abbrev pub row_for : Ordered → Row
+row_for m = record { unit = unit_of m; start = m.number }
 
--- what noting a message leaves, by its unit and by where its payload stands: the tables hold the rows with it in its place, or
--- there are too many
-pub record Noted (units places : List ℕ) (count unit start : ℕ) (units' places' : List ℕ) (count' : ℕ) : Type 0 where
-  pub units_size : length units' ≡ length units
-  pub places_size : length places' ≡ length places
-  pub held : (rows : List Ordered) (m : Ordered) → Rises unit_of rows → Holds rows units places count → unit_of m ≡ unit → m.number ≡ start
-      → count' ≤ units_most → Holds (placed m rows) units' places' count'
-  pub many : (rows : List Ordered) (m : Ordered) → Rises unit_of rows → Holds rows units places count → unit_of m ≡ unit
-      → units_most < count' → units_most < length (placed m rows)
+abbrev pub starts_of : List Row → List ℕ
+starts_of table = map (λ (row : Row). row.start) table
+
+-- what noting a row makes of a table that holds some messages' rows: its message is in its place, or there are too many
+pub record Noted (table : List Row) (row : Row) (r : Result (Unit {0}) Refusal) (table' : List Row) : Type 0 where
+  pub held : (rows : List Ordered) (m : Ordered) → Rises unit_of rows → table ≡ map row_for rows → row ≡ row_for m
+      → MatchResult r (λ _. table' ≡ map row_for (placed m rows)) (λ refusal. (refusal ≡ ManyUnits) × (units_most < length (placed m rows)))
 
 -- the length of the payload that stands at an index of a journal: it is in the two bytes before it
 abbrev pub length_before : List ℕ → ℕ → ℕ
@@ -85,12 +79,10 @@ spotted journal s =
 abbrev pub rows_with : List ℕ → Spot → List Ordered → List Ordered
 rows_with journal s rows = when sets (spotted journal s) then placed (spotted journal s) rows else rows
 
--- what noting a record leaves
-pub record NotedSpot (journal : List ℕ) (s : Spot) (units places : List ℕ) (count : ℕ) (units' places' : List ℕ) (count' : ℕ) : Type 0 where
-  pub units_size : length units' ≡ length units
-  pub places_size : length places' ≡ length places
-  pub held : (rows : List Ordered) → Rises unit_of rows → Holds rows units places count → count' ≤ units_most → Holds (rows_with journal s rows) units' places' count'
-  pub many : (rows : List Ordered) → Rises unit_of rows → Holds rows units places count → units_most < count' → units_most < length (rows_with journal s rows)
+-- what noting a record makes of such a table
+pub record NotedSpot (journal : List ℕ) (s : Spot) (table : List Row) (r : Result (Unit {0}) Refusal) (table' : List Row) : Type 0 where
+  pub held : (rows : List Ordered) → Rises unit_of rows → table ≡ map row_for rows
+      → MatchResult r (λ _. table' ≡ map row_for (rows_with journal s rows)) (λ refusal. (refusal ≡ ManyUnits) × (units_most < length (rows_with journal s rows)))
 
 -- the rows of the records that a cursor gives, numbered by their payloads' indices
 abbrev pub rows_in : List ℕ → ℕ → ℕ → List Ordered
@@ -101,10 +93,7 @@ pub record Stood (journal : List ℕ) (m : Ordered) : Type 0 where
   pub stands : Stands journal m.number
   pub payload_is : m.payload ≡ take (length_before journal m.number) (drop m.number journal)
 
--- what gathering the rows of a journal leaves: the tables hold them, or there are too many
-pub record Gathered (journal : List ℕ) (rows : List Ordered) (units places : List ℕ) (count : ℕ) : Type 0 where
-  pub units_size : length units ≡ units_most
-  pub places_size : length places ≡ units_most
-  pub held : count ≤ units_most → Holds rows units places count
-  pub stood : count ≤ units_most → (row : Ordered) → row among rows → Stood journal row
-  pub many : units_most < count → units_most < length rows
+-- what gathering the rows of a journal comes to: a table holds them, and they stand in the journal, or there are too many
+pub record Gathered (journal : List ℕ) (rows : List Ordered) (r : Result (Unit {0}) Refusal) (table : List Row) : Type 0 where
+  pub held : MatchResult r (λ _. (table ≡ map row_for rows) × ((row : Ordered) → row among rows → Stood journal row))
+      (λ refusal. (refusal ≡ ManyUnits) × (units_most < length rows))

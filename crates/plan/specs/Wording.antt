@@ -1,8 +1,8 @@
 -- How the paper words what the two calls answer: how many bytes were laid, or the refusal.
-use Rattle.std.specs.Prelude.{[], ◌∷◌}
+use Rattle.std.specs.Prelude.{ℕ, [], ◌∷◌, Result, Ok, Err}
+use Rattle.group.specs.declared.Refusal.{Refusal}
 use Rattle.group.specs.Wording.{Wording, word, number, refused_wording}
-use Rattle.plan.specs.declared.Answer.{Answer}
 
-unfoldable pub wording_of : Answer → Wording
-wording_of (Answer.Bytes size) = word "bytes" (number size ∷ [])
-wording_of (Answer.Refused r) = refused_wording r
+unfoldable pub wording_of : Result ℕ Refusal → Wording
+wording_of (Ok size) = word "bytes" (number size ∷ [])
+wording_of (Err r) = refused_wording r

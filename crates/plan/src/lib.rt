@@ -1,8 +1,7 @@
 // The plan that a journal's messages come to, and the journal rewritten to the fewest records that give the same plan.
 #![tactic(auto)]
 
-ghost use Rattle.std.specs.Prelude.{◌≡◌, [], ◌+◌, ◌*◌, ◌-◌, ◌/◌, ◌%◌, ◌≤◌, ◌<◌, length, get_or, take};
-ghost use Rattle.group.specs.Choice.{when◌then◌else◌, ◌and◌, ◌<?◌, ◌=?◌};
+ghost use Rattle.std.specs.Prelude.{◌≡◌, [], ◌+◌, ◌*◌, ◌-◌, ◌/◌, ◌≤◌, ◌<◌, length, take};
 ghost use Rattle.group.specs.Lent.{front};
 ghost use Rattle.text.specs.LaidAt.{LaidAt};
 ghost use Rattle.journal.specs.Limits.{block_size, number_size};
@@ -12,19 +11,11 @@ ghost use Rattle.plan.specs.Calls.{Lays, FoundIn, laid_in, plan_of, rewrite_of};
 ghost use Rattle.plan.specs.Units.{sets};
 ghost use Rattle.plan.specs.Wording.{wording_of};
 ghost use Rattle.plan.specs.Kept.{records_room};
-ghost use Rattle.plan.specs.Pack.{Apart, sorted, AllSpotted, messages_at, packs, fresh_packer, numbered, grown_to, closed_in, kept_by, packed_by, Sound, blocks_for, Packed};
-ghost use Rattle.plan.specs.Table.{NotedSpot, rows_in, Gathered, spotted};
-ghost use Rattle.plan.specs.Table.{units_most, Place, inserted, Noted, length_before, Stands, AllStand, row_at, plan_at};
+ghost use Rattle.plan.specs.Pack.{Apart, sorted, AllSpotted, messages_at, packs, fresh_packer, numbered, grown_to, closed_in, kept_by, blocks_for, Packed};
+ghost use Rattle.plan.specs.Table.{units_most, starts_of, Noted, NotedSpot, rows_in, Gathered, spotted, length_before, Stands, AllStand, row_at, plan_at};
 
 use group::{Refusal, SequenceNumber};
-use journal::{Block, COMPACT_MARK, Cursor, Reading, Record, Spot, Walk};
-
-// What a call answers: how many bytes it laid at the front of the lent output, or why none.
-#[derive(Clone, Copy)]
-pub enum Answer {
-    Bytes(usize),
-    Refused(Refusal),
-}
+use journal::{Block, COMPACT_MARK, Cursor, Found, Record, Spot};
 
 // The most units of a plan.
 pub const UNITS: usize = 512;
@@ -35,68 +26,20 @@ fn units_most() -> usize
     UNITS
 }
 
-// The first index of a rising table whose number is not below the one sought, by halving.
-fn place(table: &[usize], count: usize, number: usize) -> usize
-    requires { count ≤ length table.now }
-    ensures { Place number (take count table.now) result }
-{
-    let mut low: usize = 0;
-    let mut high = count;
-    while low < high {
-        let middle = low + (high - low) / 2;
-        if table[middle] < number {
-            low = middle + 1;
-        } else {
-            high = middle;
-        }
-    }
-    low
+// A row of a plan: a unit, and where its latest payload stands in the journal.
+#[derive(Clone, Copy)]
+struct Row {
+    unit: u16,
+    start: usize,
 }
 
-// Puts a number at an index of a table of which so many entries are used; those from there on move one up.
-fn insert(table: &mut [usize], count: usize, at: usize, number: usize)
-    requires { (at ≤ count) × (count < length table.old) }
-    ensures { (take (count + 1) table.new ≡ inserted at number (take count table.old)) × (length table.new ≡ length table.old) }
-{
-    let mut carried = number;
-    let mut i = at;
-    while i <= count {
-        let old = table[i];
-        table[i] = carried;
-        carried = old;
-        i += 1;
-    }
-}
+// The rows of a plan while its journal is read, by rising unit: so many of the table's are used.
+#[derive(Drop)]
+struct Table {
+    rows: [Row; UNITS],
+    count: usize,
 
-// Whether a number stands at an index of the part of a table that is used.
-fn stands(table: &[usize], count: usize, at: usize, number: usize) -> bool
-    requires { count ≤ length table.now }
-    ensures { result ≡ (at <? count and get_or table.now at 0 =? number) }
-{
-    if at < count {
-        table[at] == number
-    } else {
-        false
-    }
-}
-
-// Puts a unit's latest payload into the tables, by where it stands, and gives how many units they have; one more than the most
-// if there is no room.
-fn note(units: &mut [usize], places: &mut [usize], count: usize, unit: usize, start: usize) -> usize
-    requires { (length units.old ≡ units_most) × (length places.old ≡ units_most) × (count ≤ units_most) }
-    ensures { Noted units.old places.old count unit start units.new places.new result }
-{
-    let i = place(units, count, unit);
-    if stands(units, count, i, unit) {
-        places[i] = start;
-        return count;
-    }
-    if UNITS <= count {
-        return UNITS + 1;
-    }
-    insert(units, count, i, unit);
-    insert(places, count, i, start);
-    count + 1
+    ghost few: { count ≤ units_most },
 }
 
 // The length of the payload that stands at an index of a journal.
@@ -107,16 +50,14 @@ fn length_before(journal: &[u8], start: usize) -> usize
     big_endian::u16_at(journal, start - 2) as usize
 }
 
-// How many bytes the plan of a table has.
-fn plan_size(journal: &[u8], places: &[usize], count: usize) -> usize
-    requires { (count ≤ length places.now) × (count ≤ units_most) × AllStand journal.now (take count places.now) }
-    ensures { result ≡ length (plan_at journal.now (take count places.now)) }
+// How many bytes the plan of some rows has.
+fn plan_size(journal: &[u8], rows: &[Row]) -> usize
+    requires { (length rows.now ≤ units_most) × AllStand journal.now (starts_of rows.now) }
+    ensures { result ≡ length (plan_at journal.now (starts_of rows.now)) }
 {
-    let mut size: usize = 0;
-    let mut i: usize = 0;
-    while i < count {
-        size += length_before(journal, places[i]) + 1;
-        i += 1;
+    let mut size = 0;
+    for row in rows {
+        size += length_before(journal, row.start) + 1;
     }
     size
 }
@@ -131,21 +72,17 @@ fn put_row(journal: &[u8], start: usize, out: &mut [u8], at: usize) -> usize
     let size = big_endian::u16_bytes((length - 3) as u16);
     let behind_unit = text::put_text(&unit, out, at);
     let behind_size = text::put_text(&size, out, behind_unit);
-    let from = start + 3;
-    let end = start + length;
-    text::put_text(&journal[from..end], out, behind_size)
+    text::put_text(&journal[start + 3..start + length], out, behind_size)
 }
 
-// Lays the plan of a table at the front of the lent output.
-fn put_plan(journal: &[u8], places: &[usize], count: usize, out: &mut [u8])
-    requires { (count ≤ length places.now) × AllStand journal.now (take count places.now) × (length (plan_at journal.now (take count places.now)) ≤ length out.old) }
-    ensures { out.new ≡ front (plan_at journal.now (take count places.now)) out.old }
+// Lays the plan of some rows at the front of the lent output.
+fn put_plan(journal: &[u8], rows: &[Row], out: &mut [u8])
+    requires { AllStand journal.now (starts_of rows.now) × (length (plan_at journal.now (starts_of rows.now)) ≤ length out.old) }
+    ensures { out.new ≡ front (plan_at journal.now (starts_of rows.now)) out.old }
 {
-    let mut at: usize = 0;
-    let mut i: usize = 0;
-    while i < count {
-        at = put_row(journal, places[i], out, at);
-        i += 1;
+    let mut at = 0;
+    for row in rows {
+        at = put_row(journal, row.start, out, at);
     }
 }
 
@@ -155,93 +92,110 @@ fn sets_unit(journal: &[u8], spot: Spot) -> bool
     ensures { result ≡ sets (spotted journal.now spot) }
 {
     let start = spot.start + Record::HEAD;
-    if spot.end - start < 3 {
-        return false;
-    }
-    journal[start] == 3
+    3 <= spot.end - start && journal[start] == 3
 }
 
-// Notes a record of the journal, if it sets a unit.
-fn note_spot(
-    journal: &[u8],
-    spot: Spot,
-    units: &mut [usize],
-    places: &mut [usize],
-    count: usize,
-) -> usize
-    requires stands_in { StandsIn journal.now spot }
-    requires units_len { (length units.old ≡ units_most) × (length places.old ≡ units_most) × (count ≤ units_most) }
-    ensures { NotedSpot journal.now spot units.old places.old count units.new places.new result }
+// Puts rows in order of where their payloads stand.
+fn sort(rows: &mut [Row], count: usize)
+    requires { (count ≤ length rows.old) × Apart (starts_of (take count rows.old)) }
+    ensures { starts_of (take count rows.new) ≡ sorted [] (starts_of (take count rows.old)) }
 {
-    if sets_unit(journal, spot) {
-        let start = spot.start + Record::HEAD;
-        let unit = big_endian::u16_at(journal, start + 1) as usize;
-        return note(units, places, count, unit, start);
-    }
-    count
+    rows[..count].sort_unstable_by_key(|row| row.start);
 }
 
-// Gathers the rows of a journal of which so many blocks are right, with so many messages, in the tables, and gives how many there
-// are; a unit more than the most ends it.
-fn gather(
-    journal: &[u8],
-    blocks: usize,
-    messages: usize,
-    units: &mut [usize],
-    places: &mut [usize],
-) -> usize
-    requires { (blocks * block_size ≤ length journal.now) × (length units.old ≡ units_most) × (length places.old ≡ units_most) }
-    ensures { Gathered journal.now (rows_in journal.now blocks messages) units.new places.new result }
-{
-    let mut cursor = Cursor::of(journal, blocks);
-    let mut count: usize = 0;
-    let mut left = messages;
-    while 0 < left {
-        let walk = cursor.next(journal);
-        match walk {
-            Walk::Next(spot, next) => {
-                count = note_spot(journal, spot, units, places, count);
-                if UNITS < count {
-                    return count;
-                }
-                cursor = next;
-                left -= 1;
+impl Table {
+    // A table of no rows.
+    fn new() -> Self
+        ensures { take result.count result.rows ≡ [] }
+    {
+        Table {
+            rows: [Row { unit: 0, start: 0 }; UNITS],
+            count: 0,
+        }
+    }
+
+    // The rows that are used.
+    fn used(&self) -> &[Row]
+        ensures { result.now ≡ take self.now.count self.now.rows }
+    {
+        &self.rows[..self.count]
+    }
+
+    // Puts a row in its unit's place, in place of that unit's row before it.
+    fn note(&mut self, row: Row) -> Result<(), Refusal>
+        ensures { Noted (take self.old.count self.old.rows) row result (take self.new.count self.new.rows) }
+    {
+        match self.rows[..self.count].binary_search_by_key(&row.unit, |other| other.unit) {
+            Ok(i) => {
+                self.rows[i] = row;
+                Ok(())
             }
-            Walk::End => {
-                return count;
+            Err(i) => {
+                if self.count == UNITS {
+                    return Err(Refusal::ManyUnits);
+                }
+                self.rows.copy_within(i..self.count, i + 1);
+                self.rows[i] = row;
+                self.count += 1;
+                Ok(())
             }
         }
     }
-    count
+
+    // Notes a record of the journal, if it sets a unit.
+    fn note_spot(&mut self, journal: &[u8], spot: Spot) -> Result<(), Refusal>
+        requires { StandsIn journal.now spot }
+        ensures { NotedSpot journal.now spot (take self.old.count self.old.rows) result (take self.new.count self.new.rows) }
+    {
+        if sets_unit(journal, spot) {
+            let start = spot.start + Record::HEAD;
+            let unit = big_endian::u16_at(journal, start + 1);
+            return self.note(Row { unit, start });
+        }
+        Ok(())
+    }
+
+    // Gathers the rows of a journal in which that was found; a unit more than the most ends it.
+    fn gather(&mut self, journal: &[u8], found: Found) -> Result<(), Refusal>
+        requires within { found.blocks * block_size ≤ length journal.now }
+        requires fresh { take self.old.count self.old.rows ≡ [] }
+        ensures { Gathered journal.now (rows_in journal.now found.blocks found.messages) result (take self.new.count self.new.rows) }
+    {
+        let mut cursor = Cursor::of(journal, found.blocks);
+        'records: for _ in 0..found.messages {
+            let Some((spot, next)) = cursor.next(journal) else {
+                break;
+            };
+            self.note_spot(journal, spot)?;
+            cursor = next;
+        }
+        Ok(())
+    }
+
+    // Puts the rows in order of where their payloads stand, which is that of their sequence numbers.
+    fn sort_by_start(&mut self)
+        requires { Apart (starts_of (take self.old.count self.old.rows)) }
+        ensures { starts_of (take self.new.count self.new.rows) ≡ sorted [] (starts_of (take self.old.count self.old.rows)) }
+    {
+        sort(&mut self.rows, self.count);
+    }
 }
 
-// Lays the plan of a table at the front of the lent output, if there is room for it.
-fn lay_plan(journal: &[u8], places: &[usize], count: usize, out: &mut [u8]) -> Answer
-    requires { (count ≤ length places.now) × (count ≤ units_most) × AllStand journal.now (take count places.now) }
-    ensures { Lays (laid_in (plan_at journal.now (take count places.now)) (length out.old)) result out.old out.new }
+// Lays the plan of some rows at the front of the lent output, if there is room for it.
+fn lay_plan(journal: &[u8], rows: &[Row], out: &mut [u8]) -> Result<usize, Refusal>
+    requires { (length rows.now ≤ units_most) × AllStand journal.now (starts_of rows.now) }
+    ensures { Lays (laid_in (plan_at journal.now (starts_of rows.now)) (length out.old)) result out.old out.new }
 {
-    let size = plan_size(journal, places, count);
+    let size = plan_size(journal, rows);
     if out.len() < size {
-        return Answer::Refused(Refusal::NoRoom);
+        return Err(Refusal::NoRoom);
     }
-    put_plan(journal, places, count, out);
-    Answer::Bytes(size)
-}
-
-// Puts the places of a table in order into another, each where it belongs among those before it.
-fn sort(places: &[usize], count: usize, order: &mut [usize])
-    requires { (count ≤ length places.now) × (count ≤ length order.old) × Apart (take count places.now) }
-    ensures { (take count order.new ≡ sorted [] (take count places.now)) × (length order.new ≡ length order.old) }
-{
-    let mut i: usize = 0;
-    while i < count {
-        let at = place(order, i, places[i]);
-        insert(order, i, at, places[i]);
-        i += 1;
-    }
+    put_plan(journal, rows, out);
+    Ok(size)
 }
 
 // The record whose payload stands at an index of a journal, by walking over its block.
+// kept: a `Spot` of zeros where none stands, since that is what `spot_at` of journal/specs/Walk.antt says; no caller meets it.
 fn spot_at(journal: &[u8], start: usize) -> Spot
     requires { start / block_size * block_size + block_size ≤ length journal.now }
     ensures { result ≡ spot_at journal.now start }
@@ -252,29 +206,24 @@ fn spot_at(journal: &[u8], start: usize) -> Spot
         end: 0,
     };
     let mut cursor = Cursor::at(journal, start / Block::SIZE * Block::SIZE);
-    let mut left = Block::SIZE;
-    while 0 < left {
-        let walk = cursor.next(journal);
-        match walk {
-            Walk::Next(spot, next) => {
-                if spot.start + Record::HEAD == start {
-                    return spot;
-                }
-                cursor = next;
-                left -= 1;
-            }
-            Walk::End => {
-                return none;
-            }
+    'records: for _ in 0..Block::SIZE {
+        let Some((spot, next)) = cursor.next(journal) else {
+            break;
+        };
+        if spot.start + Record::HEAD == start {
+            return spot;
         }
+        cursor = next;
     }
     none
 }
 
-// Blocks being packed: of the block in hand the first number, the records and the bytes that they take, and how many blocks stand
-// before it. The block itself is lent to each call.
-#[derive(Clone, Copy)]
+// Blocks being packed: the block in hand, its first number, the records in it and the bytes that they take, and how many blocks stand
+// before it.
+// kept: no ghost field for what `records` and `used` keep, since specs/Pack.antt names this type, and would import itself.
+#[derive(Drop)]
 struct Packer {
+    hand: [u8; Block::SIZE],
     first: u32,
     records: usize,
     used: usize,
@@ -286,22 +235,20 @@ fn put_numbered(journal: &[u8], spot: Spot, hand: &mut [u8], at: usize) -> usize
     requires { StandsIn journal.now spot × (at + number_size + (spot.end - spot.start) ≤ length hand.old) }
     ensures { LaidAt at (numbered (message_on journal.now spot)) hand.old hand.new result }
 {
-    let number = spot.number;
-    let numbered = big_endian::u32_bytes(number.0);
-    let next = text::put_text(&numbered, hand, at);
     let start = spot.start;
-    let end = spot.end;
+    let next = text::put_text(&big_endian::u32_bytes(spot.number.0), hand, at);
     let count = big_endian::u32_at(journal, start + 1);
-    let payload = start + Record::HEAD;
-    journal::put_record(journal[start], count, &journal[payload..end], hand, next)
+    let payload = &journal[start + Record::HEAD..spot.end];
+    journal::put_record(journal[start], count, payload, hand, next)
 }
 
 impl Packer {
     // No block, and no record in hand.
-    fn fresh() -> Self
+    fn new() -> Self
         ensures { result ≡ fresh_packer }
     {
         Packer {
+            hand: [0; Block::SIZE],
             first: 0,
             records: 0,
             used: 0,
@@ -310,170 +257,122 @@ impl Packer {
     }
 
     // One more record in hand, with that number and up to that index.
-    fn grown(self, number: u32, used: usize) -> Self
-        requires { self.records ≤ records_room }
-        ensures { result ≡ grown_to self number used }
+    fn grow(&mut self, number: u32, used: usize)
+        requires { self.old.records ≤ records_room }
+        ensures { self.new ≡ grown_to self.old number used }
     {
         if self.records == 0 {
-            return Packer {
-                first: number,
-                records: 1,
-                used,
-                blocks: self.blocks,
-            };
+            self.first = number;
         }
-        Packer {
-            first: self.first,
-            records: self.records + 1,
-            used,
-            blocks: self.blocks,
-        }
+        self.records += 1;
+        self.used = used;
     }
 
     // Lays the block in hand, made whole, behind the blocks before it, if there is room.
-    fn close(self, hand: &[u8], out: &mut [u8])
-        requires { (self.records ≤ self.used) × (self.used ≤ records_room) × (length hand.now ≡ block_size) }
-        ensures { out.new ≡ closed_in self hand.now out.old }
+    fn close(&self, out: &mut [u8])
+        requires { (self.now.records ≤ self.now.used) × (self.now.used ≤ records_room) }
+        ensures { out.new ≡ closed_in self.now out.old }
     {
         if self.blocks < out.len() / Block::SIZE {
             let at = self.blocks * Block::SIZE;
-            let end = at + Block::SIZE;
-            let used = self.used;
             journal::put_block(
                 COMPACT_MARK,
                 self.first,
                 self.records,
-                &hand[..used],
-                &mut out[at..end],
+                &self.hand[..self.used],
+                &mut out[at..at + Block::SIZE],
             );
         }
     }
 
     // Keeps a record: it goes behind the others, or the block in hand is closed and the record begins the next.
-    fn keep(self, journal: &[u8], spot: Spot, hand: &mut [u8], out: &mut [u8]) -> Self
-        requires stands_in { StandsIn journal.now spot × (length hand.old ≡ block_size) }
-        requires records_le_used { (self.records ≤ self.used) × (self.used ≤ records_room) × (self.blocks + 1 < 18446744073709551616) }
-        ensures { packs result hand.new out.new ≡ kept_by (packs self hand.old out.old) (message_on journal.now spot) }
+    fn keep(&mut self, journal: &[u8], spot: Spot, out: &mut [u8])
+        requires stands_in { StandsIn journal.now spot }
+        requires records_le_used { (self.old.records ≤ self.old.used) × (self.old.used ≤ records_room) × (self.old.blocks + 1 < 18446744073709551616) }
+        ensures { packs self.new out.new ≡ kept_by (packs self.old out.old) (message_on journal.now spot) }
     {
-        let number = spot.number;
-        let used = self.used;
-        if used + Record::NUMBER + (spot.end - spot.start) <= Block::SUM - Block::RECORDS {
-            let end = put_numbered(journal, spot, hand, used);
-            return self.grown(number.0, end);
+        let number = spot.number.0;
+        if self.used + Record::NUMBER + (spot.end - spot.start) <= Block::SUM - Block::RECORDS {
+            let end = put_numbered(journal, spot, &mut self.hand, self.used);
+            self.grow(number, end);
+            return;
         }
-        self.close(hand, out);
-        let end = put_numbered(journal, spot, hand, 0);
-        Packer {
-            first: number.0,
-            records: 1,
-            used: end,
-            blocks: self.blocks + 1,
-        }
+        self.close(out);
+        self.used = put_numbered(journal, spot, &mut self.hand, 0);
+        self.first = number;
+        self.records = 1;
+        self.blocks += 1;
     }
 }
 
-// Packs the records whose payloads stand at the places of a table; a block has its place in the output, and is laid there if there is
-// room.
-fn pack_all(
-    journal: &[u8],
-    places: &[usize],
-    count: usize,
-    hand: &mut [u8],
-    out: &mut [u8],
-) -> Packer
-    requires { (count ≤ length places.now) × AllSpotted journal.now (take count places.now) × (length hand.old ≡ block_size) }
-    ensures packs { packs result hand.new out.new ≡ packed_by (packs fresh_packer hand.old out.old) (messages_at journal.now (take count places.now)) }
-    ensures sound { Sound result 0 count × (length hand.new ≡ block_size) }
+// Packs the records of some rows into blocks, and gives how many there are; a block has its place in the output, and is laid there
+// if there is room.
+fn pack(journal: &[u8], rows: &[Row], out: &mut [u8]) -> usize
+    requires { AllSpotted journal.now (starts_of rows.now) }
+    ensures { Packed (blocks_for (messages_at journal.now (starts_of rows.now))) result out.old out.new }
 {
-    let mut packer = Packer::fresh();
-    let mut i: usize = 0;
-    while i < count {
-        let spot = spot_at(journal, places[i]);
-        packer = packer.keep(journal, spot, hand, out);
-        i += 1;
+    let mut packer = Packer::new();
+    for row in rows {
+        packer.keep(journal, spot_at(journal, row.start), out);
     }
-    packer
-}
-
-// The same with the last block closed; gives how many blocks there are.
-fn pack(journal: &[u8], places: &[usize], count: usize, out: &mut [u8]) -> usize
-    requires { (count ≤ length places.now) × AllSpotted journal.now (take count places.now) }
-    ensures { Packed (blocks_for (messages_at journal.now (take count places.now))) result out.old out.new }
-{
-    let mut hand = [0u8; Block::SIZE];
-    let packer = pack_all(journal, places, count, &mut hand, out);
     if packer.records == 0 {
         return packer.blocks;
     }
-    packer.close(&hand, out);
+    packer.close(out);
     packer.blocks + 1
 }
 
-// Lays the blocks of those records at the front of the lent output, if there is room for them: they are packed once to count them.
-fn lay_blocks(journal: &[u8], places: &[usize], count: usize, out: &mut [u8]) -> Answer
-    requires { (count ≤ length places.now) × AllSpotted journal.now (take count places.now) }
-    ensures { Lays (laid_in (blocks_for (messages_at journal.now (take count places.now))) (length out.old)) result out.old out.new }
+// Lays the blocks of some rows' records at the front of the lent output, if there is room for them: they are packed once to count
+// them.
+fn lay_blocks(journal: &[u8], rows: &[Row], out: &mut [u8]) -> Result<usize, Refusal>
+    requires { AllSpotted journal.now (starts_of rows.now) }
+    ensures { Lays (laid_in (blocks_for (messages_at journal.now (starts_of rows.now))) (length out.old)) result out.old out.new }
 {
-    let mut none = [0u8; 1];
-    let needed = pack(journal, places, count, &mut none);
+    let needed = pack(journal, rows, &mut []);
     if out.len() / Block::SIZE < needed {
-        return Answer::Refused(Refusal::NoRoom);
+        return Err(Refusal::NoRoom);
     }
-    pack(journal, places, count, out);
-    Answer::Bytes(needed * Block::SIZE)
+    pack(journal, rows, out);
+    Ok(needed * Block::SIZE)
 }
 
-// Rewrites a journal of which so many blocks are right, with so many messages. Where the units stood, the places come in order.
-fn rewrite_found(journal: &[u8], blocks: usize, messages: usize, out: &mut [u8]) -> Answer
-    requires { FoundIn journal.now blocks messages }
+// Rewrites a journal in which that was found.
+fn rewrite_found(journal: &[u8], found: Found, out: &mut [u8]) -> Result<usize, Refusal>
+    requires { FoundIn journal.now found.blocks found.messages }
     ensures { Lays (rewrite_of journal.now (length out.old)) result out.old out.new }
 {
-    let mut units = [0usize; UNITS];
-    let mut places = [0usize; UNITS];
-    let count = gather(journal, blocks, messages, &mut units, &mut places);
-    if UNITS < count {
-        return Answer::Refused(Refusal::ManyUnits);
-    }
-    sort(&places, count, &mut units);
-    lay_blocks(journal, &units, count, out)
+    let mut table = Table::new();
+    table.gather(journal, found)?;
+    table.sort_by_start();
+    lay_blocks(journal, table.used(), out)
 }
 
-// Lays the plan of a journal of which so many blocks are right, with so many messages.
-fn plan_found(journal: &[u8], blocks: usize, messages: usize, out: &mut [u8]) -> Answer
-    requires { FoundIn journal.now blocks messages }
+// Lays the plan of a journal in which that was found.
+fn plan_found(journal: &[u8], found: Found, out: &mut [u8]) -> Result<usize, Refusal>
+    requires { FoundIn journal.now found.blocks found.messages }
     ensures { Lays (plan_of journal.now (length out.old)) result out.old out.new }
 {
-    let mut units = [0usize; UNITS];
-    let mut places = [0usize; UNITS];
-    let count = gather(journal, blocks, messages, &mut units, &mut places);
-    if UNITS < count {
-        return Answer::Refused(Refusal::ManyUnits);
-    }
-    lay_plan(journal, &places, count, out)
+    let mut table = Table::new();
+    table.gather(journal, found)?;
+    lay_plan(journal, table.used(), out)
 }
 
 // The plan of a journal: each unit's number, the length of its latest description, and that description, in order of unit number.
-pub fn plan(journal: &[u8], out: &mut [u8]) -> Answer
+pub fn plan(journal: &[u8], out: &mut [u8]) -> Result<usize, Refusal>
     ensures answer { result ≡ (plan_of journal.now (length out.old)).answer }
     ensures lent { out.new ≡ front (plan_of journal.now (length out.old)).bytes out.old }
     ensures wording { wording_of result ≡ wording_of (plan_of journal.now (length out.old)).answer }
 {
-    let reading = journal::read(journal);
-    match reading {
-        Reading::Read(found) => plan_found(journal, found.blocks, found.messages, out),
-        Reading::Refused(refusal) => Answer::Refused(refusal),
-    }
+    let found = journal::read(journal)?;
+    plan_found(journal, found, out)
 }
 
 // A journal rewritten to each unit's latest record, in compacted blocks.
-pub fn rewrite(journal: &[u8], out: &mut [u8]) -> Answer
+pub fn rewrite(journal: &[u8], out: &mut [u8]) -> Result<usize, Refusal>
     ensures answer { result ≡ (rewrite_of journal.now (length out.old)).answer }
     ensures lent { out.new ≡ front (rewrite_of journal.now (length out.old)).bytes out.old }
     ensures wording { wording_of result ≡ wording_of (rewrite_of journal.now (length out.old)).answer }
 {
-    let reading = journal::read(journal);
-    match reading {
-        Reading::Read(found) => rewrite_found(journal, found.blocks, found.messages, out),
-        Reading::Refused(refusal) => Answer::Refused(refusal),
-    }
+    let found = journal::read(journal)?;
+    rewrite_found(journal, found, out)
 }

@@ -1,7 +1,7 @@
 -- A text behind what is shown, as much of it as has room. Assumes nothing.
 use mathlib.Core.Path.{◌≡◌, refl, sym, ap, ◌∙◌, subst}
 use mathlib.Core.List.{List, [], ◌++◌, append-nil}
-use Prim.Native.Nat.{ℕ, ◌+◌, ◌-◌, ◌≤◌}
+use Prim.Native.Nat.{ℕ, ◌+◌, ◌-◌, ◌≤◌, min}
 use native.Mathlib.Omega.{arith}
 use borrow.Author.Tests.{ltb-true, ltb-false}
 use lib.ListN.{length, take, drop, length-append, length-drop}
@@ -12,6 +12,13 @@ use Rattle.group.specs.Lent.{front}
 use Rattle.packet.proofs.Parts.{behind}
 use Rattle.player.proofs.Keeping.{smaller_fits}
 use Rattle.playback.specs.Shown.{shown_of, Shows}
+
+-- the smaller of two numbers, by its test
+pub smaller_min : (a b : ℕ) → min a b ≡ (when a <? b then a else b)
+smaller_min a b =
+    when_elim (λ (x : ℕ). min a b ≡ x) (a <? b)
+    (λ t. let z = ltb-true a b t in omega arith)
+    (λ t. let z = ltb-false a b t in omega arith)
 
 shown_more : (printed text : List ℕ) (room : ℕ) → shown_of (printed ++ text) room ≡ shown_of printed room ++ take (room - length (shown_of printed room)) text
 shown_more printed text room =

@@ -2,7 +2,6 @@
 #![tactic(auto)]
 
 ghost use Rattle.std.specs.Prelude.{◌≡◌, ◌++◌, ◌≤◌, length, take};
-ghost use Rattle.group.specs.Choice.{when◌then◌else◌, ◌<?◌};
 ghost use Rattle.group.specs.Lent.{front};
 ghost use Rattle.player.specs.Feed.{end_of};
 ghost use Rattle.player.specs.Play.{last_of, play_of};
@@ -15,20 +14,14 @@ use message::copy;
 use player::{LINE, OUTPUT, Player};
 use simulator::{NUMBERS, PACKETS};
 
-fn smaller(a: usize, b: usize) -> usize
-    ensures { result ≡ (when a <? b then a else b) }
-{
-    if a < b { a } else { b }
-}
-
 // Lays as much of a text as has room, behind what is shown, and gives the index behind it.
 fn put(text: [u8; OUTPUT], size: usize, out: &mut [u8], at: usize) -> usize
     requires { at ≤ length out.old }
     ensures adds { Adds (take size text) out.old at out.new result }
     ensures within { result ≤ length out.new }
 {
-    let most = smaller(size, OUTPUT);
-    let n = smaller(most, out.len() - at);
+    let most = size.min(OUTPUT);
+    let n = most.min(out.len() - at);
     copy(&text[..n], &mut out[at..]);
     at + n
 }
@@ -131,6 +124,7 @@ pub fn play(input: &[u8], out: &mut [u8]) -> usize
     let mut player = Player::fresh();
     let mut from: usize = 0;
     let mut at: usize = 0;
+    // kept: a while, since a feed says how many bytes it used.
     while from < input.len() {
         let mut text = [0u8; OUTPUT];
         let fed = player::feed(

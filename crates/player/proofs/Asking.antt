@@ -1,7 +1,7 @@
 -- What a command asks of the group is its event. Assumes nothing.
 use mathlib.Core.Path.{◌≡◌, refl, sym, subst}
 use mathlib.Core.List.{List}
-use mathlib.Core.Option.{Option, none, some}
+use Rattle.std.specs.Prelude.{Option, Some}
 use Prim.Native.Nat.{ℕ, ◌≤◌, zero-le}
 use lib.ListN.{take}
 use Rattle.model.specs.World as world
@@ -16,18 +16,16 @@ use Rattle.player.specs.declared.Action.{Action}
 
 -- there is an event, and it happens so
 abbrev pub Is : (Group → Happened) → Option Event → Type 0
-Is happened o = (event : Event) × (o ≡ some event) × ((g : Group) → happened g ≡ happen g event)
+Is happened o = (event : Event) × (o ≡ Some event) × ((g : Group) → happened g ≡ happen g event)
 
 unfoldable pub Meant : Action → List ℕ → Option Event → Type 0
-Meant Action.Nothing payload o = o ≡ none
 Meant (Action.Member call i size) payload o = (size ≤ payload_room) × Is (happened_at call i (take size payload)) o
 Meant (Action.Sequencer call) payload o = Is (happened_here call payload) o
 Meant (Action.HandMember k i) payload o = Is (handed_to k i) o
 Meant (Action.HandSequencer k) payload o = Is (handed_here k) o
 
-command_is : (command : Command) (payload : List ℕ) → Sized command → Meant (action_of command) payload (meant_by command payload)
+command_is : (command : Command) (payload : List ℕ) → Sized command → Meant (action_of command) payload (meant_by (Some command) payload)
 unfolding Meant action_of meant_by happen outcome_here happened_here handed_to handed_here
-command_is Command.Other payload f = refl
 command_is (Command.Submit i size) payload f = (f i size refl, (world.submit i (take size payload), refl, λ g. submit_is i g (take size payload)))
 command_is (Command.Repeat i) payload f = (zero-le, (world.repeat i, refl, λ g. repeat_is i g (take 0 payload)))
 command_is (Command.Take i) payload f = (zero-le, (world.take i, refl, λ g. take_is i g (take 0 payload)))
@@ -37,5 +35,5 @@ command_is (Command.Copy number) payload f = (world.copy number, refl, λ g. ref
 command_is (Command.HandMember k i) payload f = (world.hand_member k i, refl, λ g. refl)
 command_is (Command.HandSequencer k) payload f = (world.hand_sequencer k, refl, λ g. refl)
 
-pub asked_is : (action : Action) (command : Command) (payload : List ℕ) → Sized command → action ≡ action_of command → Meant action payload (meant_by command payload)
-asked_is action command payload f e = subst (λ (a : Action). Meant a payload (meant_by command payload)) (sym e) (command_is command payload f)
+pub asked_is : (action : Action) (command : Command) (payload : List ℕ) → Sized command → action ≡ action_of command → Meant action payload (meant_by (Some command) payload)
+asked_is action command payload f e = subst (λ (a : Action). Meant a payload (meant_by (Some command) payload)) (sym e) (command_is command payload f)

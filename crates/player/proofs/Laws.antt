@@ -1,7 +1,7 @@
 -- What is printed part by part is what the whole input prints: a line that is cut tells what the whole line tells. Assumes nothing.
 use mathlib.Core.Path.{◌≡◌, refl, sym, ap, ◌∙◌}
 use mathlib.Core.List.{List, [], ◌++◌}
-use mathlib.Core.Option.{none}
+use Rattle.std.specs.Prelude.{None}
 use Prim.Native.Nat.{ℕ, ◌+◌, ◌-◌, ◌≤◌, ◌<◌}
 use native.Mathlib.Omega.{arith}
 use lib.ListN.{length, take, drop}
@@ -9,8 +9,7 @@ use lib.Seq.{length-take-le, take_all}
 use Rattle.group.proofs.Choice.{when_nle}
 use Rattle.group.proofs.Lists.{le_or}
 use Rattle.schedule.specs.Line.{event_of, opening_of, line_most}
-use Rattle.schedule.specs.declared.Opening.{Opening}
-use Rattle.player.specs.Play.{Stage, opening, running, ended, closed, Program, event_told, open_told, line_told, output_of}
+use Rattle.player.specs.Play.{opening, running, ended, closed, Program, event_told, open_told, line_told, output_of}
 use Rattle.player.specs.Feed.{State, start, said_of, fed_of, end_of}
 use Rattle.player.specs.Laws.{Continues, ReadsOn, Quiet, PrintsAll}
 use Rattle.player.specs.Parts.{kept_most, kept_of, ToldKept}
@@ -25,7 +24,7 @@ event_kept line =
     (λ h. ap event_of (take_all kept_most line h))
     (λ h.
     let n = length-take-le kept_most line (omega arith) in
-    sym (when_nle (length (kept_of line)) line_most none _ _ (omega arith) refl) ∙ when_nle (length line) line_most none _ _ (omega arith) refl)
+    sym (when_nle (length (kept_of line)) line_most None _ _ (omega arith) refl) ∙ when_nle (length line) line_most None _ _ (omega arith) refl)
 
 pub opening_kept : (line : List ℕ) → opening_of (kept_of line) ≡ opening_of line
 unfolding opening_of
@@ -34,7 +33,7 @@ opening_kept line =
     (λ h. ap opening_of (take_all kept_most line h))
     (λ h.
     let n = length-take-le kept_most line (omega arith) in
-    sym (when_nle (length (kept_of line)) line_most Opening.Other _ _ (omega arith) refl) ∙ when_nle (length line) line_most Opening.Other _ _ (omega arith) refl)
+    sym (when_nle (length (kept_of line)) line_most None _ _ (omega arith) refl) ∙ when_nle (length line) line_most None _ _ (omega arith) refl)
 
 told_kept : ToldKept line_told
 unfolding line_told

@@ -1,7 +1,11 @@
 -- The first line, a group that is opened, and the state of a player. Assumes nothing.
+use Rattle.group.specs.Opening.{Opened}
+use Rattle.group.specs.Question.{all_yes}
+use Rattle.std.specs.Prelude.{Err}
 use mathlib.Core.Path.{◌≡◌, refl, sym, ap, ◌∙◌, subst}
 use mathlib.Core.Bool.{Bool, true, false}
 use mathlib.Core.List.{List, [], ◌++◌}
+use Rattle.std.specs.Prelude.{Option, None, Some}
 use Prim.Native.Nat.{ℕ, ◌+◌, ◌≤◌, ◌<◌}
 use native.Mathlib.Omega.{arith}
 use borrow.Author.Tests.{lt-leb}
@@ -12,12 +16,10 @@ use Rattle.group.specs.Choice.{when◌then◌else◌, ◌and◌, ◌≤?◌}
 use Rattle.group.specs.Limits.{members_most}
 use Rattle.group.specs.Opening.{open_of}
 use Rattle.group.specs.Question.{judged}
-use Rattle.group.specs.declared.Opened as group
 use Rattle.group.specs.declared.Refusal.{Refusal}
-use Rattle.group.specs.declared.Verdict.{Verdict}
+use Rattle.group.specs.Question.{Verdict}
 use Rattle.model.specs.World.{Group, fresh}
 use Rattle.text.specs.Field.{line_end}
-use Rattle.text.specs.declared.Found.TheVariants.{At, Nothing}
 use Rattle.schedule.specs.declared.Opening.{Opening}
 use Rattle.sequencer.specs.Calls.{fresh_of, opened_of}
 use Rattle.simulator.specs.Whole.{group_of, Whole, Opens}
@@ -35,31 +37,35 @@ use Rattle.player.proofs.Parts as parts
 use Rattle.player.proofs.Telling.{phase_is}
 
 -- question 18 refuses more members than there can be
-pub many_refused : (n number resilience : ℕ) → members_most < n → (fresh_of n number resilience).verdict ≡ Verdict.Refused Refusal.Opening
+pub many_refused : (n number resilience : ℕ) → members_most < n → (fresh_of n number resilience).verdict ≡ Err Refusal.Opening
 unfolding fresh_of open_of opened_of
 many_refused n number resilience h =
-    let e : group.Opened.Refused Refusal.Opening ≡ open_of n number resilience =
+    let e : Err Refusal.Opening ≡ open_of n number resilience =
     when_false (1 ≤? n and n ≤? members_most) _ _ _ (then_fails (1 ≤? n) (n ≤? members_most) (lt-leb n members_most h)) refl in
-    ap (λ (o : group.Opened). (opened_of o).verdict) (sym e)
+    ap (λ (o : Opened). (opened_of o).verdict) (sym e)
+
+-- the opening of a first line
+abbrev pub opening_at : ℕ → ℕ → ℕ → Option Opening
+opening_at n number resilience = Some (record { n = n; number = number; resilience = resilience })
 
 module _ (n number resilience : ℕ) where
-  pub told_refused : (refusal : Refusal) → (fresh_of n number resilience).verdict ≡ Verdict.Refused refusal → refused_told refusal ≡ open_told (Opening.Group n number resilience)
+  pub told_refused : (refusal : Refusal) → (fresh_of n number resilience).verdict ≡ Err refusal → refused_told refusal ≡ open_told (opening_at n number resilience)
   unfolding open_told judged
   told_refused refusal e = ap (λ (v : Verdict). judged v refused_told (record { text = []; stage = running (fresh n number resilience).group 1 })) (sym e)
 
-  pub told_many : members_most < n → refused_told Refusal.Opening ≡ open_told (Opening.Group n number resilience)
+  pub told_many : members_most < n → refused_told Refusal.Opening ≡ open_told (opening_at n number resilience)
   told_many h = told_refused Refusal.Opening (many_refused n number resilience h)
 
-  pub opened_refused : (verdict : Verdict) (head : Head) (w : Whole) (refusal : Refusal) → Opens n number resilience verdict head w → verdict ≡ Verdict.Refused refusal → refused_told refusal ≡ open_told (Opening.Group n number resilience)
+  pub opened_refused : (verdict : Verdict) (head : Head) (w : Whole) (refusal : Refusal) → Opens n number resilience verdict head w → verdict ≡ Err refusal → refused_told refusal ≡ open_told (opening_at n number resilience)
   opened_refused verdict head w refusal o e = told_refused refusal (sym o.verdict_is ∙ e)
 
-  pub opened_group_lem : (verdict : Verdict) (head : Head) (w : Whole) (told : declared.Told) (lent : List ℕ) → Opens n number resilience verdict head w → verdict ≡ Verdict.Accepted
+  pub opened_group_lem : (verdict : Verdict) (head : Head) (w : Whole) (told : declared.Told) (lent : List ℕ) → Opens n number resilience verdict head w → verdict ≡ all_yes
       → told.head ≡ head → told.phase ≡ Running → told.number ≡ 1 → told.written ≡ 0
-      → Tells (open_told (Opening.Group n number resilience)) told w lent lent
+      → Tells (open_told (opening_at n number resilience)) told w lent lent
   unfolding open_told judged stage_in
   opened_group_lem verdict head w told lent o e h p k z =
       let fits : Fits head = record { members = o.room.members; packets = let y = o.room.packets in omega arith } in
-      let v : (fresh_of n number resilience).verdict ≡ Verdict.Accepted = sym o.verdict_is ∙ e in
+      let v : (fresh_of n number resilience).verdict ≡ all_yes = sym o.verdict_is ∙ e in
       let stage : stage_in (phase_of told.head told.phase) (group_of w) told.number ≡ running (fresh n number resilience).group 1 =
       ap (λ (x : Phase). stage_in (phase_of told.head x) (group_of w) told.number) p
       ∙ ap (λ (x : Head). stage_in (phase_of x Running) (group_of w) told.number) h
@@ -75,25 +81,25 @@ module _ (n number : ℕ) where
   abbrev pub first : Refusal
   first = when 1 ≤? n and n ≤? members_most then Refusal.Resilience else Refusal.Opening
 
-  pub degree_refused : (resilience : ℕ) → n ≤ resilience → (fresh_of n number resilience).verdict ≡ Verdict.Refused first
+  pub degree_refused : (resilience : ℕ) → n ≤ resilience → (fresh_of n number resilience).verdict ≡ Err first
   unfolding fresh_of open_of opened_of when◌then◌else◌
   degree_refused resilience h =
-      ap (λ (o : group.Opened). (opened_of (when 1 ≤? n and n ≤? members_most then o else group.Opened.Refused Refusal.Opening)).verdict)
-      (sym (when_nlt resilience n (group.Opened.Refused Refusal.Resilience) _ _ h refl))
+      ap (λ (o : Opened). (opened_of (when 1 ≤? n and n ≤? members_most then o else Err Refusal.Opening)).verdict)
+      (sym (when_nlt resilience n (Err Refusal.Resilience) _ _ h refl))
       ∙ each (1 ≤? n and n ≤? members_most)
     where
-      each : (t : Bool) → (opened_of (when t then group.Opened.Refused Refusal.Resilience else group.Opened.Refused Refusal.Opening)).verdict ≡ Verdict.Refused (when t then Refusal.Resilience else Refusal.Opening)
+      each : (t : Bool) → (opened_of (when t then Err Refusal.Resilience else Err Refusal.Opening)).verdict ≡ Err (when t then Refusal.Resilience else Refusal.Opening)
       each true = refl
       each false = refl
 
   -- so a degree as a byte opens what the number opens
-  pub told_degree : (resilience d : ℕ) → n ≤ members_most → d ≡ degree_of resilience → open_told (Opening.Group n number d) ≡ open_told (Opening.Group n number resilience)
+  pub told_degree : (resilience d : ℕ) → n ≤ members_most → d ≡ degree_of resilience → open_told (opening_at n number d) ≡ open_told (opening_at n number resilience)
   unfolding degree_of
   told_degree resilience d h is =
       le_or members_most resilience
       (λ k. let e : d ≡ members_most = is ∙ sym (when_nlt resilience members_most members_most resilience members_most k refl) in
       rw e (sym (told_refused n number members_most first (degree_refused members_most h)) ∙ told_refused n number resilience first (degree_refused resilience (omega arith))))
-      (λ k. ap (λ (r : ℕ). open_told (Opening.Group n number r)) (is ∙ sym (when_lt resilience members_most resilience resilience members_most k refl)))
+      (λ k. ap (λ (r : ℕ). open_told (opening_at n number r)) (is ∙ sym (when_lt resilience members_most resilience resilience members_most k refl)))
 
 -- the end of the input, and a part of it
 module _ (s : State) (r : Fed) (w : Whole) (bytes lent after : List ℕ) where
@@ -106,8 +112,8 @@ module _ (s : State) (r : Fed) (w : Whole) (bytes lent after : List ℕ) where
   pub ends_told : (length s.line ≡ 0 → ⊥) → Done (told_as (line_told s.stage s.line) 0) → Done (end_of s)
   ends_told = parts.ends_told line_told Done s
 
-  pub feeds_line : (part line : List ℕ) (e : ℕ) → line_end part ≡ At e → line ≡ kept_of (s.line ++ take e part) → Done (told_as (line_told s.stage line) (e + 1)) → Done (fed_of s part)
+  pub feeds_line : (part line : List ℕ) (e : ℕ) → line_end part ≡ Some e → line ≡ kept_of (s.line ++ take e part) → Done (told_as (line_told s.stage line) (e + 1)) → Done (fed_of s part)
   feeds_line = parts.feeds_line line_told Done s
 
-  pub feeds_none : (part : List ℕ) → line_end part ≡ Nothing → Done (record { text = []; state = record { stage = s.stage; line = kept_of (s.line ++ part) }; used = length part }) → Done (fed_of s part)
+  pub feeds_none : (part : List ℕ) → line_end part ≡ None → Done (record { text = []; state = record { stage = s.stage; line = kept_of (s.line ++ part) }; used = length part }) → Done (fed_of s part)
   feeds_none = parts.feeds_none line_told Done s

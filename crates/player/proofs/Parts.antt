@@ -17,10 +17,9 @@ use Rattle.text.proofs.Split.{found_from}
 use Rattle.text.specs.Field.{first_from, line_end, before, lines_of}
 use Rattle.schedule.specs.Line.{line_most}
 use Rattle.text.specs.Text.{line_feed}
-use Rattle.text.specs.declared.Found.{Found}
-use Rattle.text.specs.declared.Found.TheVariants.{At, Nothing}
+use Rattle.std.specs.Prelude.{Option, None, Some}
 use Rattle.player.specs.Lines.{Told, Program, lines_told, output_from}
-use Rattle.player.specs.Parts.{kept_most, kept_of, State, start_of, Fed, said_of, told_as, fed_up_to, fed_of, end_of, Prints, ends, feeds, Continues, ToldKept, ReadsOn, Quiet, PrintsAll}
+use Rattle.player.specs.Parts.{kept_of, State, start_of, Fed, said_of, told_as, fed_up_to, fed_of, end_of, Prints, ends, feeds, Continues, ToldKept, ReadsOn, Quiet, PrintsAll}
 use Rattle.player.proofs.Keeping.{kept_kept}
 
 -- no line feed stands in it
@@ -46,7 +45,7 @@ unfolding lines_of Open before
 line_last c [] p = sym (when_ne c line_feed _ _ _ p.0 refl)
 line_last c (d ∷ line) p = sym (when_ne c line_feed _ _ _ p.0 refl) ∙ ap (before c) (line_last d line p.1)
 
-nothing≢ : {e : ℕ} → Nothing ≡ At e → ⊥
+nothing≢ : {e : ℕ} → None ≡ Some e → ⊥
 nothing≢ h = let z : ◌≡◌ {A = ℕ} 0 1 = cc in omega arith
 
 -- a part up to its first line feed
@@ -56,12 +55,12 @@ record Ends (part : List ℕ) (i e : ℕ) : Type 0 where
   shut : Open (take size part)
   split : part ≡ take size part ++ (line_feed ∷ drop (suc size) part)
 
-found_at : (part : List ℕ) (i e : ℕ) → first_from line_feed i part ≡ At e → Ends part i e
+found_at : (part : List ℕ) (i e : ℕ) → first_from line_feed i part ≡ Some e → Ends part i e
 unfolding first_from Open when◌then◌else◌
 found_at [] i e h = absurd (nothing≢ h)
 found_at (c ∷ part) i e h = go (c =? line_feed) refl (found_at part (i + 1) e) h
   where
-    go : (t : Bool) → (c =? line_feed) ≡ t → (first_from line_feed (i + 1) part ≡ At e → Ends part (i + 1) e) → when t then At i else first_from line_feed (i + 1) part ≡ At e
+    go : (t : Bool) → (c =? line_feed) ≡ t → (first_from line_feed (i + 1) part ≡ Some e → Ends part (i + 1) e) → when t then Some i else first_from line_feed (i + 1) part ≡ Some e
         → Ends (c ∷ part) i e
     go true t further h =
         let z : i ≡ e = cc in
@@ -77,12 +76,12 @@ found_at (c ∷ part) i e h = go (c =? line_feed) refl (found_at part (i + 1) e)
           split = ap (λ (l : List ℕ). c ∷ l) r.split;
         }
 
-found_none : (part : List ℕ) (i : ℕ) → first_from line_feed i part ≡ Nothing → Open part
+found_none : (part : List ℕ) (i : ℕ) → first_from line_feed i part ≡ None → Open part
 unfolding first_from Open when◌then◌else◌
 found_none [] i h = tt
 found_none (c ∷ part) i h = go (c =? line_feed) refl (found_none part (i + 1)) h
   where
-    go : (t : Bool) → (c =? line_feed) ≡ t → (first_from line_feed (i + 1) part ≡ Nothing → Open part) → when t then At i else first_from line_feed (i + 1) part ≡ Nothing
+    go : (t : Bool) → (c =? line_feed) ≡ t → (first_from line_feed (i + 1) part ≡ None → Open part) → when t then Some i else first_from line_feed (i + 1) part ≡ None
         → Open (c ∷ part)
     go true t further h = absurd (nothing≢ (sym h))
     go false t further h = (eqb-false c line_feed t, further h)
@@ -126,10 +125,10 @@ module _ {Stage : Type 0} (line_told : Stage → List ℕ → Told Stage) (told_
     prints (ends s) line o k = at_end s line k o
     prints (feeds {output} s part rest p) line o k = go (line_end part) refl (λ l u v. prints p l u v)
       where
-        go : (f : Found) → line_end part ≡ f
+        go : (f : Option ℕ) → line_end part ≡ f
             → ((l : List ℕ) → Open l → (fed_up_to line_told f s part).state.line ≡ kept_of l → output ≡ lines_told line_told program (fed_up_to line_told f s part).state.stage (lines_of (l ++ (drop (fed_up_to line_told f s part).used part ++ rest))))
             → said_of program (fed_up_to line_told f s part) ++ output ≡ lines_told line_told program s.stage (lines_of (line ++ (part ++ rest)))
-        go (At e) f h =
+        go (Some e) f h =
             let r = found_at part 0 e f in
             let y : e ≡ r.size = r.here ∙ zero-add r.size in
             let shut : Open (take e part) = subst (λ (x : ℕ). Open (take x part)) (sym y) r.shut in
@@ -147,7 +146,7 @@ module _ {Stage : Type 0} (line_told : Stage → List ℕ → Told Stage) (told_
             ap (on first.stage first.text) (h [] tt refl)
             ∙ ap (λ (t : Told Stage). on t.stage t.text (lines_told line_told program t.stage (lines_of more))) told
             ∙ ap (lines_told line_told program s.stage) (sym lines)
-        go Nothing f h =
+        go None f h =
             silent s.stage output
             ∙ h (line ++ part) (open_append line part o (found_none part 0 f)) (goes_on s line k part)
             ∙ ap (λ (x : List ℕ). lines_told line_told program s.stage (lines_of ((line ++ part) ++ (x ++ rest)))) (drop-length part)
@@ -170,9 +169,9 @@ module _ {Stage : Type 0} (line_told : Stage → List ℕ → Told Stage) where
   unfolding fed_up_to
   reads_on s part h = go (line_end part) refl
     where
-      go : (f : Found) → line_end part ≡ f → (1 ≤ (fed_up_to line_told f s part).used) × ((fed_up_to line_told f s part).used ≤ length part)
-      go (At e) f = let k = (found_from line_feed part 0 e zero-le f).1 in (omega arith, omega arith)
-      go Nothing f = (h, le_refl (length part))
+      go : (f : Option ℕ) → line_end part ≡ f → (1 ≤ (fed_up_to line_told f s part).used) × ((fed_up_to line_told f s part).used ≤ length part)
+      go (Some e) f = let k = (found_from line_feed part 0 e zero-le f).1 in (omega arith, omega arith)
+      go None f = (h, le_refl (length part))
 
   -- what is read of the rest of an input lies within it
   pub reads_within : (s : State Stage) (part rest : List ℕ) (from used : ℕ) → rest ≡ take (length part - from) (drop from part) → from < length part → used ≡ (fed_of line_told s rest).used
@@ -195,14 +194,14 @@ module _ {Stage : Type 0} (line_told : Stage → List ℕ → Told Stage) where
     unfolding end_of
     ends_told z d = subst Says (when_ne (length s.line) 0 _ _ _ z refl) d
 
-    pub feeds_line : (part line : List ℕ) (e : ℕ) → line_end part ≡ At e → line ≡ kept_of (s.line ++ take e part) → Says (told_as (line_told s.stage line) (e + 1)) → Says (fed_of line_told s part)
+    pub feeds_line : (part line : List ℕ) (e : ℕ) → line_end part ≡ Some e → line ≡ kept_of (s.line ++ take e part) → Says (told_as (line_told s.stage line) (e + 1)) → Says (fed_of line_told s part)
     unfolding fed_up_to
-    feeds_line part line e f l d = subst (λ (x : Found). Says (fed_up_to line_told x s part)) (sym f) (subst (λ (x : List ℕ). Says (told_as (line_told s.stage x) (e + 1))) l d)
+    feeds_line part line e f l d = subst (λ (x : Option ℕ). Says (fed_up_to line_told x s part)) (sym f) (subst (λ (x : List ℕ). Says (told_as (line_told s.stage x) (e + 1))) l d)
 
-    pub feeds_none : (part : List ℕ) → line_end part ≡ Nothing
+    pub feeds_none : (part : List ℕ) → line_end part ≡ None
         → Says (record { text = []; state = record { stage = s.stage; line = kept_of (s.line ++ part) }; used = length part }) → Says (fed_of line_told s part)
     unfolding fed_up_to
-    feeds_none part f d = subst (λ (x : Found). Says (fed_up_to line_told x s part)) (sym f) d
+    feeds_none part f d = subst (λ (x : Option ℕ). Says (fed_up_to line_told x s part)) (sym f) d
 
 -- the text that was laid at the front of an output
 pub laid_front : (text lent after : List ℕ) (size : ℕ) → after ≡ front text lent → size ≡ length text → take size after ≡ text

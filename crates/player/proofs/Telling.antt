@@ -1,10 +1,10 @@
 -- What a line tells, out of what the functions below say: phases and their groups, and the lines that fit the output.
 -- Assumes nothing.
 use mathlib.Core.Path.{◌≡◌, refl, sym, ap, ◌∙◌, subst}
-use mathlib.Core.Bool.{Bool, true, false}
+use mathlib.Core.Bool.{Bool}
 use mathlib.Core.List.{List, [], ◌∷◌, ◌++◌, map}
 use mathlib.Core.Logic.{inl, inr}
-use mathlib.Core.Option.{Option, none, some}
+use Rattle.std.specs.Prelude.{Option, None, Some}
 use Prim.Native.Nat.{ℕ, zero, suc, ◌+◌, ◌≤◌, ◌<◌, zero-le}
 use native.Mathlib.Omega.{arith}
 use borrow.Author.Tests.{leb-true, le-leb}
@@ -14,7 +14,7 @@ use lib.ListN.{length, take, set, length-append, length-drop}
 use lib.Seq.{take-suc-set}
 use Rattle.group.proofs.Choice.{when_true, when_le, when_lt, when_nlt, when_was, both_hold, both_first, both_then}
 use Rattle.group.proofs.Lists.{when_elim}
-use Rattle.group.specs.Choice.{when◌then◌else◌, ◌and◌, ◌<?◌, ◌≤?◌}
+use Rattle.group.specs.Choice.{◌and◌, ◌≤?◌}
 use Rattle.group.specs.Lent.{front, Laid}
 use Rattle.group.specs.Limits.{members_most, longest_packet}
 use Rattle.group.specs.declared.Group as group
@@ -40,7 +40,7 @@ use Rattle.player.specs.Player.{stage_in, phase_with, phase_of, taken_at, Shown,
 use Rattle.player.specs.Steps.{Fits, Performed, Tells}
 use Rattle.player.specs.declared.Fed.{Fed}
 use Rattle.player.specs.declared.Phase.{Phase}
-use Rattle.player.specs.declared.Phase.TheVariants.{Opening, Running, Ended, Closed}
+use Rattle.player.specs.declared.Phase.TheVariants.{Running, Ended, Closed}
 use Rattle.player.specs.declared.Told.{Told}
 
 -- the two tests of a group's room
@@ -121,26 +121,26 @@ pub tells_nothing : (r : Told) (w : Whole) (stage : Stage) (lent : List ℕ) →
 tells_nothing r w stage lent e z = record { stage = e; written = z; output = refl }
 
 -- the event of a line that was read
-pub meant_is : (event : Option Event) (command : Command) (payload lent : List ℕ) → command ≡ command_of event → payload ≡ front (payload_of event) lent
+pub meant_is : (event : Option Event) (command : Option Command) (payload lent : List ℕ) → command ≡ command_of event → payload ≡ front (payload_of event) lent
     → meant_by command payload ≡ event
 meant_is event command payload lent c p = rw (c, p) (command_means event lent)
 
 -- the bytes that a line was read to keep their length
-pub payload_length : (event : Option Event) (lent : List ℕ) {after : List ℕ} → ((i size : ℕ) → command_of event ≡ Command.Submit i size → size ≤ payload_room) → length lent ≡ payload_room
+pub payload_length : (event : Option Event) (lent : List ℕ) {after : List ℕ} → ((i size : ℕ) → command_of event ≡ Some (Command.Submit i size) → size ≤ payload_room) → length lent ≡ payload_room
     → after ≡ front (payload_of event) lent → length after ≡ payload_room
 unfolding command_of payload_of
 payload_length event lent {after} fits n e = ap length e ∙ go event fits
   where
-    go : (event : Option Event) → ((i size : ℕ) → command_of event ≡ Command.Submit i size → size ≤ payload_room) → length (front (payload_of event) lent) ≡ payload_room
-    go none f = n
-    go (some (submit i payload)) f = let z = f i (length payload) refl in simp (length-append, length-drop) (omega arith)
-    go (some (repeat i)) f = n
-    go (some (world.take i)) f = n
-    go (some (status i)) f = n
-    go (some poll) f = n
-    go (some (copy number)) f = n
-    go (some (hand_member k i)) f = n
-    go (some (hand_sequencer k)) f = n
+    go : (event : Option Event) → ((i size : ℕ) → command_of event ≡ Some (Command.Submit i size) → size ≤ payload_room) → length (front (payload_of event) lent) ≡ payload_room
+    go None f = n
+    go (Some (submit i payload)) f = let z = f i (length payload) refl in simp (length-append, length-drop) (omega arith)
+    go (Some (repeat i)) f = n
+    go (Some (world.take i)) f = n
+    go (Some (status i)) f = n
+    go (Some poll) f = n
+    go (Some (copy number)) f = n
+    go (Some (hand_member k i)) f = n
+    go (Some (hand_sequencer k)) f = n
 
 -- what was performed is the same
 pub as_performed : {x y : Option Event} (head : Head) (w w' : Whole) (h : Happening) (before after : List ℕ) → x ≡ y → Performed x head w h w' before after → Performed y head w h w' before after
@@ -149,11 +149,11 @@ as_performed head w w' h before after e p = subst (λ (z : Option Event). Perfor
 -- a call writes at most a packet
 pub performed_size : (event : Option Event) (head : Head) (w w' : Whole) (h : Happening) (before after : List ℕ) → Performed event head w h w' before after → h.written ≤ longest_packet
 unfolding Performed
-performed_size none head w w' h before after p = rw p zero-le
-performed_size (some event) head w w' h before after p = p.size
+performed_size None head w w' h before after p = rw p zero-le
+performed_size (Some event) head w w' h before after p = p.size
 
 -- a line of another form is no event
-other≢ : (event : Event) → command_of (some event) ≡ Command.Other → ⊥
+other≢ : (event : Event) → command_of (Some event) ≡ None → ⊥
 unfolding command_of
 other≢ (submit i payload) e = let z : ◌≡◌ {A = ℕ} 0 1 = cc in omega arith
 other≢ (repeat i) e = let z : ◌≡◌ {A = ℕ} 0 1 = cc in omega arith
@@ -164,9 +164,12 @@ other≢ (copy number) e = let z : ◌≡◌ {A = ℕ} 0 1 = cc in omega arith
 other≢ (hand_member k i) e = let z : ◌≡◌ {A = ℕ} 0 1 = cc in omega arith
 other≢ (hand_sequencer k) e = let z : ◌≡◌ {A = ℕ} 0 1 = cc in omega arith
 
-pub other_is : (event : Option Event) → command_of event ≡ Command.Other → event ≡ none
-other_is none e = refl
-other_is (some event) e = absurd (other≢ event e)
+pub some_event : (event : Option Event) (command : Command) → Some command ≡ command_of event → command_of event ≡ None → ⊥
+some_event event command e n = let o : Some command ≡ None = e ∙ n in let z : ◌≡◌ {A = ℕ} 0 1 = cc in omega arith
+
+pub other_is : (event : Option Event) → command_of event ≡ None → event ≡ None
+other_is None e = refl
+other_is (Some event) e = absurd (other≢ event e)
 
 -- what an event leaves, and its line
 pub record Happens (h : Happening) (bytes : List ℕ) (number index : ℕ) (r : Told) (lent after : List ℕ) : Type 0 where
@@ -181,29 +184,29 @@ module _ (w : Whole) (number : ℕ) (event : Option Event) where
   abbrev g : Group
   g = group_of w
 
-  pub told_other : command_of event ≡ Command.Other → record { text = bad_line number; stage = ended g } ≡ event_told g number event
+  pub told_other : command_of event ≡ None → record { text = bad_line number; stage = ended g } ≡ event_told g number event
   unfolding event_told
   told_other e = ap (λ (x : Option Event). event_told g number x) (sym (other_is event e))
 
-  pub told_full : (command_of event ≡ Command.Other → ⊥) → packets_most ≤ length g.packets
+  pub told_full : (command_of event ≡ None → ⊥) → packets_most ≤ length g.packets
       → record { text = no_space number; stage = ended g } ≡ event_told g number event
   unfolding event_told command_of
   told_full = go event
     where
-      go : (event : Option Event) → (command_of event ≡ Command.Other → ⊥) → packets_most ≤ length g.packets
+      go : (event : Option Event) → (command_of event ≡ None → ⊥) → packets_most ≤ length g.packets
           → record { text = no_space number; stage = ended g } ≡ event_told g number event
-      go none o h = absurd (o refl)
-      go (some e) o h = when_nlt (length g.packets) packets_most _ _ _ h refl
+      go None o h = absurd (o refl)
+      go (Some e) o h = when_nlt (length g.packets) packets_most _ _ _ h refl
 
-  pub told_event : (command_of event ≡ Command.Other → ⊥) → (head : Head) → Fits head → head.count ≡ length g.packets → head.count < packets_most → (h : Happening) (w' : Whole) (before bytes : List ℕ)
+  pub told_event : (command_of event ≡ None → ⊥) → (head : Head) → Fits head → head.count ≡ length g.packets → head.count < packets_most → (h : Happening) (w' : Whole) (before bytes : List ℕ)
       → Performed event head w h w' before bytes → (r : Told) (lent after : List ℕ) → Happens h bytes number head.count r lent after → Tells (event_told g number event) r w' lent after
   unfolding event_told command_of Performed stage_in
   told_event = go event
     where
-      go : (event : Option Event) → (command_of event ≡ Command.Other → ⊥) → (head : Head) → Fits head → head.count ≡ length g.packets → head.count < packets_most → (h : Happening) (w' : Whole) (before bytes : List ℕ)
+      go : (event : Option Event) → (command_of event ≡ None → ⊥) → (head : Head) → Fits head → head.count ≡ length g.packets → head.count < packets_most → (h : Happening) (w' : Whole) (before bytes : List ℕ)
           → Performed event head w h w' before bytes → (r : Told) (lent after : List ℕ) → Happens h bytes number head.count r lent after → Tells (event_told g number event) r w' lent after
-      go none o head f n s h w' before bytes p r lent after t = absurd (o refl)
-      go (some e) o head f n s h w' before bytes p r lent after t =
+      go None o head f n s h w' before bytes p r lent after t = absurd (o refl)
+      go (Some e) o head f n s h w' before bytes p r lent after t =
           let room : Room head = record { packets = s; members = f.members } in
           let fits : Fits h.head = record { members = let z = f.members in rw p.same z; packets = let z = p.most in omega arith } in
           let line : line_of number (answer_of h.reply (take h.written bytes)) head.count ≡ line_of number (happen g e).answer (length g.packets) =
@@ -219,7 +222,7 @@ module _ (w : Whole) (number : ℕ) (event : Option Event) where
             written = t.written ∙ ap length line;
             output = t.output ∙ ap (λ (bytes : List ℕ). front bytes lent) line;
           } in
-          let is : record { text = line_of number (happen g e).answer (length g.packets); stage = running (happen g e).group (next_number number) } ≡ event_told g number (some e) =
+          let is : record { text = line_of number (happen g e).answer (length g.packets); stage = running (happen g e).group (next_number number) } ≡ event_told g number (Some e) =
           when_lt (length g.packets) packets_most _ _ _ (omega arith) refl in
           subst (λ (x : play.Told). Tells x r w' lent after) is told
 

@@ -1,12 +1,10 @@
 -- An input that comes in parts, whatever a line tells: a line is played when it has ended, and only as much of it is kept as tells its form.
 -- What is printed part by part is what the whole input prints, if a line that is cut tells what the whole line tells. `proofs/Parts.antt` has
 -- the proofs.
-use Rattle.std.specs.Prelude.{◌≡◌, List, [], ◌++◌, ℕ, ◌+◌, ◌≤◌, length, take, drop}
+use Rattle.std.specs.Prelude.{Option, None, Some, ◌≡◌, List, [], ◌++◌, ℕ, ◌+◌, ◌≤◌, length, take, drop}
 use Rattle.group.specs.Choice.{when◌then◌else◌, ◌=?◌}
 use Rattle.text.specs.Field.{line_end}
 use Rattle.schedule.specs.Line.{line_most}
-use Rattle.text.specs.declared.Found.{Found}
-use Rattle.text.specs.declared.Found.TheVariants.{At, Nothing}
 use Rattle.player.specs.Lines.{Told, Program, output_from}
 
 -- a line over 1,000 characters is of another form, whatever stands behind the first 1,001
@@ -45,9 +43,9 @@ module _ {Stage : Type 0} where
   Quiet program = (stage : Stage) → program.says stage [] ≡ []
 
 module _ {Stage : Type 0} (line_told : Stage → List ℕ → Told Stage) where
-  unfoldable pub fed_up_to : Found → State Stage → List ℕ → Fed Stage
-  fed_up_to (At e) s part = told_as (line_told s.stage (kept_of (s.line ++ take e part))) (e + 1)
-  fed_up_to Nothing s part = record { text = []; state = record { stage = s.stage; line = kept_of (s.line ++ part) }; used = length part }
+  unfoldable pub fed_up_to : Option ℕ → State Stage → List ℕ → Fed Stage
+  fed_up_to (Some e) s part = told_as (line_told s.stage (kept_of (s.line ++ take e part))) (e + 1)
+  fed_up_to None s part = record { text = []; state = record { stage = s.stage; line = kept_of (s.line ++ part) }; used = length part }
 
   -- a part is read up to its first line feed, or whole
   abbrev pub fed_of : State Stage → List ℕ → Fed Stage

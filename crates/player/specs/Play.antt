@@ -1,6 +1,5 @@
 -- What `play` prints: the first line opens a group, then one event a line.
-use Rattle.std.specs.Prelude.{List, [], map, ℕ, ◌+◌, length}
-use Rattle.std.proofs.Math.Option.{Option, none, some}
+use Rattle.std.specs.Prelude.{Option, None, Some, List, [], map, ℕ, ◌+◌, length}
 use Rattle.group.specs.Choice.{when◌then◌else◌, ◌<?◌}
 use Rattle.group.specs.Question.{judged}
 use Rattle.group.specs.declared.Refusal.{Refusal}
@@ -35,17 +34,17 @@ Told = lines.Told Stage
 abbrev pub refused_told : Refusal → Told
 refused_told refusal = record { text = refused_opening refusal; stage = closed }
 
-unfoldable pub open_told : Opening → Told
-open_told Opening.Other = record { text = bad_opening; stage = closed }
-open_told (Opening.Group n number resilience) =
-    judged (fresh_of n number resilience).verdict refused_told
-    (record { text = []; stage = running (fresh n number resilience).group 1 })
+unfoldable pub open_told : Option Opening → Told
+open_told None = record { text = bad_opening; stage = closed }
+open_told (Some opened) =
+    judged (fresh_of opened.n opened.number opened.resilience).verdict refused_told
+    (record { text = []; stage = running (fresh opened.n opened.number opened.resilience).group 1 })
 
 -- an event prints its number, its answer and the index of a packet written; a line of another form prints `bad line` and ends
 -- the events; with 200 packets written the next event prints `no space` and ends the events
 unfoldable pub event_told : Group → ℕ → Option Event → Told
-event_told g number none = record { text = bad_line number; stage = ended g }
-event_told g number (some event) =
+event_told g number None = record { text = bad_line number; stage = ended g }
+event_told g number (Some event) =
     when length g.packets <? packets_most
     then record { text = line_of number (happen g event).answer (length g.packets); stage = running (happen g event).group (next_number number) }
     else record { text = no_space number; stage = ended g }

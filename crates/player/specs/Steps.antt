@@ -1,6 +1,5 @@
 -- What the private functions promise on the way. No public promise speaks of it.
-use Rattle.std.specs.Prelude.{◌≡◌, List, ℕ, ◌≤◌, length}
-use Rattle.std.proofs.Math.Option.{Option, none, some}
+use Rattle.std.specs.Prelude.{Option, None, Some, ◌≡◌, List, ℕ, ◌≤◌, length}
 use Rattle.group.specs.Lent.{front}
 use Rattle.group.specs.Limits.{members_most}
 use Rattle.model.specs.World.{Event}
@@ -18,7 +17,6 @@ use Rattle.player.specs.Feed as feed
 use Rattle.player.specs.Player.{stage_in, phase_of, Does}
 use Rattle.player.specs.declared.Action.{Action}
 use Rattle.player.specs.declared.Fed.{Fed}
-use Rattle.player.specs.declared.Phase.{Phase}
 use Rattle.player.specs.declared.Told.{Told}
 
 -- there is room for every member, and for the packets that were written
@@ -32,7 +30,6 @@ Sized command = (i size : ℕ) → command ≡ Submit i size → size ≤ payloa
 
 -- what a command asks of the group; a submission alone comes with bytes
 unfoldable pub action_of : Command → Action
-action_of Command.Other = Action.Nothing
 action_of (Command.Submit i size) = Action.Member MemberCall.Submit i size
 action_of (Command.Repeat i) = Action.Member MemberCall.Repeat i 0
 action_of (Command.Take i) = Action.Member MemberCall.Take i 0
@@ -44,8 +41,8 @@ action_of (Command.HandSequencer k) = Action.HandSequencer k
 
 -- an event was performed, if there was one
 unfoldable pub Performed : Option Event → Head → Whole → Happening → Whole → List ℕ → List ℕ → Type 0
-Performed none head w r w' before after = r ≡ record { head = head; reply = Reply.Absent; written = 0 }
-Performed (some event) head w r w' before after = Plays event head w r.head r.reply r.written w' before after
+Performed None head w r w' before after = r ≡ record { head = head; reply = Reply.Absent; written = 0 }
+Performed (Some event) head w r w' before after = Plays event head w r.head r.reply r.written w' before after
 
 -- a line was told
 pub record Tells (told : play.Told) (r : Told) (w : Whole) (lent after : List ℕ) : Type 0 where

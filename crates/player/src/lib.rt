@@ -2,7 +2,7 @@
 // go by value, and every array behind a reference.
 #![tactic(auto)]
 
-ghost use Rattle.std.specs.Prelude.{Bool, true, false, ◌≡◌, ◌++◌, ◌≤◌, ◌<◌, length, take};
+ghost use Rattle.std.specs.Prelude.{Bool, true, false, ◌≡◌, ◌++◌, ◌≤◌, ◌<◌, length, take, Some};
 ghost use Rattle.group.specs.Choice.{when◌then◌else◌, ◌<?◌};
 ghost use Rattle.group.specs.Lent.{front};
 ghost use Rattle.group.specs.Limits.{members_most, longest_packet};
@@ -16,16 +16,16 @@ ghost use Rattle.player.specs.Feed.{kept_most, kept_of, told_as, fed_of, end_of}
 ghost use Rattle.player.specs.Player.{output_room, stage_in, phase_with, phase_of, stage_of, state_of, degree_of, taken_at, Does, Lays, LaysLast, Fresh};
 ghost use Rattle.player.specs.Steps.{Fits, action_of, Sized, Performed, Tells, Refuses, PlaysLine};
 
-use group::{Group, MemberNumber, Refusal, SequenceNumber, Verdict};
+use group::{Group, MemberNumber, Refusal, SequenceNumber};
 use message::copy;
 use model::Reply;
 use report::{
     LINE_ROOM, write_bad_line, write_bad_opening, write_event, write_last, write_no_space,
     write_refused_opening,
 };
-use schedule::{Command, LINE_MOST, Opening, PAYLOAD_ROOM, read_event, read_opening};
+use schedule::{Command, LINE_MOST, PAYLOAD_ROOM, read_event, read_opening};
 use simulator::{Happening, Head, MemberCall, NUMBERS, PACKETS, SequencerCall};
-use text::{Found, line_end};
+use text::line_end;
 
 // What is kept of a line: one character more than a line may have.
 pub const LINE: usize = LINE_MOST + 1;
@@ -73,7 +73,6 @@ struct Told {
 // What a command asks of the group: a call of a member, with that many bytes, or of the sequencer, or a packet handed over.
 #[derive(Clone, Copy)]
 enum Action {
-    Nothing,
     Member {
         call: MemberCall,
         i: usize,
@@ -104,18 +103,7 @@ fn output_room() -> usize
 pub fn next_number(number: u64) -> u64
     ensures { result ≡ next_number number }
 {
-    if number < u64::MAX {
-        number + 1
-    } else {
-        number
-    }
-}
-
-// The smaller of two.
-pub fn smaller(a: usize, b: usize) -> usize
-    ensures { result ≡ (when a <? b then a else b) }
-{
-    if a < b { a } else { b }
+    number.saturating_add(1)
 }
 
 // What each member took last.
@@ -123,31 +111,18 @@ fn each_taken(numbers: &[[u32; NUMBERS]; Group::MEMBERS]) -> [u32; Group::MEMBER
     ensures { result ≡ list_of (taken_at numbers.now) 0 members_most }
 {
     let mut taken = [0u32; Group::MEMBERS];
-    let mut i: usize = 0;
-    while i < Group::MEMBERS {
+    for i in 0..Group::MEMBERS {
         taken[i] = numbers[i][0];
-        i += 1;
     }
     taken
 }
 
-// Whether a line means an event.
-fn is_event(command: Command) -> bool
-    ensures { (result ≡ false → command ≡ Command.Other) × (result ≡ true → command ≡ Command.Other → ⊥) }
-{
-    if let Command::Other = command {
-        false
-    } else {
-        true
-    }
-}
-
 // What a command asks.
+#[tactic(auto, unfolding(crate::specs::Steps::action_of))]
 fn action_of(command: Command) -> Action
     ensures { result ≡ action_of command }
 {
     match command {
-        Command::Other => Action::Nothing,
         Command::Submit { member, length } => Action::Member {
             call: MemberCall::Submit,
             i: member as usize,
@@ -178,7 +153,7 @@ fn action_of(command: Command) -> Action
     }
 }
 
-// Does what a command says. A line of another form is no event, and nothing happens.
+// Does what a command says.
 fn perform(
     head: Head,
     taken: &mut [u32; Group::MEMBERS],
@@ -205,15 +180,9 @@ fn perform(
     out: &mut [u8; Group::PACKET],
 ) -> Happening
     requires { Sized command × (length payload.now ≡ payload_room) }
-    ensures { Performed (meant_by command payload.now) head (whole_of head taken.old counts.old repeats.old kept.old marks.old originators.old lengths.old payloads.old numbers.old queued.old held.old queued_originators.old queued_lengths.old held_originators.old held_lengths.old queued_payloads.old held_payloads.old sizes.old packets.old) result (whole_of result.head taken.new counts.new repeats.new kept.new marks.new originators.new lengths.new payloads.new numbers.new queued.new held.new queued_originators.new queued_lengths.new held_originators.new held_lengths.new queued_payloads.new held_payloads.new sizes.new packets.new) out.old out.new }
+    ensures { Performed (meant_by (Some command) payload.now) head (whole_of head taken.old counts.old repeats.old kept.old marks.old originators.old lengths.old payloads.old numbers.old queued.old held.old queued_originators.old queued_lengths.old held_originators.old held_lengths.old queued_payloads.old held_payloads.old sizes.old packets.old) result (whole_of result.head taken.new counts.new repeats.new kept.new marks.new originators.new lengths.new payloads.new numbers.new queued.new held.new queued_originators.new queued_lengths.new held_originators.new held_lengths.new queued_payloads.new held_payloads.new sizes.new packets.new) out.old out.new }
 {
-    let asked = action_of(command);
-    match asked {
-        Action::Nothing => Happening {
-            head,
-            reply: Reply::Absent,
-            written: 0,
-        },
+    match action_of(command) {
         Action::Member { call, i, length } => simulator::act(
             call,
             head,
@@ -329,56 +298,55 @@ fn tell(
     ensures { Tells (event_told (group_of (whole_of head taken.old counts.old repeats.old kept.old marks.old originators.old lengths.old payloads.old numbers.old queued.old held.old queued_originators.old queued_lengths.old held_originators.old held_lengths.old queued_payloads.old held_payloads.old sizes.old packets.old)) number (event_of line.now)) result (whole_of result.head taken.new counts.new repeats.new kept.new marks.new originators.new lengths.new payloads.new numbers.new queued.new held.new queued_originators.new queued_lengths.new held_originators.new held_lengths.new queued_payloads.new held_payloads.new sizes.new packets.new) out.old out.new }
 {
     let mut payload = [0u8; PAYLOAD_ROOM];
-    let command = read_event(line, &mut payload);
-    if is_event(command) {
-        let index = head.count;
-        if index < PACKETS {
-            let mut bytes = [0u8; Group::PACKET];
-            let happening = perform(
-                head,
-                taken,
-                counts,
-                repeats,
-                kept,
-                marks,
-                originators,
-                lengths,
-                payloads,
-                numbers,
-                queued,
-                held,
-                queued_originators,
-                queued_lengths,
-                held_originators,
-                held_lengths,
-                queued_payloads,
-                held_payloads,
-                sizes,
-                packets,
-                command,
-                &payload,
-                &mut bytes,
-            );
-            let reply = happening.reply;
-            let written = write_answer(number, reply, index, bytes, happening.written, out);
-            let next = next_number(number);
-            let after = happening.head;
-            return Told {
-                head: after,
-                number: next,
-                phase: Phase::Running,
-                written,
-            };
-        }
-        let written = write_no_space(number, out);
+    let Some(command) = read_event(line, &mut payload) else {
+        let written = write_bad_line(number, out);
         return Told {
             head,
             number,
             phase: Phase::Ended,
             written,
         };
+    };
+    let index = head.count;
+    if index < PACKETS {
+        let mut bytes = [0u8; Group::PACKET];
+        let happening = perform(
+            head,
+            taken,
+            counts,
+            repeats,
+            kept,
+            marks,
+            originators,
+            lengths,
+            payloads,
+            numbers,
+            queued,
+            held,
+            queued_originators,
+            queued_lengths,
+            held_originators,
+            held_lengths,
+            queued_payloads,
+            held_payloads,
+            sizes,
+            packets,
+            command,
+            &payload,
+            &mut bytes,
+        );
+        let reply = happening.reply;
+        let written = write_answer(number, reply, index, bytes, happening.written, out);
+        let next = next_number(number);
+        let after = happening.head;
+        return Told {
+            head: after,
+            number: next,
+            phase: Phase::Running,
+            written,
+        };
     }
-    let written = write_bad_line(number, out);
+    let written = write_no_space(number, out);
     Told {
         head,
         number,
@@ -420,11 +388,7 @@ fn refuse(head: Head, refusal: Refusal, out: &mut [u8; OUTPUT]) -> Told
 pub fn degree(resilience: u32) -> u8
     ensures { result ≡ degree_of resilience }
 {
-    if resilience < (Group::MEMBERS as u32) {
-        resilience as u8
-    } else {
-        Group::MEMBERS as u8
-    }
+    resilience.min(Group::MEMBERS as u32) as u8
 }
 
 // The first line.
@@ -454,9 +418,8 @@ fn open(
 ) -> Told
     ensures { Tells (open_told (opening_of line.now)) result (whole_of result.head taken.new counts.new repeats.new kept.new marks.new originators.new lengths.new payloads.new numbers.new queued.new held.new queued_originators.new queued_lengths.new held_originators.new held_lengths.new queued_payloads.new held_payloads.new sizes.new packets.new) out.old out.new }
 {
-    let opening = read_opening(line);
-    match opening {
-        Opening::Other => {
+    match read_opening(line) {
+        None => {
             let written = write_bad_opening(out);
             Told {
                 head,
@@ -465,16 +428,11 @@ fn open(
                 written,
             }
         }
-        Opening::Group {
-            n,
-            number,
-            resilience,
-        } => {
-            if (Group::MEMBERS as u32) < n {
-                let refusal = Refusal::Opening;
-                return refuse(head, refusal, out);
+        Some(opening) => {
+            if (Group::MEMBERS as u32) < opening.n {
+                return refuse(head, Refusal::Opening, out);
             }
-            let degree = degree(resilience);
+            let degree = degree(opening.resilience);
             let opened = simulator::open(
                 head,
                 taken,
@@ -496,36 +454,33 @@ fn open(
                 held_payloads,
                 sizes,
                 packets,
-                n as u8,
-                number,
+                opening.n as u8,
+                opening.number,
                 degree,
             );
-            let verdict = opened.verdict;
-            let fresh = opened.head;
-            match verdict {
-                Verdict::Accepted => Told {
-                    head: fresh,
+            match opened.verdict {
+                Ok(()) => Told {
+                    head: opened.head,
                     number: 1,
                     phase: Phase::Running,
                     written: 0,
                 },
-                Verdict::Refused(refusal) => refuse(fresh, refusal, out),
+                Err(refusal) => refuse(opened.head, refusal, out),
             }
         }
     }
 }
 
 // The phase of a group that has the room that it says.
+#[tactic(auto, using(group::proofs::Choice::choices, group::proofs::Choice::tests))]
 pub fn phase_of(n: u8, count: usize, phase: Phase) -> Phase
     ensures { result ≡ phase_with n count phase }
 {
-    if Group::MEMBERS < (n as usize) {
-        return Phase::Closed;
+    if (n as usize) <= Group::MEMBERS && count <= PACKETS {
+        phase
+    } else {
+        Phase::Closed
     }
-    if PACKETS < count {
-        return Phase::Closed;
-    }
-    phase
 }
 
 // A line that has ended.
@@ -629,8 +584,8 @@ pub fn keep(line: &mut [u8], kept: usize, part: &[u8]) -> usize
     ensures kept { take result line.new ≡ kept_of (take kept line.old ++ part.now) }
     ensures most { result ≤ kept_most }
 {
-    let from = smaller(kept, LINE);
-    let size = smaller(part.len(), LINE - from);
+    let from = kept.min(LINE);
+    let size = part.len().min(LINE - from);
     copy(&part[..size], &mut line[from..]);
     from + size
 }
@@ -665,12 +620,10 @@ fn play_line(
     requires { size ≤ length line.now }
     ensures { PlaysLine (told_as (line_told (stage_of player (whole_of player.head taken.old counts.old repeats.old kept.old marks.old originators.old lengths.old payloads.old numbers.old queued.old held.old queued_originators.old queued_lengths.old held_originators.old held_lengths.old queued_payloads.old held_payloads.old sizes.old packets.old)) (take size line.now)) used) result (whole_of result.player.head taken.new counts.new repeats.new kept.new marks.new originators.new lengths.new payloads.new numbers.new queued.new held.new queued_originators.new queued_lengths.new held_originators.new held_lengths.new queued_payloads.new held_payloads.new sizes.new packets.new) out.old out.new }
 {
-    let head = player.head;
-    let phase = player.phase;
     let told = play(
-        head,
+        player.head,
         player.number,
-        phase,
+        player.phase,
         taken,
         counts,
         repeats,
@@ -693,16 +646,13 @@ fn play_line(
         &line[..size],
         out,
     );
-    let next = told.head;
-    let stands = told.phase;
-    let left = Player {
-        head: next,
-        number: told.number,
-        phase: stands,
-        length: 0,
-    };
     Fed {
-        player: left,
+        player: Player {
+            head: told.head,
+            number: told.number,
+            phase: told.phase,
+            length: 0,
+        },
         used,
         written: told.written,
     }
@@ -736,9 +686,8 @@ pub fn feed(
 ) -> Fed
     ensures { Does (fed_of (state_of player (whole_of player.head taken.old counts.old repeats.old kept.old marks.old originators.old lengths.old payloads.old numbers.old queued.old held.old queued_originators.old queued_lengths.old held_originators.old held_lengths.old queued_payloads.old held_payloads.old sizes.old packets.old) line.old) part.now) result (whole_of result.player.head taken.new counts.new repeats.new kept.new marks.new originators.new lengths.new payloads.new numbers.new queued.new held.new queued_originators.new queued_lengths.new held_originators.new held_lengths.new queued_payloads.new held_payloads.new sizes.new packets.new) line.new out.old out.new }
 {
-    let end = line_end(part);
-    match end {
-        Found::At(e) => {
+    match line_end(part) {
+        Some(e) => {
             let size = keep(line, player.length, &part[..e]);
             play_line(
                 player,
@@ -767,18 +716,13 @@ pub fn feed(
                 out,
             )
         }
-        Found::Nothing => {
+        None => {
             let size = keep(line, player.length, part);
-            let head = player.head;
-            let phase = player.phase;
-            let left = Player {
-                head,
-                number: player.number,
-                phase,
-                length: size,
-            };
             Fed {
-                player: left,
+                player: Player {
+                    length: size,
+                    ..player
+                },
                 used: part.len(),
                 written: 0,
             }
@@ -813,7 +757,7 @@ pub fn end(
 ) -> Fed
     ensures { Does (end_of (state_of player (whole_of player.head taken.old counts.old repeats.old kept.old marks.old originators.old lengths.old payloads.old numbers.old queued.old held.old queued_originators.old queued_lengths.old held_originators.old held_lengths.old queued_payloads.old held_payloads.old sizes.old packets.old) line.now)) result (whole_of result.player.head taken.new counts.new repeats.new kept.new marks.new originators.new lengths.new payloads.new numbers.new queued.new held.new queued_originators.new queued_lengths.new held_originators.new held_lengths.new queued_payloads.new held_payloads.new sizes.new packets.new) line.now out.old out.new }
 {
-    let size = smaller(player.length, LINE);
+    let size = player.length.min(LINE);
     if size == 0 {
         return Fed {
             player,
@@ -873,15 +817,14 @@ impl Player {
     pub fn fresh() -> Self
         ensures { Fresh result }
     {
-        let group = Group {
-            n: 0,
-            resilience: 0,
-            survivors: 0,
-            elected: MemberNumber(0),
-            number: 0,
-        };
         let sequencer = sequencer::Head {
-            group,
+            group: Group {
+                n: 0,
+                resilience: 0,
+                survivors: 0,
+                elected: MemberNumber(0),
+                number: 0,
+            },
             top: SequenceNumber(0),
             accepted: SequenceNumber(0),
             floor: SequenceNumber(0),

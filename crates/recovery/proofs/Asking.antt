@@ -1,4 +1,6 @@
 -- Each call is the first no of its questions before a step that never refuses: a packet's kind by kind. Assumes nothing.
+use Rattle.group.specs.Question.{all_yes}
+use Rattle.std.specs.Prelude.{Ok, Err}
 use mathlib.Core.Path.{◌≡◌, refl, sym, ap, ◌∙◌}
 use mathlib.Core.Bool.{Bool, true, false}
 use mathlib.Core.List.{List, [], ◌∷◌, ◌++◌}
@@ -8,22 +10,20 @@ use borrow.Author.Tests.{lt-ltb, eqb-true}
 use lib.Count.{ones}
 use lib.ListN.{length}
 use Rattle.group.proofs.Choice.{says, when_was, both_first, when_true}
-use Rattle.group.proofs.Lists.{when_elim, judged_elim}
+use Rattle.group.proofs.Lists.{when_elim}
 use Rattle.group.proofs.Members.{survivor_lt}
 use Rattle.group.proofs.Question.{accepted≢, judged_ask, judged_append, judged_same}
 use Rattle.group.specs.Choice.{when◌then◌else◌, ask◌or◌then◌, ◌and◌, ◌<?◌, ◌≤?◌, ◌=?◌}
 use Rattle.group.specs.Limits.{payload_most, waiting_most, largest_number}
 use Rattle.group.specs.Members.{is_within, all_of}
 use Rattle.group.specs.Question.{Question, first_no, judged}
-use Rattle.group.specs.declared.MemberNumber.{MemberNumber}
 use Rattle.group.specs.declared.Refusal.{Refusal}
-use Rattle.group.specs.declared.Verdict.{Verdict}
+use Rattle.group.specs.Question.{Verdict}
 use Rattle.packet.proofs.Laws.{read_first_no}
 use Rattle.packet.specs.Laws.{read_questions}
-use Rattle.packet.specs.Packet.{header_of, payload_at, known_kind, read_of, content_of, from_elected, survivors_in, broadcast_kind, poll_kind, offer_kind, accept_kind, invitation_kind, reply_kind}
+use Rattle.packet.specs.Packet.{header_of, payload_at, known_kind, content_of, from_elected, survivors_in, invitation_kind, reply_kind}
 use Rattle.packet.specs.declared.Header.{Header}
-use Rattle.packet.specs.declared.Packet.{Packet}
-use Rattle.packet.specs.declared.Reading.{Reading}
+use Rattle.packet.specs.Answers.{Reading}
 use Rattle.member.proofs.Asking as memberAsking
 use Rattle.member.proofs.Soundness as memberSoundness
 use Rattle.member.specs.Calls as member
@@ -31,9 +31,9 @@ use Rattle.member.specs.Sound as memberCalls
 use Rattle.window.specs.Places as window
 use Rattle.member.specs.State.{Member}
 use Rattle.member.specs.declared.Answer.{Answer}
-use Rattle.recovery.specs.Begin.{cut_of, chosen_of, result_of}
+use Rattle.recovery.specs.Begin.{result_of}
 use Rattle.recovery.specs.Calls.{Outcome, refused, carried, noted, with_reset, with_reply, call_verdict, whole_verdict, kept_read, kept_took, is_refusal, of_reset, floor_in, heard_of, invited_of, result_fits, reset_step, read_step, submit_of, repeat_of, status_of, receive_of, take_of, invite_of, make_of}
-use Rattle.recovery.specs.Laws.{call_questions, whole_questions, make_questions, fields_questions, receive_questions, submit_questions, repeat_questions, attempt_fits, FirstNo, SubmitFirstNo, RepeatFirstNo, StatusFirstNo, ReceiveFirstNo, TakeFirstNo, InviteFirstNo, MakeFirstNo}
+use Rattle.recovery.specs.Laws.{call_questions, whole_questions, make_questions, fields_questions, receive_questions, submit_questions, repeat_questions, FirstNo, SubmitFirstNo, RepeatFirstNo, StatusFirstNo, ReceiveFirstNo, TakeFirstNo, InviteFirstNo, MakeFirstNo}
 use Rattle.recovery.specs.Sound.{member_sound, terminal_sound}
 use Rattle.recovery.specs.State.{Kept, Reset, Terminal}
 
@@ -71,7 +71,7 @@ make_first_no t demand room =
     (record { no = refl })
 
 -- questions 1 and 2, and those after them
-call_asked : (t : Terminal) (room : ℕ) (rest : List Question) (x step : Outcome) → (call_verdict t room ≡ Verdict.Accepted → x ≡ judged (first_no rest) (refused t) step)
+call_asked : (t : Terminal) (room : ℕ) (rest : List Question) (x step : Outcome) → (call_verdict t room ≡ all_yes → x ≡ judged (first_no rest) (refused t) step)
     → judged (call_verdict t room) (refused t) x ≡ judged (first_no (call_questions t room ++ rest)) (refused t) step
 unfolding call_verdict first_no
 call_asked t room rest x step e =
@@ -79,33 +79,33 @@ call_asked t room rest x step e =
     ∙ judged_append (refused t) step (call_questions t room) rest
 
 -- a terminal whose questions 1 and 2 were answered yes has a member whose are
-called : (t : Terminal) (room : ℕ) → call_verdict t room ≡ Verdict.Accepted → member_sound t ≡ true
+called : (t : Terminal) (room : ℕ) → call_verdict t room ≡ all_yes → member_sound t ≡ true
 unfolding call_verdict
-called t room e = (when_was (member_sound t) _ _ Verdict.Accepted e (accepted≢ Refusal.UnsoundState)).0
+called t room e = (when_was (member_sound t) _ _ all_yes e (accepted≢ Refusal.UnsoundState)).0
 
 pub member_sound_lem : (t : Terminal) → member_sound t ≡ true → memberCalls.sound_of t.member ≡ true
 unfolding member_sound
 member_sound_lem t e = both_first (memberCalls.sound_of t.member) _ e
 
-pub member_called : (t : Terminal) (room : ℕ) → call_verdict t room ≡ Verdict.Accepted → member.call_verdict t.member room ≡ Verdict.Accepted
+pub member_called : (t : Terminal) (room : ℕ) → call_verdict t room ≡ all_yes → member.call_verdict t.member room ≡ all_yes
 unfolding call_verdict member.call_verdict
 member_called t room e =
-    let a = when_was (member_sound t) _ _ Verdict.Accepted e (accepted≢ Refusal.UnsoundState) in
+    let a = when_was (member_sound t) _ _ all_yes e (accepted≢ Refusal.UnsoundState) in
     sym (when_true (memberCalls.sound_of t.member) _ _ _ (member_sound_lem t a.0) refl) ∙ a.1
 
 -- the member's questions behind questions 1 and 2
 carried_judged : (t : Terminal) (v : Verdict) (x : member.Outcome) → carried t t.kept (judged v (member.refused t.member) x) ≡ judged v (refused t) (carried t t.kept x)
 unfolding judged member.answered refused
-carried_judged t Verdict.Accepted x = refl
-carried_judged t (Verdict.Refused r) x = refl
+carried_judged t (Ok _) x = refl
+carried_judged t (Err r) x = refl
 
-repeat_asked : (t : Terminal) (room : ℕ) → call_verdict t room ≡ Verdict.Accepted
+repeat_asked : (t : Terminal) (room : ℕ) → call_verdict t room ≡ all_yes
     → member.repeat_of t.member room
     ≡ judged (first_no (record { yes = 1 ≤? t.member.waiting; refusal = Refusal.NothingWaiting } ∷ [])) (member.refused t.member) (record { member = t.member; answer = Answer.Sent; bytes = member.request_packet t.member })
 unfolding member.repeat_of judged first_no
 repeat_asked t room e = rw (member_called t room e) (judged_ask (member.refused t.member) _ (1 ≤? t.member.waiting) Refusal.NothingWaiting [])
 
-submit_asked : (t : Terminal) (payload : List ℕ) (room : ℕ) → call_verdict t room ≡ Verdict.Accepted
+submit_asked : (t : Terminal) (payload : List ℕ) (room : ℕ) → call_verdict t room ≡ all_yes
     → member.submit_of t.member payload room
     ≡ judged
     (first_no
@@ -245,7 +245,7 @@ by_terminal t group step x rest e =
 module _ (t : Terminal) (payload : List ℕ) (elected : t.member.group.elected.0 < t.member.group.n) where
   -- kind by kind
   kinds : (kind member group a b c : ℕ) → let h : Header = record { kind = kind; member = record { 0 = member }; group = group; a = a; b = b; c = c } in
-      known_kind kind ≡ true → read_step t (Reading.Fields h) payload ≡ judged (first_no (fields_questions t h payload)) (refused t) (accepted_step t h payload)
+      known_kind kind ≡ true → read_step t (Ok h) payload ≡ judged (first_no (fields_questions t h payload)) (refused t) (accepted_step t h payload)
   unfolding read_step from_elected content_of of_reset heard_of reset_step floor_in member.content_step kept_read is_refusal member.answered refused known_kind first_no judged when◌then◌else◌
   kinds zero member group a b c known = let z : false ≡ true = known in cc
   kinds (suc zero) member group a b c known =
@@ -312,17 +312,17 @@ module _ (t : Terminal) (payload : List ℕ) (elected : t.member.group.elected.0
       absurd (omega arith)
 
 -- a reading that is a verdict is received as that verdict
-read_judged : (t : Terminal) (v : Verdict) (h : Header) (payload : List ℕ) → read_step t (judged v Reading.Refused (Reading.Fields h)) payload ≡ judged v (refused t) (read_step t (Reading.Fields h) payload)
+read_judged : (t : Terminal) (v : Verdict) (h : Header) (payload : List ℕ) → read_step t (judged v Err (Ok h)) payload ≡ judged v (refused t) (read_step t (Ok h) payload)
 unfolding judged read_step
-read_judged t Verdict.Accepted h payload = refl
-read_judged t (Verdict.Refused r) h payload = refl
+read_judged t (Ok _) h payload = refl
+read_judged t (Err r) h payload = refl
 
 -- a packet that the questions of reading pass has a known kind
-known_kind_lem : (p : List ℕ) → first_no (read_questions p) ≡ Verdict.Accepted → known_kind (header_of p).kind ≡ true
+known_kind_lem : (p : List ℕ) → first_no (read_questions p) ≡ all_yes → known_kind (header_of p).kind ≡ true
 unfolding first_no
 known_kind_lem p e =
-    let a = when_was _ _ _ Verdict.Accepted e (accepted≢ Refusal.PacketSize) in
-    (when_was _ _ _ Verdict.Accepted a.1 (accepted≢ Refusal.UnknownKind)).0
+    let a = when_was _ _ _ all_yes e (accepted≢ Refusal.PacketSize) in
+    (when_was _ _ _ all_yes a.1 (accepted≢ Refusal.UnknownKind)).0
 
 pub receive_first_no : ReceiveFirstNo
 unfolding receive_of

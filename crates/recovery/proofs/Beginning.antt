@@ -1,30 +1,27 @@
 -- The sequencer that an elected terminal begins with is sound: its acknowledgements, from its own sequencer or from its member. Assumes nothing.
 use mathlib.Core.Path.{◌≡◌, refl, sym, ap, ◌∙◌, subst}
-use mathlib.Core.Logic.{◌≢◌}
 use mathlib.Core.Bool.{Bool, true, false, false≢true}
 use mathlib.Core.List.{List, [], ◌∷◌}
 use Prim.Native.Nat.{ℕ, zero, suc, ◌+◌, ◌-◌, ◌≤◌, ◌<◌}
 use native.Mathlib.Nat.{le_refl, le_trans, le_antisymm}
 use native.Mathlib.Omega.{arith}
-use borrow.Author.Tests.{leb-true, leb-false, eqb-true}
-use lib.ListN.{length, get_or, set, replicate, get_or-replicate, length-set, length-replicate, get_or-eq_default}
+use borrow.Author.Tests.{leb-true, leb-false}
+use lib.ListN.{length, get_or, get_or-replicate, length-set, length-replicate, get_or-eq_default}
 use lib.Seq.{get_or-set_same, get_or-set_other}
 use Rattle.group.proofs.Lists.{when_elim, eq_or, le_or}
 use Rattle.group.proofs.Members.{Standing, survivor_lt}
 use Rattle.group.specs.Choice.{when◌then◌else◌, ◌≤?◌}
-use Rattle.group.specs.Limits.{members_most, places_most, held_most, payload_most, largest_number}
+use Rattle.group.specs.Limits.{members_most, places_most, held_most, largest_number}
 use Rattle.group.specs.Members.{is_in}
 use Rattle.group.specs.declared.Group.{Group}
 use Rattle.message.proofs.Kept.{empty_zero}
 use Rattle.message.specs.Message.{Message, empty_message, blank, is_empty}
-use Rattle.history.proofs.Soundness.{taken_in, count_in, KeptFacts, Lost, floor_most, floor_least}
-use Rattle.history.specs.Marks.{mark_at}
+use Rattle.history.proofs.Soundness.{taken_in, count_in, Lost, floor_most, floor_least}
 use Rattle.history.specs.State.{Acknowledgement, no_acknowledgement, place_of, message_at, floor_of}
 use Rattle.member.proofs.Acknowledged.{reach_least, reach_near, reach_holds}
 use Rattle.member.proofs.Soundness as member
 use Rattle.member.specs.State.{Member, reach_of}
 use Rattle.sequencer.proofs.Soundness as sequencer
-use Rattle.sequencer.specs.State.{Sequencer}
 use Rattle.window.proofs.Row.{smaller_le, larger_le, le_smaller, row_is}
 use Rattle.window.specs.Places as window
 use Rattle.window.specs.Places.{larger_of, smaller_of}

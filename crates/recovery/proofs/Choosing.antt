@@ -1,13 +1,13 @@
 -- Who is elected replied, and with the highest number. Assumes nothing.
-use mathlib.Core.Path.{◌≡◌, refl, sym, ap, ◌∙◌, subst}
+use mathlib.Core.Path.{◌≡◌, refl, subst}
 use mathlib.Core.Logic.{◌⊎◌, inl, inr}
-use mathlib.Core.Bool.{Bool, true, false, false≢true}
+use mathlib.Core.Bool.{true}
 use mathlib.Core.List.{List, [], ◌∷◌}
-use Prim.Native.Nat.{ℕ, zero, suc, ◌+◌, ◌-◌, ◌^◌, ◌≤◌, ◌<◌}
-use native.Mathlib.Nat.{le_refl, le_trans}
+use Prim.Native.Nat.{ℕ, zero, suc, ◌+◌, ◌^◌, ◌≤◌, ◌<◌}
+use native.Mathlib.Nat.{le_trans}
 use native.Mathlib.Omega.{arith}
-use borrow.Author.Tests.{ltb-true, ltb-false, eqb-true, eq-eqb}
-use lib.Bits.{bit_or, or_lt, or_comm}
+use borrow.Author.Tests.{eqb-true, eq-eqb}
+use lib.Bits.{or_lt, or_comm}
 use lib.ListN.{length, get_or}
 use lib.Pow.{pow_pos, pow-lt}
 use Rattle.group.proofs.Choice.{when_true, both_hold, both_first, both_then}

@@ -1,30 +1,26 @@
 -- A terminal's poll and copy call are its sequencer's, and leave it sound; and every call leaves a terminal that its types can hold one that they can hold.
 -- Assumes nothing.
+use Rattle.std.specs.Prelude.{Ok, Err}
 use mathlib.Core.Path.{◌≡◌, refl, sym, ap, ◌∙◌, subst}
-use mathlib.Core.Logic.{◌≢◌}
-use mathlib.Core.Bool.{Bool, true, false, false≢true}
-use mathlib.Core.List.{List, [], ◌∷◌}
+use mathlib.Core.Bool.{Bool, true, false}
+use mathlib.Core.List.{List}
 use Prim.Native.Nat.{ℕ, zero, suc, ◌+◌, ◌-◌, ◌^◌, ◌≤◌, ◌<◌}
-use native.Mathlib.Nat.{le_refl, le_trans}
+use native.Mathlib.Nat.{le_refl}
 use native.Mathlib.Omega.{arith}
 use borrow.Author.Tests.{ltb-true}
-use lib.Bits.{bit_or, or_lt}
+use lib.Bits.{or_lt}
 use lib.Count.{ones}
 use lib.ListN.{length, get_or, set, replicate, length-set, length-replicate, get_or-replicate, get_or-eq_default}
 use lib.Pow.{pow-lt, pow_pos}
 use lib.Seq.{get_or-set_same, get_or-set_other}
-use Rattle.group.proofs.Choice.{both_first, both_then}
+use Rattle.group.proofs.Choice.{both_first}
 use Rattle.group.proofs.Lists.{when_elim, judged_elim, eq_or, le_or}
 use Rattle.group.specs.Choice.{when◌then◌else◌, ◌and◌, ◌<?◌, ◌≤?◌, ◌=?◌}
 use Rattle.group.specs.Limits.{members_most, places_most, held_most, largest_number}
 use Rattle.group.specs.Members.{is_in, is_within, only_of, all_of, expected_of}
-use Rattle.group.specs.Question.{judged}
 use Rattle.group.specs.declared.Group.{Group}
 use Rattle.group.specs.declared.MemberNumber.{MemberNumber}
-use Rattle.group.specs.declared.Refusal.{Refusal}
 use Rattle.group.specs.declared.SequenceNumber.{SequenceNumber}
-use Rattle.group.specs.declared.Verdict.{Verdict}
-use Rattle.history.proofs.Soundness.{count_in}
 use Rattle.history.specs.State as history
 use Rattle.history.specs.State.{Acknowledgement, no_acknowledgement}
 use Rattle.message.specs.Message.{Message, empty_message, blank, message_of}
@@ -38,7 +34,7 @@ use Rattle.packet.specs.Laws.{Fits}
 use Rattle.packet.specs.Packet.{request_kind, broadcast_kind, gap_kind, status_kind, poll_kind, offer_kind, confirm_kind, accept_kind, invitation_kind, reply_kind, header_of, read_of, payload_at, content_of, from_elected, survivors_in}
 use Rattle.packet.specs.declared.Header.{Header}
 use Rattle.packet.specs.declared.Packet.{Packet}
-use Rattle.packet.specs.declared.Reading.{Reading}
+use Rattle.packet.specs.Answers.{Reading}
 use Rattle.sequencer.proofs.Laws as sequencerProofs
 use Rattle.sequencer.specs.Calls as sequencer
 use Rattle.sequencer.specs.Laws as sequencerLaws
@@ -46,11 +42,11 @@ use Rattle.sequencer.specs.State.{Sequencer}
 use Rattle.window.proofs.Row.{le_larger}
 use Rattle.window.specs.Places as window
 use Rattle.window.specs.Places.{larger_of}
-use Rattle.recovery.specs.Begin.{cut_of, chosen_of, made_group, table_from, counts_in, history_from, begun, elected_sequencer, member_in, result_of, dropped_of}
-use Rattle.recovery.specs.Calls.{Outcome, SequencerOutcome, refused, ordered, with_member, with_reset, with_sequencer, carried, call_verdict, whole_verdict, submit_of, repeat_of, status_of, take_of, kept_took, kept_read, floor_in, of_reset, is_refusal, heard_of, replied, uninvited, invitation, freezes, with_reply, noted, invited_of, result_fits, reset_step, read_step, receive_of, invite_of, make_of, order_of, poll_of, copy_of}
-use Rattle.recovery.specs.Laws.{OrderFirst, PollFirstNo, CopyFirstNo, PollKeeps, CopyKeeps, Typed, Holds, SubmitHolds, RepeatHolds, StatusHolds, TakeHolds, ReceiveHolds, InviteHolds, MakeHolds, OrderHolds, PollHolds, CopyHolds}
+use Rattle.recovery.specs.Begin.{cut_of, chosen_of, made_group, table_from, counts_in, history_from, begun, elected_sequencer, result_of}
+use Rattle.recovery.specs.Calls.{Outcome, refused, ordered, with_member, with_reset, with_sequencer, call_verdict, whole_verdict, submit_of, repeat_of, status_of, take_of, kept_took, kept_read, floor_in, of_reset, is_refusal, heard_of, replied, uninvited, invitation, freezes, with_reply, invited_of, result_fits, reset_step, read_step, receive_of, invite_of, make_of, order_of, poll_of, copy_of}
+use Rattle.recovery.specs.Laws.{PollFirstNo, CopyFirstNo, PollKeeps, CopyKeeps, Holds, SubmitHolds, RepeatHolds, StatusHolds, TakeHolds, ReceiveHolds, InviteHolds, MakeHolds, OrderHolds, PollHolds, CopyHolds}
 use Rattle.recovery.specs.Sound.{terminal_sound}
-use Rattle.recovery.specs.State.{Kept, Reset, Terminal, no_reset, serves, reply_number, kept_floor, counted, counted_row, counts_of}
+use Rattle.recovery.specs.State.{Kept, Reset, Terminal, serves, reply_number, kept_floor, counted, counted_row, counts_of}
 use Rattle.recovery.proofs.Beginning.{table_length, table_entry, counts_at, counts_length, reach_fits, history_length}
 use Rattle.recovery.proofs.Choosing.{chosen_replied}
 use Rattle.recovery.proofs.Keeping.{Sound, sound_of_lem}
@@ -441,8 +437,8 @@ module _ (t : Terminal) (h : Holds t) (sound : Sound t) where
 
   read_holds : (p : List ℕ) → Fits (header_of p) → (reading : Reading) → read_of p ≡ reading → Stays (read_step t reading (payload_at p))
   unfolding read_step refused
-  read_holds p fits (Reading.Refused refusal) e = h
-  read_holds p fits (Reading.Fields x) e =
+  read_holds p fits (Err refusal) e = h
+  read_holds p fits (Ok x) e =
       let m : Member = t.member in
       let payload = payload_at p in
       let is : x ≡ header_of p = (readable p x e).header in

@@ -1,33 +1,26 @@
 -- Each call leaves a sound terminal sound: the member's end by the member's own laws and what it keeps, a reset by what each step leaves.
 -- Assumes nothing.
-use mathlib.Core.Path.{◌≡◌, refl, sym, ap, ◌∙◌, subst}
-use mathlib.Core.Logic.{◌≢◌}
+use mathlib.Core.Path.{◌≡◌, refl, sym, ◌∙◌}
 use mathlib.Core.Bool.{Bool, true, false, false≢true}
-use mathlib.Core.List.{List, []}
-use Prim.Native.Nat.{ℕ, zero, suc, ◌+◌, ◌-◌, ◌*◌, ◌/◌, ◌%◌, ◌^◌, ◌≤◌, ◌<◌, max}
-use native.Mathlib.Nat.{le_refl, le_trans, div_self, mod-lt, zero-lt-suc}
+use Prim.Native.Nat.{ℕ, ◌^◌, ◌≤◌, ◌<◌}
 use native.Mathlib.Omega.{arith}
-use borrow.Author.Tests.{leb-true, leb-false, ltb-true, lt-ltb, le-leb, eqb-true, eqb-false, eq-eqb}
-use lib.Bits.{bit_and, bit_or, or_shr, or_step, or_comm}
-use lib.Pow.{pow_pos}
-use lib.ListN.{length, get_or, set, replicate, length-set, length-replicate, get_or-replicate, get_or-eq_default}
+use borrow.Author.Tests.{eqb-true, eq-eqb}
+use lib.Bits.{bit_and}
+use lib.ListN.{length, get_or, replicate, length-replicate, get_or-replicate, get_or-eq_default}
 use lib.Seq.{get_or-set_same, get_or-set_other}
-use Rattle.group.proofs.Choice.{when_true, when_false, when_was, both_hold, both_first, both_then, says}
+use Rattle.group.proofs.Choice.{when_true, when_false, both_hold, both_first, both_then, says}
 use Rattle.group.proofs.Fold.{all_at, at_all}
-use Rattle.group.proofs.Lists.{when_elim, judged_elim, eq_or, le_or}
-use Rattle.group.proofs.Members.{Standing, survivor_lt, in_all, in_or, in_only, only_within, more_within}
-use Rattle.group.proofs.Question.{accepted≢}
-use Rattle.group.specs.Choice.{when◌then◌else◌, ◌and◌, ◌<?◌, ◌≤?◌, ◌=?◌}
-use Rattle.group.specs.Fold.{all}
-use Rattle.group.specs.Limits.{members_most, places_most, held_most, largest_number}
-use Rattle.group.specs.Members.{only_of, is_in, is_within, all_of}
+use Rattle.group.proofs.Lists.{when_elim, eq_or, le_or}
+use Rattle.group.proofs.Members.{Standing, in_all, only_within, more_within}
+use Rattle.group.specs.Choice.{when◌then◌else◌, ◌and◌, ◌=?◌}
+use Rattle.group.specs.Limits.{members_most, largest_number}
+use Rattle.group.specs.Members.{is_in, is_within, all_of}
 use Rattle.group.specs.declared.Group.{Group}
 use Rattle.group.specs.declared.MemberNumber.{MemberNumber}
 use Rattle.group.specs.declared.SequenceNumber.{SequenceNumber}
 use Rattle.member.proofs.Soundness as member
-use Rattle.member.specs.Laws as memberLaws
 use Rattle.member.specs.Sound as memberCalls
-use Rattle.member.specs.State.{Member, reach_of}
+use Rattle.member.specs.State.{Member}
 use Rattle.sequencer.proofs.Soundness as sequencer
 use Rattle.sequencer.specs.Sound as sequencerCalls
 use Rattle.sequencer.specs.State.{Sequencer}
@@ -36,7 +29,7 @@ use Rattle.recovery.proofs.Beginning.{floor_reach, reach_fits}
 use Rattle.recovery.specs.Calls.{with_reset, replied, uninvited, invitation, freezes, with_reply}
 use Rattle.recovery.specs.Laws.{Typed}
 use Rattle.recovery.specs.Sound.{kept_sound, reset_sound, member_sound, sequencer_sound, reply_sound, terminal_sound}
-use Rattle.recovery.specs.State.{Kept, Reset, Terminal, no_reset, serves, reply_number, kept_floor}
+use Rattle.recovery.specs.State.{Reset, Terminal, no_reset, serves, reply_number, kept_floor}
 use Rattle.recovery.proofs.Masks.{only_in, or_in, in_or_right, not_or}
 use Rattle.recovery.proofs.Kept.{KeptSound, kept_of, of_kept}
 use Rattle.recovery.proofs.Result.{member_in_lem, elected_sound}

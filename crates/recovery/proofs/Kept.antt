@@ -1,18 +1,18 @@
 -- What a terminal keeps: counts that grow, and the last 32 messages taken; both stay sound when a message is taken. Assumes nothing.
-use mathlib.Core.Path.{◌≡◌, refl, sym, ap, ◌∙◌}
-use mathlib.Core.Bool.{Bool, true, false}
+use mathlib.Core.Path.{◌≡◌, refl, ap, ◌∙◌}
+use mathlib.Core.Bool.{Bool, true}
 use mathlib.Core.List.{List}
 use Prim.Native.Nat.{ℕ, zero, suc, ◌+◌, ◌-◌, ◌≤◌, ◌<◌}
 use native.Mathlib.Nat.{le_refl, le_trans}
 use native.Mathlib.Omega.{arith}
 use borrow.Author.Tests.{leb-true, leb-false, le-leb, lt-leb, lt-ltb, ltb-false, le-ltb, eqb-true, eq-eqb}
-use lib.ListN.{length, get_or, set, length-set, get_or-eq_default}
+use lib.ListN.{length, get_or, length-set, get_or-eq_default}
 use lib.Seq.{get_or-set_same, get_or-set_other}
 use Rattle.group.proofs.Choice.{when_true, when_false, both_hold, both_first, both_then, says}
 use Rattle.group.proofs.Fold.{all_at, at_all, above_each, above_all}
 use Rattle.group.proofs.Lists.{when_elim, eq_or, le_or}
-use Rattle.group.specs.Choice.{when◌then◌else◌, ◌and◌, ◌<?◌, ◌≤?◌, ◌=?◌}
-use Rattle.group.specs.Fold.{all, all_above}
+use Rattle.group.specs.Choice.{when◌then◌else◌, ◌<?◌, ◌≤?◌, ◌=?◌}
+use Rattle.group.specs.Fold.{all}
 use Rattle.group.specs.Limits.{places_most, payload_most}
 use Rattle.message.specs.Message.{Message, zero_behind, is_empty, blank}
 use Rattle.history.specs.State.{place_of, message_at}

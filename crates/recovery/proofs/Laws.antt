@@ -1,33 +1,30 @@
 -- The laws that `specs/Laws.antt` states of soundness, call by call. Assumes nothing.
+use Rattle.std.specs.Prelude.{Ok, Err}
 use mathlib.Core.Path.{◌≡◌, refl, sym, ap, ◌∙◌, subst}
 use mathlib.Core.Bool.{Bool, true, false, false≢true}
-use mathlib.Core.List.{List, []}
-use Prim.Native.Nat.{ℕ, ◌+◌, ◌-◌, ◌≤◌, ◌<◌}
-use native.Mathlib.Nat.{le_refl}
+use mathlib.Core.List.{List}
+use Prim.Native.Nat.{ℕ, ◌+◌, ◌-◌, ◌≤◌}
 use native.Mathlib.Omega.{arith}
-use borrow.Author.Tests.{leb-true, ltb-true, eqb-true, eqb-false, eq-eqb}
+use borrow.Author.Tests.{leb-true, ltb-true, eqb-true, eq-eqb}
 use lib.Bits.{bit_and}
 use lib.Count.{ones}
 use lib.ListN.{length, get_or}
-use Rattle.group.proofs.Choice.{when_true, both_first, both_then, says}
+use Rattle.group.proofs.Choice.{when_true, both_first, both_then}
 use Rattle.group.proofs.Lists.{when_elim, judged_elim}
-use Rattle.group.proofs.Members.{survivor_lt}
 use Rattle.group.specs.Choice.{when◌then◌else◌, ◌and◌, ◌<?◌, ◌≤?◌, ◌=?◌}
-use Rattle.group.specs.Limits.{members_most, held_most, header_size, largest_number}
+use Rattle.group.specs.Limits.{held_most, header_size, largest_number}
 use Rattle.group.specs.Members.{is_in, is_within, all_of, expected_of}
 use Rattle.group.specs.Question.{judged}
 use Rattle.group.specs.declared.Group.{Group}
 use Rattle.group.specs.declared.MemberNumber.{MemberNumber}
-use Rattle.group.specs.declared.Refusal.{Refusal}
 use Rattle.group.specs.declared.SequenceNumber.{SequenceNumber}
-use Rattle.group.specs.declared.Verdict.{Verdict}
 use Rattle.message.specs.Message.{Message, message_of}
 use Rattle.packet.proofs.Laws.{fields_content}
 use Rattle.packet.proofs.Verdicts.{askable, readable}
 use Rattle.packet.specs.Packet.{header_of, payload_at, read_of, content_of, fields_of, from_elected, obeys, survivors_in}
 use Rattle.packet.specs.declared.Header.{Header}
 use Rattle.packet.specs.declared.Packet.{Packet}
-use Rattle.packet.specs.declared.Reading.{Reading}
+use Rattle.packet.specs.Answers.{Reading}
 use Rattle.member.proofs.Acknowledged.{reach_took}
 use Rattle.member.proofs.Keeping as memberKeeping
 use Rattle.member.proofs.Laws as memberProofs
@@ -40,10 +37,10 @@ use Rattle.member.specs.State.{Member, reach_of}
 use Rattle.member.specs.declared.Answer.{Answer}
 use Rattle.window.specs.Places as window
 use Rattle.recovery.specs.Begin.{cut_of, chosen_of, result_of}
-use Rattle.recovery.specs.Calls.{Outcome, refused, carried, noted, with_member, with_reset, with_reply, replied, uninvited, freezes, call_verdict, whole_verdict, kept_read, kept_took, is_refusal, of_reset, floor_in, heard_of, invited_of, result_fits, reset_step, read_step, submit_of, repeat_of, status_of, receive_of, take_of, invite_of, make_of}
+use Rattle.recovery.specs.Calls.{Outcome, refused, carried, with_member, with_reset, freezes, call_verdict, whole_verdict, kept_took, of_reset, floor_in, heard_of, invited_of, result_fits, reset_step, read_step, submit_of, repeat_of, status_of, receive_of, take_of, invite_of, make_of}
 use Rattle.recovery.specs.Laws.{Typed, SubmitKeeps, RepeatKeeps, StatusKeeps, TakeKeeps, ReceiveKeeps, InviteKeeps, MakeKeeps}
 use Rattle.recovery.specs.Sound.{sequencer_sound, terminal_sound}
-use Rattle.recovery.specs.State.{Kept, Reset, Terminal, serves, reply_number}
+use Rattle.recovery.specs.State.{Kept, Reset, Terminal, reply_number}
 use Rattle.recovery.proofs.Asking.{member_called}
 use Rattle.recovery.proofs.Choosing.{chosen_replied}
 use Rattle.recovery.proofs.Keeping.{Sound, sound_of_lem, of_sound, ResetSound, invited_sound, replied_sound, closed_sound, reply_sound_lem, result_sound}
@@ -245,19 +242,19 @@ module _ (m : Member) where
 
 -- a member reads what a packet of our group says
 read_content : (m : Member) (h : Header) (payload : List ℕ) → from_elected m.group (content_of h) ≡ true → (h.group =? m.group.number) ≡ true
-    → calls.read_step m (Reading.Fields h) payload ≡ calls.content_step m (content_of h) payload
+    → calls.read_step m (Ok h) payload ≡ calls.content_step m (content_of h) payload
 unfolding calls.read_step
 read_content m h payload u g =
     sym (when_true (h.group =? m.group.number) (calls.content_step m (content_of h) payload) _ _ g refl
     ∙ when_true (from_elected m.group (content_of h)) _ _ _ u refl)
 
 -- its types can hold what such a packet leaves
-pub content_typed : (t : Terminal) → Typed t → Sound t → (p : List ℕ) → (header_of p).a ≤ largest_number → (h : Header) → read_of p ≡ Reading.Fields h → from_elected t.member.group (content_of h) ≡ true
+pub content_typed : (t : Terminal) → Typed t → Sound t → (p : List ℕ) → (header_of p).a ≤ largest_number → (h : Header) → read_of p ≡ Ok h → from_elected t.member.group (content_of h) ≡ true
     → (h.group =? t.member.group.number) ≡ true → memberLaws.Typed (calls.content_step t.member (content_of h) (payload_at p)).member
 content_typed t typed sound p most h e u ours =
     let m : Member = t.member in
     let right : memberProofs.Right m = (typed.member, sound.member) in
-    let x = read_heard memberProofs.Right (λ m r. r.0) (λ m r. r.1) m right (Reading.Fields h) (payload_at p) (λ h' q. memberProofs.read_keepable m p most right h' (e ∙ q)) in
+    let x = read_heard memberProofs.Right (λ m r. r.0) (λ m r. r.1) m right (Ok h) (payload_at p) (λ h' q. memberProofs.read_keepable m p most right h' (e ∙ q)) in
     subst (λ (o : calls.Outcome). memberLaws.Typed o.member) (read_content m h (payload_at p) u ours) x.state.0
 
 not_replied : (b : Bool) → (when b then false else true) ≡ true → b ≡ false
@@ -326,15 +323,15 @@ module _ (t : Terminal) (typed : Typed t) (sound : Sound t) where
 
   read_stays : (p : List ℕ) → (header_of p).a ≤ largest_number → (reading : Reading) → read_of p ≡ reading → Stays (read_step t reading (payload_at p))
   unfolding read_step refused
-  read_stays p most (Reading.Refused refusal) e = sound
-  read_stays p most (Reading.Fields h) e =
+  read_stays p most (Err refusal) e = sound
+  read_stays p most (Ok h) e =
       let m : Member = t.member in
       let payload = payload_at p in
       let a = readable p h e in
       let c = fields_content h (length p - header_size) payload a.fields in
       let obey = (askable h (length p - header_size) payload a.fields).obey in
       let right : memberProofs.Right m = (typed.member, sound.member) in
-      let x = read_heard memberProofs.Right (λ m r. r.0) (λ m r. r.1) m right (Reading.Fields h) payload (λ h' q. memberProofs.read_keepable m p most right h' (e ∙ q)) in
+      let x = read_heard memberProofs.Right (λ m r. r.0) (λ m r. r.1) m right (Ok h) payload (λ h' q. memberProofs.read_keepable m p most right h' (e ∙ q)) in
       when_elim Stays (from_elected m.group (content_of h))
       (λ u. when_elim Stays (of_reset (content_of h))
       (λ _. when_elim Stays (terminal_sound t)

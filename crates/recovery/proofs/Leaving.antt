@@ -1,12 +1,10 @@
 -- What is seen of the parts says every number and byte of them. Assumes nothing.
 use mathlib.Core.Path.{◌≡◌, refl, sym, ap, ◌∙◌}
 use mathlib.Core.Bool.{Bool, true, false, false≢true}
-use mathlib.Core.List.{List}
 use Prim.Native.Nat.{ℕ, ◌≤◌}
 use native.Mathlib.Omega.{arith}
-use borrow.Author.Tests.{leb-true, eqb-true, eqb-false, eq-eqb}
-use lib.ListN.{length}
-use Rattle.group.specs.Choice.{when◌then◌else◌, ◌and◌, ◌≤?◌, ◌=?◌}
+use borrow.Author.Tests.{leb-true, eqb-true, eq-eqb}
+use Rattle.group.specs.Choice.{when◌then◌else◌, ◌≤?◌, ◌=?◌}
 use Rattle.group.specs.Limits.{held_most, waiting_most, places_most}
 use Rattle.group.proofs.Choice.{both_first, both_then}
 use Rattle.group.proofs.Lists.{eq_or}

@@ -1,13 +1,12 @@
 -- Members of a mask that is joined of two. Assumes nothing.
 use mathlib.Core.Path.{◌≡◌, refl, sym, ap, ◌∙◌}
 use mathlib.Core.Bool.{Bool, true, false, false≢true}
-use Prim.Native.Nat.{ℕ, ◌+◌, ◌*◌, ◌/◌, ◌%◌, ◌^◌, ◌≤◌, ◌<◌, max}
+use Prim.Native.Nat.{ℕ, ◌+◌, ◌*◌, ◌/◌, ◌%◌, ◌^◌, max}
 use native.Mathlib.Nat.{div_self, mod-lt, zero-lt-suc}
 use native.Mathlib.Omega.{arith}
 use borrow.Author.Tests.{eqb-true, eq-eqb}
 use lib.Bits.{bit_or, or_shr, or_step, or_comm}
 use lib.Pow.{pow_pos}
-use Rattle.group.specs.Choice.{◌=?◌}
 use Rattle.group.specs.Members.{is_in}
 
 -- a member is in the mask of it alone

@@ -1,28 +1,28 @@
 -- The sequencer's call for packets at a terminal: the first no of its questions, and it leaves a sound terminal sound, since one that replied and
 -- whose sequencer is its group's is frozen. Assumes nothing.
+use Rattle.group.specs.Question.{all_yes}
+use Rattle.std.specs.Prelude.{Ok, Err}
 use mathlib.Core.Path.{◌≡◌, refl, sym, ap, ◌∙◌, subst}
 use mathlib.Core.Bool.{Bool, true, false, false≢true}
-use mathlib.Core.List.{List, [], ◌∷◌, ◌++◌}
-use Prim.Native.Nat.{ℕ, ◌+◌, ◌-◌, ◌≤◌}
-use native.Mathlib.Omega.{arith}
+use mathlib.Core.List.{List, ◌∷◌, ◌++◌}
+use Prim.Native.Nat.{ℕ, ◌-◌, ◌≤◌}
 use borrow.Author.Tests.{eq-eqb}
-use lib.ListN.{length, drop}
+use lib.ListN.{drop}
 use Rattle.group.proofs.Choice.{when_true, when_false, when_was, both_hold, both_first, both_then}
 use Rattle.group.proofs.Lists.{when_elim, judged_elim}
 use Rattle.group.proofs.Question.{accepted≢, judged_ask, judged_append, judged_same}
 use Rattle.group.specs.Choice.{when◌then◌else◌, ask◌or◌then◌, ◌and◌, ◌<?◌, ◌≤?◌, ◌=?◌}
-use Rattle.group.specs.Limits.{places_most, longest_packet, largest_number}
+use Rattle.group.specs.Limits.{places_most, largest_number}
 use Rattle.group.specs.Question.{Question, first_no, judged}
 use Rattle.group.specs.declared.MemberNumber.{MemberNumber}
 use Rattle.group.specs.declared.Refusal.{Refusal}
-use Rattle.group.specs.declared.SequenceNumber.{SequenceNumber}
-use Rattle.group.specs.declared.Verdict.{Verdict}
+use Rattle.group.specs.Question.{Verdict}
 use Rattle.packet.proofs.Laws.{read_first_no}
 use Rattle.packet.specs.Laws.{read_questions}
 use Rattle.packet.specs.Packet.{header_of, payload_at, known_kind, read_of, content_of, from_elected}
 use Rattle.packet.specs.declared.Header.{Header}
 use Rattle.packet.specs.declared.Packet.{Packet}
-use Rattle.packet.specs.declared.Reading.{Reading}
+use Rattle.packet.specs.Answers.{Reading}
 use Rattle.sequencer.proofs.Asking.{Answers, accepted_answers, fields_asked}
 use Rattle.sequencer.specs.Calls as sequencer
 use Rattle.sequencer.specs.Laws as sequencerLaws
@@ -33,10 +33,9 @@ use Rattle.sequencer.proofs.Laws as sequencerProofs
 use Rattle.history.specs.Ask.{sender_verdict, count_verdict, wanted_verdict, expected_verdict}
 use Rattle.history.specs.Repeat.{find_of}
 use Rattle.sequencer.specs.Steps.{accepted_step}
-use Rattle.sequencer.specs.declared.Answer as sequencerAnswer
 use Rattle.group.specs.declared.Group.{Group}
 use Rattle.recovery.specs.Calls.{SequencerOutcome, ordered, with_sequencer, of_reset, ordered_step, order_of}
-use Rattle.recovery.specs.Laws.{order_questions, OrderFirst, OrderFirstNo, Typed, OrderKeeps}
+use Rattle.recovery.specs.Laws.{order_questions, OrderFirstNo, Typed, OrderKeeps}
 use Rattle.recovery.specs.Sound.{sequencer_sound, terminal_sound}
 use Rattle.recovery.specs.State.{Terminal, serves, reply_number}
 use Rattle.recovery.proofs.Keeping.{Sound, sound_of_lem, of_sound}
@@ -62,7 +61,7 @@ last_questions t h =
     ∷ drop 2 (sequencerLaws.fields_questions t.sequencer h)
 
 step_asked : (t : Terminal) (payload : List ℕ) (h : Header) → known_kind h.kind ≡ true
-    → ordered_step t (Reading.Fields h) payload ≡ judged (first_no (last_questions t h)) (sequencer.refused t.sequencer) (accepted_step t.sequencer (content_of h) payload)
+    → ordered_step t (Ok h) payload ≡ judged (first_no (last_questions t h)) (sequencer.refused t.sequencer) (accepted_step t.sequencer (content_of h) payload)
 unfolding ordered_step
 step_asked t payload h known =
     let s : Sequencer = t.sequencer in
@@ -75,17 +74,17 @@ step_asked t payload h known =
     ∙ judged_ask (sequencer.refused s) step (from_elected s.group (content_of h)) Refusal.ForbiddenFields (record { yes = ours; refusal = Refusal.OtherGroup } ∷ rest)
 
 -- a packet that the questions of reading pass has a known kind
-known_kind_lem : (p : List ℕ) → first_no (read_questions p) ≡ Verdict.Accepted → known_kind (header_of p).kind ≡ true
+known_kind_lem : (p : List ℕ) → first_no (read_questions p) ≡ all_yes → known_kind (header_of p).kind ≡ true
 unfolding first_no
 known_kind_lem p e =
-    let a = when_was _ _ _ Verdict.Accepted e (accepted≢ Refusal.PacketSize) in
-    (when_was _ _ _ Verdict.Accepted a.1 (accepted≢ Refusal.UnknownKind)).0
+    let a = when_was _ _ _ all_yes e (accepted≢ Refusal.PacketSize) in
+    (when_was _ _ _ all_yes a.1 (accepted≢ Refusal.UnknownKind)).0
 
 read_judged : (t : Terminal) (v : Verdict) (h : Header) (payload : List ℕ)
-    → ordered_step t (judged v Reading.Refused (Reading.Fields h)) payload ≡ judged v (sequencer.refused t.sequencer) (ordered_step t (Reading.Fields h) payload)
+    → ordered_step t (judged v Err (Ok h)) payload ≡ judged v (sequencer.refused t.sequencer) (ordered_step t (Ok h) payload)
 unfolding judged ordered_step
-read_judged t Verdict.Accepted h payload = refl
-read_judged t (Verdict.Refused r) h payload = refl
+read_judged t (Ok _) h payload = refl
+read_judged t (Err r) h payload = refl
 
 pub order_first_no : OrderFirstNo
 unfolding order_of sequencer.call_verdict first_no judged
@@ -158,8 +157,8 @@ module _ (s : Sequencer) where
 
 frozen_step : (t : Terminal) → t.frozen ≡ true → (r : Reading) (payload : List ℕ) → (ordered_step t r payload).sequencer ≡ t.sequencer
 unfolding ordered_step sequencer.answered when◌then◌else◌
-frozen_step t f (Reading.Refused refusal) payload = refl
-frozen_step t f (Reading.Fields h) payload =
+frozen_step t f (Err refusal) payload = refl
+frozen_step t f (Ok h) payload =
     let P : sequencer.Outcome → Type 0 = λ o. o.sequencer ≡ t.sequencer in
     when_elim P (from_elected t.sequencer.group (content_of h))
     (λ _. when_elim P (h.group =? t.sequencer.group.number and (when t.frozen then of_reset (content_of h) else true))
@@ -170,8 +169,8 @@ frozen_step t f (Reading.Fields h) payload =
 
 pub ordered_group : (t : Terminal) (r : Reading) (payload : List ℕ) → (ordered_step t r payload).sequencer.group ≡ t.sequencer.group
 unfolding ordered_step sequencer.answered
-ordered_group t (Reading.Refused refusal) payload = refl
-ordered_group t (Reading.Fields h) payload =
+ordered_group t (Err refusal) payload = refl
+ordered_group t (Ok h) payload =
     when_elim (Grouped t.sequencer) (from_elected t.sequencer.group (content_of h))
     (λ _. when_elim (Grouped t.sequencer) (h.group =? t.sequencer.group.number and (when t.frozen then of_reset (content_of h) else true)) (λ _. content_group t.sequencer (content_of h) payload) (λ _. refl))
     (λ _. refl)
@@ -188,8 +187,8 @@ awake_test t f h = rw f (and_yes (h.group =? t.sequencer.group.number))
 
 pub awake_step : (t : Terminal) → t.frozen ≡ false → (r : Reading) (payload : List ℕ) → ordered_step t r payload ≡ sequencer.read_step t.sequencer r payload
 unfolding ordered_step sequencer.read_step
-awake_step t f (Reading.Refused refusal) payload = refl
-awake_step t f (Reading.Fields h) payload =
+awake_step t f (Err refusal) payload = refl
+awake_step t f (Ok h) payload =
     let s : Sequencer = t.sequencer in
     ap (λ (b : Bool). when from_elected s.group (content_of h) then (when b then sequencer.content_step s (content_of h) payload else sequencer.refused s Refusal.OtherGroup) else sequencer.refused s Refusal.ForbiddenFields)
     (awake_test t f h)

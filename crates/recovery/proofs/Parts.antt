@@ -1,25 +1,25 @@
 -- A call over a terminal's parts: question 1 of the member's end in two halves, and what its member or its sequencer leaves, as the whole is
 -- left. Assumes nothing.
+use Rattle.group.specs.Question.{all_yes}
+use Rattle.std.specs.Prelude.{Ok, Err}
 use mathlib.Core.Path.{◌≡◌, refl, sym, ap, ◌∙◌, subst}
 use mathlib.Core.Bool.{Bool, true, false, false≢true}
 use mathlib.Core.List.{List, []}
-use Prim.Native.Nat.{ℕ, ◌≤◌}
+use Prim.Native.Nat.{ℕ}
 use lib.ListN.{length}
 use Rattle.group.specs.Choice.{when◌then◌else◌, ◌and◌, ◌≤?◌}
-use Rattle.group.specs.Lent.{front}
 use Rattle.group.specs.Limits.{members_most, longest_packet}
 use Rattle.group.specs.Members.{group_sound}
 use Rattle.group.specs.Question.{judged}
 use Rattle.group.specs.declared.Refusal.{Refusal}
 use Rattle.group.specs.declared.SequenceNumber.{SequenceNumber}
-use Rattle.group.specs.declared.Verdict.{Verdict}
+use Rattle.group.specs.Question.{Verdict}
 use Rattle.group.proofs.Choice.{when_true, when_false, both_hold, both_first, both_then}
 use Rattle.window.specs.Sound.{frame_sound}
 use Rattle.member.specs.Calls as member
 use Rattle.member.proofs.Leaving.{repeat_leaves, status_leaves}
 use Rattle.member.specs.Promise as memberPromise
 use Rattle.member.specs.Sound as memberSoundness
-use Rattle.member.specs.Steps.{empty_handed}
 use Rattle.member.specs.View as memberView
 use Rattle.member.specs.declared.Answer.{Answer}
 use Rattle.member.specs.declared.Head as memberHead
@@ -33,11 +33,11 @@ use Rattle.sequencer.specs.declared.Reply as sequencerReply
 use Rattle.recovery.specs.Calls.{Outcome, SequencerOutcome, refused, carried, call_verdict, submit_of, repeat_of, status_of, poll_of, copy_of, ordered}
 use Rattle.recovery.specs.Promise as promise
 use Rattle.recovery.specs.Promise.{Seen, SequencerSeen, called, Changed, Ordered}
-use Rattle.recovery.specs.Sound.{kept_sound, reset_sound, member_sound}
+use Rattle.recovery.specs.Sound.{reset_sound, member_sound}
 use Rattle.recovery.specs.State.{Terminal}
-use Rattle.recovery.specs.Steps.{beside_sound, with_member_head, with_sequencer_head}
+use Rattle.recovery.specs.Steps.{beside_sound, with_member_head}
 use Rattle.recovery.specs.declared.Head.{Head}
-use Rattle.recovery.specs.View.{Stored, View, seen, odd, member_in, sequencer_in, kept_in, reset_in, terminal_of, flags_sound, view_of}
+use Rattle.recovery.specs.View.{Stored, View, seen, odd, member_in, sequencer_in, kept_in, terminal_of, flags_sound, view_of}
 
 and_true : (b x : Bool) → x ≡ true → b and x ≡ b
 unfolding when◌then◌else◌
@@ -106,7 +106,7 @@ module _ (s : Stored) where
   unfolding beside_sound call_verdict member_sound member.call_verdict terminal_of memberView.view_of reset_sound
   same_verdict room e =
       let rest = both_then (s.head.member.group.n ≤? members_most) _ (both_then (flags_sound s.head) _ e) in
-      ap (λ (b : Bool). when b then (when longest_packet ≤? room then Verdict.Accepted else Verdict.Refused Refusal.ShortOutput) else Verdict.Refused Refusal.UnsoundState)
+      ap (λ (b : Bool). when b then (when longest_packet ≤? room then all_yes else Err Refusal.ShortOutput) else Err Refusal.UnsoundState)
       (and_true (memberSoundness.sound_of (memberView.view_of (member_in s))) _ rest)
 
   -- and else the end's say no
@@ -176,8 +176,8 @@ module _ (s : Stored) (call : Terminal → Outcome) where
 carried_same : (t : Terminal) (v : Verdict) (o : member.Outcome)
     → judged v (refused t) (carried t t.kept (judged v (member.refused t.member) o)) ≡ carried t t.kept (judged v (member.refused t.member) o)
 unfolding judged refused member.answered
-carried_same t Verdict.Accepted o = refl
-carried_same t (Verdict.Refused r) o = refl
+carried_same t (Ok _) o = refl
+carried_same t (Err r) o = refl
 
 module _ (s : Stored) (room : ℕ) (e : beside s ≡ true) where
   abbrev t : Terminal

@@ -1,21 +1,21 @@
 -- A terminal read off its parts: what the code asks of the arrays is what question 1 asks of the terminal. Assumes nothing.
-use mathlib.Core.Path.{◌≡◌, refl, sym, ap, ◌∙◌, fun_ext}
+use mathlib.Core.Path.{◌≡◌, refl, sym, ap, ◌∙◌}
 use mathlib.Core.Bool.{Bool, true, false}
 use mathlib.Core.List.{List}
-use Prim.Native.Nat.{ℕ, zero, suc, ◌+◌, ◌-◌, ◌%◌, ◌≤◌, ◌<◌}
+use Prim.Native.Nat.{ℕ, ◌≤◌, ◌<◌}
 use native.Mathlib.Omega.{arith}
 use borrow.Author.Tests.{le-ltb, lt-leb}
 use lib.ListN.{length, get_or}
 use Rattle.group.specs.Choice.{when◌then◌else◌, ◌and◌, ◌<?◌, ◌≤?◌, ◌=?◌}
 use Rattle.group.specs.Fold.{all, all_above}
-use Rattle.group.specs.Limits.{places_most, payload_most}
+use Rattle.group.specs.Limits.{places_most}
 use Rattle.group.specs.Members.{is_in}
 use Rattle.group.specs.declared.Group.{Group}
-use Rattle.group.proofs.Choice.{when_false, then_fails, when_eq, when_true_of, when_false_of}
+use Rattle.group.proofs.Choice.{when_false, then_fails}
 use Rattle.group.proofs.Fold.{all_at, at_all, above_each, above_all}
 use Rattle.group.proofs.Lists.{eq_or}
 use Rattle.group.proofs.Members.{in_zero}
-use Rattle.message.specs.Message.{Message, blank, is_empty, zero_behind}
+use Rattle.message.specs.Message.{Message, blank, is_empty}
 use Rattle.history.specs.Marks.{mark_sound}
 use Rattle.history.specs.Sound.{entry_sound, kept_sound, place_sound}
 use Rattle.history.specs.State.{Acknowledgement, place_of, message_at}
@@ -137,26 +137,3 @@ module _ (head : Head) (taken counts repeats kept marks originators lengths payl
       and no_entries (table_in taken counts repeats) i
       and no_history (counts_only counts) (messages_in kept originators lengths payloads) (length_messages kept originators lengths payloads ∙ sizes) i
       and no_marks marks marked i)
-
-  -- its head is zero: what the arrays say
-  module _ {g e : Bool} (g-is : g ≡ group_zero head.group) (g-holds : g ≡ true) (top-zero : head.top.0 ≡ 0) (accepted-zero : head.accepted.0 ≡ 0)
-      (floor-zero : head.floor.0 ≡ 0) (e-is : e ≡ all (entry_sound nobody 0) 0 (table_in taken counts repeats)) where
-    past_head : {r x : Bool} → e ≡ true → r ≡ x → r ≡ group_zero head.group and head.top.0 =? 0 and head.accepted.0 =? 0 and head.floor.0 =? 0 and all (entry_sound nobody 0) 0 (table_in taken counts repeats) and x
-    past_head h d =
-        when_true_of _ g _ _ _ g-is g-holds (when_eq _ _ _ _ _ top-zero (when_eq _ _ _ _ _ accepted-zero (when_eq _ _ _ _ _ floor-zero (when_true_of _ e _ _ _ e-is h d))))
-
-    pub zero_entries : e ≡ false → false ≡ zero_sequencer (view_of (whole head taken counts repeats kept marks originators lengths payloads))
-    zero_entries h =
-        let z : false ≡ asks_zero head taken counts repeats kept marks originators lengths payloads = when_true_of _ g _ _ _ g-is g-holds (when_eq _ _ _ _ _ top-zero (when_eq _ _ _ _ _ accepted-zero (when_eq _ _ _ _ _ floor-zero (when_false_of _ e _ _ _ e-is h refl)))) in
-        z ∙ zero_as
-
-    module _ {h : Bool} (e-holds : e ≡ true) (h-is : h ≡ all_above (place_sound 0 (counts_only counts) (messages_in kept originators lengths payloads) 0) 0 places_most) where
-      pub zero_history : h ≡ false → false ≡ zero_sequencer (view_of (whole head taken counts repeats kept marks originators lengths payloads))
-      zero_history f =
-          let z : false ≡ asks_zero head taken counts repeats kept marks originators lengths payloads = past_head e-holds (when_false_of _ h _ _ _ h-is f refl) in
-          z ∙ zero_as
-
-      pub zero_marks : {r : Bool} → h ≡ true → r ≡ all_above (mark_sound 0 marks 0 0) 0 places_most → r ≡ zero_sequencer (view_of (whole head taken counts repeats kept marks originators lengths payloads))
-      zero_marks {r} f d =
-          let z : r ≡ asks_zero head taken counts repeats kept marks originators lengths payloads = past_head e-holds (when_true_of _ h _ _ _ h-is f d) in
-          z ∙ zero_as

@@ -1,49 +1,37 @@
 -- What a result leaves is sound: the member, of which held messages are dropped, and the sequencer that begins. Assumes nothing.
 use mathlib.Core.Path.{◌≡◌, refl, sym, ap, ◌∙◌, subst}
-use mathlib.Core.Logic.{◌≢◌}
-use mathlib.Core.Bool.{Bool, true, false}
+use mathlib.Core.Bool.{true, false}
 use mathlib.Core.List.{List}
-use Prim.Native.Nat.{ℕ, zero, suc, ◌+◌, ◌-◌, ◌≤◌, ◌<◌}
-use native.Mathlib.Nat.{le_refl, le_trans}
+use Prim.Native.Nat.{ℕ, zero, suc, ◌+◌, ◌-◌, ◌≤◌}
+use native.Mathlib.Nat.{le_refl}
 use native.Mathlib.Omega.{arith}
-use borrow.Author.Tests.{leb-true, leb-false, ltb-true, eqb-true, eq-eqb}
-use lib.Bits.{bit_and}
-use lib.ListN.{length, get_or, set, replicate, length-set, length-replicate, get_or-replicate, get_or-eq_default}
+use lib.ListN.{length, get_or, set, length-set}
 use lib.Seq.{get_or-set_same, get_or-set_other}
-use Rattle.group.proofs.Choice.{when_true, when_false, both_hold, both_first, both_then, says}
-use Rattle.group.proofs.Fold.{at_all}
-use Rattle.group.proofs.Lists.{when_elim, eq_or, le_or}
+use Rattle.group.proofs.Choice.{when_true, when_false}
+use Rattle.group.proofs.Lists.{when_elim, eq_or}
 use Rattle.group.proofs.Members.{Standing, survivor_lt}
-use Rattle.group.specs.Choice.{when◌then◌else◌, ◌and◌, ◌≤?◌, ◌=?◌}
-use Rattle.group.specs.Fold.{all}
-use Rattle.group.specs.Limits.{members_most, places_most, held_most, largest_number}
-use Rattle.group.specs.Members.{is_in, is_within, all_of}
+use Rattle.group.specs.Choice.{◌≤?◌}
+use Rattle.group.specs.Limits.{held_most, largest_number}
+use Rattle.group.specs.Members.{is_in}
 use Rattle.group.specs.declared.Group.{Group}
-use Rattle.group.specs.declared.MemberNumber.{MemberNumber}
-use Rattle.group.specs.declared.SequenceNumber.{SequenceNumber}
 use Rattle.message.proofs.Kept.{empty_zero}
 use Rattle.message.specs.Message.{Message, empty_message, blank, is_empty}
-use Rattle.history.proofs.Soundness.{KeptFacts}
 use Rattle.history.specs.State.{Acknowledgement, message_at}
 use Rattle.member.proofs.Soundness as member
 use Rattle.member.specs.Laws as memberLaws
-use Rattle.member.specs.Sound as memberCalls
 use Rattle.member.specs.State.{Member, reach_of}
 use Rattle.sequencer.proofs.Soundness as sequencer
-use Rattle.sequencer.specs.Laws as sequencerLaws
-use Rattle.sequencer.specs.Sound as sequencerCalls
 use Rattle.sequencer.specs.State.{Sequencer}
 use Rattle.window.proofs.Keeping.{empty_none}
 use Rattle.window.proofs.Row.{larger_le}
 use Rattle.window.proofs.Soundness.{HeldSound}
 use Rattle.window.specs.Places as window
 use Rattle.window.specs.Places.{larger_of}
-use Rattle.recovery.specs.Begin.{made_group, begun, counts_in, elected_sequencer, history_from, dropped_of, member_in, result_of}
+use Rattle.recovery.specs.Begin.{begun, counts_in, elected_sequencer, history_from, dropped_of, member_in}
 use Rattle.recovery.specs.Laws.{Typed}
-use Rattle.recovery.specs.Sound.{kept_sound, reset_sound, member_sound, zero_sequencer, sequencer_sound, reply_sound, terminal_sound}
-use Rattle.recovery.specs.State.{Kept, Reset, Terminal, no_reset, serves, reply_number, kept_floor, message_of_number, counts_of}
+use Rattle.recovery.specs.State.{Terminal, serves, reply_number, kept_floor, counts_of}
 use Rattle.recovery.proofs.Beginning.{counts_at, counts_length, begun_sound, floor_reach, reach_floor, counts_size, counts_unused, message_facts, history_in, history_out}
-use Rattle.recovery.proofs.Kept.{PastFacts, KeptSound, kept_of, of_kept}
+use Rattle.recovery.proofs.Kept.{PastFacts, KeptSound}
 
 -- held messages above a number are dropped, and the others stay
 module _ (held : List Message) (number t : ℕ) (long : length held ≡ held_most) where

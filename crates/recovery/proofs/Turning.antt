@@ -1,33 +1,34 @@
 -- A turn of each loop, and what a step's parts come to. Assumes nothing.
-use mathlib.Core.Path.{◌≡◌, refl, sym, ap, ◌∙◌, subst}
-use mathlib.Core.Bool.{Bool, true, false}
+use mathlib.Core.Path.{◌≡◌, refl, sym, ap, ◌∙◌}
 use mathlib.Core.List.{List, [], ◌∷◌, ◌++◌}
-use Prim.Native.Nat.{ℕ, zero, suc, ◌+◌, ◌-◌, ◌*◌, ◌^◌, ◌≤◌, ◌<◌}
+use Prim.Native.Nat.{ℕ, suc, ◌+◌, ◌-◌, ◌*◌, ◌^◌, ◌≤◌, ◌<◌, max}
 use native.Mathlib.Numerals.{add-one}
 use native.Mathlib.Omega.{arith}
-use borrow.Author.Tests.{le-leb, lt-leb}
+use borrow.Author.Tests.{ltb-true, ltb-false}
 use lib.Bits.{bit_or}
-use lib.ListN.{length, get_or, set, drop, take, replicate, drop_of_length-le}
+use Rattle.std.proofs.lemmas.Nat.{or_comm}
+use lib.ListN.{length, get_or, set, drop, take, drop_of_length-le}
 use lib.Seq.{drop-cons}
-use Rattle.group.specs.Choice.{when◌then◌else◌, ◌and◌, ◌≤?◌, ◌=?◌}
+use Rattle.group.specs.Choice.{when◌then◌else◌, ◌and◌, ◌<?◌, ◌=?◌}
 use Rattle.group.specs.Limits.{places_most, held_most, payload_most}
 use Rattle.group.specs.Members.{is_in}
-use Rattle.group.proofs.Choice.{when_true, when_false, when_le, when_nle}
+use Rattle.group.proofs.Choice.{when_le, when_nle}
+use Rattle.group.proofs.Lists.{when_elim}
 use Rattle.message.specs.Message.{Message, blank, empty_message, padded}
 use Rattle.store.specs.Places.{messages_in, message_in, part_of, laid_at, Lies}
 use Rattle.store.proofs.Places.{part_size, part_length, message_in_lem, messages_laid}
-use Rattle.history.specs.Note as note
 use Rattle.history.specs.State as history
 use Rattle.history.specs.View.{Places, listed}
 use Rattle.window.specs.Places.{place_of, larger_of, smaller_of}
 use Rattle.recovery.specs.Begin.{highest_of, holders_of, dropped_of}
 use Rattle.recovery.specs.State.{counted, counted_row}
-use Rattle.recovery.specs.Steps.{starts_of, message_from, filled_of, Held}
+use Rattle.recovery.specs.Steps.{starts_of, message_from, filled_of}
 
--- one larger of two, whichever crate says it
-pub larger_same : (a b : ℕ) → note.larger_of a b ≡ larger_of a b
-unfolding note.larger_of larger_of
-larger_same a b = refl
+-- the larger of two numbers, as the code takes it
+pub larger_max : (a b : ℕ) → max a b ≡ larger_of a b
+unfolding larger_of
+larger_max a b =
+    when_elim (λ (x : ℕ). max a b ≡ x) (a <? b) (λ t. let z = ltb-true a b t in omega arith) (λ t. let z = ltb-false a b t in omega arith)
 
 -- a list without its last entry more: one step of a recursion from the front, at an index
 before : (l : List ℕ) (j : ℕ) → j < length l → drop j l ≡ get_or l j 0 ∷ drop (j + 1) l
@@ -57,10 +58,11 @@ holders_step repliers highest l j h = rw (before l j h)
 
 pub holders_turn : (repliers highest : ℕ) (l : List ℕ) (i : ℕ) {found one : ℕ} → 0 < i → i ≤ length l → found ≡ holders_of repliers highest i (drop i l)
     → one ≡ (when is_in repliers (i - 1) and get_or l (i - 1) 0 =? highest then 2 ^ (i - 1) else 0)
-    → bit_or one found ≡ holders_of repliers highest (i - 1) (drop (i - 1) l)
+    → bit_or found one ≡ holders_of repliers highest (i - 1) (drop (i - 1) l)
 holders_turn repliers highest l i {found} {one} h k ef eo =
     let e : i - 1 + 1 ≡ i = omega arith in
-    (λ z. bit_or (eo z) (ef z))
+    or_comm found one
+    ∙ (λ z. bit_or (eo z) (ef z))
     ∙ sym (holders_step repliers highest l (i - 1) (omega arith) ∙ ap (λ (x : ℕ). bit_or (when is_in repliers (i - 1) and get_or l (i - 1) 0 =? highest then 2 ^ (i - 1) else 0) (holders_of repliers highest x (drop x l))) e)
 
 pub holders_end : (repliers highest : ℕ) (l : List ℕ) (i : ℕ) → length l ≤ i → 0 ≡ holders_of repliers highest i (drop i l)
@@ -83,11 +85,11 @@ module _ (held originators : List ℕ) (size : length held ≡ held_most) (count
       ∙ ap (λ (x : Message). set (counted_row counts₀ (listed held originators) t k) x.originator.0 (larger_of (get_or (counted_row counts₀ (listed held originators) t k) x.originator.0 0) x.count)) (sym m)
       ∙ ap (λ (p : ℕ). counted (counted_row counts₀ (listed held originators) t k) (get_or (listed held originators) p blank)) e
 
-  pub count_on : (number at : ℕ) (counts counts' : List ℕ) → t ≤ number → at ≡ place_of (number + 1 + 0)
+  pub count_on : (number at : ℕ) (counts counts' : List ℕ) → t ≤ number → at ≡ place_of (number + 1)
       → counts' ≡ set counts (get_or originators at 0) (larger_of (get_or counts (get_or originators at 0) 0) (get_or held at 0))
       → counts ≡ counted_row counts₀ (listed held originators) t (number - t) → counts' ≡ counted_row counts₀ (listed held originators) t (number + 1 - t)
   count_on number at counts counts' h p e c =
-      let a : number + 1 + 0 ≡ t + suc (number - t) = omega arith in
+      let a : number + 1 ≡ t + suc (number - t) = omega arith in
       let b : suc (number - t) ≡ number + 1 - t = omega arith in
       e ∙ count_step (number - t) at counts (p ∙ ap place_of a) c ∙ ap (counted_row counts₀ (listed held originators) t) b
 

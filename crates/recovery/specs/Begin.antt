@@ -1,9 +1,9 @@
 -- Beginning a group: who is elected of those that replied, what the elected terminal's sequencer begins with, and what a result leaves at a
 -- survivor.
-use Rattle.std.specs.Prelude.{Bool, true, false, List, [], ◌∷◌, ℕ, zero, suc, ◌+◌, ◌-◌, ◌^◌, set, replicate}
+use Rattle.std.specs.Prelude.{true, false, List, [], ◌∷◌, ℕ, zero, suc, ◌+◌, ◌-◌, ◌^◌, set, replicate}
 use Rattle.std.specs.Int.Bits.{bit_or}
 use Rattle.group.specs.Choice.{when◌then◌else◌, ◌and◌, ◌≤?◌, ◌=?◌}
-use Rattle.group.specs.Limits.{members_most, places_most, held_most}
+use Rattle.group.specs.Limits.{places_most, held_most}
 use Rattle.group.specs.Members.{is_in, lowest}
 use Rattle.group.specs.declared.Group.{Group}
 use Rattle.group.specs.declared.MemberNumber.{MemberNumber}

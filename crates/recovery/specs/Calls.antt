@@ -1,6 +1,8 @@
 -- A terminal's calls: the member's, the sequencer's, inviting and making. Each goes down its questions in their order, and then takes its
 -- step.
-use Rattle.std.specs.Prelude.{Bool, true, false, List, [], ℕ, ◌+◌, ◌≤◌, length, set, replicate}
+use Rattle.group.specs.Question.{all_yes}
+use Rattle.std.specs.Prelude.{Ok, Err}
+use Rattle.std.specs.Prelude.{Bool, true, false, List, [], ℕ, ◌+◌, set, replicate}
 use Rattle.std.specs.Int.Bits.{bit_or}
 use Rattle.std.specs.Int.Count.{ones}
 use Rattle.group.specs.Choice.{when◌then◌else◌, ask◌or◌then◌, ◌and◌, ◌<?◌, ◌≤?◌, ◌=?◌}
@@ -10,13 +12,12 @@ use Rattle.group.specs.Question.{judged}
 use Rattle.group.specs.declared.MemberNumber.{MemberNumber}
 use Rattle.group.specs.declared.SequenceNumber.{SequenceNumber}
 use Rattle.group.specs.declared.Refusal.{Refusal}
-use Rattle.group.specs.declared.Verdict.{Verdict}
+use Rattle.group.specs.Question.{Verdict}
 use Rattle.message.specs.Message.{Message}
 use Rattle.big_endian.specs.Number.{bytes_of}
 use Rattle.packet.specs.Packet.{content_of, fields_of, packet_of, payload_at, read_of, from_elected, survivors_in, survivors_size}
 use Rattle.packet.specs.declared.Packet.{Packet}
-use Rattle.packet.specs.declared.Reading.{Reading}
-use Rattle.packet.specs.declared.Reading.TheVariants.{Fields}
+use Rattle.packet.specs.Answers.{Reading}
 use Rattle.history.specs.State as history
 use Rattle.window.specs.Places as window
 use Rattle.window.specs.Places.{larger_of}
@@ -77,15 +78,15 @@ carried t kept o = record { terminal = with_member t o.member kept; answer = o.a
 -- questions 1 and 2: of the member's end, and of the whole terminal
 unfoldable pub call_verdict : Terminal → ℕ → Verdict
 call_verdict t room =
-    ask member_sound t or Verdict.Refused Refusal.UnsoundState then
-    ask longest_packet ≤? room or Verdict.Refused Refusal.ShortOutput then
-    Verdict.Accepted
+    ask member_sound t or Err Refusal.UnsoundState then
+    ask longest_packet ≤? room or Err Refusal.ShortOutput then
+    all_yes
 
 unfoldable pub whole_verdict : Terminal → ℕ → Verdict
 whole_verdict t room =
-    ask terminal_sound t or Verdict.Refused Refusal.UnsoundState then
-    ask longest_packet ≤? room or Verdict.Refused Refusal.ShortOutput then
-    Verdict.Accepted
+    ask terminal_sound t or Err Refusal.UnsoundState then
+    ask longest_packet ≤? room or Err Refusal.ShortOutput then
+    all_yes
 
 -- submit, repeat and status are the member's
 unfoldable pub submit_of : Terminal → List ℕ → ℕ → Outcome
@@ -272,7 +273,7 @@ reset_step t (Packet.Result sender attempt elected number) payload =
 
 -- a packet that was read: question 6 of byte 1; of a reset question 1 of the whole terminal; 7, with no reply open but for a reset
 unfoldable pub read_step : Terminal → Reading → List ℕ → Outcome
-read_step t (Fields h) payload =
+read_step t (Ok h) payload =
     ask from_elected t.member.group (content_of h) or refused t Refusal.ForbiddenFields then
     (when of_reset (content_of h)
     then (ask terminal_sound t or refused t Refusal.UnsoundState then
@@ -280,7 +281,7 @@ read_step t (Fields h) payload =
     reset_step t (content_of h) payload)
     else (ask (h.group =? t.member.group.number and (when t.reset.replied then false else true)) or refused t Refusal.OtherGroup then
     heard_of t (content_of h) payload))
-read_step t (Reading.Refused refusal) payload = refused t refusal
+read_step t (Err refusal) payload = refused t refusal
 
 -- the member's call for packets
 unfoldable pub receive_of : Terminal → List ℕ → ℕ → Outcome
@@ -318,12 +319,12 @@ ordered t o = record { terminal = with_sequencer t o.sequencer; answer = o.answe
 
 -- a packet that was read: question 6 of byte 1, then 7, of a frozen sequencer a no but for a reset
 unfoldable pub ordered_step : Terminal → Reading → List ℕ → sequencer.Outcome
-ordered_step t (Fields h) payload =
+ordered_step t (Ok h) payload =
     let s : Sequencer = t.sequencer in
     ask from_elected s.group (content_of h) or sequencer.refused s Refusal.ForbiddenFields then
     ask (h.group =? s.group.number and (when t.frozen then of_reset (content_of h) else true)) or sequencer.refused s Refusal.OtherGroup then
     sequencer.content_step s (content_of h) payload
-ordered_step t (Reading.Refused refusal) payload = sequencer.refused t.sequencer refusal
+ordered_step t (Err refusal) payload = sequencer.refused t.sequencer refusal
 
 unfoldable pub order_of : Terminal → List ℕ → ℕ → SequencerOutcome
 order_of t packet room =

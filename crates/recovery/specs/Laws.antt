@@ -1,4 +1,6 @@
 -- What is proved of a terminal's meaning. `proofs/` has a proof of each statement.
+use Rattle.group.specs.Question.{all_yes}
+use Rattle.std.specs.Prelude.{Err}
 use Rattle.std.specs.Prelude.{◌≡◌, Bool, true, false, List, [], ◌∷◌, ◌++◌, ℕ, ◌^◌, ◌≤◌, ◌<◌, length, get_or, drop}
 use Rattle.std.specs.Int.Count.{ones}
 use Rattle.group.specs.Choice.{when◌then◌else◌, ◌and◌, ◌<?◌, ◌≤?◌, ◌=?◌}
@@ -7,7 +9,6 @@ use Rattle.group.specs.Members.{is_within, all_of}
 use Rattle.group.specs.Question.{Question, first_no}
 use Rattle.group.specs.declared.Refusal.{Refusal}
 use Rattle.group.specs.declared.SequenceNumber.{SequenceNumber}
-use Rattle.group.specs.declared.Verdict.{Verdict}
 use Rattle.packet.specs.Laws.{read_questions, Fits}
 use Rattle.packet.specs.Packet.{broadcast_kind, poll_kind, offer_kind, accept_kind, invitation_kind, reply_kind, result_kind, header_of, payload_at, content_of, from_elected, survivors_in}
 use Rattle.packet.specs.declared.Header.{Header}
@@ -71,8 +72,8 @@ receive_questions t packet room = call_questions t room ++ (read_questions packe
 -- demand 1: a refusal is answered exactly if some question says no, with the first one's number; then the state is the same
 -- and nothing is written. Every other input is accepted
 pub record FirstNo (t : Terminal) (questions : List Question) (o : Outcome) : Type 0 where
-  pub refuses : (refusal : Refusal) → first_no questions ≡ Verdict.Refused refusal → o ≡ refused t refusal
-  pub accepts : (refusal : Refusal) → first_no questions ≡ Verdict.Accepted → o.answer ≡ Answer.Refused refusal → ⊥
+  pub refuses : (refusal : Refusal) → first_no questions ≡ Err refusal → o ≡ refused t refusal
+  pub accepts : (refusal : Refusal) → first_no questions ≡ all_yes → o.answer ≡ Answer.Refused refusal → ⊥
 
 abbrev pub ReceiveFirstNo : Type 0
 ReceiveFirstNo = (t : Terminal) (packet : List ℕ) (room : ℕ) → FirstNo t (receive_questions t packet room) (receive_of t packet room)
@@ -119,8 +120,8 @@ order_questions t packet room =
     ∷ drop 2 (sequencer.fields_questions s h)))
 
 pub record OrderFirst (t : Terminal) (questions : List Question) (o : SequencerOutcome) : Type 0 where
-  pub refuses : (refusal : Refusal) → first_no questions ≡ Verdict.Refused refusal → o ≡ ordered t (calls.refused t.sequencer refusal)
-  pub accepts : (refusal : Refusal) → first_no questions ≡ Verdict.Accepted → o.answer ≡ sequencerAnswer.Answer.Refused refusal → ⊥
+  pub refuses : (refusal : Refusal) → first_no questions ≡ Err refusal → o ≡ ordered t (calls.refused t.sequencer refusal)
+  pub accepts : (refusal : Refusal) → first_no questions ≡ all_yes → o.answer ≡ sequencerAnswer.Answer.Refused refusal → ⊥
 
 abbrev pub OrderFirstNo : Type 0
 OrderFirstNo = (t : Terminal) (packet : List ℕ) (room : ℕ) → OrderFirst t (order_questions t packet room) (order_of t packet room)

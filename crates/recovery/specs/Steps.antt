@@ -1,12 +1,11 @@
 -- What the steps inside the code promise, in terms of the meaning. No call's promise speaks of these.
-use Rattle.std.specs.Prelude.{Bool, true, false, List, [], ◌∷◌, ℕ, zero, suc, ◌+◌, ◌-◌, ◌*◌, ◌≤◌, length, get_or, set, replicate, ◌≡◌}
+use Rattle.std.specs.Prelude.{Bool, true, false, List, ℕ, zero, suc, ◌+◌, ◌-◌, ◌*◌, length, get_or, set, ◌≡◌}
 use Rattle.group.specs.Choice.{when◌then◌else◌, ◌and◌, ◌<?◌, ◌≤?◌, ◌=?◌}
 use Rattle.group.specs.Fold.{all}
 use Rattle.group.specs.Limits.{members_most, places_most, held_most, payload_most, largest_number}
 use Rattle.group.specs.Members.{is_in, is_within, all_of}
 use Rattle.group.specs.declared.Group.{Group}
 use Rattle.message.specs.Message.{Message, blank}
-use Rattle.store.specs.Places.{messages_in}
 use Rattle.history.specs.State as history
 use Rattle.window.specs.Places.{place_of, larger_of, smaller_of}
 use Rattle.window.specs.Steps.{row_counted}
@@ -17,7 +16,7 @@ use Rattle.member.specs.declared.Head as member
 use Rattle.sequencer.specs.declared.Head as sequencer
 use Rattle.recovery.specs.Sound.{kept_sound, reset_sound, zero_sequencer}
 use Rattle.recovery.specs.State.{Kept}
-use Rattle.recovery.specs.View.{reset_in, kept_in, flags_sound}
+use Rattle.recovery.specs.View.{reset_in, flags_sound}
 use Rattle.recovery.specs.declared.Head.{Head}
 
 -- the counts from n on are zero; who did not reply has no number

@@ -34,6 +34,7 @@ pub struct Head {
     pub number: SequenceNumber,
     pub invited: u32,
     pub repliers: u16,
+    // kept: the C interface shows the four flags as bytes, 0 or 1.
     pub replied: u8,
     pub inviting: u8,
     pub sequencing: u8,
@@ -41,40 +42,30 @@ pub struct Head {
 }
 
 // Whether each flag is 0 or 1.
+#[tactic(auto, using(group::proofs::Choice::choices), unfolding(crate::specs::View::flags_sound))]
 pub fn flags_sound(head: Head) -> bool
     ensures { result ≡ flags_sound head }
 {
-    if 1 < head.replied {
-        return false;
-    }
-    if 1 < head.inviting {
-        return false;
-    }
-    if 1 < head.sequencing {
-        return false;
-    }
-    head.frozen <= 1
+    head.replied <= 1 && head.inviting <= 1 && head.sequencing <= 1 && head.frozen <= 1
 }
 
 // Whether a count is zero where the group has no such member.
+#[tactic(auto, using(group::proofs::Choice::choices))]
 fn count_sound(n: u8, i: usize, count: u32) -> bool
     ensures { result ≡ (when i <? n then true else count =? 0) }
 {
-    if i < (n as usize) {
-        return true;
-    }
-    count == 0
+    i < (n as usize) || count == 0
 }
 
+// Whether the counts of those who are no members are zero.
+// kept: `replies_sound` differs in its test; one form of both would take it as a closure, in more lines.
+#[tactic(auto, using(group::proofs::Fold::all_on, group::proofs::Fold::all_off, group::proofs::Fold::all_done))]
 fn highest_sound(n: u8, highest: &[u32]) -> bool
     requires { length highest.now ≡ members_most }
     ensures { result ≡ highest_sound n highest.now }
 {
-    let mut i: usize = 0;
-    while i < Group::MEMBERS {
-        if count_sound(n, i, highest[i]) {
-            i += 1;
-        } else {
+    for i in 0..Group::MEMBERS {
+        if !count_sound(n, i, highest[i]) {
             return false;
         }
     }
@@ -85,14 +76,11 @@ fn highest_sound(n: u8, highest: &[u32]) -> bool
 fn behind(number: SequenceNumber) -> SequenceNumber
     ensures { result.0 ≡ number.0 - places_most }
 {
-    let most = Group::PLACES as u32;
-    if number.0 < most {
-        return SequenceNumber(0);
-    }
-    SequenceNumber(number.0 - most)
+    SequenceNumber(number.0.saturating_sub(Group::PLACES as u32))
 }
 
 // Whether the last messages taken lie in their places, each with a count of at most its originator's highest, and nothing else is there.
+#[tactic(auto, using(group::proofs::Choice::choices), unfolding(crate::specs::Sound::kept_sound))]
 fn kept_sound(
     head: Head,
     past: &[u32],
@@ -106,42 +94,35 @@ fn kept_sound(
 {
     let n = head.member.group.n;
     let taken = head.member.taken;
-    if highest_sound(n, highest) {
-        let floor = behind(taken);
-        return history::history_sound(
+    highest_sound(n, highest)
+        && history::history_sound(
             n,
-            floor,
+            behind(taken),
             taken,
             highest,
             past,
             past_originators,
             past_lengths,
             past_payloads,
-        );
-    }
-    false
+        )
 }
 
 // Whether the number of who did not reply is zero.
+#[tactic(auto, using(group::proofs::Choice::choices))]
 fn reply_silent(repliers: u16, i: usize, number: u32) -> bool
     requires { i < members_most }
     ensures { result ≡ (when is_in repliers i then true else number =? 0) }
 {
-    if group::is_in(repliers, MemberNumber(i as u8)) {
-        return true;
-    }
-    number == 0
+    group::is_in(repliers, MemberNumber(i as u8)) || number == 0
 }
 
+#[tactic(auto, using(group::proofs::Fold::all_on, group::proofs::Fold::all_off, group::proofs::Fold::all_done))]
 fn replies_sound(repliers: u16, replies: &[u32]) -> bool
     requires { length replies.now ≡ members_most }
     ensures { result ≡ replies_sound repliers replies.now }
 {
-    let mut i: usize = 0;
-    while i < Group::MEMBERS {
-        if reply_silent(repliers, i, replies[i]) {
-            i += 1;
-        } else {
+    for i in 0..Group::MEMBERS {
+        if !reply_silent(repliers, i, replies[i]) {
             return false;
         }
     }
@@ -154,23 +135,15 @@ fn reply_of(replies: &[u32], member: MemberNumber) -> u32
     ensures { result ≡ get_or replies.now member.0 0 }
 {
     let at = member.0 as usize;
-    if at < Group::MEMBERS {
-        return replies[at];
-    }
-    0
+    if at < Group::MEMBERS { replies[at] } else { 0 }
 }
 
 // Whether nothing is left of a reply that is not open.
+#[tactic(auto, using(group::proofs::Choice::choices), unfolding(crate::specs::Steps::idle_sound))]
 fn idle_sound(head: Head) -> bool
     ensures { result ≡ idle_sound head }
 {
-    if head.replied == 1 {
-        return true;
-    }
-    if head.attempt != 0 {
-        return false;
-    }
-    head.number.0 == 0
+    head.replied == 1 || (head.attempt == 0 && head.number.0 == 0)
 }
 
 // All of n members.
@@ -187,49 +160,37 @@ pub fn are_members(mask: u16, n: u8) -> bool
     requires { n ≤ members_most }
     ensures { result ≡ is_within mask (all_of n) }
 {
-    let all = members(n);
-    group::is_within(mask, all)
+    group::is_within(mask, members(n))
 }
 
 // Whether an open invitation has its own reply among those of members; and nothing is left of one that is not open.
+#[tactic(auto, using(group::proofs::Choice::choices), unfolding(crate::specs::Steps::invitation_sound))]
 fn invitation_sound(head: Head, replies: &[u32]) -> bool
     requires { (head.member.group.n ≤ members_most) × (length replies.now ≡ members_most) }
     ensures { result ≡ invitation_sound head replies.now }
 {
     if head.inviting == 1 {
-        if head.replied != 1 {
-            return false;
-        }
         let own = head.member.number;
-        if group::is_in(head.repliers, own) {
-            if reply_of(replies, own) != head.number.0 {
-                return false;
-            }
-            return are_members(head.repliers, head.member.group.n);
-        }
-        return false;
+        head.replied == 1
+            && group::is_in(head.repliers, own)
+            && reply_of(replies, own) == head.number.0
+            && are_members(head.repliers, head.member.group.n)
+    } else {
+        head.invited == 0 && head.repliers == 0
     }
-    if head.invited != 0 {
-        return false;
-    }
-    head.repliers == 0
 }
 
 // Whether the terminal's part in a reset is sound.
+#[tactic(auto, using(group::proofs::Choice::choices), unfolding(crate::specs::Sound::reset_sound, crate::specs::Steps::idle_sound, crate::specs::Steps::invitation_sound))]
 fn reset_sound(head: Head, replies: &[u32]) -> bool
     requires { (head.member.group.n ≤ members_most) × (length replies.now ≡ members_most) }
     ensures { result ≡ reset_sound (empty_handed head.member) (reset_in head replies.now) }
 {
-    if idle_sound(head) {
-        if invitation_sound(head, replies) {
-            return replies_sound(head.repliers, replies);
-        }
-        return false;
-    }
-    false
+    idle_sound(head) && invitation_sound(head, replies) && replies_sound(head.repliers, replies)
 }
 
 // Question 1 of the member's end beside the member: flags, what it keeps, and its part in a reset.
+#[tactic(auto, using(group::proofs::Choice::choices), unfolding(crate::specs::Steps::beside_sound))]
 pub fn beside_sound(
     head: Head,
     past: &[u32],
@@ -242,42 +203,29 @@ pub fn beside_sound(
     requires { Places past.now past_originators.now past_lengths.now past_payloads.now × (length highest.now ≡ members_most) × (length replies.now ≡ members_most) }
     ensures { result ≡ beside_sound head (kept_in head past.now past_originators.now past_lengths.now past_payloads.now highest.now) replies.now }
 {
-    if flags_sound(head) {
-        if Group::MEMBERS < (head.member.group.n as usize) {
-            return false;
-        }
-        if kept_sound(
+    flags_sound(head)
+        && (head.member.group.n as usize) <= Group::MEMBERS
+        && kept_sound(
             head,
             past,
             past_originators,
             past_lengths,
             past_payloads,
             highest,
-        ) {
-            return reset_sound(head, replies);
-        }
-        return false;
-    }
-    false
+        )
+        && reset_sound(head, replies)
 }
 
 // Whether all numbers of a group's description are zero.
+#[tactic(auto, using(group::proofs::Choice::choices), unfolding(crate::specs::Steps::group_zero))]
 fn group_zero(group: Group) -> bool
     ensures { result ≡ group_zero group }
 {
-    if group.n != 0 {
-        return false;
-    }
-    if group.resilience != 0 {
-        return false;
-    }
-    if group.survivors != 0 {
-        return false;
-    }
-    if group.elected.0 != 0 {
-        return false;
-    }
-    group.number == 0
+    group.n == 0
+        && group.resilience == 0
+        && group.survivors == 0
+        && group.elected.0 == 0
+        && group.number == 0
 }
 
 // Whether a sequencer that is not there is all zero.
@@ -303,129 +251,105 @@ pub fn no_sequencer(
         elected: MemberNumber(0),
         number: 0,
     };
-    let entries = history::entries_sound(none, zero, taken, counts, repeats);
-    if group_zero(head.group) {
-        if head.top.0 != 0 {
-            return false;
-        }
-        if head.accepted.0 != 0 {
-            return false;
-        }
-        if head.floor.0 != 0 {
-            return false;
-        }
-        if entries {
-            if history::history_sound(0, zero, zero, counts, kept, originators, lengths, payloads) {
-                return history::marks_sound(0, zero, zero, zero, marks);
-            }
-            return false;
-        }
-        return false;
-    }
-    false
+    group_zero(head.group)
+        && head.top == zero
+        && head.accepted == zero
+        && head.floor == zero
+        && history::entries_sound(none, zero, taken, counts, repeats)
+        && history::history_sound(0, zero, zero, counts, kept, originators, lengths, payloads)
+        && history::marks_sound(0, zero, zero, zero, marks)
 }
 
 // Whether its sequencer is its member's group's.
+#[tactic(auto, using(group::proofs::Choice::choices))]
 pub fn serves(head: Head) -> bool
     ensures { result ≡ serves_in head }
 {
-    if head.sequencing == 1 {
-        return head.sequencer.group.number == head.member.group.number;
-    }
-    false
+    head.sequencing == 1 && head.sequencer.group.number == head.member.group.number
 }
 
 // What it replies to an invitation with: its group's sequencer with top, else its member with its reach.
+#[tactic(auto, using(group::proofs::Choice::choices), unfolding(crate::specs::Steps::reply_in))]
 pub fn reply_number(head: Head, held: &[u32]) -> SequenceNumber
     requires { length held.now ≡ held_most }
     ensures { result.0 ≡ reply_in head held.now }
 {
-    let reached = window::row_end(held, head.member.taken);
     if serves(head) {
-        return head.sequencer.top;
+        head.sequencer.top
+    } else {
+        window::row_end(held, head.member.taken)
     }
-    reached
 }
 
 // The member's floor: the highest it read, but at least its reach less 32, and at most its reach.
+#[tactic(auto, using(crate::proofs::Turning::floor_is), unfolding(crate::specs::Steps::kept_floor_in))]
 pub fn kept_floor(head: Head, held: &[u32]) -> SequenceNumber
     requires { length held.now ≡ held_most }
     ensures { result.0 ≡ kept_floor_in head held.now }
 {
     let reach = window::row_end(held, head.member.taken);
-    let least = behind(reach);
-    let floor = window::later(head.read, least);
+    let floor = window::later(head.read, behind(reach));
     window::earlier(floor, reach)
 }
 
 // Whether with a reply open its number is what it would reply now, and its group's sequencer is frozen.
+#[tactic(auto, using(group::proofs::Choice::choices), unfolding(crate::specs::Steps::reply_sound_in))]
 pub fn reply_sound(head: Head, held: &[u32]) -> bool
     requires { length held.now ≡ held_most }
     ensures { result ≡ reply_sound_in head held.now }
 {
-    if head.replied == 1 {
-        if head.number.0 != reply_number(head, held).0 {
-            return false;
-        }
-        if serves(head) {
-            return head.frozen == 1;
-        }
-        return true;
-    }
-    true
+    head.replied != 1
+        || (head.number == reply_number(head, held) && (!serves(head) || head.frozen == 1))
 }
 
 // A replier's number; of another, 0.
+#[tactic(auto, using(group::proofs::Choice::choices))]
 fn reply_counted(repliers: u16, i: usize, number: u32) -> u32
     requires { i < members_most }
     ensures { result ≡ (when is_in repliers i then number else 0) }
 {
     if group::is_in(repliers, MemberNumber(i as u8)) {
-        return number;
+        number
+    } else {
+        0
     }
-    0
 }
 
 // The highest number of those that replied.
+#[tactic(auto, using(crate::proofs::Turning::highest_turn, crate::proofs::Turning::highest_end, crate::proofs::Turning::larger_max))]
 pub fn highest_reply(repliers: u16, replies: &[u32]) -> SequenceNumber
     requires { length replies.now ≡ members_most }
     ensures { result.0 ≡ highest_of repliers 0 replies.now }
 {
     let mut most: u32 = 0;
-    let mut i: usize = Group::MEMBERS;
-    while 0 < i {
-        i -= 1;
-        let number = reply_counted(repliers, i, replies[i]);
-        most = history::larger(number, most);
+    for i in (0..Group::MEMBERS).rev() {
+        most = reply_counted(repliers, i, replies[i]).max(most);
     }
     SequenceNumber(most)
 }
 
 // The mask of member i, if it replied with that number; else none.
+#[tactic(auto, using(group::proofs::Choice::choices, group::proofs::Choice::tests))]
 fn holder(repliers: u16, highest: SequenceNumber, i: usize, number: u32) -> u16
     requires { i < members_most }
     ensures { result ≡ (when is_in repliers i and number =? highest.0 then 2 ^ i else 0) }
 {
-    if group::is_in(repliers, MemberNumber(i as u8)) {
-        if number == highest.0 {
-            return 1u16 << (i as u32);
-        }
-        return 0;
+    if group::is_in(repliers, MemberNumber(i as u8)) && number == highest.0 {
+        1u16 << (i as u32)
+    } else {
+        0
     }
-    0
 }
 
 // Those that replied with a number.
+#[tactic(auto, using(crate::proofs::Turning::holders_turn, crate::proofs::Turning::holders_end))]
 fn holders(repliers: u16, highest: SequenceNumber, replies: &[u32]) -> u16
     requires { length replies.now ≡ members_most }
     ensures { result ≡ holders_of repliers highest.0 0 replies.now }
 {
     let mut found: u16 = 0;
-    let mut i: usize = Group::MEMBERS;
-    while 0 < i {
-        i -= 1;
-        let one = holder(repliers, highest, i, replies[i]);
-        found = one | found;
+    for i in (0..Group::MEMBERS).rev() {
+        found |= holder(repliers, highest, i, replies[i]);
     }
     found
 }
@@ -436,17 +360,18 @@ pub fn lowest_holder(repliers: u16, highest: SequenceNumber, replies: &[u32]) ->
     ensures { result.0 ≡ lowest (holders_of repliers highest.0 0 replies.now) }
 {
     let found = holders(repliers, highest, replies);
-    MemberNumber(u16::trailing_zeros(found) as u8)
+    MemberNumber(found.trailing_zeros() as u8)
 }
 
 // A message's count counts for its originator, if it is higher than what counts already.
+#[tactic(auto, using(crate::proofs::Turning::larger_max))]
 pub fn count_one(counts: &mut [u32], originator: u8, count: u32)
     requires { length counts.old ≡ members_most }
     ensures { counts.new ≡ set counts.old originator (larger_of (get_or counts.old originator 0) count) }
 {
     let at = originator as usize;
     if at < Group::MEMBERS {
-        counts[at] = history::larger(counts[at], count);
+        counts[at] = counts[at].max(count);
     }
 }
 
@@ -461,31 +386,19 @@ pub fn count_row(
     requires { (length counts.old ≡ members_most) × (length held.now ≡ held_most) × (length held_originators.now ≡ held_most) }
     ensures { counts.new ≡ counted_row counts.old (listed held.now held_originators.now) taken.0 (last.0 - taken.0) }
 {
-    let mut number = taken.0;
-    while number < last.0 {
-        number += 1;
-        let at = window::place(SequenceNumber(number), 0);
+    for number in taken.0..last.0 {
+        let at = window::place(SequenceNumber(number), 1);
         count_one(counts, held_originators[at], held[at]);
     }
 }
 
-// A survivor's acknowledgement starts at floor; of one that is lost at 0.
-fn start(survivors: u16, floor: SequenceNumber, i: usize) -> u32
-    requires { i < members_most }
-    ensures { result ≡ (when is_in survivors i then floor.0 else 0) }
-{
-    reply_counted(survivors, i, floor.0)
-}
-
-// The acknowledgements that a group begins with.
+// The acknowledgements that a group begins with: a survivor's at floor, that of one who is lost at 0.
 pub fn begin_taken(survivors: u16, floor: SequenceNumber, taken: &mut [u32])
     requires { length taken.old ≡ members_most }
     ensures { taken.new ≡ starts_of taken.old survivors floor.0 members_most }
 {
-    let mut i: usize = 0;
-    while i < Group::MEMBERS {
-        taken[i] = start(survivors, floor, i);
-        i += 1;
+    for i in 0..Group::MEMBERS {
+        taken[i] = reply_counted(survivors, i, floor.0);
     }
 }
 
@@ -534,7 +447,7 @@ fn fill_one(
     ensures { messages_in kept.new originators.new lengths.new payloads.new ≡ set (messages_in kept.old originators.old lengths.old payloads.old) (place_of number.0) (message_from (messages_in past.now past_originators.now past_lengths.now past_payloads.now) (messages_in held.now held_originators.now held_lengths.now held_payloads.now) taken.0 number.0) }
 {
     let at = history::place(number.0 as u64);
-    if number.0 <= taken.0 {
+    if number <= taken {
         copy_place(
             kept,
             originators,
@@ -585,9 +498,7 @@ pub fn fill(
     requires { Places kept.old originators.old lengths.old payloads.old × Places past.now past_originators.now past_lengths.now past_payloads.now × Held held.now held_originators.now held_lengths.now held_payloads.now }
     ensures { messages_in kept.new originators.new lengths.new payloads.new ≡ filled_of (messages_in kept.old originators.old lengths.old payloads.old) (messages_in past.now past_originators.now past_lengths.now past_payloads.now) (messages_in held.now held_originators.now held_lengths.now held_payloads.now) taken.0 floor.0 (last.0 - floor.0) }
 {
-    let mut number = floor.0;
-    while number < last.0 {
-        number += 1;
+    for number in floor.0..last.0 {
         fill_one(
             kept,
             originators,
@@ -602,7 +513,7 @@ pub fn fill(
             held_lengths,
             held_payloads,
             taken,
-            SequenceNumber(number),
+            SequenceNumber(number + 1),
         );
     }
 }
@@ -628,10 +539,10 @@ pub fn begin_history(
     requires { Places past.now past_originators.now past_lengths.now past_payloads.now × Held held.now held_originators.now held_lengths.now held_payloads.now }
     ensures { messages_in kept.new originators.new lengths.new payloads.new ≡ filled_of (replicate places_most empty_message) (messages_in past.now past_originators.now past_lengths.now past_payloads.now) (messages_in held.now held_originators.now held_lengths.now held_payloads.now) taken.0 floor.0 (last.0 - floor.0) }
 {
-    *kept = [0u32; Group::PLACES];
-    *originators = [0u8; Group::PLACES];
-    *lengths = [0u8; Group::PLACES];
-    *payloads = [0u8; Group::HISTORY_BYTES];
+    *kept = [0; Group::PLACES];
+    *originators = [0; Group::PLACES];
+    *lengths = [0; Group::PLACES];
+    *payloads = [0; Group::HISTORY_BYTES];
     fill(
         kept,
         originators,
@@ -663,12 +574,11 @@ pub fn drop_above(
     requires { Held held.old held_originators.old held_lengths.old held_payloads.old }
     ensures { messages_in held.new held_originators.new held_lengths.new held_payloads.new ≡ dropped_of (messages_in held.old held_originators.old held_lengths.old held_payloads.old) number.0 taken.0 held_most }
 {
-    let mut k: usize = 0;
-    while k < Group::HELD {
-        k += 1;
-        if (number.0 as usize) < (taken.0 as usize) + k {
-            let at = window::place(taken, k);
-            window::clear(held, held_originators, held_lengths, held_payloads, at);
+    for k in 0..Group::HELD {
+        if (taken.0 as usize) + k < (number.0 as usize) {
+            continue;
         }
+        let at = window::place(taken, k + 1);
+        window::clear(held, held_originators, held_lengths, held_payloads, at);
     }
 }

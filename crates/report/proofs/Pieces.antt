@@ -1,7 +1,9 @@
 -- A line that is laid whole, or not at all, and numbers that are laid one by one. Assumes nothing.
 use mathlib.Core.Path.{◌≡◌, refl, sym, ◌∙◌}
 use mathlib.Core.List.{List, [], ◌∷◌, ◌++◌, map, map-append, append_assoc}
-use Prim.Native.Nat.{ℕ, ◌+◌, ◌≤◌, ◌<◌}
+use Prim.Native.Nat.{ℕ, ◌+◌, ◌-◌, ◌*◌, ◌/◌, ◌≤◌, ◌<◌}
+use Rattle.std.proofs.Math.Nat.{le-div_iff_mul-le, mul_comm}
+use mathlib.Core.Bool.{false}
 use native.Mathlib.Nat.{not-le_of_lt}
 use native.Mathlib.Numerals.{add-one}
 use native.Mathlib.Omega.{arith}
@@ -46,6 +48,17 @@ pub same_test : (a b c d : ℕ) → (a ≤ b → c ≤ d) → (c ≤ d → a ≤
 same_test a b c d f g =
     le_or a b (λ h. le-leb a b h ∙ sym (le-leb c d (f h)))
     (λ h. lt-leb a b h ∙ sym (le_or c d (λ k. absurd (not-le_of_lt h (g k))) (λ k. lt-leb c d k)))
+
+-- whether there is room beside a line for so many things more: it is divided, which asks the same
+module _ (each count line room : ℕ) where
+  pub room_test : 0 < each → line ≤ room → (count ≤? (room - line) / each) ≡ (line + each * count ≤? room)
+  room_test p h =
+      let e : count * each ≡ each * count = mul_comm count each in
+      let d = le-div_iff_mul-le {k = each} {x = count} {y = room - line} p in
+      same_test count ((room - line) / each) (line + each * count) room (λ k. let m = d.0 k in omega arith) (λ k. d.1 (omega arith))
+
+  pub no_room : room < line → (line + each * count ≤? room) ≡ false
+  no_room h = lt-leb (line + each * count) room (omega arith)
 
 -- one number more of several
 pub each_on : (l : List ℕ) (i : ℕ) → i < length l → map decimal_of (take (i + 1) l) ≡ map decimal_of (take i l) ++ (decimal_of (get_or l i 0) ∷ [])

@@ -27,6 +27,9 @@ pub const ANSWER_ROOM: usize = 4 + 3 * NUMBER_DIGITS + 1 + 4 + 6;
 // The room that a line asks for: an event's number, an answer and the line feed.
 pub const LINE_ROOM: usize = COUNT_DIGITS + ANSWER_ROOM + 1;
 
+// A number with the space before it.
+const NUMBER_ROOM: usize = 1 + NUMBER_DIGITS;
+
 // The limits of specs/ are these constants.
 fn answer_room() -> usize
     ensures { result ≡ answer_room }
@@ -141,6 +144,7 @@ fn put_took(
 }
 
 // The sequencer's answer.
+#[tactic(auto, unfolding(sequencer::specs::Wording::wording_of, crate::specs::Print::wording_fields, crate::specs::Print::values_text))]
 fn put_sequencer(answer: sequencer::Answer, index: usize, out: &mut [u8], at: usize) -> usize
     requires { at + answer_room ≤ length out.old }
     ensures laid { LaidAt at (spaced (wording_fields (sequencerWording.wording_of answer) [] index)) out.old out.new result }
@@ -161,6 +165,7 @@ fn put_sequencer(answer: sequencer::Answer, index: usize, out: &mut [u8], at: us
 }
 
 // The member's answer.
+#[tactic(auto, unfolding(member::specs::Wording::wording_of, crate::specs::Print::wording_fields, crate::specs::Print::values_text))]
 fn put_member(
     answer: member::Answer,
     payload: &[u8],
@@ -195,6 +200,7 @@ fn put_member(
 }
 
 // What an event is answered.
+#[tactic(auto, using(crate::proofs::Wordings::same_wording), unfolding(model::specs::World::answer_of, crate::specs::Print::answer_fields))]
 fn put_reply(reply: Reply, payload: &[u8], index: usize, out: &mut [u8], at: usize) -> usize
     requires { at + answer_room + 2 * length payload.now ≤ length out.old }
     ensures laid { LaidAt at (spaced (answer_fields (answer_of reply payload.now) index)) out.old out.new result }
@@ -207,33 +213,25 @@ fn put_reply(reply: Reply, payload: &[u8], index: usize, out: &mut [u8], at: usi
     }
 }
 
-// Whether an output has the room that an event's line asks for, and that the last line asks for.
-fn event_fits(size: usize, room: usize) -> bool
-    ensures { result ≡ (line_room + 2 * size ≤? room) }
+// Whether an output has the room that a line asks for with so many things more, each of `EACH` characters: the bytes of an event's
+// payload, or the numbers of the last line.
+#[tactic(auto, using(crate::proofs::Pieces::room_test, crate::proofs::Pieces::no_room))]
+fn fits<const EACH: usize>(count: usize, room: usize) -> bool
+    requires { 0 < EACH }
+    ensures { result ≡ (line_room + EACH * count ≤? room) }
 {
-    if room < LINE_ROOM {
-        return false;
-    }
-    size <= (room - LINE_ROOM) / 2
-}
-
-fn last_fits(count: usize, room: usize) -> bool
-    ensures { result ≡ (line_room + (1 + number_digits) * count ≤? room) }
-{
-    if room < LINE_ROOM {
-        return false;
-    }
-    count <= (room - LINE_ROOM) / (1 + NUMBER_DIGITS)
+    LINE_ROOM <= room && count <= (room - LINE_ROOM) / EACH
 }
 
 // The line that an event prints: its number, what it is answered, and the index of a packet that it wrote. `payload` is what
 // the call wrote: what a take handed out, or a packet. Gives the line's length; 0 where the output has not the room that the line
 // asks for.
+// kept: the length of what was laid, of no line 0: every caller lends the room, and would take an `Option` apart for the same number.
 pub fn write_event(number: u64, reply: Reply, index: usize, payload: &[u8], out: &mut [u8]) -> usize
     ensures size { result ≡ length (fitting (event_room payload.now) (length out.old) (line_of number (answer_of reply payload.now) index)) }
     ensures lent { out.new ≡ front (fitting (event_room payload.now) (length out.old) (line_of number (answer_of reply payload.now) index)) out.old }
 {
-    if event_fits(payload.len(), out.len()) {
+    if fits::<2>(payload.len(), out.len()) {
         let next = put_decimal(number, out, 0);
         let next = put_reply(reply, payload, index, out, next);
         put(b'\n', out, next)
@@ -318,10 +316,8 @@ pub fn put_each(numbers: &[u32], out: &mut [u8], at: usize) -> usize
     ensures short { result ≤ at + (1 + number_digits) * length numbers.now }
 {
     let mut next = at;
-    let mut i: usize = 0;
-    while i < numbers.len() {
-        next = put_number(numbers[i], out, next);
-        i += 1;
+    for &number in numbers {
+        next = put_number(number, out, next);
     }
     next
 }
@@ -337,7 +333,7 @@ pub fn write_last(
     ensures size { result ≡ length (fitting (last_room taken.now) (length out.old) (last_line top.0 floor.0 taken.now)) }
     ensures lent { out.new ≡ front (fitting (last_room taken.now) (length out.old) (last_line top.0 floor.0 taken.now)) out.old }
 {
-    if last_fits(taken.len(), out.len()) {
+    if fits::<NUMBER_ROOM>(taken.len(), out.len()) {
         let next = put_tops(top.0, floor.0, out);
         let next = put_each(taken, out, next);
         put(b'\n', out, next)

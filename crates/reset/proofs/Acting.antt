@@ -1,4 +1,5 @@
 -- A survivor's submit, repeat, status and take, with the result or without it, and the packets that it gets with it, are in the group made last what that group's member owes. Assumes nothing.
+use Rattle.std.specs.Prelude.{Ok}
 use mathlib.Core.Path.{◌≡◌, refl, sym, ap, ◌∙◌, subst}
 use mathlib.Core.Logic.{◌≢◌}
 use mathlib.Core.Bool.{Bool, true, false}
@@ -29,7 +30,7 @@ use Rattle.member.specs.declared.Answer.{Answer}
 use Rattle.packet.proofs.Facts.{Voice, Known}
 use Rattle.packet.proofs.Laws.{read_written, content_fields, fields_group}
 use Rattle.packet.specs.Packet.{read_of, payload_at, fields_of, from_elected, written}
-use Rattle.packet.specs.declared.Reading.{Reading}
+use Rattle.packet.specs.Answers.{Reading}
 use Rattle.sequencer.proofs.Invariant.{facts_of}
 use Rattle.recovery.specs.Begin.{member_in}
 use Rattle.recovery.specs.Calls as terminal
@@ -129,7 +130,7 @@ module _ (group : Group) (cut i acknowledged accepted : ℕ) (order took : List 
 
     -- a packet of the group
     module _ (voice : ℕ → Voice) (p : List ℕ) (kn : Known group.number (facts_of group order accepted voice) p) where
-      reads : (read_of p ≡ Reading.Fields (fields_of group.number kn.content)) × (payload_at p ≡ kn.payload)
+      reads : (read_of p ≡ Ok (fields_of group.number kn.content)) × (payload_at p ≡ kn.payload)
       reads = rw kn.bytes_are (read_written (fields_of group.number kn.content) kn.payload kn.allowed)
 
       ours : ((fields_of group.number kn.content).group =? t.member.group.number) ≡ true

@@ -1,5 +1,7 @@
 -- Each event before a making leaves a world that is a group of `model`: the event is one of that group, or it changes no member and no
 -- sequencer. Assumes nothing.
+use Rattle.group.specs.Question.{all_yes}
+use Rattle.std.specs.Prelude.{Ok}
 use mathlib.Core.Path.{◌≡◌, refl, sym, ap, ◌∙◌, subst, fun_ext}
 use mathlib.Core.Logic.{◌≢◌, ◌⊎◌, inl, inr}
 use mathlib.Core.Bool.{Bool, true, false, false≢true}
@@ -23,7 +25,7 @@ use Rattle.group.specs.Question.{judged}
 use Rattle.group.specs.declared.Group as description
 use Rattle.group.specs.declared.MemberNumber.{MemberNumber}
 use Rattle.group.specs.declared.Refusal.{Refusal}
-use Rattle.group.specs.declared.Verdict.{Verdict}
+use Rattle.group.specs.Question.{Verdict}
 use Rattle.history.specs.State.{place_of}
 use Rattle.message.specs.Order.{Ordered}
 use Rattle.member.proofs.Closing.{receive_named}
@@ -44,7 +46,7 @@ use Rattle.packet.proofs.RoundTrip.{header_back}
 use Rattle.packet.proofs.Verdicts.{accepted}
 use Rattle.packet.specs.Packet.{header_of, read_of, payload_at, fields_of, packet_of, from_elected, written}
 use Rattle.packet.specs.declared.Packet.{Packet}
-use Rattle.packet.specs.declared.Reading.{Reading}
+use Rattle.packet.specs.Answers.{Reading}
 use Rattle.sequencer.specs.Calls as sequencer
 use Rattle.sequencer.specs.Laws as sequencerLaws
 use Rattle.sequencer.specs.Order.{numbered_by}
@@ -106,7 +108,7 @@ changed_sound t s sound ok same closed sequencing =
 -- what a terminal's sequencer makes of fields, where what it would say is a no
 ordered_refuses : (t : Terminal) (number : ℕ) (content : Packet) (payload : List ℕ) (P : sequencer.Outcome → Type 0) → ((r : Refusal) → P (sequencer.refused t.sequencer r))
     → (((fields_of number content).group =? t.sequencer.group.number and (when t.frozen then terminal.of_reset content else true)) ≡ true → sequencer.content_step t.sequencer content payload ≡ sequencer.refused t.sequencer Refusal.OtherEnd)
-    → P (terminal.ordered_step t (Reading.Fields (fields_of number content)) payload)
+    → P (terminal.ordered_step t (Ok (fields_of number content)) payload)
 unfolding terminal.ordered_step
 ordered_refuses t number content payload P refuse says =
     subst
@@ -328,7 +330,7 @@ module _ (n number resilience : ℕ) (o : Opens n number resilience) (w : Group)
       member_ok : member_sound t ≡ true
       member_ok = sound_member t stands.sound
 
-      member_called : member.call_verdict m longest_packet ≡ Verdict.Accepted
+      member_called : member.call_verdict m longest_packet ≡ all_yes
       unfolding member.call_verdict when◌then◌else◌
       member_called = rw (inv.terminal i b).content.sound
 
@@ -407,7 +409,7 @@ module _ (n number resilience : ℕ) (o : Opens n number resilience) (w : Group)
       size = ap (λ (x : Member). x.group.n) stands.member_is ∙ ap (λ (x : description.Group). x.n) (inv.terminal i b).seat.group_is
 
       -- a packet handed to the member, of fields and a payload
-      module _ (content : Packet) (payload p : List ℕ) (reads : (read_of p ≡ Reading.Fields (fields_of number content)) × (payload_at p ≡ payload)) where
+      module _ (content : Packet) (payload p : List ℕ) (reads : (read_of p ≡ Ok (fields_of number content)) × (payload_at p ≡ payload)) where
         group_ours : ((fields_of number content).group =? t.member.group.number) ≡ true
         group_ours = eq-eqb _ _ (fields_group number content ∙ sym ours)
 
@@ -426,7 +428,7 @@ module _ (n number resilience : ℕ) (o : Opens n number resilience) (w : Group)
 
       -- a packet of the group
       module _ (k j : ℕ) (p : List ℕ) (at : get_elem? g.packets j ≡ some p) (kn : Known number (facts_in group g ord sb) p) where
-        reads : (read_of p ≡ Reading.Fields (fields_of number kn.content)) × (payload_at p ≡ kn.payload)
+        reads : (read_of p ≡ Ok (fields_of number kn.content)) × (payload_at p ≡ kn.payload)
         reads = rw kn.bytes_are (read_written (fields_of number kn.content) kn.payload kn.allowed)
 
         plain : terminal.of_reset kn.content ≡ false
@@ -676,7 +678,7 @@ module _ (n number resilience : ℕ) (o : Opens n number resilience) (w : Group)
 
         hand_reset : (p : List ℕ) → Resets (terminal_at w) n number p → Hands (terminal.receive_of t p longest_packet)
         hand_reset p x =
-            let reads : (read_of p ≡ Reading.Fields (fields_of number x.content)) × (payload_at p ≡ []) = rw x.bytes_are (read_written (fields_of number x.content) [] x.allowed) in
+            let reads : (read_of p ≡ Ok (fields_of number x.content)) × (payload_at p ≡ []) = rw x.bytes_are (read_written (fields_of number x.content) [] x.allowed) in
             let is = reset_is x.content [] p reads (of_reset_lem (terminal_at w) n x.content x.says) (reset_named t.member.group x.content (of_reset_lem (terminal_at w) n x.content x.says)) in
             subst Hands (sym is) (reset_hands x.content x.says x.allowed.0.a)
 
@@ -778,27 +780,27 @@ module _ (n number resilience : ℕ) (o : Opens n number resilience) (w : Group)
         refused_orders refusal = same_next (hand_sequencer k 0) (sequencer.refused s0 refusal) refl refl refl (λ j. refl) (λ j. refl)
 
         -- a packet of a reset, and any of a frozen sequencer, is refused
-        reads_refused : (content : Packet) (payload p : List ℕ) → (read_of p ≡ Reading.Fields (fields_of number content)) × (payload_at p ≡ payload)
+        reads_refused : (content : Packet) (payload p : List ℕ) → (read_of p ≡ Ok (fields_of number content)) × (payload_at p ≡ payload)
             → (terminal.of_reset content ≡ true) ⊎ ((terminal.of_reset content ≡ false) × (t0.frozen ≡ true))
             → Orders (judged (sequencer.call_verdict s0 longest_packet) (sequencer.refused s0) (terminal.ordered_step t0 (read_of p) (payload_at p)))
         reads_refused content payload p reads which =
             judged_elim Orders (sequencer.call_verdict s0 longest_packet) (λ r _. refused_orders r)
             (λ _. subst (λ (r : Reading). Orders (terminal.ordered_step t0 r (payload_at p))) (sym reads.0) (step_refused which))
           where
-            step_refused : (terminal.of_reset content ≡ true) ⊎ ((terminal.of_reset content ≡ false) × (t0.frozen ≡ true)) → Orders (terminal.ordered_step t0 (Reading.Fields (fields_of number content)) (payload_at p))
+            step_refused : (terminal.of_reset content ≡ true) ⊎ ((terminal.of_reset content ≡ false) × (t0.frozen ≡ true)) → Orders (terminal.ordered_step t0 (Ok (fields_of number content)) (payload_at p))
             step_refused (inl e) = ordered_refuses t0 number content (payload_at p) Orders refused_orders (λ h. reset_other s0 content (payload_at p) e)
             step_refused (inr e) = ordered_refuses t0 number content (payload_at p) Orders refused_orders (λ h. absurd (frozen_no ((fields_of number content).group =? s0.group.number) t0.frozen (terminal.of_reset content) e.1 e.0 h))
 
         hand_resets : (p : List ℕ) → Resets (terminal_at w) n number p → Next (hand_sequencer k 0) (with_sequencer w 0 (terminal.order_of t0 p longest_packet))
         unfolding terminal.order_of
         hand_resets p x =
-            let reads : (read_of p ≡ Reading.Fields (fields_of number x.content)) × (payload_at p ≡ []) = rw x.bytes_are (read_written (fields_of number x.content) [] x.allowed) in
+            let reads : (read_of p ≡ Ok (fields_of number x.content)) × (payload_at p ≡ []) = rw x.bytes_are (read_written (fields_of number x.content) [] x.allowed) in
             reads_refused x.content [] p reads (inl (of_reset_lem (terminal_at w) n x.content x.says))
 
         frozen_hands : (p : List ℕ) → Known number (facts_in group g ord sb) p → t0.frozen ≡ true → Next (hand_sequencer k 0) (with_sequencer w 0 (terminal.order_of t0 p longest_packet))
         unfolding terminal.order_of
         frozen_hands p kn f =
-            let reads : (read_of p ≡ Reading.Fields (fields_of number kn.content)) × (payload_at p ≡ kn.payload) = rw kn.bytes_are (read_written (fields_of number kn.content) kn.payload kn.allowed) in
+            let reads : (read_of p ≡ Ok (fields_of number kn.content)) × (payload_at p ≡ kn.payload) = rw kn.bytes_are (read_written (fields_of number kn.content) kn.payload kn.allowed) in
             reads_refused kn.content kn.payload p reads (inr (known_plain (facts_in group g ord sb) kn.content kn.payload kn.says, f))
 
         -- one that is not frozen did not reply

@@ -1,4 +1,5 @@
 -- A survivor's submit, repeat, status, take, and the packets of the group made last that it gets, in the world. Assumes nothing.
+use Rattle.std.specs.Prelude.{Ok}
 use mathlib.Core.Path.{◌≡◌, refl, sym, ap, ◌∙◌, subst}
 use mathlib.Core.Logic.{◌≢◌}
 use mathlib.Core.Bool.{Bool, true, false}
@@ -38,7 +39,7 @@ use Rattle.packet.proofs.RoundTrip.{header_back}
 use Rattle.packet.specs.Packet.{header_of, read_of, content_of, fields_of, from_elected, written}
 use Rattle.packet.specs.declared.Header.{Header}
 use Rattle.packet.specs.declared.Packet.{Packet}
-use Rattle.packet.specs.declared.Reading.{Reading}
+use Rattle.packet.specs.Answers.{Reading}
 use Rattle.sequencer.proofs.Invariant.{facts_of}
 use Rattle.sequencer.specs.State.{Sequencer}
 use Rattle.window.proofs.Row.{le_larger}
@@ -361,7 +362,7 @@ module _ (n resilience line : ℕ) (c : Course) (at : ℕ → Terminal) (packets
       After x = at' i ≡ x.terminal → terminal_sound x.terminal ≡ true → Owes x.terminal x.answer (tk' i) (sb' i) (written x.bytes) → All (Wrote m.group.number) (written x.bytes)
           → Inv n resilience line c at' (packets ++ written x.bytes) tk' sb'
 
-      reads : read_of p ≡ Reading.Fields (fields_of group.number known_is.content)
+      reads : read_of p ≡ Ok (fields_of group.number known_is.content)
       reads = ap read_of known_is.bytes_are ∙ (read_written (fields_of group.number known_is.content) known_is.payload known_is.allowed).0
 
       refused_after : (refusal : Refusal) → After (terminal.refused t refusal)
@@ -399,7 +400,7 @@ module _ (n resilience line : ℕ) (c : Course) (at : ℕ → Terminal) (packets
           let is : header_of p ≡ fields_of group.number known_is.content = ap header_of known_is.bytes_are ∙ header_back (fields_of group.number known_is.content) known_is.payload known_is.allowed.0 in
           subst (λ (x : Header). x.a ≤ largest_number) (sym is) known_is.allowed.0.a
 
-      plain : (x : Header) → read_of p ≡ Reading.Fields x → terminal.of_reset (content_of x) ≡ false
+      plain : (x : Header) → read_of p ≡ Ok x → terminal.of_reset (content_of x) ≡ false
       plain x q =
           let same : x ≡ fields_of group.number known_is.content = reads_back _ known_is.payload p known_is.bytes_are known_is.allowed x q in
           ap (λ (y : Header). terminal.of_reset (content_of y)) same ∙ ap terminal.of_reset (content_fields group.number known_is.content) ∙ known_plain _ known_is.content known_is.payload known_is.says

@@ -1,4 +1,5 @@
 -- A sound terminal's submit, repeat, status and take are its member's. Assumes nothing.
+use Rattle.group.specs.Question.{all_yes}
 use mathlib.Core.Path.{◌≡◌}
 use mathlib.Core.Bool.{true}
 use mathlib.Core.List.{List}
@@ -7,7 +8,7 @@ use Rattle.group.proofs.Choice.{both_first}
 use Rattle.group.specs.Choice.{when◌then◌else◌}
 use Rattle.group.specs.Limits.{longest_packet}
 use Rattle.group.specs.Question.{judged}
-use Rattle.group.specs.declared.Verdict.{Verdict}
+use Rattle.group.specs.Question.{Verdict}
 use Rattle.member.specs.Calls as member
 use Rattle.window.specs.Places as window
 use Rattle.recovery.specs.Calls as terminal
@@ -19,7 +20,7 @@ unfolding terminal_sound
 sound_member t sound = both_first (member_sound t) _ sound
 
 module _ (t : Terminal) (sound : member_sound t ≡ true) where
-  pub called : terminal.call_verdict t longest_packet ≡ Verdict.Accepted
+  pub called : terminal.call_verdict t longest_packet ≡ all_yes
   unfolding terminal.call_verdict when◌then◌else◌
   called = rw sound
 

@@ -1,5 +1,6 @@
 -- The invariant of a world with resets: the group made last as its survivors are in it, each survivor's terminal, the open attempt, and the packets.
 -- Assumes nothing.
+use Rattle.std.specs.Prelude.{Ok}
 use mathlib.Core.Path.{◌≡◌, refl, sym, ◌∙◌, subst}
 use mathlib.Core.Logic.{◌≢◌, ◌⊎◌, inl, inr}
 use mathlib.Core.Bool.{true, false, false≢true}
@@ -18,7 +19,7 @@ use Rattle.packet.specs.Laws.{Allowed}
 use Rattle.packet.specs.Packet.{read_of, content_of, fields_of, packet_of, survivors_in}
 use Rattle.packet.specs.declared.Header.{Header}
 use Rattle.packet.specs.declared.Packet.{Packet}
-use Rattle.packet.specs.declared.Reading.{Reading}
+use Rattle.packet.specs.Answers.{Reading}
 use Rattle.sequencer.proofs.Invariant.{SequencerInv}
 use Rattle.recovery.specs.Calls as terminal
 use Rattle.recovery.specs.Laws as terminalLaws
@@ -155,7 +156,7 @@ pub record Resets (c : Course) (at : ℕ → Terminal) (under cut : ℕ) (p : Li
 
 -- a packet of another number, and not of a reset
 abbrev pub Elsewhere : Course → List ℕ → Type 0
-Elsewhere c p = (h : Header) → read_of p ≡ Reading.Fields h → (terminal.of_reset (content_of h) ≡ false) × Foreign c h.group
+Elsewhere c p = (h : Header) → read_of p ≡ Ok h → (terminal.of_reset (content_of h) ≡ false) × Foreign c h.group
 
 -- a packet that was written: one of the group made last, one of another, or one of a reset
 pub data Covered (c : Course) (at : ℕ → Terminal) (under cut : ℕ) (known : List (List ℕ)) (p : List ℕ) : Type 0 where
@@ -165,7 +166,7 @@ pub data Covered (c : Course) (at : ℕ → Terminal) (under cut : ℕ) (known :
 
 -- what a packet says of the floor
 abbrev pub FloorLow : (ℕ → Type 0) → List ℕ → Type 0
-FloorLow low p = (h : Header) → read_of p ≡ Reading.Fields h → low (terminal.floor_in (content_of h))
+FloorLow low p = (h : Header) → read_of p ≡ Ok h → low (terminal.floor_in (content_of h))
 
 -- the world under a course, what each terminal took and submitted
 pub record Inv (n resilience line : ℕ) (c : Course) (at : ℕ → Terminal) (packets : List (List ℕ)) (tk : ℕ → List Ordered) (sb : ℕ → List (List ℕ)) : Type 0 where

@@ -1,4 +1,5 @@
 -- A making, in the world: its survivors, as the result will leave them, have the invariant of the made group. Assumes nothing.
+use Rattle.std.specs.Prelude.{Ok}
 use mathlib.Core.Path.{◌≡◌, refl, sym, ap, ◌∙◌, subst}
 use mathlib.Core.Logic.{◌≢◌}
 use mathlib.Core.Bool.{Bool, true, false, false≢true}
@@ -32,7 +33,7 @@ use Rattle.packet.specs.Laws.{Fits}
 use Rattle.packet.specs.Packet.{read_of, content_of, fields_of, packet_of, survivors_in, survivors_size}
 use Rattle.packet.specs.declared.Header.{Header}
 use Rattle.packet.specs.declared.Packet.{Packet}
-use Rattle.packet.specs.declared.Reading.{Reading}
+use Rattle.packet.specs.Answers.{Reading}
 use Rattle.sequencer.proofs.Invariant.{SequencerInv}
 use Rattle.sequencer.specs.State.{Sequencer}
 use Rattle.recovery.proofs.Beginning.{table_entry, counts_length, counts_size}
@@ -416,7 +417,7 @@ module _ (n resilience line : ℕ) (c : Course) (at : ℕ → Terminal) (packets
           survivors_are = λ q. absurd (busy (x.made q));
         }
 
-    known_elsewhere : (j : ℕ) (p : List ℕ) → get_elem? v.known j ≡ some p → (x : Header) → read_of p ≡ Reading.Fields x → (terminal.of_reset (content_of x) ≡ false) × Foreign c' x.group
+    known_elsewhere : (j : ℕ) (p : List ℕ) → get_elem? v.known j ≡ some p → (x : Header) → read_of p ≡ Ok x → (terminal.of_reset (content_of x) ≡ false) × Foreign c' x.group
     known_elsewhere j p q x z =
         let kn = all_get _ v.known j v.seen.packets_known q in
         let f : Header = fields_of c.number kn.content in

@@ -1,4 +1,5 @@
 -- An invitation and a reply that are handed to a survivor, in the world. Assumes nothing.
+use Rattle.std.specs.Prelude.{Ok}
 use mathlib.Core.Path.{◌≡◌, refl, sym, ap, ◌∙◌, subst}
 use mathlib.Core.Logic.{◌≢◌, ◌⊎◌, inl, inr}
 use mathlib.Core.Bool.{Bool, true, false, false≢true}
@@ -26,7 +27,7 @@ use Rattle.packet.proofs.Permitted.{reply_fields}
 use Rattle.packet.proofs.Verdicts.{accepted}
 use Rattle.packet.specs.Packet.{read_of, payload_at, fields_of, packet_of}
 use Rattle.packet.specs.declared.Packet.{Packet}
-use Rattle.packet.specs.declared.Reading.{Reading}
+use Rattle.packet.specs.Answers.{Reading}
 use Rattle.sequencer.specs.State.{Sequencer}
 use Rattle.recovery.proofs.Beginning.{reach_fits}
 use Rattle.recovery.proofs.Keeping.{Sound, sound_of_lem, of_sound, replied_sound, closed_sound, reply_sound_lem}
@@ -92,13 +93,13 @@ of_reset_lem c at under cut number (Packet.Invitation sender attempt) payload sa
 of_reset_lem c at under cut number (Packet.Reply sender attempt k) payload says = refl
 of_reset_lem c at under cut number (Packet.Result sender attempt elected k) payload says = refl
 
-pub reset_reads : (c : Course) (at : ℕ → Terminal) (under cut : ℕ) (p : List ℕ) (x : Resets c at under cut p) → (read_of p ≡ Reading.Fields (fields_of x.number x.content)) × (payload_at p ≡ x.payload)
+pub reset_reads : (c : Course) (at : ℕ → Terminal) (under cut : ℕ) (p : List ℕ) (x : Resets c at under cut p) → (read_of p ≡ Ok (fields_of x.number x.content)) × (payload_at p ≡ x.payload)
 reset_reads c at under cut p x =
     let r = read_written (fields_of x.number x.content) x.payload x.allowed in
     (ap read_of x.bytes_are ∙ r.0, ap payload_at x.bytes_are ∙ r.1)
 
 -- a packet of a reset that is handed to a sound terminal
-pub reset_is : (t : Terminal) (p : List ℕ) (number : ℕ) (content : Packet) (payload : List ℕ) → terminal_sound t ≡ true → (read_of p ≡ Reading.Fields (fields_of number content)) × (payload_at p ≡ payload) → terminal.of_reset content ≡ true
+pub reset_is : (t : Terminal) (p : List ℕ) (number : ℕ) (content : Packet) (payload : List ℕ) → terminal_sound t ≡ true → (read_of p ≡ Ok (fields_of number content)) × (payload_at p ≡ payload) → terminal.of_reset content ≡ true
     → terminal.receive_of t p longest_packet ≡ (when number =? t.member.group.number then terminal.reset_step t content payload else terminal.refused t Refusal.OtherGroup)
 unfolding terminal.receive_of judged terminal.read_step when◌then◌else◌
 reset_is t p number content payload sound reads of =

@@ -1,5 +1,7 @@
 -- Without a reset each event of the world answers, writes and leaves what it does in the group of `model`: no terminal replies, so no packet is
 -- refused but where the member and the sequencer refuse it. Assumes nothing.
+use Rattle.group.specs.Question.{all_yes}
+use Rattle.std.specs.Prelude.{Ok}
 use mathlib.Core.Path.{◌≡◌, refl, sym, ap, ◌∙◌, subst}
 use mathlib.Core.Bool.{Bool, true, false, false≢true}
 use mathlib.Core.Option.{Option, none, some}
@@ -17,7 +19,7 @@ use Rattle.group.specs.Opening.{description_of}
 use Rattle.group.specs.Question.{judged}
 use Rattle.group.specs.declared.Group as description
 use Rattle.group.specs.declared.Refusal.{Refusal}
-use Rattle.group.specs.declared.Verdict.{Verdict}
+use Rattle.group.specs.Question.{Verdict}
 use Rattle.message.proofs.Kept.{empty_zero}
 use Rattle.message.specs.Message.{Message, empty_message, blank, is_empty}
 use Rattle.history.specs.State.{place_of}
@@ -36,7 +38,7 @@ use Rattle.packet.proofs.Facts.{Facts, Says, Known}
 use Rattle.packet.proofs.Laws.{read_written, content_fields, fields_group}
 use Rattle.packet.specs.Packet.{read_of, payload_at, fields_of, from_elected, written}
 use Rattle.packet.specs.declared.Packet.{Packet}
-use Rattle.packet.specs.declared.Reading.{Reading}
+use Rattle.packet.specs.Answers.{Reading}
 use Rattle.sequencer.specs.Calls as sequencer
 use Rattle.sequencer.specs.State.{Sequencer}
 use Rattle.window.specs.Places as window
@@ -97,7 +99,7 @@ module _ (i : ℕ) (t : Terminal) (m : Member) (s : Sequencer) (q : Quiet i t m 
   sounds =
       of_member_lem t (rw q.member_is sound) (rw q.member_is q.kept) (subst (λ r. ResetSound t.member r) (sym q.reset_is) (no_reset_lem t.member))
 
-  called : terminal.call_verdict t longest_packet ≡ Verdict.Accepted
+  called : terminal.call_verdict t longest_packet ≡ all_yes
   unfolding terminal.call_verdict when◌then◌else◌
   called = rw sounds
 
@@ -147,7 +149,7 @@ took_counts : (kept : Kept) (number : ℕ) (message : Message) → length kept.c
 unfolding terminal.kept_took
 took_counts kept number message l = counted_length kept.counts message ∙ l
 
-member_accepted : (m : Member) → memberSoundness.Sound m → member.call_verdict m longest_packet ≡ Verdict.Accepted
+member_accepted : (m : Member) → memberSoundness.Sound m → member.call_verdict m longest_packet ≡ all_yes
 unfolding member.call_verdict when◌then◌else◌
 member_accepted m sound = rw (memberSoundness.of_sound m sound)
 
@@ -212,7 +214,7 @@ module _ (i : ℕ) (t : Terminal) (m : Member) (s : Sequencer) (q : Quiet i t m 
 
   -- a packet of the group, which is of no reset
   module _ (group : ℕ) (content : Packet) (payload bytes : List ℕ) (number : m.group.number ≡ group)
-      (reads : (read_of bytes ≡ Reading.Fields (fields_of group content)) × (payload_at bytes ≡ payload)) (plain : terminal.of_reset content ≡ false) where
+      (reads : (read_of bytes ≡ Ok (fields_of group content)) × (payload_at bytes ≡ payload)) (plain : terminal.of_reset content ≡ false) where
     heard_same : (b : Bool) → from_elected m.group content ≡ b
         → Same i s (when b then terminal.heard_of t content payload else terminal.refused t Refusal.ForbiddenFields) (when b then member.content_step m content payload else member.refused m Refusal.ForbiddenFields)
     unfolding when◌then◌else◌ terminal.heard_of
@@ -376,7 +378,7 @@ module _ (group : description.Group) (wm : model.World) (inv : WorldInv group wm
       let z = inv.members in
       let h = inv.terminal i (omega arith) in
       let r = read_written (fields_of group.number k.content) k.payload k.allowed in
-      let reads : (read_of p ≡ Reading.Fields (fields_of group.number k.content)) × (payload_at p ≡ k.payload) = rw k.bytes_are r in
+      let reads : (read_of p ≡ Ok (fields_of group.number k.content)) × (payload_at p ≡ k.payload) = rw k.bytes_are r in
       let is = receive_is m group k.content k.payload h.content.sound h.seat.group_is k.allowed in
       receive_same i (terminal_at w i) m g.sequencer (v.quiet i b) (member_sound_lem i b) group.number k.content k.payload p (ap (λ (x : description.Group). x.number) h.seat.group_is) reads
       (known_plain facts k.content k.payload k.says) (ap (λ (x : List ℕ). member.receive_of m x longest_packet) k.bytes_are ∙ is))

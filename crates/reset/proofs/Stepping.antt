@@ -1,4 +1,6 @@
 -- Every allowed event keeps the world's invariant; a making sets where the made group began. Assumes nothing.
+use Rattle.group.specs.Question.{all_yes}
+use Rattle.std.specs.Prelude.{Ok}
 use mathlib.Core.Path.{◌≡◌, refl, sym, ap, ◌∙◌, subst}
 use mathlib.Core.Logic.{◌≢◌}
 use mathlib.Core.Bool.{Bool, true, false, false≢true}
@@ -22,7 +24,7 @@ use Rattle.group.specs.declared.Group as description
 use Rattle.group.specs.declared.MemberNumber.{MemberNumber}
 use Rattle.group.specs.declared.Refusal.{Refusal}
 use Rattle.group.specs.declared.SequenceNumber.{SequenceNumber}
-use Rattle.group.specs.declared.Verdict.{Verdict}
+use Rattle.group.specs.Question.{Verdict}
 use Rattle.message.specs.Order.{Ordered}
 use Rattle.member.specs.Calls as member
 use Rattle.member.specs.Order.{took_by, accepted_by}
@@ -36,7 +38,7 @@ use Rattle.packet.proofs.RoundTrip.{header_back, payload_back}
 use Rattle.packet.specs.Packet.{header_of, read_of, payload_at, content_of, fields_of, packet_of, survivors_in, survivors_size, written}
 use Rattle.packet.specs.declared.Header.{Header}
 use Rattle.packet.specs.declared.Packet.{Packet}
-use Rattle.packet.specs.declared.Reading.{Reading}
+use Rattle.packet.specs.Answers.{Reading}
 use Rattle.sequencer.specs.Calls as sequencer
 use Rattle.sequencer.specs.Order.{numbered_by}
 use Rattle.sequencer.specs.State.{Sequencer}
@@ -259,13 +261,13 @@ module _ (n resilience line : ℕ) (c : Course) (w : Group) (tk : ℕ → List O
 
       -- to one that was left out
       module _ (out : is_in c.survivors i ≡ false) where
-        hand_away : ((h : Header) → read_of p ≡ Reading.Fields h → terminal.of_reset (content_of h) ≡ false) → Hands received
+        hand_away : ((h : Header) → read_of p ≡ Ok h → terminal.of_reset (content_of h) ≡ false) → Hands received
         hand_away plain =
             let s = receive_stays t p longest_packet plain in
             away out received.terminal (record { group = s.group; reset = s.reset; sequencing = s.sequencing; sequencer = s.sequencer }) (written received.bytes) s.wrote tk sb (λ j _. refl) (λ j _. refl)
 
       -- a packet of the group reads as such
-      pub ours_reads : (j : ℕ) → get_elem? v.known j ≡ some p → (h : Header) → read_of p ≡ Reading.Fields h → (h.group ≡ c.number) × (terminal.of_reset (content_of h) ≡ false)
+      pub ours_reads : (j : ℕ) → get_elem? v.known j ≡ some p → (h : Header) → read_of p ≡ Ok h → (h.group ≡ c.number) × (terminal.of_reset (content_of h) ≡ false)
       ours_reads j q h e =
           let kn = all_get _ v.known j v.seen.packets_known q in
           let f : Header = fields_of c.number kn.content in
@@ -457,11 +459,11 @@ module _ (n resilience line : ℕ) (c : Course) (w : Group) (tk : ℕ → List O
           abbrev own : Survivor n resilience c v.under v.cut (Low n resilience c v.cut at) i t
           own = (v.sits i b).survivor inside
 
-          order_frozen : ((h : Header) → read_of p ≡ Reading.Fields h → terminal.of_reset (content_of h) ≡ false) → t.frozen ≡ true → Orders
+          order_frozen : ((h : Header) → read_of p ≡ Ok h → terminal.of_reset (content_of h) ≡ false) → t.frozen ≡ true → Orders
           order_frozen plain f =
               quiet_order (shut_orders t p longest_packet (λ h e. no_and (h.group =? t.sequencer.group.number) _ (sym (when_true t.frozen false (terminal.of_reset (content_of h)) true f (sym (plain h e))))))
 
-          order_other : ((h : Header) → read_of p ≡ Reading.Fields h → h.group ≢ t.sequencer.group.number) → Orders
+          order_other : ((h : Header) → read_of p ≡ Ok h → h.group ≢ t.sequencer.group.number) → Orders
           order_other other = quiet_order (shut_orders t p longest_packet (λ h e. first_no_lem (h.group =? t.sequencer.group.number) _ (ne_eqb _ _ (other h e))))
 
           order_ours : (j : ℕ) → get_elem? v.known j ≡ some p → i ≡ c.elected → t.member.group.number ≡ c.number → t.frozen ≡ false → Orders
@@ -498,7 +500,7 @@ module _ (n resilience line : ℕ) (c : Course) (w : Group) (tk : ℕ → List O
       abbrev stood : Survivor n resilience c v.under v.cut (Low n resilience c v.cut at) i t
       stood = (v.sits i b).survivor inside
 
-      whole : terminal.whole_verdict t longest_packet ≡ Verdict.Accepted
+      whole : terminal.whole_verdict t longest_packet ≡ all_yes
       unfolding terminal.whole_verdict when◌then◌else◌
       whole = rw stood.sound
 
@@ -651,11 +653,11 @@ module _ (n resilience line : ℕ) (c : Course) (w : Group) (tk : ℕ → List O
         (sym (written_one bytes (packet_long (Packet.Result (at i).member.number r.invited (chosen_of r) (record { 0 = cut_of r })) (at i).member.group.number (bytes_of survivors_size r.repliers))))
         (make_next n resilience line c at w.packets tk sb v i b mine inviting (after i b t') (here i b t') (rest i b t') sound)
 
-    sent_is : (demand ≤? ones r.repliers) ≡ true → terminal.whole_verdict (at i) longest_packet ≡ Verdict.Accepted → terminal.make_of (at i) demand longest_packet ≡ record { terminal = t'; answer = memberAnswer.Answer.Sent; bytes = bytes }
+    sent_is : (demand ≤? ones r.repliers) ≡ true → terminal.whole_verdict (at i) longest_packet ≡ all_yes → terminal.make_of (at i) demand longest_packet ≡ record { terminal = t'; answer = memberAnswer.Answer.Sent; bytes = bytes }
     unfolding terminal.make_of judged when◌then◌else◌
     sent_is d whole = rw (whole, inviting, d)
 
-    make_sound : (demand ≤? ones r.repliers) ≡ true → terminal.whole_verdict (at i) longest_packet ≡ Verdict.Accepted → terminal_sound t' ≡ true
+    make_sound : (demand ≤? ones r.repliers) ≡ true → terminal.whole_verdict (at i) longest_packet ≡ all_yes → terminal_sound t' ≡ true
     make_sound d whole =
         let s = stands_at n resilience line c at w.packets tk sb v i b mine inviting i (itself n resilience line c at w.packets tk sb v i b mine inviting) in
         subst (λ (x : terminal.Outcome). terminal_sound x.terminal ≡ true) (sent_is d whole) (terminalProofs.make_keeps (at i) demand longest_packet s.typed s.sound)

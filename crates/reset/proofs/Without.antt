@@ -1,5 +1,7 @@
 -- A survivor without the result goes on under the old number: what it submits and takes, it submits and takes in the group made last, as the result
 -- will leave it there. Assumes nothing.
+use Rattle.group.specs.Question.{all_yes}
+use Rattle.std.specs.Prelude.{Ok, Err}
 use mathlib.Core.Path.{◌≡◌, refl, sym, ap, ◌∙◌, subst}
 use mathlib.Core.Logic.{◌≢◌}
 use mathlib.Core.Bool.{Bool, true, false}
@@ -16,7 +18,7 @@ use Rattle.group.specs.Choice.{when◌then◌else◌, ◌<?◌, ◌=?◌}
 use Rattle.group.specs.Limits.{held_most, longest_packet}
 use Rattle.group.specs.Question.{judged}
 use Rattle.group.specs.declared.Group.{Group}
-use Rattle.group.specs.declared.Verdict.{Verdict}
+use Rattle.group.specs.Question.{Verdict}
 use Rattle.message.specs.Message.{Message, empty_message, blank}
 use Rattle.member.specs.Calls as member
 use Rattle.member.specs.Order.{took_by}
@@ -53,8 +55,8 @@ module _ (m : Member) (group : Group) (cut : ℕ) (sound : sound_of m ≡ true) 
 
     judged_same : (v : Verdict) (o o' : member.Outcome) → Same o o' → Same (judged v (member.refused m) o) (judged v (member.refused m') o')
     unfolding judged member.answered
-    judged_same Verdict.Accepted o o' h = h
-    judged_same (Verdict.Refused r) o o' h = (refl, refl)
+    judged_same (Ok _) o o' h = h
+    judged_same (Err r) o o' h = (refl, refl)
 
     pub submit_same : Same (member.submit_of m payload longest_packet) (member.submit_of m' payload longest_packet)
     unfolding member.submit_of member.call_verdict member.submit_verdict judged when◌then◌else◌

@@ -1,5 +1,6 @@
 -- What a terminal's calls write: packets under the number of its member's group, or of its sequencer's, none of a reset; and a sequencer's floor is in
 -- each of its own. Assumes nothing.
+use Rattle.std.specs.Prelude.{Ok, Err}
 use mathlib.Core.Path.{◌≡◌, refl, sym, ap, ◌∙◌, subst}
 use mathlib.Core.Bool.{Bool, true, false, false≢true}
 use mathlib.Core.List.{List, [], ◌∷◌}
@@ -27,7 +28,7 @@ use Rattle.packet.specs.Laws.{Allowed}
 use Rattle.packet.specs.Packet.{request_kind, broadcast_kind, gap_kind, status_kind, poll_kind, offer_kind, confirm_kind, accept_kind, invitation_kind, reply_kind, header_of, header_bytes, packet_of, read_of, payload_at, content_of, fields_of, from_elected, written}
 use Rattle.packet.specs.declared.Header.{Header}
 use Rattle.packet.specs.declared.Packet.{Packet}
-use Rattle.packet.specs.declared.Reading.{Reading}
+use Rattle.packet.specs.Answers.{Reading}
 use Rattle.sequencer.specs.Calls as sequencer
 use Rattle.history.specs.Ask.{sender_verdict, count_verdict, wanted_verdict, expected_verdict}
 use Rattle.history.specs.Repeat.{find_of}
@@ -95,16 +96,16 @@ module _ (h : Header) (payload : List ℕ) where
   kind_back = alike h.kind _ _ _ _ _ _ _ _ _ _
 
 -- a packet reads to the fields that it was made of
-pub reads_back : (h : Header) (payload p : List ℕ) → p ≡ packet_of h payload → Allowed h payload → (x : Header) → read_of p ≡ Reading.Fields x → x ≡ h
+pub reads_back : (h : Header) (payload p : List ℕ) → p ≡ packet_of h payload → Allowed h payload → (x : Header) → read_of p ≡ Ok x → x ≡ h
 reads_back h payload p is allowed x e =
     (readable p x e).header ∙ sym (readable p h (ap read_of is ∙ (read_written h payload allowed).0)).header
 
 -- a packet that reads to no fields but of this number, and not of a reset; and whose floor is at most a number
 abbrev pub Reads : ℕ → List ℕ → Type 0
-Reads number p = (h : Header) → read_of p ≡ Reading.Fields h → (h.group ≡ number) × (terminal.of_reset (content_of h) ≡ false)
+Reads number p = (h : Header) → read_of p ≡ Ok h → (h.group ≡ number) × (terminal.of_reset (content_of h) ≡ false)
 
 abbrev pub FloorAt : ℕ → List ℕ → Type 0
-FloorAt floor p = (h : Header) → read_of p ≡ Reading.Fields h → terminal.floor_in (content_of h) ≤ floor
+FloorAt floor p = (h : Header) → read_of p ≡ Ok h → terminal.floor_in (content_of h) ≤ floor
 
 -- what a call writes, but a packet of a reset
 pub record Wrote (number : ℕ) (p : List ℕ) : Type 0 where
@@ -336,8 +337,8 @@ order_sends t p room =
     judged_elim (Sends s) (sequencer.call_verdict s room) (λ r _. refused_sends s r) (λ _. go (read_of p))
   where
     go : (r : Reading) → Sends t.sequencer (terminal.ordered_step t r (payload_at p))
-    go (Reading.Refused refusal) = refused_sends t.sequencer refusal
-    go (Reading.Fields h) =
+    go (Err refusal) = refused_sends t.sequencer refusal
+    go (Ok h) =
         let s = t.sequencer in
         when_elim (Sends s) (from_elected s.group (content_of h))
         (λ _. when_elim (Sends s) (h.group =? s.group.number and (when t.frozen then terminal.of_reset (content_of h) else true)) (λ _. content_sends s (content_of h) (payload_at p)) (λ _. refused_sends s _))
@@ -365,7 +366,7 @@ module _ (t : Terminal) where
   status_writes room = judged_elim TerminalWrote (terminal.call_verdict t room) (λ r _. refused_wrote r) (λ _. status_wrote t.member.group.number t.member refl room)
 
   -- a packet that is not of a reset
-  module _ (p : List ℕ) (room : ℕ) (plain : (h : Header) → read_of p ≡ Reading.Fields h → terminal.of_reset (content_of h) ≡ false) where
+  module _ (p : List ℕ) (room : ℕ) (plain : (h : Header) → read_of p ≡ Ok h → terminal.of_reset (content_of h) ≡ false) where
     -- what it leaves: the number, and the sequencer
     pub record Stays (o : terminal.Outcome) : Type 0 where
       pub wrote : TerminalWrote o
@@ -383,8 +384,8 @@ module _ (t : Terminal) where
     receive_stays = judged_elim Stays (terminal.call_verdict t room) (λ r _. no_stays r) (λ _. go (read_of p) refl)
       where
         go : (r : Reading) → read_of p ≡ r → Stays (terminal.read_step t r (payload_at p))
-        go (Reading.Refused refusal) e = no_stays refusal
-        go (Reading.Fields h) e =
+        go (Err refusal) e = no_stays refusal
+        go (Ok h) e =
             when_elim Stays (from_elected t.member.group (content_of h))
             (λ _. when_elim Stays (terminal.of_reset (content_of h)) (λ r. absurd (false≢true (sym (plain h e) ∙ r)))
             (λ _. when_elim Stays (h.group =? t.member.group.number and (when t.reset.replied then false else true))

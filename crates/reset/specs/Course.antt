@@ -1,5 +1,6 @@
 -- What is read off the list of events and answers: the order, the group made last, the last attempt, and what each terminal took and
 -- submitted; and the limit on lists.
+use Rattle.std.specs.Prelude.{Ok, Err}
 use Rattle.std.specs.Prelude.{◌≡◌, Bool, true, false, List, [], ◌∷◌, ◌++◌, ℕ, ◌≤◌}
 use Rattle.std.proofs.Math.Option.{Option, none, some}
 use Rattle.std.proofs.Math.ListN.{get_elem?}
@@ -12,7 +13,7 @@ use Rattle.member.specs.declared.Answer as memberAnswer
 use Rattle.model.specs.Log.{gather, numbered_in, took_in, accepted_in}
 use Rattle.model.specs.World.{Answer, absent, by_sequencer, by_member}
 use Rattle.packet.specs.Packet.{header_of, payload_at, read_of, content_of, survivors_in}
-use Rattle.packet.specs.declared.Reading.{Reading}
+use Rattle.packet.specs.Answers.{Reading}
 use Rattle.recovery.specs.Calls.{of_reset}
 use Rattle.reset.specs.World.{Event, submit, repeat, take, status, poll, copy, hand_member, hand_sequencer, invite, make, Entry, World, step}
 
@@ -159,8 +160,8 @@ pub data Fresh (number : ℕ) : List ℕ → Type 0 where
 
 -- of kinds 9 to 11 only those of the last attempt are handed over, and only to a survivor of the group made last
 unfoldable pub OfAttempt : Course → ℕ → Reading → Type 0
-OfAttempt c i (Reading.Fields h) = of_reset (content_of h) ≡ true → (h.a ≡ c.attempt) × (is_in c.survivors i ≡ true)
-OfAttempt c i (Reading.Refused refusal) = Unit {0}
+OfAttempt c i (Ok h) = of_reset (content_of h) ≡ true → (h.a ≡ c.attempt) × (is_in c.survivors i ≡ true)
+OfAttempt c i (Err refusal) = Unit {0}
 
 unfoldable pub Handed : Course → ℕ → Option (List ℕ) → Type 0
 Handed c i none = Unit {0}

@@ -33,7 +33,7 @@ use Rattle.recovery.specs.Sound as terminal_sound
 use Rattle.recovery.specs.State.{reply_number, kept_floor, message_of_number, counted, counted_row, counts_of}
 use Rattle.reset.specs.World.{happen, fresh_terminals, fresh}
 use Rattle.text.specs.Text.{digit_of, glyph_of}
-use Rattle.text.specs.Field.{before, lines_of, fields_of, letter_of, value_from, up_to_largest, number_in, pairs_of, is_hex, hex_bytes}
+use Rattle.text.specs.Field.{before, lines_of, fields_of, letter_of, is_letter, value_from, up_to_largest, number_in, pairs_of, is_hex, hex_bytes}
 use Rattle.text.specs.Written.{decimal_digits, decimal_of, hex_of, payload_text, spaced}
 use Rattle.schedule.specs.Line.{opened, opening_with, opening_form, opening_of}
 use Rattle.reset_schedule.specs.Line.{with_number, submitted, with_numbers, with_two, form_of, event_of}
@@ -45,13 +45,13 @@ use Rattle.reset_output.specs.Recover.{open_told, event_told, line_told, sequenc
 use Rattle.reset_output.specs.Example.{BurntOut, Refused, Unopened}
 
 pub burnt_out : BurntOut
-unfolding when◌then◌else◌ all all_above least_of group_sound from_elected needed_of ones_in ones open_of judged member.answered reach_of acknowledged_of member.request_packet member.gap_packet member.status_packet member.call_verdict member.submit_verdict member.with_waiting member.submit_of member.repeat_of member.status_of member.confirm_packet member.with_accepted member.with_held member.gap_up_to member.kept_of member.message_step member.broadcast_of member.confirms member.confirmed_of member.offer_of window.larger_of window.smaller_of member.poll_of member.content_step member.read_step member.receive_of member.is_own member.with_taken member.is_ready member.took_of member.take_of member.opened_of member.fresh_of windowSound.place_sound windowSound.queue_sound windowSound.waiting_sound windowSound.frame_sound member_sound.sound_of window.lowest_missing window.row_end fresh_member all_zero message_of empty_message payload_of zero_behind is_empty happen fresh_terminals fresh number_at bytes_of header_of known_kind payload_fits obeys fields_verdict read_of header_bytes packet_of content_of packet.fields_of written sequencer.answered sequencer.announced sequencer.broadcast_of sequencer.poll_packet sequencer.accept_packet sequencer.with_mark sequencer.with_accepted sequencer.settled_of sequencer.confirm_of one_more sequencer.repeated_of is_of find_of sequencer.old_of sequencer.again_of sequencer.full_of sequencer.with_message sequencer.numbered_of sequencer.request_of sequencer.gap_of sender_verdict count_verdict wanted_verdict expected_verdict sequencer.content_step sequencer.read_step sequencer.call_verdict sequencer.receive_of sequencer.poll_of sequencer.copy_of sequencer.opened_of sequencer.fresh_of larger_of table_noted cleared_of with_table note_of entry_sound kept_sound place_sound frame_sound marked_of enough_of unmarked_of mark_sound lowest_of others_of expected_of count_trailing_zeros sound_of floor_of fresh_sequencer highest_of holders_of table_from counts_in history_from elected_sequencer dropped_of result_of terminal.refused terminal.call_verdict terminal.whole_verdict terminal.submit_of terminal.repeat_of terminal.status_of terminal.kept_took terminal.take_of terminal.floor_in terminal.of_reset terminal.is_refusal terminal.kept_read terminal.heard_of terminal.with_reply terminal.invited_of terminal.result_fits terminal.reset_step terminal.read_step terminal.receive_of terminal.invite_of terminal.make_of terminal.ordered_step terminal.order_of terminal.poll_of terminal.copy_of terminal_sound.past_sound terminal_sound.past_place_sound terminal_sound.kept_sound terminal_sound.reset_sound terminal_sound.member_sound terminal_sound.zero_sequencer terminal_sound.sequencer_sound terminal_sound.reply_sound terminal_sound.terminal_sound reply_number kept_floor message_of_number counted counted_row counts_of digit_of glyph_of before lines_of fields_of letter_of value_from up_to_largest number_in pairs_of is_hex hex_bytes decimal_digits decimal_of hex_of payload_text spaced opened opening_with opening_form opening_of with_number submitted with_numbers with_two form_of event_of more_text index_text values_text wording_fields answer_fields memberWording.wording_of sequencerWording.wording_of listed_at members_below frozen_text next_number open_told event_told line_told sequencer_told terminals_told last_of lines_told
+unfolding when◌then◌else◌ all all_above least_of group_sound from_elected needed_of ones_in ones open_of judged member.answered reach_of acknowledged_of member.request_packet member.gap_packet member.status_packet member.call_verdict member.submit_verdict member.with_waiting member.submit_of member.repeat_of member.status_of member.confirm_packet member.with_accepted member.with_held member.gap_up_to member.kept_of member.message_step member.broadcast_of member.confirms member.confirmed_of member.offer_of window.larger_of window.smaller_of member.poll_of member.content_step member.read_step member.receive_of member.is_own member.with_taken member.is_ready member.took_of member.take_of member.opened_of member.fresh_of windowSound.place_sound windowSound.queue_sound windowSound.waiting_sound windowSound.frame_sound member_sound.sound_of window.lowest_missing window.row_end fresh_member all_zero message_of empty_message payload_of zero_behind is_empty happen fresh_terminals fresh number_at bytes_of header_of known_kind payload_fits obeys fields_verdict read_of header_bytes packet_of content_of packet.fields_of written sequencer.answered sequencer.announced sequencer.broadcast_of sequencer.poll_packet sequencer.accept_packet sequencer.with_mark sequencer.with_accepted sequencer.settled_of sequencer.confirm_of one_more sequencer.repeated_of is_of find_of sequencer.old_of sequencer.again_of sequencer.full_of sequencer.with_message sequencer.numbered_of sequencer.request_of sequencer.gap_of sender_verdict count_verdict wanted_verdict expected_verdict sequencer.content_step sequencer.read_step sequencer.call_verdict sequencer.receive_of sequencer.poll_of sequencer.copy_of sequencer.opened_of sequencer.fresh_of larger_of table_noted cleared_of with_table note_of entry_sound kept_sound place_sound frame_sound marked_of enough_of unmarked_of mark_sound lowest_of others_of expected_of count_trailing_zeros sound_of floor_of fresh_sequencer highest_of holders_of table_from counts_in history_from elected_sequencer dropped_of result_of terminal.refused terminal.call_verdict terminal.whole_verdict terminal.submit_of terminal.repeat_of terminal.status_of terminal.kept_took terminal.take_of terminal.floor_in terminal.of_reset terminal.is_refusal terminal.kept_read terminal.heard_of terminal.with_reply terminal.invited_of terminal.result_fits terminal.reset_step terminal.read_step terminal.receive_of terminal.invite_of terminal.make_of terminal.ordered_step terminal.order_of terminal.poll_of terminal.copy_of terminal_sound.past_sound terminal_sound.past_place_sound terminal_sound.kept_sound terminal_sound.reset_sound terminal_sound.member_sound terminal_sound.zero_sequencer terminal_sound.sequencer_sound terminal_sound.reply_sound terminal_sound.terminal_sound reply_number kept_floor message_of_number counted counted_row counts_of digit_of glyph_of before lines_of fields_of letter_of is_letter value_from up_to_largest number_in pairs_of is_hex hex_bytes decimal_digits decimal_of hex_of payload_text spaced opened opening_with opening_form opening_of with_number submitted with_numbers with_two form_of event_of more_text index_text values_text wording_fields answer_fields memberWording.wording_of sequencerWording.wording_of listed_at members_below frozen_text next_number open_told event_told line_told sequencer_told terminals_told last_of lines_told
 burnt_out = refl
 
 pub refused : Refused
-unfolding when◌then◌else◌ all all_above least_of group_sound from_elected needed_of ones_in ones open_of judged member.answered reach_of acknowledged_of member.request_packet member.gap_packet member.status_packet member.call_verdict member.submit_verdict member.with_waiting member.submit_of member.repeat_of member.status_of member.confirm_packet member.with_accepted member.with_held member.gap_up_to member.kept_of member.message_step member.broadcast_of member.confirms member.confirmed_of member.offer_of window.larger_of window.smaller_of member.poll_of member.content_step member.read_step member.receive_of member.is_own member.with_taken member.is_ready member.took_of member.take_of member.opened_of member.fresh_of windowSound.place_sound windowSound.queue_sound windowSound.waiting_sound windowSound.frame_sound member_sound.sound_of window.lowest_missing window.row_end fresh_member all_zero message_of empty_message payload_of zero_behind is_empty happen fresh_terminals fresh number_at bytes_of header_of known_kind payload_fits obeys fields_verdict read_of header_bytes packet_of content_of packet.fields_of written sequencer.answered sequencer.announced sequencer.broadcast_of sequencer.poll_packet sequencer.accept_packet sequencer.with_mark sequencer.with_accepted sequencer.settled_of sequencer.confirm_of one_more sequencer.repeated_of is_of find_of sequencer.old_of sequencer.again_of sequencer.full_of sequencer.with_message sequencer.numbered_of sequencer.request_of sequencer.gap_of sender_verdict count_verdict wanted_verdict expected_verdict sequencer.content_step sequencer.read_step sequencer.call_verdict sequencer.receive_of sequencer.poll_of sequencer.copy_of sequencer.opened_of sequencer.fresh_of larger_of table_noted cleared_of with_table note_of entry_sound kept_sound place_sound frame_sound marked_of enough_of unmarked_of mark_sound lowest_of others_of expected_of count_trailing_zeros sound_of floor_of fresh_sequencer highest_of holders_of table_from counts_in history_from elected_sequencer dropped_of result_of terminal.refused terminal.call_verdict terminal.whole_verdict terminal.submit_of terminal.repeat_of terminal.status_of terminal.kept_took terminal.take_of terminal.floor_in terminal.of_reset terminal.is_refusal terminal.kept_read terminal.heard_of terminal.with_reply terminal.invited_of terminal.result_fits terminal.reset_step terminal.read_step terminal.receive_of terminal.invite_of terminal.make_of terminal.ordered_step terminal.order_of terminal.poll_of terminal.copy_of terminal_sound.past_sound terminal_sound.past_place_sound terminal_sound.kept_sound terminal_sound.reset_sound terminal_sound.member_sound terminal_sound.zero_sequencer terminal_sound.sequencer_sound terminal_sound.reply_sound terminal_sound.terminal_sound reply_number kept_floor message_of_number counted counted_row counts_of digit_of glyph_of before lines_of fields_of letter_of value_from up_to_largest number_in pairs_of is_hex hex_bytes decimal_digits decimal_of hex_of payload_text spaced opened opening_with opening_form opening_of with_number submitted with_numbers with_two form_of event_of more_text index_text values_text wording_fields answer_fields memberWording.wording_of sequencerWording.wording_of listed_at members_below frozen_text next_number open_told event_told line_told sequencer_told terminals_told last_of lines_told
+unfolding when◌then◌else◌ all all_above least_of group_sound from_elected needed_of ones_in ones open_of judged member.answered reach_of acknowledged_of member.request_packet member.gap_packet member.status_packet member.call_verdict member.submit_verdict member.with_waiting member.submit_of member.repeat_of member.status_of member.confirm_packet member.with_accepted member.with_held member.gap_up_to member.kept_of member.message_step member.broadcast_of member.confirms member.confirmed_of member.offer_of window.larger_of window.smaller_of member.poll_of member.content_step member.read_step member.receive_of member.is_own member.with_taken member.is_ready member.took_of member.take_of member.opened_of member.fresh_of windowSound.place_sound windowSound.queue_sound windowSound.waiting_sound windowSound.frame_sound member_sound.sound_of window.lowest_missing window.row_end fresh_member all_zero message_of empty_message payload_of zero_behind is_empty happen fresh_terminals fresh number_at bytes_of header_of known_kind payload_fits obeys fields_verdict read_of header_bytes packet_of content_of packet.fields_of written sequencer.answered sequencer.announced sequencer.broadcast_of sequencer.poll_packet sequencer.accept_packet sequencer.with_mark sequencer.with_accepted sequencer.settled_of sequencer.confirm_of one_more sequencer.repeated_of is_of find_of sequencer.old_of sequencer.again_of sequencer.full_of sequencer.with_message sequencer.numbered_of sequencer.request_of sequencer.gap_of sender_verdict count_verdict wanted_verdict expected_verdict sequencer.content_step sequencer.read_step sequencer.call_verdict sequencer.receive_of sequencer.poll_of sequencer.copy_of sequencer.opened_of sequencer.fresh_of larger_of table_noted cleared_of with_table note_of entry_sound kept_sound place_sound frame_sound marked_of enough_of unmarked_of mark_sound lowest_of others_of expected_of count_trailing_zeros sound_of floor_of fresh_sequencer highest_of holders_of table_from counts_in history_from elected_sequencer dropped_of result_of terminal.refused terminal.call_verdict terminal.whole_verdict terminal.submit_of terminal.repeat_of terminal.status_of terminal.kept_took terminal.take_of terminal.floor_in terminal.of_reset terminal.is_refusal terminal.kept_read terminal.heard_of terminal.with_reply terminal.invited_of terminal.result_fits terminal.reset_step terminal.read_step terminal.receive_of terminal.invite_of terminal.make_of terminal.ordered_step terminal.order_of terminal.poll_of terminal.copy_of terminal_sound.past_sound terminal_sound.past_place_sound terminal_sound.kept_sound terminal_sound.reset_sound terminal_sound.member_sound terminal_sound.zero_sequencer terminal_sound.sequencer_sound terminal_sound.reply_sound terminal_sound.terminal_sound reply_number kept_floor message_of_number counted counted_row counts_of digit_of glyph_of before lines_of fields_of letter_of is_letter value_from up_to_largest number_in pairs_of is_hex hex_bytes decimal_digits decimal_of hex_of payload_text spaced opened opening_with opening_form opening_of with_number submitted with_numbers with_two form_of event_of more_text index_text values_text wording_fields answer_fields memberWording.wording_of sequencerWording.wording_of listed_at members_below frozen_text next_number open_told event_told line_told sequencer_told terminals_told last_of lines_told
 refused = refl
 
 pub unopened : Unopened
-unfolding when◌then◌else◌ all all_above least_of group_sound from_elected needed_of ones_in ones open_of judged member.answered reach_of acknowledged_of member.request_packet member.gap_packet member.status_packet member.call_verdict member.submit_verdict member.with_waiting member.submit_of member.repeat_of member.status_of member.confirm_packet member.with_accepted member.with_held member.gap_up_to member.kept_of member.message_step member.broadcast_of member.confirms member.confirmed_of member.offer_of window.larger_of window.smaller_of member.poll_of member.content_step member.read_step member.receive_of member.is_own member.with_taken member.is_ready member.took_of member.take_of member.opened_of member.fresh_of windowSound.place_sound windowSound.queue_sound windowSound.waiting_sound windowSound.frame_sound member_sound.sound_of window.lowest_missing window.row_end fresh_member all_zero message_of empty_message payload_of zero_behind is_empty happen fresh_terminals fresh number_at bytes_of header_of known_kind payload_fits obeys fields_verdict read_of header_bytes packet_of content_of packet.fields_of written sequencer.answered sequencer.announced sequencer.broadcast_of sequencer.poll_packet sequencer.accept_packet sequencer.with_mark sequencer.with_accepted sequencer.settled_of sequencer.confirm_of one_more sequencer.repeated_of is_of find_of sequencer.old_of sequencer.again_of sequencer.full_of sequencer.with_message sequencer.numbered_of sequencer.request_of sequencer.gap_of sender_verdict count_verdict wanted_verdict expected_verdict sequencer.content_step sequencer.read_step sequencer.call_verdict sequencer.receive_of sequencer.poll_of sequencer.copy_of sequencer.opened_of sequencer.fresh_of larger_of table_noted cleared_of with_table note_of entry_sound kept_sound place_sound frame_sound marked_of enough_of unmarked_of mark_sound lowest_of others_of expected_of count_trailing_zeros sound_of floor_of fresh_sequencer highest_of holders_of table_from counts_in history_from elected_sequencer dropped_of result_of terminal.refused terminal.call_verdict terminal.whole_verdict terminal.submit_of terminal.repeat_of terminal.status_of terminal.kept_took terminal.take_of terminal.floor_in terminal.of_reset terminal.is_refusal terminal.kept_read terminal.heard_of terminal.with_reply terminal.invited_of terminal.result_fits terminal.reset_step terminal.read_step terminal.receive_of terminal.invite_of terminal.make_of terminal.ordered_step terminal.order_of terminal.poll_of terminal.copy_of terminal_sound.past_sound terminal_sound.past_place_sound terminal_sound.kept_sound terminal_sound.reset_sound terminal_sound.member_sound terminal_sound.zero_sequencer terminal_sound.sequencer_sound terminal_sound.reply_sound terminal_sound.terminal_sound reply_number kept_floor message_of_number counted counted_row counts_of digit_of glyph_of before lines_of fields_of letter_of value_from up_to_largest number_in pairs_of is_hex hex_bytes decimal_digits decimal_of hex_of payload_text spaced opened opening_with opening_form opening_of with_number submitted with_numbers with_two form_of event_of more_text index_text values_text wording_fields answer_fields memberWording.wording_of sequencerWording.wording_of listed_at members_below frozen_text next_number open_told event_told line_told sequencer_told terminals_told last_of lines_told
+unfolding when◌then◌else◌ all all_above least_of group_sound from_elected needed_of ones_in ones open_of judged member.answered reach_of acknowledged_of member.request_packet member.gap_packet member.status_packet member.call_verdict member.submit_verdict member.with_waiting member.submit_of member.repeat_of member.status_of member.confirm_packet member.with_accepted member.with_held member.gap_up_to member.kept_of member.message_step member.broadcast_of member.confirms member.confirmed_of member.offer_of window.larger_of window.smaller_of member.poll_of member.content_step member.read_step member.receive_of member.is_own member.with_taken member.is_ready member.took_of member.take_of member.opened_of member.fresh_of windowSound.place_sound windowSound.queue_sound windowSound.waiting_sound windowSound.frame_sound member_sound.sound_of window.lowest_missing window.row_end fresh_member all_zero message_of empty_message payload_of zero_behind is_empty happen fresh_terminals fresh number_at bytes_of header_of known_kind payload_fits obeys fields_verdict read_of header_bytes packet_of content_of packet.fields_of written sequencer.answered sequencer.announced sequencer.broadcast_of sequencer.poll_packet sequencer.accept_packet sequencer.with_mark sequencer.with_accepted sequencer.settled_of sequencer.confirm_of one_more sequencer.repeated_of is_of find_of sequencer.old_of sequencer.again_of sequencer.full_of sequencer.with_message sequencer.numbered_of sequencer.request_of sequencer.gap_of sender_verdict count_verdict wanted_verdict expected_verdict sequencer.content_step sequencer.read_step sequencer.call_verdict sequencer.receive_of sequencer.poll_of sequencer.copy_of sequencer.opened_of sequencer.fresh_of larger_of table_noted cleared_of with_table note_of entry_sound kept_sound place_sound frame_sound marked_of enough_of unmarked_of mark_sound lowest_of others_of expected_of count_trailing_zeros sound_of floor_of fresh_sequencer highest_of holders_of table_from counts_in history_from elected_sequencer dropped_of result_of terminal.refused terminal.call_verdict terminal.whole_verdict terminal.submit_of terminal.repeat_of terminal.status_of terminal.kept_took terminal.take_of terminal.floor_in terminal.of_reset terminal.is_refusal terminal.kept_read terminal.heard_of terminal.with_reply terminal.invited_of terminal.result_fits terminal.reset_step terminal.read_step terminal.receive_of terminal.invite_of terminal.make_of terminal.ordered_step terminal.order_of terminal.poll_of terminal.copy_of terminal_sound.past_sound terminal_sound.past_place_sound terminal_sound.kept_sound terminal_sound.reset_sound terminal_sound.member_sound terminal_sound.zero_sequencer terminal_sound.sequencer_sound terminal_sound.reply_sound terminal_sound.terminal_sound reply_number kept_floor message_of_number counted counted_row counts_of digit_of glyph_of before lines_of fields_of letter_of is_letter value_from up_to_largest number_in pairs_of is_hex hex_bytes decimal_digits decimal_of hex_of payload_text spaced opened opening_with opening_form opening_of with_number submitted with_numbers with_two form_of event_of more_text index_text values_text wording_fields answer_fields memberWording.wording_of sequencerWording.wording_of listed_at members_below frozen_text next_number open_told event_told line_told sequencer_told terminals_told last_of lines_told
 unopened = (refl, refl, refl)

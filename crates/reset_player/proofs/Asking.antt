@@ -1,7 +1,7 @@
 -- What a command asks of the world is its event. Assumes nothing.
 use mathlib.Core.Path.{◌≡◌, refl, sym, ap, ◌∙◌, subst}
 use mathlib.Core.List.{List}
-use mathlib.Core.Option.{Option, none, some}
+use Rattle.std.specs.Prelude.{Option, Some}
 use Prim.Native.Nat.{ℕ, ◌≤◌, zero-le}
 use lib.ListN.{take}
 use Rattle.reset.specs.World as world
@@ -19,16 +19,14 @@ use Rattle.reset_player.specs.declared.Action.{Action}
 
 -- there is an event, and it happens so
 abbrev pub Is : (Group → Happened) → Option Event → Type 0
-Is happened o = (event : Event) × (o ≡ some event) × ((g : Group) → happened g ≡ happen g event)
+Is happened o = (event : Event) × (o ≡ Some event) × ((g : Group) → happened g ≡ happen g event)
 
 unfoldable pub Meant : Action → List ℕ → Option Event → Type 0
-Meant Action.Nothing payload o = o ≡ none
 Meant (Action.Act call i size) payload o = (size ≤ payload_room) × Is (happened_at call i (take size payload)) o
 Meant (Action.Hand call k i) payload o = Is (handed_to call k i) o
 
-command_is : (command : Command) (payload : List ℕ) → Sized command → Meant (action_of command) payload (meant_by command payload)
+command_is : (command : Command) (payload : List ℕ) → Sized command → Meant (action_of command) payload (meant_by (Some command) payload)
 unfolding Meant action_of meant_by
-command_is Command.Other payload f = refl
 command_is (Command.Submit i size) payload f = (f i size refl, (world.submit i (take size payload), refl, λ g. submit_is i g (take size payload)))
 command_is (Command.Repeat i) payload f = (zero-le, (world.repeat i, refl, λ g. repeat_is i g (take 0 payload)))
 command_is (Command.Take i) payload f = (zero-le, (world.take i, refl, λ g. take_is i g (take 0 payload)))
@@ -40,8 +38,8 @@ command_is (Command.HandSequencer k i) payload f = (world.hand_sequencer k i, re
 command_is (Command.Invite i number) payload f = (zero-le, (world.invite i number, refl, λ g. invite_is i g number (take 0 payload)))
 command_is (Command.Make i demand) payload f = (zero-le, (world.make i demand, refl, λ g. make_is i g demand (take 0 payload)))
 
-pub asked_is : (action : Action) (command : Command) (payload : List ℕ) → Sized command → action ≡ action_of command → Meant action payload (meant_by command payload)
-asked_is action command payload f e = subst (λ (a : Action). Meant a payload (meant_by command payload)) (sym e) (command_is command payload f)
+pub asked_is : (action : Action) (command : Command) (payload : List ℕ) → Sized command → action ≡ action_of command → Meant action payload (meant_by (Some command) payload)
+asked_is action command payload f e = subst (λ (a : Action). Meant a payload (meant_by (Some command) payload)) (sym e) (command_is command payload f)
 
 -- what was performed is the same
 pub as_performed : {x y : Option Event} (world : World) (w w' : Whole) (h : Happening) (before after : List ℕ) → x ≡ y → Performed x world w h w' before after → Performed y world w h w' before after

@@ -1,7 +1,7 @@
 -- What is printed part by part is what the whole input prints: a line that is cut tells what the whole line tells. Assumes nothing.
 use mathlib.Core.Path.{◌≡◌, refl, sym, ap, ◌∙◌}
 use mathlib.Core.List.{List, [], ◌++◌}
-use mathlib.Core.Option.{none}
+use Rattle.std.specs.Prelude.{None}
 use Prim.Native.Nat.{ℕ, ◌+◌, ◌-◌, ◌≤◌, ◌<◌}
 use native.Mathlib.Omega.{arith}
 use lib.ListN.{length, take, drop}
@@ -25,7 +25,7 @@ event_kept line =
     (λ h. ap event_of (take_all kept_most line h))
     (λ h.
     let n = length-take-le kept_most line (omega arith) in
-    sym (when_nle (length (kept_of line)) line_most none _ _ (omega arith) refl) ∙ when_nle (length line) line_most none _ _ (omega arith) refl)
+    sym (when_nle (length (kept_of line)) line_most None _ _ (omega arith) refl) ∙ when_nle (length line) line_most None _ _ (omega arith) refl)
 
 told_kept : ToldKept line_told
 unfolding line_told

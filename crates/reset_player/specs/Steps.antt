@@ -1,6 +1,5 @@
 -- What the private functions promise on the way. No public promise speaks of it.
-use Rattle.std.specs.Prelude.{◌≡◌, List, ℕ, ◌≤◌, length}
-use Rattle.std.proofs.Math.Option.{Option, none, some}
+use Rattle.std.specs.Prelude.{Option, None, Some, ◌≡◌, List, ℕ, ◌≤◌, length}
 use Rattle.group.specs.Lent.{front}
 use Rattle.group.specs.Limits.{members_most}
 use Rattle.model.specs.declared.Reply.{Reply}
@@ -31,7 +30,6 @@ Sized command = (i size : ℕ) → command ≡ Submit i size → size ≤ payloa
 
 -- what a command asks of the world; a submission alone comes with bytes
 unfoldable pub action_of : Command → Action
-action_of Command.Other = Action.Nothing
 action_of (Command.Submit i size) = Action.Act Call.Submit i size
 action_of (Command.Repeat i) = Action.Act Call.Repeat i 0
 action_of (Command.Take i) = Action.Act Call.Take i 0
@@ -45,8 +43,8 @@ action_of (Command.Make i demand) = Action.Act (Call.Make demand) i 0
 
 -- an event was performed, if there was one
 unfoldable pub Performed : Option Event → World → Whole → Happening → Whole → List ℕ → List ℕ → Type 0
-Performed none world w r w' before after = r ≡ record { world = world; reply = Reply.Absent; written = 0 }
-Performed (some event) world w r w' before after = Plays (λ g. happen g event) world w r w' before after
+Performed None world w r w' before after = r ≡ record { world = world; reply = Reply.Absent; written = 0 }
+Performed (Some event) world w r w' before after = Plays (λ g. happen g event) world w r w' before after
 
 -- a line was told
 pub record Tells (told : recover.Told) (r : Told) (w : Whole) (lent after : List ℕ) : Type 0 where

@@ -2,7 +2,7 @@
 // ended. The numbers go by value, and every array behind a reference. What is kept of a line, the phases and the limits are the player's.
 #![tactic(auto)]
 
-ghost use Rattle.std.specs.Prelude.{Bool, true, false, ◌≡◌, ◌≤◌, ◌<◌, length, take};
+ghost use Rattle.std.specs.Prelude.{Bool, true, false, ◌≡◌, ◌≤◌, ◌<◌, length, take, Some};
 ghost use Rattle.group.specs.Limits.{members_most};
 ghost use Rattle.player.specs.Parts.{told_as};
 ghost use Rattle.reset_schedule.specs.Laws.{meant_by};
@@ -14,17 +14,17 @@ ghost use Rattle.reset_player.specs.Feed.{fed_of, end_of};
 ghost use Rattle.reset_player.specs.Player.{stage_in, phase_of, stage_of, state_of, Does, LaysLast, Fresh};
 ghost use Rattle.reset_player.specs.Steps.{Fits, action_of, Sized, Performed, Tells, Refuses, PlaysLine};
 
-use group::{Group, Refusal, SequenceNumber, Verdict};
+use group::{Group, Refusal, SequenceNumber};
 use model::Reply;
-use player::{LINE, OUTPUT, Phase, degree, keep, next_number, phase_of, smaller, write_answer};
+use player::{LINE, OUTPUT, Phase, degree, keep, next_number, phase_of, write_answer};
 use report::{write_bad_line, write_bad_opening, write_no_space, write_refused_opening};
 use reset_report::{write_sequencer, write_terminal};
 use reset_schedule::{Command, read_event};
 use reset_simulator::{Happening, World};
-use schedule::{Opening, PAYLOAD_ROOM, read_opening};
+use schedule::{PAYLOAD_ROOM, read_opening};
 use simulator::PACKETS;
 use terminal_rows::{Call, MASKS, NUMBERS, SMALL, read_head};
-use text::{Found, line_end};
+use text::line_end;
 
 // The numbers of a player: those of its world, the number of the next event, where playing stands, and how many bytes are kept of a line
 // that has not ended.
@@ -57,28 +57,16 @@ struct Told {
 // What a command asks of the world: a call of a terminal, with that many bytes, or a packet handed to one.
 #[derive(Clone, Copy)]
 enum Action {
-    Nothing,
     Act { call: Call, i: usize, length: usize },
     Hand { call: Call, packet: usize, i: usize },
 }
 
-// Whether a line means an event.
-fn is_event(command: Command) -> bool
-    ensures { (result ≡ false → command ≡ Command.Other) × (result ≡ true → command ≡ Command.Other → ⊥) }
-{
-    if let Command::Other = command {
-        false
-    } else {
-        true
-    }
-}
-
 // What a command asks.
+#[tactic(auto, unfolding(crate::specs::Steps::action_of))]
 fn action_of(command: Command) -> Action
     ensures { result ≡ action_of command }
 {
     match command {
-        Command::Other => Action::Nothing,
         Command::Submit { terminal, length } => Action::Act {
             call: Call::Submit,
             i: terminal as usize,
@@ -132,7 +120,7 @@ fn action_of(command: Command) -> Action
     }
 }
 
-// Does what a command says. A line of another form is no event, and nothing happens.
+// Does what a command says.
 fn perform(
     world: World,
     small: &mut [[u8; SMALL]; Group::MEMBERS],
@@ -167,15 +155,10 @@ fn perform(
     out: &mut [u8; Group::PACKET],
 ) -> Happening
     requires { Sized command × (length payload.now ≡ payload_room) }
-    ensures { Performed (meant_by command payload.now) world (whole_of world small.old masks.old numbers.old queued.old held.old queued_originators.old queued_lengths.old held_originators.old held_lengths.old queued_payloads.old held_payloads.old past.old past_originators.old past_lengths.old past_payloads.old highest.old replies.old taken.old counts.old repeats.old kept.old marks.old originators.old lengths.old payloads.old sizes.old packets.old) result (whole_of result.world small.new masks.new numbers.new queued.new held.new queued_originators.new queued_lengths.new held_originators.new held_lengths.new queued_payloads.new held_payloads.new past.new past_originators.new past_lengths.new past_payloads.new highest.new replies.new taken.new counts.new repeats.new kept.new marks.new originators.new lengths.new payloads.new sizes.new packets.new) out.old out.new }
+    ensures { Performed (meant_by (Some command) payload.now) world (whole_of world small.old masks.old numbers.old queued.old held.old queued_originators.old queued_lengths.old held_originators.old held_lengths.old queued_payloads.old held_payloads.old past.old past_originators.old past_lengths.old past_payloads.old highest.old replies.old taken.old counts.old repeats.old kept.old marks.old originators.old lengths.old payloads.old sizes.old packets.old) result (whole_of result.world small.new masks.new numbers.new queued.new held.new queued_originators.new queued_lengths.new held_originators.new held_lengths.new queued_payloads.new held_payloads.new past.new past_originators.new past_lengths.new past_payloads.new highest.new replies.new taken.new counts.new repeats.new kept.new marks.new originators.new lengths.new payloads.new sizes.new packets.new) out.old out.new }
 {
     let asked = action_of(command);
     match asked {
-        Action::Nothing => Happening {
-            world,
-            reply: Reply::Absent,
-            written: 0,
-        },
         Action::Act { call, i, length } => reset_simulator::act(
             call,
             world,
@@ -285,64 +268,63 @@ fn tell(
     ensures { Tells (event_told (group_of (whole_of world small.old masks.old numbers.old queued.old held.old queued_originators.old queued_lengths.old held_originators.old held_lengths.old queued_payloads.old held_payloads.old past.old past_originators.old past_lengths.old past_payloads.old highest.old replies.old taken.old counts.old repeats.old kept.old marks.old originators.old lengths.old payloads.old sizes.old packets.old)) number (event_of line.now)) result (whole_of result.world small.new masks.new numbers.new queued.new held.new queued_originators.new queued_lengths.new held_originators.new held_lengths.new queued_payloads.new held_payloads.new past.new past_originators.new past_lengths.new past_payloads.new highest.new replies.new taken.new counts.new repeats.new kept.new marks.new originators.new lengths.new payloads.new sizes.new packets.new) out.old out.new }
 {
     let mut payload = [0u8; PAYLOAD_ROOM];
-    let command = read_event(line, &mut payload);
-    if is_event(command) {
-        let index = world.count;
-        if index < PACKETS {
-            let mut bytes = [0u8; Group::PACKET];
-            let happening = perform(
-                world,
-                small,
-                masks,
-                numbers,
-                queued,
-                held,
-                queued_originators,
-                queued_lengths,
-                held_originators,
-                held_lengths,
-                queued_payloads,
-                held_payloads,
-                past,
-                past_originators,
-                past_lengths,
-                past_payloads,
-                highest,
-                replies,
-                taken,
-                counts,
-                repeats,
-                kept,
-                marks,
-                originators,
-                lengths,
-                payloads,
-                sizes,
-                packets,
-                command,
-                &payload,
-                &mut bytes,
-            );
-            let reply = happening.reply;
-            let written = write_answer(number, reply, index, bytes, happening.written, out);
-            let next = next_number(number);
-            let after = happening.world;
-            return Told {
-                world: after,
-                number: next,
-                phase: Phase::Running,
-                written,
-            };
-        }
-        let written = write_no_space(number, out);
+    let Some(command) = read_event(line, &mut payload) else {
+        let written = write_bad_line(number, out);
         return Told {
             world,
             number,
             phase: Phase::Ended,
             written,
         };
+    };
+    let index = world.count;
+    if index < PACKETS {
+        let mut bytes = [0u8; Group::PACKET];
+        let happening = perform(
+            world,
+            small,
+            masks,
+            numbers,
+            queued,
+            held,
+            queued_originators,
+            queued_lengths,
+            held_originators,
+            held_lengths,
+            queued_payloads,
+            held_payloads,
+            past,
+            past_originators,
+            past_lengths,
+            past_payloads,
+            highest,
+            replies,
+            taken,
+            counts,
+            repeats,
+            kept,
+            marks,
+            originators,
+            lengths,
+            payloads,
+            sizes,
+            packets,
+            command,
+            &payload,
+            &mut bytes,
+        );
+        let reply = happening.reply;
+        let written = write_answer(number, reply, index, bytes, happening.written, out);
+        let next = next_number(number);
+        let after = happening.world;
+        return Told {
+            world: after,
+            number: next,
+            phase: Phase::Running,
+            written,
+        };
     }
-    let written = write_bad_line(number, out);
+    let written = write_no_space(number, out);
     Told {
         world,
         number,
@@ -399,9 +381,8 @@ fn open(
 ) -> Told
     ensures { Tells (open_told (opening_of line.now)) result (whole_of result.world small.new masks.new numbers.new queued.new held.new queued_originators.new queued_lengths.new held_originators.new held_lengths.new queued_payloads.new held_payloads.new past.new past_originators.new past_lengths.new past_payloads.new highest.new replies.new taken.new counts.new repeats.new kept.new marks.new originators.new lengths.new payloads.new sizes.new packets.new) out.old out.new }
 {
-    let opening = read_opening(line);
-    match opening {
-        Opening::Other => {
+    match read_opening(line) {
+        None => {
             let written = write_bad_opening(out);
             Told {
                 world,
@@ -410,16 +391,12 @@ fn open(
                 written,
             }
         }
-        Opening::Group {
-            n,
-            number,
-            resilience,
-        } => {
-            if (Group::MEMBERS as u32) < n {
+        Some(opening) => {
+            if (Group::MEMBERS as u32) < opening.n {
                 let refusal = Refusal::Opening;
                 return refuse(world, refusal, out);
             }
-            let degree = degree(resilience);
+            let degree = degree(opening.resilience);
             let opened = reset_simulator::open(
                 small,
                 masks,
@@ -448,20 +425,20 @@ fn open(
                 payloads,
                 sizes,
                 packets,
-                n as u8,
-                number,
+                opening.n as u8,
+                opening.number,
                 degree,
             );
             let verdict = opened.verdict;
             let fresh = opened.world;
             match verdict {
-                Verdict::Accepted => Told {
+                Ok(()) => Told {
                     world: fresh,
                     number: 1,
                     phase: Phase::Running,
                     written: 0,
                 },
-                Verdict::Refused(refusal) => refuse(fresh, refusal, out),
+                Err(refusal) => refuse(fresh, refusal, out),
             }
         }
     }
@@ -711,9 +688,8 @@ pub fn feed(
 ) -> Fed
     ensures { Does (fed_of (state_of player (whole_of player.world small.old masks.old numbers.old queued.old held.old queued_originators.old queued_lengths.old held_originators.old held_lengths.old queued_payloads.old held_payloads.old past.old past_originators.old past_lengths.old past_payloads.old highest.old replies.old taken.old counts.old repeats.old kept.old marks.old originators.old lengths.old payloads.old sizes.old packets.old) line.old) part.now) result (whole_of result.player.world small.new masks.new numbers.new queued.new held.new queued_originators.new queued_lengths.new held_originators.new held_lengths.new queued_payloads.new held_payloads.new past.new past_originators.new past_lengths.new past_payloads.new highest.new replies.new taken.new counts.new repeats.new kept.new marks.new originators.new lengths.new payloads.new sizes.new packets.new) line.new out.old out.new }
 {
-    let end = line_end(part);
-    match end {
-        Found::At(e) => {
+    match line_end(part) {
+        Some(e) => {
             let size = keep(line, player.length, &part[..e]);
             play_line(
                 player,
@@ -750,7 +726,7 @@ pub fn feed(
                 out,
             )
         }
-        Found::Nothing => {
+        None => {
             let size = keep(line, player.length, part);
             let world = player.world;
             let phase = player.phase;
@@ -804,7 +780,7 @@ pub fn end(
 ) -> Fed
     ensures { Does (end_of (state_of player (whole_of player.world small.old masks.old numbers.old queued.old held.old queued_originators.old queued_lengths.old held_originators.old held_lengths.old queued_payloads.old held_payloads.old past.old past_originators.old past_lengths.old past_payloads.old highest.old replies.old taken.old counts.old repeats.old kept.old marks.old originators.old lengths.old payloads.old sizes.old packets.old) line.now)) result (whole_of result.player.world small.new masks.new numbers.new queued.new held.new queued_originators.new queued_lengths.new held_originators.new held_lengths.new queued_payloads.new held_payloads.new past.new past_originators.new past_lengths.new past_payloads.new highest.new replies.new taken.new counts.new repeats.new kept.new marks.new originators.new lengths.new payloads.new sizes.new packets.new) line.now out.old out.new }
 {
-    let size = smaller(player.length, LINE);
+    let size = player.length.min(LINE);
     if size == 0 {
         return Fed {
             player,

@@ -70,8 +70,7 @@ fn put_listed(mask: u16, i: u8, out: &mut [u8], at: usize) -> usize
     ensures laid { LaidAt at (spaced (map decimal_of (listed_at mask i))) out.old out.new result }
     ensures short { result ≤ at + 1 + number_digits }
 {
-    let member = MemberNumber(i);
-    if is_in(mask, member) {
+    if is_in(mask, MemberNumber(i)) {
         put_number(i as u32, out, at)
     } else {
         at
@@ -85,15 +84,14 @@ fn put_members(mask: u16, out: &mut [u8], at: usize) -> usize
     ensures short { result ≤ at + members_most * (1 + number_digits) }
 {
     let mut next = at;
-    let mut i: usize = 0;
-    while i < Group::MEMBERS {
+    for i in 0..Group::MEMBERS {
         next = put_listed(mask, i as u8, out, next);
-        i += 1;
     }
     next
 }
 
 // The line of a terminal. Gives its length; 0 where the output has not the room that the line asks for.
+// kept: the length of what was laid, of no line 0: every caller lends the room, and would take an `Option` apart for the same number.
 pub fn write_terminal(
     terminal: u32,
     group: u32,
@@ -138,6 +136,7 @@ fn put_frozen(frozen: bool, out: &mut [u8], at: usize) -> usize
 }
 
 // The line of a terminal's sequencer. Gives its length; 0 where the output has not the room that the line asks for.
+// kept: the length of what was laid, of no line 0: every caller lends the room, and would take an `Option` apart for the same number.
 pub fn write_sequencer(
     terminal: u32,
     group: u32,

@@ -1,8 +1,9 @@
 -- From the fields of a line to what it means: how many there are decides. Assumes nothing.
-use mathlib.Core.Path.{◌≡◌, refl, sym, ap}
+use mathlib.Core.Path.{◌≡◌, refl, sym, ap, ◌∙◌}
 use mathlib.Core.Bool.{Bool, true, false}
+use mathlib.Core.Logic.{◌⊎◌, inl, inr}
 use mathlib.Core.List.{List, []}
-use mathlib.Core.Option.{Option, none, some}
+use Rattle.std.specs.Prelude.{Option, None, Some}
 use Prim.Native.Char.{code}
 use Prim.Native.Nat.{ℕ, ◌+◌, ◌≤◌, ◌<◌}
 use lib.ListN.{length, drop}
@@ -21,44 +22,43 @@ use Rattle.reset_schedule.specs.Line.{with_number, with_numbers, form_of, event_
 module _ (line : List ℕ) where
   pub event_by : (p : Parts) → length line ≤ line_most → fields_of line ≡ parts_at p line → event_of line ≡ form_of (parts_at p line)
   unfolding event_of
-  event_by p h e = sym (when_le (length line) line_most (form_of (parts_at p line)) (form_of (fields_of line)) none h (ap form_of (sym e)))
+  event_by p h e = sym (when_le (length line) line_most (form_of (parts_at p line)) (form_of (fields_of line)) None h (ap form_of (sym e)))
 
-  pub event_long : line_most < length line → event_of line ≡ none
+  pub event_long : line_most < length line → event_of line ≡ None
   unfolding event_of
-  event_long h = sym (when_nle (length line) line_most none (form_of (fields_of line)) none h refl)
+  event_long h = sym (when_nle (length line) line_most None (form_of (fields_of line)) None h refl)
 
   -- one field, or four or more, are no event
-  pub one_event : form_of (parts_at One line) ≡ none
+  pub event_none : (p : Parts) → length line ≤ line_most → fields_of line ≡ parts_at p line → (p ≡ One) ⊎ ((a b c : ℕ) × (p ≡ More a b c)) → event_of line ≡ None
   unfolding parts_at form_of
-  one_event = refl
+  event_none p h e (inl f) = event_by One h (rw f at e)
+  event_none p h e (inr (a, b, c, f)) = event_by (More a b c) h (rw f at e) ∙ rw (fields_some (drop (c + 1) line)).2
 
-  pub more_event : (a b c : ℕ) → form_of (parts_at (More a b c) line) ≡ none
-  unfolding parts_at form_of
-  more_event a b c = rw (fields_some (drop (c + 1) line)).2
-
--- what lays no payload, chosen from what lays none
+-- what lays no payload, chosen from what lays None
 payload_if : (t : Bool) (a b : Option Event) → payload_of a ≡ [] → payload_of b ≡ [] → payload_of (when t then a else b) ≡ []
 unfolding when◌then◌else◌
 payload_if true a b e f = e
 payload_if false a b e f = f
 
 -- a line of numbers alone lays no payload
-pub number_payload : (letter : ℕ) (x : Option ℕ) → payload_of (with_number letter x) ≡ []
+pub number_payload : (letter x : Option ℕ) → payload_of (with_number letter x) ≡ []
 unfolding with_number payload_of
-number_payload letter none = refl
-number_payload letter (some x) =
-    payload_if (letter =? code "R") (some (repeat x)) _ refl
-    (payload_if (letter =? code "T") (some (take x)) _ refl
-    (payload_if (letter =? code "A") (some (status x)) _ refl
-    (payload_if (letter =? code "P") (some (poll x)) none refl refl)))
+number_payload None x = refl
+number_payload (Some letter) None = refl
+number_payload (Some letter) (Some x) =
+    payload_if (letter =? code "R") (Some (repeat x)) _ refl
+    (payload_if (letter =? code "T") (Some (take x)) _ refl
+    (payload_if (letter =? code "A") (Some (status x)) _ refl
+    (payload_if (letter =? code "P") (Some (poll x)) None refl refl)))
 
-pub numbers_payload : (letter : ℕ) (x y : Option ℕ) → payload_of (with_numbers letter x y) ≡ []
+pub numbers_payload : (letter x y : Option ℕ) → payload_of (with_numbers letter x y) ≡ []
 unfolding with_numbers payload_of
-numbers_payload letter none y = refl
-numbers_payload letter (some x) none = refl
-numbers_payload letter (some x) (some y) =
-    payload_if (letter =? code "M") (some (hand_member x y)) _ refl
-    (payload_if (letter =? code "Q") (some (hand_sequencer x y)) _ refl
-    (payload_if (letter =? code "C") (some (copy x y)) _ refl
-    (payload_if (letter =? code "I") (some (invite x y)) _ refl
-    (payload_if (letter =? code "G") (some (make x y)) none refl refl))))
+numbers_payload None x y = refl
+numbers_payload (Some letter) None y = refl
+numbers_payload (Some letter) (Some x) None = refl
+numbers_payload (Some letter) (Some x) (Some y) =
+    payload_if (letter =? code "M") (Some (hand_member x y)) _ refl
+    (payload_if (letter =? code "Q") (Some (hand_sequencer x y)) _ refl
+    (payload_if (letter =? code "C") (Some (copy x y)) _ refl
+    (payload_if (letter =? code "I") (Some (invite x y)) _ refl
+    (payload_if (letter =? code "G") (Some (make x y)) None refl refl))))

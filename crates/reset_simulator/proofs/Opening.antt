@@ -1,4 +1,5 @@
 -- The fresh terminals, one after the other; and the fresh world out of them. Assumes nothing.
+use Rattle.group.specs.Opening.{Opened}
 use mathlib.Core.Path.{◌≡◌, refl, sym, ap, ◌∙◌}
 use mathlib.Core.Bool.{Bool, true, false}
 use mathlib.Core.List.{List, [], ◌∷◌}
@@ -11,8 +12,7 @@ use Rattle.group.proofs.Lists.{when_elim, eq_or}
 use Rattle.group.specs.Choice.{when◌then◌else◌, ◌and◌, ◌<?◌, ◌≤?◌, ◌=?◌}
 use Rattle.group.specs.Limits.{members_most, places_most, payload_most}
 use Rattle.group.specs.Opening.{open_of}
-use Rattle.group.specs.declared.Opened as answer
-use Rattle.group.specs.declared.Verdict.{Verdict}
+use Rattle.group.specs.Question.{Verdict}
 use Rattle.member.specs.Calls as member
 use Rattle.member.specs.View as memberView
 use Rattle.member.specs.declared.Head as memberHead
@@ -62,8 +62,8 @@ module _ (n number resilience : ℕ) where
   few : opened_with (sequencer.fresh_of n number resilience).verdict n ≤ members_most
   unfolding opened_with sequencer.fresh_of sequencer.opened_of open_of
   few =
-      when_elim (λ (o : answer.Opened). opened_with (sequencer.opened_of o).verdict n ≤ members_most) (1 ≤? n and n ≤? members_most)
-      (λ t. when_elim (λ (o : answer.Opened). opened_with (sequencer.opened_of o).verdict n ≤ members_most) (resilience <? n)
+      when_elim (λ (o : Opened). opened_with (sequencer.opened_of o).verdict n ≤ members_most) (1 ≤? n and n ≤? members_most)
+      (λ t. when_elim (λ (o : Opened). opened_with (sequencer.opened_of o).verdict n ≤ members_most) (resilience <? n)
       (λ _. leb-true n members_most (both_then (1 ≤? n) (n ≤? members_most) t))
       (λ _. omega arith))
       (λ _. omega arith)

@@ -1,9 +1,10 @@
 -- The executable world as the world of terminals: its terminals 0 to n - 1, and the packets that were written. With room for a packet, an
 -- event does to it what `happen` says.
+use Rattle.group.specs.Question.{all_yes}
 use Rattle.std.specs.Prelude.{◌≡◌, List, [], ℕ, ◌+◌, ◌≤◌, ◌<◌, take, get_or}
 use Rattle.group.specs.Lent.{front}
 use Rattle.group.specs.Limits.{members_most, longest_packet}
-use Rattle.group.specs.declared.Verdict.{Verdict}
+use Rattle.group.specs.Question.{Verdict}
 use Rattle.model.specs.World.{answer_of}
 use Rattle.model.specs.declared.Reply.{Reply}
 use Rattle.recovery.specs.Calls.{fresh_terminal}
@@ -143,5 +144,5 @@ pub record Opens (n number resilience : ℕ) (verdict : Verdict) (world : World)
   pub shown : group_of w ≡ record { terminals = fresh_terminals n number resilience 0 (opened_with verdict n); packets = [] }
   pub terminals : (j : ℕ) → j < members_most → terminal_at w.terminals j ≡ fresh_terminal n number resilience j
   -- where it is accepted, the world is a fresh one; there is room
-  pub group : verdict ≡ Verdict.Accepted → group_of w ≡ (fresh n number resilience).group
+  pub group : verdict ≡ all_yes → group_of w ≡ (fresh n number resilience).group
   pub room : Room world

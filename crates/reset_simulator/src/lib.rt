@@ -10,7 +10,7 @@ ghost use Rattle.terminal_rows.specs.Steps.{of_whole};
 ghost use Rattle.reset_simulator.specs.Whole.{rows_of, terminals_of, whole_of, Plays, Opens};
 ghost use Rattle.reset_simulator.specs.Steps.{came_of, happened_at, handed_to, FullRows, CallsOn, MemberCallsOn, SequencerCallsOn, CallsRow, CallsAt, Begun};
 
-use group::{Group, MemberNumber, Verdict};
+use group::{Group, MemberNumber, Refusal};
 use model::Reply;
 use recovery::Head;
 use simulator::{PACKETS, is_there, store};
@@ -47,7 +47,7 @@ pub struct Happening {
 #[derive(Clone, Copy)]
 pub struct Opened {
     pub world: World,
-    pub verdict: Verdict,
+    pub verdict: Result<(), Refusal>,
 }
 
 // Opens a terminal on its arrays.

@@ -14,14 +14,14 @@ use Rattle.simulator.specs.Whole.{list_of}
 use Rattle.stream.specs.Puts.{PutsBy, TurnsBy}
 use Rattle.stream.specs.declared.Played.{Played}
 use Rattle.reset_stream.specs.Recovered.{Recovers}
-use Rattle.reset_stream.specs.declared.Turn.{Turn}
+use Rattle.stream.specs.declared.Turn.{Turn}
 
 -- an input was played but for what is left of it, and the sink took what was printed
 abbrev pub Puts : {W : Type 0} → (W → Option (List ℕ)) → State → List ℕ → State → List ℕ → Sink W → Sink W → Type 0
 Puts contents from input to left before after = PutsBy line_told recover_program contents from input to left before after
 
 -- the source gave an input, which was played
-abbrev pub Turns : {R W : Type 0} → (R → Option (List ℕ)) → (W → Option (List ℕ)) → State → State → Source R → Sink W → Turn R W → Type 0
+abbrev pub Turns : {R W : Type 0} → (R → Option (List ℕ)) → (W → Option (List ℕ)) → State → State → Source R → Sink W → Turn Player R W → Type 0
 Turns remaining contents from to source sink r = TurnsBy line_told recover_program contents remaining from to source sink r.source r.sink
 
 -- the first n terminals, by the rows of their heads

@@ -21,24 +21,8 @@ use report::write_bad_opening;
 use reset_player::{Player, end, feed, last_member, last_sequencer};
 use simulator::PACKETS;
 use std::io::{Read, Write};
-use stream::{Played, put_text};
+use stream::{Played, Step, Turn, put_text};
 use terminal_rows::{MASKS, NUMBERS, SMALL};
-
-// The player and the sink after a part of the input.
-#[derive(Drop)]
-struct Step<'w, W> {
-    player: Player,
-    sink: Sink<'w, W>,
-}
-
-// The same with the source, and whether to go on: the input has not ended, and the sink takes what it is handed.
-#[derive(Drop)]
-struct Turn<'r, 'w, R, W> {
-    player: Player,
-    source: Source<'r, R>,
-    sink: Sink<'w, W>,
-    goes_on: bool,
-}
 
 // Plays what was read, a line at a time.
 fn play_part<'w, W: Write>(
@@ -73,12 +57,13 @@ fn play_part<'w, W: Write>(
     line: &mut [u8; LINE],
     part: &[u8],
     mut sink: Sink<'w, W>,
-) -> Step<'w, W>
+) -> Step<'w, Player, W>
     ensures { Puts W.contents (state_of player (whole_of player.world small.old masks.old numbers.old queued.old held.old queued_originators.old queued_lengths.old held_originators.old held_lengths.old queued_payloads.old held_payloads.old past.old past_originators.old past_lengths.old past_payloads.old highest.old replies.old taken.old counts.old repeats.old kept.old marks.old originators.old lengths.old payloads.old sizes.old packets.old) line.old) part.now (state_of result.player (whole_of result.player.world small.new masks.new numbers.new queued.new held.new queued_originators.new queued_lengths.new held_originators.new held_lengths.new queued_payloads.new held_payloads.new past.new past_originators.new past_lengths.new past_payloads.new highest.new replies.new taken.new counts.new repeats.new kept.new marks.new originators.new lengths.new payloads.new sizes.new packets.new) line.new) [] sink.entry result.sink }
 {
     let mut from: usize = 0;
+    // kept: a while, since a feed says how many bytes it used.
     while from < part.len() {
-        let mut text = [0u8; OUTPUT];
+        let mut text = [0; OUTPUT];
         let fed = feed(
             player,
             small,
@@ -113,7 +98,7 @@ fn play_part<'w, W: Write>(
             &mut text,
         );
         player = fed.player;
-        sink = put_text(sink, text, fed.written);
+        sink = put_text(sink, &text, fed.written);
         from += fed.used;
     }
     Step { player, sink }
@@ -152,7 +137,7 @@ fn play_some<'r, 'w, R: Read, W: Write>(
     line: &mut [u8; LINE],
     source: Source<'r, R>,
     sink: Sink<'w, W>,
-) -> Turn<'r, 'w, R, W>
+) -> Turn<'r, 'w, Player, R, W>
     ensures { Turns R.remaining W.contents (state_of player (whole_of player.world small.old masks.old numbers.old queued.old held.old queued_originators.old queued_lengths.old held_originators.old held_lengths.old queued_payloads.old held_payloads.old past.old past_originators.old past_lengths.old past_payloads.old highest.old replies.old taken.old counts.old repeats.old kept.old marks.old originators.old lengths.old payloads.old sizes.old packets.old) line.old) (state_of result.player (whole_of result.player.world small.new masks.new numbers.new queued.new held.new queued_originators.new queued_lengths.new held_originators.new held_lengths.new queued_payloads.new held_payloads.new past.new past_originators.new past_lengths.new past_payloads.new highest.new replies.new taken.new counts.new repeats.new kept.new marks.new originators.new lengths.new payloads.new sizes.new packets.new) line.new) source.entry sink.entry result }
 {
     let mut chunk = [0u8; 4096];
@@ -192,19 +177,18 @@ fn play_some<'r, 'w, R: Read, W: Write>(
         &chunk[..size],
         sink,
     );
-    let played = step.player;
-    let handed = step.sink;
-    let goes_on = if handed.failed() { false } else { size > 0 };
+    let goes_on = size > 0 && !step.sink.failed();
     Turn {
-        player: played,
+        player: step.player,
         source: next,
-        sink: handed,
+        sink: step.sink,
         goes_on,
     }
 }
 
-// Plays to the end of the input. A proved loop has to end, and nothing says that an input does: so the loop counts its turns
-// down, from a number that no run uses up.
+// Plays to the end of the input. A proved loop has to end, and nothing says that an input does: so the loop has a number of turns
+// that no run uses up.
+// kept: `stream` has this loop over a step that lends other arrays; a closure that changes what it captures promises nothing of them.
 fn play_all<'r, 'w, R: Read, W: Write>(
     player: Player,
     small: &mut [[u8; SMALL]; Group::MEMBERS],
@@ -237,85 +221,58 @@ fn play_all<'r, 'w, R: Read, W: Write>(
     line: &mut [u8; LINE],
     source: Source<'r, R>,
     sink: Sink<'w, W>,
-) -> Turn<'r, 'w, R, W>
+) -> Turn<'r, 'w, Player, R, W>
     ensures { Turns R.remaining W.contents (state_of player (whole_of player.world small.old masks.old numbers.old queued.old held.old queued_originators.old queued_lengths.old held_originators.old held_lengths.old queued_payloads.old held_payloads.old past.old past_originators.old past_lengths.old past_payloads.old highest.old replies.old taken.old counts.old repeats.old kept.old marks.old originators.old lengths.old payloads.old sizes.old packets.old) line.old) (state_of result.player (whole_of result.player.world small.new masks.new numbers.new queued.new held.new queued_originators.new queued_lengths.new held_originators.new held_lengths.new queued_payloads.new held_payloads.new past.new past_originators.new past_lengths.new past_payloads.new highest.new replies.new taken.new counts.new repeats.new kept.new marks.new originators.new lengths.new payloads.new sizes.new packets.new) line.new) source.entry sink.entry result }
 {
-    let mut turn = play_some(
+    let mut turn = Turn {
         player,
-        small,
-        masks,
-        numbers,
-        queued,
-        held,
-        queued_originators,
-        queued_lengths,
-        held_originators,
-        held_lengths,
-        queued_payloads,
-        held_payloads,
-        past,
-        past_originators,
-        past_lengths,
-        past_payloads,
-        highest,
-        replies,
-        taken,
-        counts,
-        repeats,
-        kept,
-        marks,
-        originators,
-        lengths,
-        payloads,
-        sizes,
-        packets,
-        line,
         source,
         sink,
-    );
-    let mut turns = u64::MAX;
-    while turns > 0 {
-        if turn.goes_on {
-            let player = turn.player;
-            let source = turn.source;
-            let sink = turn.sink;
-            turn = play_some(
-                player,
-                small,
-                masks,
-                numbers,
-                queued,
-                held,
-                queued_originators,
-                queued_lengths,
-                held_originators,
-                held_lengths,
-                queued_payloads,
-                held_payloads,
-                past,
-                past_originators,
-                past_lengths,
-                past_payloads,
-                highest,
-                replies,
-                taken,
-                counts,
-                repeats,
-                kept,
-                marks,
-                originators,
-                lengths,
-                payloads,
-                sizes,
-                packets,
-                line,
-                source,
-                sink,
-            );
-            turns -= 1;
-        } else {
-            return turn;
+        goes_on: true,
+    };
+    'turns: for _ in 0..u64::MAX {
+        if !turn.goes_on {
+            break;
         }
+        let Turn {
+            player,
+            source,
+            sink,
+            ..
+        } = turn;
+        turn = play_some(
+            player,
+            small,
+            masks,
+            numbers,
+            queued,
+            held,
+            queued_originators,
+            queued_lengths,
+            held_originators,
+            held_lengths,
+            queued_payloads,
+            held_payloads,
+            past,
+            past_originators,
+            past_lengths,
+            past_payloads,
+            highest,
+            replies,
+            taken,
+            counts,
+            repeats,
+            kept,
+            marks,
+            originators,
+            lengths,
+            payloads,
+            sizes,
+            packets,
+            line,
+            source,
+            sink,
+        );
     }
     turn
 }
@@ -331,15 +288,13 @@ fn put_terminals<'w, W: Write>(
     requires { n ≤ members_most }
     ensures { HandsTerminals W.contents small.now masks.now numbers.now n sink.entry result }
 {
-    let mut i: usize = 0;
-    while i < n {
-        let mut text = [0u8; OUTPUT];
+    for i in 0..n {
+        let mut text = [0; OUTPUT];
         let size = last_member(small, masks, numbers, i, &mut text);
-        let next = put_text(sink, text, size);
-        let mut text = [0u8; OUTPUT];
+        let next = put_text(sink, &text, size);
+        let mut text = [0; OUTPUT];
         let size = last_sequencer(small, masks, numbers, i, &mut text);
-        sink = put_text(next, text, size);
-        i += 1;
+        sink = put_text(next, &text, size);
     }
     sink
 }
@@ -361,17 +316,14 @@ fn put_last<'w, W: Write>(
 ) -> Sink<'w, W>
     ensures { HandsLast W.contents player small.now masks.now numbers.now sink.entry result }
 {
-    let phase = player.phase;
     let n = player.world.n;
-    let stands = phase_of(n, player.world.count, phase);
-    match stands {
+    match phase_of(n, player.world.count, player.phase) {
         Phase::Opening => {
-            let mut text = [0u8; OUTPUT];
+            let mut text = [0; OUTPUT];
             let size = write_unopened(&mut text);
-            put_text(sink, text, size)
+            put_text(sink, &text, size)
         }
-        Phase::Running => put_terminals(small, masks, numbers, n as usize, sink),
-        Phase::Ended => put_terminals(small, masks, numbers, n as usize, sink),
+        Phase::Running | Phase::Ended => put_terminals(small, masks, numbers, n as usize, sink),
         Phase::Closed => sink,
     }
 }
@@ -411,7 +363,7 @@ fn finish<'w, W: Write>(
 ) -> Sink<'w, W>
     ensures { Takes W.contents sink.entry ((end_of (state_of player (whole_of player.world small.old masks.old numbers.old queued.old held.old queued_originators.old queued_lengths.old held_originators.old held_lengths.old queued_payloads.old held_payloads.old past.old past_originators.old past_lengths.old past_payloads.old highest.old replies.old taken.old counts.old repeats.old kept.old marks.old originators.old lengths.old payloads.old sizes.old packets.old) line.now)).text ++ last_of (end_of (state_of player (whole_of player.world small.old masks.old numbers.old queued.old held.old queued_originators.old queued_lengths.old held_originators.old held_lengths.old queued_payloads.old held_payloads.old past.old past_originators.old past_lengths.old past_payloads.old highest.old replies.old taken.old counts.old repeats.old kept.old marks.old originators.old lengths.old payloads.old sizes.old packets.old) line.now)).state.stage) result }
 {
-    let mut text = [0u8; OUTPUT];
+    let mut text = [0; OUTPUT];
     let fed = end(
         player,
         small,
@@ -445,7 +397,7 @@ fn finish<'w, W: Write>(
         &mut text,
     );
     let left = fed.player;
-    let next = put_text(sink, text, fed.written);
+    let next = put_text(sink, &text, fed.written);
     put_last(left, small, masks, numbers, next)
 }
 

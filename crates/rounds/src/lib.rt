@@ -3,13 +3,12 @@
 // every function: it is safe and ends. What it calls has its own promise.
 #![tactic(auto)]
 
-ghost use Rattle.std.specs.Prelude.{◌+◌, ◌≤◌, length};
+ghost use Rattle.std.specs.Prelude.{◌≡◌, ◌+◌, ◌<◌, ◌≤◌, length, IfSome};
 
 use generator::Generator;
-use group::{Group, MemberNumber, SequenceNumber};
+use group::{Group, MemberNumber, Refusal, SequenceNumber};
 use jobs::Job;
 use journal::{Tail, Writer};
-use packet::Reading;
 
 // Takes a value into a running sum, so that none is computed for nothing.
 fn mix(sum: u64, value: u64) -> u64 {
@@ -23,24 +22,34 @@ fn wide(x: u8) -> usize
     x as usize
 }
 
-// The size of the packet behind an index of a list: two bytes, the highest first, stand before each packet.
-fn size_at(packets: &[u8], at: usize) -> usize
-    requires { at + 2 ≤ length packets.now }
+// The entry at the front of a list, if none of it is cut off: a head of so many bytes, in which two bytes at an index, the
+// highest first, give the size of its body; that body; and what stands behind it.
+fn entry(list: &[u8], head: usize, place: usize) -> Option<(&[u8], &[u8], &[u8])>
+    requires { place + 2 ≤ head }
+    ensures { IfSome result (λ e. (length e.0.now ≡ head) × (length e.2.now < length list.now)) }
 {
-    wide(packets[at]) * 256 + wide(packets[at + 1])
+    if list.len() < head {
+        return None;
+    }
+    let size = wide(list[place]) * 256 + wide(list[place + 1]);
+    let rest = &list[head..];
+    if rest.len() < size {
+        return None;
+    }
+    Some((&list[..head], &rest[..size], &rest[size..]))
 }
 
 // Takes all that reading a packet gives into a running sum.
-fn reading_sum(sum: u64, reading: Reading) -> u64 {
+fn reading_sum(sum: u64, reading: Result<packet::Header, Refusal>) -> u64 {
     match reading {
-        Reading::Fields(h) => {
+        Ok(h) => {
             let first = mix(
                 mix(mix(sum, h.kind as u64), h.member.0 as u64),
                 h.group as u64,
             );
             mix(mix(mix(first, h.a as u64), h.b as u64), h.c as u64)
         }
-        Reading::Refused(q) => mix(sum, q.number() as u64),
+        Err(q) => mix(sum, q.number() as u64),
     }
 }
 
@@ -53,16 +62,11 @@ pub extern "C" fn rounds_repeats(table: &[u32; Group::MEMBERS]) -> u32 {
 // Reads each packet of a list, up to one that is cut off.
 #[unsafe(no_mangle)]
 pub extern "C" fn rounds_read_list(mut sum: u64, packets: &[u8]) -> u64 {
-    let mut at: usize = 0;
-    while 2 <= packets.len() - at {
-        let start = at + 2;
-        let size = size_at(packets, at);
-        if packets.len() - start < size {
-            return sum;
-        }
-        let end = start + size;
-        sum = reading_sum(sum, packet::read(&packets[start..end]));
-        at = end;
+    let mut rest = packets;
+    // kept: a while, since an entry says how many bytes it used.
+    while let Some((_, packet, behind)) = entry(rest, 2, 0) {
+        sum = reading_sum(sum, packet::read(packet));
+        rest = behind;
     }
     sum
 }
@@ -72,11 +76,9 @@ pub extern "C" fn rounds_read_list(mut sum: u64, packets: &[u8]) -> u64 {
 pub extern "C" fn rounds_generator(seed: u32, rounds: u32) -> u64 {
     let mut generator = Generator { state: seed };
     let mut sum: u64 = 0;
-    let mut left = rounds;
-    while 0 < left {
+    for _ in 0..rounds {
         generator = generator.step();
         sum = mix(sum, generator.output() as u64);
-        left -= 1;
     }
     sum
 }
@@ -86,56 +88,42 @@ pub extern "C" fn rounds_generator(seed: u32, rounds: u32) -> u64 {
 const RECORD: usize = 6 + Group::JOB;
 
 // Takes what a feed answers into a running sum.
-fn feed_sum(sum: u64, answer: jobs::Answer) -> u64 {
+fn feed_sum(sum: u64, answer: Result<jobs::Answer, Refusal>) -> u64 {
     let code = match answer {
-        jobs::Answer::Refused(q) => q.number() as u64,
-        jobs::Answer::Added => 64,
-        jobs::Answer::Given(place) => mix(65, place as u64),
-        jobs::Answer::None => 66,
+        Err(q) => q.number() as u64,
+        Ok(jobs::Answer::Added) => 64,
+        Ok(jobs::Answer::Given(place)) => mix(65, place as u64),
+        Ok(jobs::Answer::None) => 66,
     };
     mix(sum, code)
 }
 
 // Takes all of a record into a running sum.
 fn record_sum(sum: u64, job: Job) -> u64 {
-    let bytes = job.bytes;
-    let mut next = mix(
+    let head = mix(
         mix(mix(sum, job.state as u64), job.member.0 as u64),
         job.length as u64,
     );
-    let mut i: usize = 0;
-    while i < Group::JOB {
-        next = mix(next, wide(bytes[i]) as u64);
-        i += 1;
-    }
-    next
+    job.bytes
+        .iter()
+        .fold(head, |sum, &byte| mix(sum, byte as u64))
 }
 
 // Takes all records into a running sum.
 fn list_sum(sum: u64, jobs: [Job; Group::JOBS]) -> u64 {
-    let mut next = sum;
-    let mut i: usize = 0;
-    while i < Group::JOBS {
-        let job = jobs[i];
-        next = record_sum(next, job);
-        i += 1;
-    }
-    next
+    jobs.iter().fold(sum, |sum, &job| record_sum(sum, job))
 }
 
-// The record whose bytes begin at an index.
-fn record_at(records: &[u8], at: usize) -> Job
-    requires { at + 245 ≤ length records.now }
+// The record that has these bytes.
+fn record_of(laid: &[u8]) -> Job
+    requires { length laid.now ≡ 245 }
 {
     let mut bytes = [0u8; Group::JOB];
-    let start = at + 6;
-    let end = at + RECORD;
-    message::copy(&records[start..end], &mut bytes);
-    let length = big_endian::u32_at(records, at + 2);
+    bytes.copy_from_slice(&laid[6..]);
     Job {
-        state: records[at],
-        member: MemberNumber(records[at + 1]),
-        length: length as usize,
+        state: laid[0],
+        member: MemberNumber(laid[1]),
+        length: big_endian::u32_at(laid, 2) as usize,
         bytes,
     }
 }
@@ -143,16 +131,8 @@ fn record_at(records: &[u8], at: usize) -> Job
 // The list whose first records are these, and the others unused.
 fn list_of(records: &[u8]) -> [Job; Group::JOBS] {
     let mut jobs = jobs::no_jobs();
-    let mut at: usize = 0;
-    let mut i: usize = 0;
-    while i < Group::JOBS {
-        if records.len() - at < RECORD {
-            return jobs;
-        }
-        let job = record_at(records, at);
-        jobs[i] = job;
-        at += RECORD;
-        i += 1;
+    for (job, laid) in jobs.iter_mut().zip(records.chunks_exact(RECORD)) {
+        *job = record_of(laid);
     }
     jobs
 }
@@ -166,20 +146,13 @@ struct Feeding {
 
 // Feeds a list each of many feeds, up to one that is cut off: two bytes with the payload's size and the member stand before it.
 fn list_hears(mut jobs: [Job; Group::JOBS], mut sum: u64, feeds: &[u8]) -> Feeding {
-    let mut at: usize = 0;
-    while 3 <= feeds.len() - at {
-        let start = at + 3;
-        let size = size_at(feeds, at);
-        if feeds.len() - start < size {
-            return Feeding { jobs, sum };
-        }
-        let end = start + size;
-        let member = feeds[at + 2];
-        let outcome = jobs::feed_array(jobs, MemberNumber(member), &feeds[start..end]);
-        let answer = outcome.answer;
+    let mut rest = feeds;
+    // kept: a while, since an entry says how many bytes it used.
+    while let Some((head, payload, behind)) = entry(rest, 3, 0) {
+        let outcome = jobs::feed_array(jobs, MemberNumber(head[2]), payload);
         jobs = outcome.jobs;
-        sum = feed_sum(sum, answer);
-        at = end;
+        sum = feed_sum(sum, outcome.answer);
+        rest = behind;
     }
     Feeding { jobs, sum }
 }
@@ -190,12 +163,10 @@ pub extern "C" fn rounds_feeds(records: &[u8], feeds: &[u8], rounds: u32) -> u64
     let start = list_of(records);
     let mut last = start;
     let mut sum: u64 = 0;
-    let mut left = rounds;
-    while 0 < left {
+    for _ in 0..rounds {
         let run = list_hears(start, sum, feeds);
         last = run.jobs;
         sum = run.sum;
-        left -= 1;
     }
     list_sum(sum, last)
 }
@@ -203,28 +174,28 @@ pub extern "C" fn rounds_feeds(records: &[u8], feeds: &[u8], rounds: u32) -> u64
 // Takes what reading a journal answers into a running sum.
 #[unsafe(no_mangle)]
 pub extern "C" fn rounds_journal_read(sum: u64, journal: &[u8]) -> u64 {
-    let reading = journal::read(journal);
-    match reading {
-        journal::Reading::Read(found) => {
-            let tail = found.tail;
+    match journal::read(journal) {
+        Ok(found) => {
             let counted = mix(mix(sum, found.blocks as u64), found.messages as u64);
-            mix(mix(counted, tail.last.0 as u64), tail.free as u64)
+            mix(
+                mix(counted, found.tail.last.0 as u64),
+                found.tail.free as u64,
+            )
         }
-        journal::Reading::Refused(q) => mix(sum, q.number() as u64),
+        Err(refusal) => mix(sum, refusal.number() as u64),
     }
 }
 
 // Takes what reading the record at an index of a block answers into a running sum.
 #[unsafe(no_mangle)]
 pub extern "C" fn rounds_journal_record(sum: u64, block: &[u8], at: usize, number: u32) -> u64 {
-    let entry = journal::record_at(block, at, SequenceNumber(number));
-    match entry {
-        journal::Entry::Right(record) => {
+    match journal::record_at(block, at, SequenceNumber(number)) {
+        Some(record) => {
             let from = mix(mix(sum, record.number.0 as u64), record.originator.0 as u64);
             let counted = mix(from, record.count as u64);
             mix(mix(counted, record.start as u64), record.length as u64)
         }
-        journal::Entry::Wrong => mix(sum, 1),
+        None => mix(sum, 1),
     }
 }
 
@@ -236,13 +207,8 @@ struct Journaling {
     sum: u64,
 }
 
-// Takes a writer's state and what it answered into a running sum.
-fn writer_sum(sum: u64, writer: Writer, answer: journal::Answer, written: usize) -> u64 {
-    let code = match answer {
-        journal::Answer::Refused(q) => q.number() as u64,
-        journal::Answer::Kept => 48,
-        journal::Answer::Closed => 57,
-    };
+// Takes the code of what a writer answered, the writer behind it and the bytes that it wrote into a running sum.
+fn writer_sum(sum: u64, code: u64, writer: Writer, written: usize) -> u64 {
     let tail = writer.tail;
     let ended = mix(mix(mix(sum, code), tail.last.0 as u64), tail.free as u64);
     let begun = mix(mix(ended, writer.first.0 as u64), writer.records as u64);
@@ -251,42 +217,31 @@ fn writer_sum(sum: u64, writer: Writer, answer: journal::Answer, written: usize)
 
 // Lays a block that was handed out at an index of the output, where it has room; the index behind it.
 fn lay(block: &[u8], written: usize, out: &mut [u8], place: usize) -> usize {
-    if block.len() != written {
-        return place;
-    }
-    if out.len() < place {
-        return place;
-    }
-    if out.len() - place < block.len() {
+    if block.len() != written || out.len() < place || out.len() - place < block.len() {
         return place;
     }
     text::put_text(block, out, place)
 }
 
-// Hands a writer the message whose payload stands between two indices of a list: the number, the originator, the count and
-// the payload's length stand before it. The originator 255 means shutdown.
+// Hands a writer the message with that payload: its head has the number, the originator and the count. The originator 255 means
+// shutdown.
 fn journal_step(
-    run: Journaling,
-    messages: &[u8],
-    start: usize,
-    end: usize,
+    writer: Writer,
+    head: &[u8],
+    payload: &[u8],
     hand: &mut [u8; journal::Block::SIZE],
     block: &mut [u8; journal::Block::SIZE],
-) -> journal::Step
-    requires { (11 ≤ start) × (start ≤ end) × (end ≤ length messages.now) }
+) -> Result<journal::Step, Refusal>
+    requires { length head.now ≡ 11 }
 {
-    let writer = run.writer;
-    let originator = messages[start - 7];
+    let originator = head[4];
     if originator == 255 {
         return writer.finish(hand, block);
     }
-    let number = SequenceNumber(big_endian::u32_at(messages, start - 11));
-    let count = big_endian::u32_at(messages, start - 6);
-    let payload = &messages[start..end];
     writer.write(
-        number,
+        SequenceNumber(big_endian::u32_at(head, 0)),
         MemberNumber(originator),
-        count,
+        big_endian::u32_at(head, 5),
         payload,
         hand,
         block,
@@ -301,21 +256,24 @@ fn journal_writes(
     block: &mut [u8; journal::Block::SIZE],
     out: &mut [u8],
 ) -> Journaling {
-    let mut at: usize = 0;
-    while 11 <= messages.len() - at {
-        let start = at + 11;
-        let size = size_at(messages, at + 9);
-        if messages.len() - start < size {
-            return run;
+    let mut rest = messages;
+    // kept: a while, since an entry says how many bytes it used.
+    while let Some((head, payload, behind)) = entry(rest, 11, 9) {
+        match journal_step(run.writer, head, payload, hand, block) {
+            Ok(step) => {
+                let code = match step.answer {
+                    journal::Answer::Kept => 48,
+                    journal::Answer::Closed => 57,
+                };
+                run.writer = step.writer;
+                run.place = lay(block, step.written, out, run.place);
+                run.sum = writer_sum(run.sum, code, step.writer, step.written);
+            }
+            Err(refusal) => {
+                run.sum = writer_sum(run.sum, refusal.number() as u64, run.writer, 0);
+            }
         }
-        let end = start + size;
-        let step = journal_step(run, messages, start, end, hand, block);
-        let writer = step.writer;
-        let answer = step.answer;
-        let place = lay(block, step.written, out, run.place);
-        let sum = writer_sum(run.sum, writer, answer, step.written);
-        run = Journaling { writer, place, sum };
-        at = end;
+        rest = behind;
     }
     run
 }
@@ -346,25 +304,22 @@ pub extern "C" fn rounds_journal_write(
     let mut hand = [0u8; journal::Block::SIZE];
     let mut block = [0u8; journal::Block::SIZE];
     let mut sum: u64 = 0;
-    let mut left = rounds;
-    while 0 < left {
+    for _ in 0..rounds {
         let fresh = Journaling {
             writer,
             place: 0,
             sum,
         };
-        let run = journal_writes(fresh, messages, &mut hand, &mut block, out);
-        sum = run.sum;
-        left -= 1;
+        sum = journal_writes(fresh, messages, &mut hand, &mut block, out).sum;
     }
     sum
 }
 
 // Takes what planning or rewriting a journal answers into a running sum.
-fn laid_sum(sum: u64, answer: plan::Answer) -> u64 {
+fn laid_sum(sum: u64, answer: Result<usize, Refusal>) -> u64 {
     match answer {
-        plan::Answer::Bytes(size) => mix(mix(sum, 68), size as u64),
-        plan::Answer::Refused(q) => mix(sum, q.number() as u64),
+        Ok(size) => mix(mix(sum, 68), size as u64),
+        Err(q) => mix(sum, q.number() as u64),
     }
 }
 

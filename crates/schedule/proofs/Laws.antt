@@ -2,7 +2,7 @@
 -- the line. Assumes nothing.
 use mathlib.Core.Path.{◌≡◌, refl, sym, ap, ◌∙◌}
 use mathlib.Core.List.{List, [], ◌∷◌}
-use mathlib.Core.Option.{Option, none, some}
+use Rattle.std.specs.Prelude.{Option, None, Some}
 use Prim.Native.Char.{code}
 use Prim.Native.Nat.{ℕ, suc, ◌+◌, ◌/◌, ◌≤◌, zero-le}
 use native.Mathlib.Nat.{le_refl}
@@ -15,7 +15,7 @@ use borrow.Author.Tests.{leb-true}
 use Rattle.model.specs.World.{Event, submit, repeat, take, status, poll, copy, hand_member, hand_sequencer}
 use Rattle.text.specs.Text.{space}
 use Rattle.schedule.specs.Line.{line_most, payload_room, submitted, with_two, form_of, event_of, command_of, payload_of}
-use Rattle.text.specs.Field.{before, fields_of, letter_of, number_in, is_hex, hex_bytes, hex_in}
+use Rattle.text.specs.Field.{before, fields_of, letter_of, is_letter, number_in, is_hex, hex_bytes, hex_in}
 use Rattle.schedule.specs.Laws.{meant_by, CommandMeans, SubmitFits}
 use Rattle.schedule.specs.declared.Command.{Command}
 use Rattle.schedule.specs.declared.Command.TheVariants.{Submit, Repeat, Take, Status, Poll, Copy, HandMember, HandSequencer}
@@ -25,15 +25,15 @@ use Rattle.schedule.proofs.Forms.{alone_payload, number_payload}
 
 pub command_means : CommandMeans
 unfolding meant_by command_of payload_of
-command_means none lent = refl
-command_means (some (submit i payload)) lent = ap (λ (p : List ℕ). some (submit i p)) (take_at payload (drop (length payload) lent) (length payload) refl)
-command_means (some (repeat i)) lent = refl
-command_means (some (take i)) lent = refl
-command_means (some (status i)) lent = refl
-command_means (some poll) lent = refl
-command_means (some (copy number)) lent = refl
-command_means (some (hand_member k i)) lent = refl
-command_means (some (hand_sequencer k)) lent = refl
+command_means None lent = refl
+command_means (Some (submit i payload)) lent = ap (λ (p : List ℕ). Some (submit i p)) (take_at payload (drop (length payload) lent) (length payload) refl)
+command_means (Some (repeat i)) lent = refl
+command_means (Some (take i)) lent = refl
+command_means (Some (status i)) lent = refl
+command_means (Some poll) lent = refl
+command_means (Some (copy number)) lent = refl
+command_means (Some (hand_member k i)) lent = refl
+command_means (Some (hand_sequencer k)) lent = refl
 
 -- the characters of all fields
 unfoldable pub total : List (List ℕ) → ℕ
@@ -62,16 +62,16 @@ hex_half field =
 
 submit_half : (i : Option ℕ) (field : List ℕ) → length (payload_of (submitted i (hex_in field))) ≤ length field / 2
 unfolding submitted payload_of
-submit_half none field = zero-le
-submit_half (some i) field =
-    when_elim (λ (payload : Option (List ℕ)). length (payload_of (submitted (some i) payload)) ≤ length field / 2) (is_hex field) (λ t. hex_half field) (λ t. zero-le)
+submit_half None field = zero-le
+submit_half (Some i) field =
+    when_elim (λ (payload : Option (List ℕ)). length (payload_of (submitted (Some i) payload)) ≤ length field / 2) (is_hex field) (λ t. hex_half field) (λ t. zero-le)
 
-two_half : (letter : ℕ) (a b : List ℕ) → length (payload_of (with_two letter a b)) ≤ length b / 2
+two_half : (letter : Option ℕ) (a b : List ℕ) → length (payload_of (with_two letter a b)) ≤ length b / 2
 unfolding with_two payload_of
 two_half letter a b =
     let half : Option Event → Type 0 = λ event. length (payload_of event) ≤ length b / 2 in
-    when_elim half (letter =? code "S") (λ t. submit_half (number_in a) b)
-    (λ t. when_elim half (letter =? code "M") (λ u. rw (hand_payload (number_in a) (number_in b)) zero-le) (λ u. zero-le))
+    when_elim half (is_letter (code "S") letter) (λ t. submit_half (number_in a) b)
+    (λ t. when_elim half (is_letter (code "M") letter) (λ u. rw (hand_payload (number_in a) (number_in b)) zero-le) (λ u. zero-le))
 
 form_half : (fields : List (List ℕ)) → length (payload_of (form_of fields)) ≤ total fields / 2
 unfolding form_of payload_of total
@@ -91,28 +91,28 @@ payload_fits_lem line =
     (λ t. zero-le)
 
 -- a command tells its payload's length
-unfoldable size_of : Command → ℕ
-size_of Command.Other = 0
-size_of (Submit i size) = size
-size_of (Repeat i) = 0
-size_of (Take i) = 0
-size_of (Status i) = 0
-size_of Poll = 0
-size_of (Copy number) = 0
-size_of (HandMember k i) = 0
-size_of (HandSequencer k) = 0
+unfoldable size_of : Option Command → ℕ
+size_of None = 0
+size_of (Some (Submit i size)) = size
+size_of (Some (Repeat i)) = 0
+size_of (Some (Take i)) = 0
+size_of (Some (Status i)) = 0
+size_of (Some Poll) = 0
+size_of (Some (Copy number)) = 0
+size_of (Some (HandMember k i)) = 0
+size_of (Some (HandSequencer k)) = 0
 
 size_told : (event : Option Event) → size_of (command_of event) ≡ length (payload_of event)
 unfolding size_of command_of payload_of
-size_told none = refl
-size_told (some (submit i payload)) = refl
-size_told (some (repeat i)) = refl
-size_told (some (take i)) = refl
-size_told (some (status i)) = refl
-size_told (some poll) = refl
-size_told (some (copy number)) = refl
-size_told (some (hand_member k i)) = refl
-size_told (some (hand_sequencer k)) = refl
+size_told None = refl
+size_told (Some (submit i payload)) = refl
+size_told (Some (repeat i)) = refl
+size_told (Some (take i)) = refl
+size_told (Some (status i)) = refl
+size_told (Some poll) = refl
+size_told (Some (copy number)) = refl
+size_told (Some (hand_member k i)) = refl
+size_told (Some (hand_sequencer k)) = refl
 
 pub submit_fits : SubmitFits
 unfolding size_of

@@ -1,5 +1,6 @@
 -- The questions that a packet's fields meet at the sequencer, kind by kind, are the list of `specs/Laws.antt`: a question that
 -- does not fit the kind says yes. What follows them never refuses. Assumes nothing.
+use Rattle.std.specs.Prelude.{Ok}
 use mathlib.Core.Path.{◌≡◌, ap, ◌∙◌}
 use mathlib.Core.Bool.{true, false}
 use mathlib.Core.List.{List, [], ◌∷◌, ◌++◌}
@@ -16,12 +17,11 @@ use Rattle.group.specs.Question.{Question, first_no, judged}
 use Rattle.group.specs.declared.MemberNumber.{MemberNumber}
 use Rattle.group.specs.declared.Refusal.{Refusal}
 use Rattle.group.specs.declared.SequenceNumber.{SequenceNumber}
-use Rattle.group.specs.declared.Verdict.{Verdict}
+use Rattle.group.specs.Question.{Verdict}
 use Rattle.packet.specs.Packet.{known_kind, content_of, from_elected}
 use Rattle.packet.specs.declared.Header.{Header}
 use Rattle.packet.specs.declared.Packet.{Packet}
 use Rattle.packet.specs.declared.Packet.TheVariants.{Request, Broadcast, Gap, Status, Poll, Offer, Confirm, Accept, Invitation, Result}
-use Rattle.packet.specs.declared.Reading.{Reading}
 use Rattle.history.specs.Ask.{sender_verdict, count_verdict, wanted_verdict, expected_verdict}
 use Rattle.history.specs.Repeat.{find_of}
 use Rattle.sequencer.specs.Calls.{Outcome, answered, refused, old_of, again_of, full_of, numbered_of, request_of, gap_of, with_mark, enough_in, settled_of, confirm_of, content_step, read_step}
@@ -114,7 +114,7 @@ module _ (s : Sequencer) (payload : List ℕ) where
 
   -- kind by kind
   asked : (kind member group a b c : ℕ) → let h : Header = record { kind = kind; member = record { 0 = member }; group = group; a = a; b = b; c = c } in
-      known_kind kind ≡ true → read_step s (Reading.Fields h) payload ≡ judged (first_no (fields_questions s h)) (refused s) (accepted_step s (content_of h) payload)
+      known_kind kind ≡ true → read_step s (Ok h) payload ≡ judged (first_no (fields_questions s h)) (refused s) (accepted_step s (content_of h) payload)
   unfolding read_step from_elected content_of content_step accepted_step sender_verdict wanted_verdict expected_verdict known_kind first_no judged when◌then◌else◌
   asked zero member group a b c k = let z : false ≡ true = k in cc
   asked (suc zero) member group a b c k =
@@ -156,5 +156,5 @@ module _ (s : Sequencer) (payload : List ℕ) where
       absurd (omega arith)
 
   pub fields_asked : (h : Header) → known_kind h.kind ≡ true
-      → read_step s (Reading.Fields h) payload ≡ judged (first_no (fields_questions s h)) (refused s) (accepted_step s (content_of h) payload)
+      → read_step s (Ok h) payload ≡ judged (first_no (fields_questions s h)) (refused s) (accepted_step s (content_of h) payload)
   fields_asked h = asked h.kind h.member.0 h.group h.a h.b h.c

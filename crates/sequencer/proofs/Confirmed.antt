@@ -2,11 +2,10 @@
 -- struct, whose other arrays it leaves. Assumes nothing.
 use mathlib.Core.Path.{◌≡◌, refl, sym, ap, subst, ◌∙◌}
 use mathlib.Core.Logic.{◌≢◌}
-use mathlib.Core.Bool.{true, false}
 use mathlib.Core.List.{List, []}
 use Prim.Native.Nat.{ℕ, ◌-◌, ◌≤◌, ◌<◌}
 use borrow.Author.Tests.{le-leb, lt-leb, eq-eqb, ne_eqb}
-use Rattle.group.specs.Choice.{when◌then◌else◌, ◌≤?◌, ◌=?◌}
+use Rattle.group.specs.Choice.{◌≤?◌, ◌=?◌}
 use lib.ListN.{length}
 use Rattle.group.specs.Lent.{Laid}
 use Rattle.group.specs.Limits.{members_most}
@@ -30,11 +29,11 @@ use Rattle.sequencer.specs.View.{Stored, whole, marks_only, view_of, Fits}
 use Rattle.sequencer.specs.Wording.{wording_of}
 use Rattle.sequencer.specs.declared.Answer.{Answer}
 use Rattle.sequencer.specs.declared.Answer.TheVariants.{Old, Marked}
-use Rattle.sequencer.specs.declared.Confirmation.{Confirmation}
+use Rattle.std.specs.Prelude.{Some}
 use Rattle.sequencer.specs.declared.Head.{Head}
 use Rattle.sequencer.specs.declared.Reply.{Reply}
 use Rattle.sequencer.proofs.Outcomes.{changed_as, changed_laid}
-use Rattle.sequencer.proofs.Settling.{choose, none≢}
+use Rattle.sequencer.proofs.Settling.{choose, none≢, who_was}
 use Rattle.sequencer.proofs.View.{inside}
 
 -- an answer that writes nothing
@@ -131,7 +130,7 @@ module _ (head head' : Head) (taken counts repeats kept marks marks' originators
       (record { answer = c.answer; state = λ i. (joined s (record { sequencer = c.state i; answer = r.answer; bytes = [] })).sequencer; lent = c.lent; wording = c.wording })
 
 -- which number a confirmation confirms, and who does
-pub confirm_is : (s : Sequencer) (packet : Packet) (payload : List ℕ) (m : MemberNumber) (number : SequenceNumber) → confirmation_of packet ≡ Confirmation.Of m number
+pub confirm_is : (s : Sequencer) (packet : Packet) (payload : List ℕ) (m : MemberNumber) (number : SequenceNumber) → confirmation_of packet ≡ Some (m, number)
     → confirm_of s m number ≡ accepted_step s packet payload
 unfolding confirmation_of accepted_step
 confirm_is s (Request sender taken count) payload m number e = absurd (none≢ e)
@@ -141,15 +140,15 @@ confirm_is s (Status sender taken) payload m number e = absurd (none≢ e)
 confirm_is s (Poll elected top floor) payload m number e = absurd (none≢ e)
 confirm_is s (Offer originator n count floor) payload m number e = absurd (none≢ e)
 confirm_is s (Confirm sender n) payload m number e =
-    let a : m ≡ sender = cc in
-    let b : number ≡ n = cc in
+    let a : m ≡ sender = sym (ap (λ (w : MemberNumber × SequenceNumber). w.0) (who_was e)) in
+    let b : number ≡ n = sym (ap (λ (w : MemberNumber × SequenceNumber). w.1) (who_was e)) in
     λ i. confirm_of s (a i) (b i)
 confirm_is s (Accept elected n) payload m number e = absurd (none≢ e)
 confirm_is s (Invitation sender attempt) payload m number e = absurd (none≢ e)
 confirm_is s (Packet.Reply sender attempt n) payload m number e = absurd (none≢ e)
 confirm_is s (Result sender attempt elected n) payload m number e = absurd (none≢ e)
 
-confirm_sender : (packet : Packet) (m : MemberNumber) (number : SequenceNumber) → confirmation_of packet ≡ Confirmation.Of m number → (sender_of packet).member ≡ m
+confirm_sender : (packet : Packet) (m : MemberNumber) (number : SequenceNumber) → confirmation_of packet ≡ Some (m, number) → (sender_of packet).member ≡ m
 unfolding confirmation_of sender_of
 confirm_sender (Request sender taken count) m number e = absurd (none≢ e)
 confirm_sender (Broadcast originator n count floor) m number e = absurd (none≢ e)
@@ -157,7 +156,7 @@ confirm_sender (Gap sender taken first last) m number e = absurd (none≢ e)
 confirm_sender (Status sender taken) m number e = absurd (none≢ e)
 confirm_sender (Poll elected top floor) m number e = absurd (none≢ e)
 confirm_sender (Offer originator n count floor) m number e = absurd (none≢ e)
-confirm_sender (Confirm sender n) m number e = cc
+confirm_sender (Confirm sender n) m number e = ap (λ (w : MemberNumber × SequenceNumber). w.0) (who_was e)
 confirm_sender (Accept elected n) m number e = absurd (none≢ e)
 confirm_sender (Invitation sender attempt) m number e = absurd (none≢ e)
 confirm_sender (Packet.Reply sender attempt n) m number e = absurd (none≢ e)
@@ -166,7 +165,7 @@ confirm_sender (Result sender attempt elected n) m number e = absurd (none≢ e)
 -- who confirms is a member
 pub confirm_inside : (head : Head) (taken counts repeats kept marks originators lengths payloads : List ℕ) (fits : Fits (whole head taken counts repeats kept marks originators lengths payloads))
     (packet : Packet) (payload : List ℕ) (room : ℕ) → Due (view_of (whole head taken counts repeats kept marks originators lengths payloads)) packet (length payload) room
-    → (m : MemberNumber) (number : SequenceNumber) → confirmation_of packet ≡ Confirmation.Of m number → m.0 < members_most
+    → (m : MemberNumber) (number : SequenceNumber) → confirmation_of packet ≡ Some (m, number) → m.0 < members_most
 confirm_inside head taken counts repeats kept marks originators lengths payloads fits packet payload room due m number e =
     subst (λ (x : MemberNumber). x.0 < members_most) (confirm_sender packet m number e)
     (inside head taken counts repeats kept marks originators lengths payloads fits packet payload room due)

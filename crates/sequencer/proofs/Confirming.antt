@@ -1,16 +1,15 @@
 -- A confirmation keeps a state sound, and the marks it sets stand where their members' reach goes, so that as many as have to confirm
 -- have what it accepts: the ones of a mark are counted. Assumes nothing.
-use mathlib.Core.Path.{◌≡◌, refl, sym, ap, ◌∙◌, subst}
-use mathlib.Core.Logic.{◌≢◌, ◌⊎◌, inl, inr}
+use mathlib.Core.Path.{◌≡◌, ◌∙◌, subst}
+use mathlib.Core.Logic.{◌⊎◌, inl, inr}
 use mathlib.Core.Bool.{true}
-use mathlib.Core.List.{List, []}
-use Prim.Native.Nat.{ℕ, ◌+◌, ◌-◌, ◌^◌, ◌≤◌, ◌<◌}
-use native.Mathlib.Nat.{le_refl, le_trans}
+use mathlib.Core.List.{List}
+use Prim.Native.Nat.{ℕ, ◌+◌, ◌-◌, ◌≤◌, ◌<◌}
+use native.Mathlib.Nat.{le_trans}
 use native.Mathlib.Omega.{arith}
 use borrow.Author.Tests.{le-leb, leb-true, eqb-true, eqb-false}
 use lib.Bits.{bit_or}
 use lib.Count.{ones}
-use lib.ListN.{length, get_or}
 use Rattle.group.proofs.Choice.{both_hold, both_first, both_then}
 use Rattle.group.proofs.Counting.{count, count_within, count_mono, ones_count}
 use Rattle.group.proofs.Lists.{when_elim, le_or}
@@ -21,8 +20,8 @@ use Rattle.group.specs.Members.{is_in, only_of, others_of, expected_of, needed_o
 use Rattle.group.specs.declared.Group.{Group}
 use Rattle.group.specs.declared.MemberNumber.{MemberNumber}
 use Rattle.group.specs.declared.SequenceNumber.{SequenceNumber}
-use Rattle.history.proofs.Marks.{Apart, marked_length, marked_other, marked_at, marked_lt, unmarked_length, unmarked_other, unmarked_at, unmarked_lt, enough_in_lem, enough_highest}
-use Rattle.history.specs.Marks.{mark_at, marked_of, enough_of, unmarked_of}
+use Rattle.history.proofs.Marks.{marked_length, marked_other, marked_at, marked_lt, unmarked_length, unmarked_other, unmarked_at, unmarked_lt, enough_in_lem, enough_highest}
+use Rattle.history.specs.Marks.{mark_at, marked_of, unmarked_of}
 use Rattle.sequencer.specs.Calls.{Outcome, answered, with_mark, with_accepted, enough_in, settled_of, confirm_of}
 use Rattle.sequencer.specs.Laws.{Typed, FewMarks}
 use Rattle.sequencer.specs.State.{Sequencer}

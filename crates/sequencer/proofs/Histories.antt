@@ -5,13 +5,12 @@ use mathlib.Core.Logic.{◌⊎◌, inl, inr}
 use mathlib.Core.Bool.{true}
 use mathlib.Core.Option.{Option, some}
 use mathlib.Core.List.{List, [], ◌∷◌, ◌++◌}
-use Prim.Native.Nat.{ℕ, suc, ◌+◌, ◌-◌, ◌^◌, ◌≤◌, ◌<◌}
+use Prim.Native.Nat.{ℕ, suc, ◌+◌, ◌^◌, ◌≤◌, ◌<◌}
 use native.Mathlib.Nat.{le_trans}
 use native.Mathlib.Omega.{arith}
 use borrow.Author.Tests.{le-leb}
 use lib.Pow.{pow_pos}
 use lib.ListN.{length, get_or, length-append, get_or-replicate, get_or-eq_default}
-use Rattle.group.proofs.Counting.{count}
 use Rattle.group.proofs.Members.{Standing, survivor_lt, others_count}
 use Rattle.group.proofs.Lists.{at, at_le, at_nil, at_snoc, at_some, eq_or, le_or}
 use Rattle.group.specs.Choice.{◌≤?◌}
@@ -36,7 +35,7 @@ use Rattle.history.specs.State.{floor_of, Acknowledgement, no_acknowledgement, m
 use Rattle.sequencer.specs.Calls.{announced, broadcast_of, repeated_of, with_message, with_mark, with_accepted}
 use Rattle.sequencer.specs.Note.{with_table, note_of}
 use Rattle.sequencer.specs.State.{Sequencer, repeat_count, fresh_sequencer}
-use Rattle.sequencer.proofs.Invariant.{SequencerInv, Confirmed, reaches, facts_of}
+use Rattle.sequencer.proofs.Invariant.{SequencerInv, Confirmed, facts_of}
 use Rattle.sequencer.proofs.Confirming.{mark_typed, mark_sound_lem, accept_typed, accept_sound}
 use Rattle.sequencer.proofs.Keeping.{repeated_count, repeated_typed, repeated_sound}
 use Rattle.sequencer.proofs.Noting.{noted_count, floor_up, note_typed, note_sound}

@@ -1,8 +1,10 @@
 -- Each step of a sound sequencer leaves a sound state that its types can hold, and writes nothing or a packet that reading
 -- accepts: the step's text, with a proof for each way that a choice goes. Assumes nothing.
+use Rattle.group.specs.Question.{all_yes}
+use Rattle.std.specs.Prelude.{Ok}
 use mathlib.Core.Path.{◌≡◌, refl, sym, ◌∙◌}
 use mathlib.Core.Logic.{◌≢◌, ◌⊎◌, inl, inr}
-use mathlib.Core.Bool.{true, false, false≢true}
+use mathlib.Core.Bool.{true, false≢true}
 use mathlib.Core.List.{List, []}
 use Prim.Native.Nat.{ℕ, ◌+◌, ◌-◌, ◌≤◌, ◌<◌}
 use native.Mathlib.Omega.{arith}
@@ -17,13 +19,11 @@ use Rattle.group.specs.declared.MemberNumber.{MemberNumber}
 use Rattle.group.specs.declared.Refusal.{Refusal}
 use Rattle.group.specs.declared.Refusal.TheVariants.{OtherEnd}
 use Rattle.group.specs.declared.SequenceNumber.{SequenceNumber}
-use Rattle.group.specs.declared.Verdict.{Verdict}
 use Rattle.packet.proofs.Laws.{read_written}
 use Rattle.packet.specs.Packet.{obeys, read_of, fields_of}
 use Rattle.packet.specs.declared.Header.{Header}
 use Rattle.packet.specs.declared.Packet.{Packet}
 use Rattle.packet.specs.declared.Packet.TheVariants.{Request, Broadcast, Gap, Status, Poll, Offer, Confirm, Accept, Invitation, Result}
-use Rattle.packet.specs.declared.Reading.{Reading}
 use Rattle.history.proofs.Finding.{found_in}
 use Rattle.history.specs.Ask.{sender_verdict, count_verdict, wanted_verdict, expected_verdict}
 use Rattle.history.specs.Note.{larger_of, with_counts}
@@ -51,7 +51,7 @@ use Rattle.sequencer.proofs.Soundness.{stands, Sound}
 pub record Stays (o : Outcome) : Type 0 where
   pub typed : Typed o.sequencer
   pub sound : Sound o.sequencer
-  pub bytes : (o.bytes ≡ []) ⊎ ((h : Header) × (read_of o.bytes ≡ Reading.Fields h))
+  pub bytes : (o.bytes ≡ []) ⊎ ((h : Header) × (read_of o.bytes ≡ Ok h))
 
 module _ (s : Sequencer) (typed : Typed s) (sound : Sound s) where
   pub answered_stays : (answer : Answer) → Stays (answered s answer)
@@ -119,11 +119,11 @@ module _ (s : Sequencer) (typed : Typed s) (sound : Sound s) where
           marks_above = sound.marks_above;
         }
 
-  pub broadcast_reads : (k : ℕ) → s.floor.0 < k → k ≤ s.top.0 → (h : Header) × (read_of (broadcast_of s k) ≡ Reading.Fields h)
+  pub broadcast_reads : (k : ℕ) → s.floor.0 < k → k ≤ s.top.0 → (h : Header) × (read_of (broadcast_of s k) ≡ Ok h)
   unfolding broadcast_of
   broadcast_reads k a b = (_, (read_written _ _ (broadcast_allowed s typed sound k a b)).0)
 
-  pub poll_reads : (h : Header) × (read_of (poll_packet s) ≡ Reading.Fields h)
+  pub poll_reads : (h : Header) × (read_of (poll_packet s) ≡ Ok h)
   unfolding poll_packet
   poll_reads = (_, (read_written _ _ (poll_allowed s typed sound)).0)
 
@@ -168,7 +168,7 @@ module _ (s : Sequencer) (typed : Typed s) (sound : Sound s) (m : MemberNumber) 
       numbered_stays count payload least most short room p (left (omega arith)))))
 
 -- the packet that accepts reads
-pub accept_reads : (s : Sequencer) → Typed s → Sound s → 1 ≤ s.accepted.0 → (h : Header) × (read_of (accept_packet s) ≡ Reading.Fields h)
+pub accept_reads : (s : Sequencer) → Typed s → Sound s → 1 ≤ s.accepted.0 → (h : Header) × (read_of (accept_packet s) ≡ Ok h)
 unfolding accept_packet
 accept_reads s typed sound least = (_, (read_written _ _ (accept_allowed s typed sound least)).0)
 
@@ -196,7 +196,7 @@ confirm_stays s typed sound m number member below expected =
     settled_stays (with_mark s m number) (mark_typed s typed sound m number member above below) (mark_sound_lem s typed sound m number member above below (expected above)))
 
 -- an accepted sender is a survivor, and so a member
-pub sender_in : (s : Sequencer) → Sound s → (most : ℕ) (sender : MemberNumber) (taken : SequenceNumber) → sender_verdict s.group.survivors most sender taken ≡ Verdict.Accepted
+pub sender_in : (s : Sequencer) → Sound s → (most : ℕ) (sender : MemberNumber) (taken : SequenceNumber) → sender_verdict s.group.survivors most sender taken ≡ all_yes
     → (sender.0 < s.group.n) × (taken.0 ≤ most) × (is_in s.group.survivors sender.0 ≡ true)
 sender_in s sound most sender taken e =
     let a = sender_was s.group.survivors most sender taken e in
@@ -208,7 +208,7 @@ module _ (s : Sequencer) (typed : Typed s) (sound : Sound s) (g : ℕ) (payload 
   refused_stays refusal = answered_stays s typed sound (Answer.Refused refusal)
 
   -- once a sender was accepted, its number is noted
-  module _ (sender : MemberNumber) (taken : SequenceNumber) (e : sender_verdict s.group.survivors s.accepted.0 sender taken ≡ Verdict.Accepted) where
+  module _ (sender : MemberNumber) (taken : SequenceNumber) (e : sender_verdict s.group.survivors s.accepted.0 sender taken ≡ all_yes) where
     typed' : Typed (note_of s sender taken)
     typed' = let a = sender_in s sound s.accepted.0 sender taken e in note_typed s sender taken typed.table sound a.0 a.1 a.2 typed
 
@@ -218,7 +218,7 @@ module _ (s : Sequencer) (typed : Typed s) (sound : Sound s) (g : ℕ) (payload 
     noted_stays : (answer : Answer) → Stays (answered (note_of s sender taken) answer)
     noted_stays answer = answered_stays (note_of s sender taken) typed' sound' answer
 
-    requested_stays : (count : ℕ) → 1 ≤ count → count ≤ largest_number → count_verdict (last_count s sender) s.top.0 count ≡ Verdict.Accepted
+    requested_stays : (count : ℕ) → 1 ≤ count → count ≤ largest_number → count_verdict (last_count s sender) s.top.0 count ≡ all_yes
         → Stays (request_of (note_of s sender taken) sender count payload)
     unfolding note_of with_table
     requested_stays count least most f =

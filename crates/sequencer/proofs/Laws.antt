@@ -1,5 +1,7 @@
 -- The laws that `specs/Laws.antt` states: a call is the first no of its questions or a step that never refuses, and each step
 -- leaves a sound state sound. Assumes nothing.
+use Rattle.group.specs.Question.{all_yes}
+use Rattle.std.specs.Prelude.{Ok, Err}
 use mathlib.Core.Path.{◌≡◌, refl, sym, ap, ◌∙◌, subst}
 use mathlib.Core.Logic.{inl, inr}
 use mathlib.Core.Bool.{true}
@@ -15,12 +17,12 @@ use Rattle.group.specs.Limits.{header_size, largest_number}
 use Rattle.group.specs.Question.{Question, first_no, judged}
 use Rattle.group.specs.declared.Refusal.{Refusal}
 use Rattle.group.specs.declared.Refusal.TheVariants.{UnsoundState, PacketSize, UnknownKind, NotInHistory, OtherGroup, ForbiddenFields}
-use Rattle.group.specs.declared.Verdict.{Verdict}
+use Rattle.group.specs.Question.{Verdict}
 use Rattle.packet.proofs.Laws.{read_first_no, fields_content}
 use Rattle.packet.proofs.Verdicts.{askable, readable}
 use Rattle.packet.specs.Laws.{read_questions}
 use Rattle.packet.specs.Packet.{header_of, payload_at, known_kind, read_of, content_of, from_elected}
-use Rattle.packet.specs.declared.Reading.{Reading}
+use Rattle.packet.specs.Answers.{Reading}
 use Rattle.sequencer.specs.Calls.{Outcome, answered, refused, broadcast_of, poll_packet, read_step, call_verdict, receive_of, poll_of, copy_of}
 use Rattle.sequencer.specs.Laws.{call_questions, fields_questions, receive_questions, copy_questions, FirstNo, ReceiveFirstNo, PollFirstNo, CopyFirstNo, Typed, Keeps, ReceiveKeeps, PollKeeps, CopyKeeps}
 use Rattle.sequencer.specs.Sound.{sound_of}
@@ -55,11 +57,11 @@ copy_first_no s number room =
     ∙ judged_append (refused s) step (call_questions s room) (record { yes = inside; refusal = NotInHistory } ∷ []))
 
 -- a packet that the questions of reading pass has a known kind
-known_kind_lem : (p : List ℕ) → first_no (read_questions p) ≡ Verdict.Accepted → known_kind (header_of p).kind ≡ true
+known_kind_lem : (p : List ℕ) → first_no (read_questions p) ≡ all_yes → known_kind (header_of p).kind ≡ true
 unfolding first_no
 known_kind_lem p e =
-    let a = when_was _ _ _ Verdict.Accepted e (accepted≢ PacketSize) in
-    (when_was _ _ _ Verdict.Accepted a.1 (accepted≢ UnknownKind)).0
+    let a = when_was _ _ _ all_yes e (accepted≢ PacketSize) in
+    (when_was _ _ _ all_yes a.1 (accepted≢ UnknownKind)).0
 
 module _ (s : Sequencer) (p : List ℕ) where
   abbrev step : Outcome
@@ -73,10 +75,10 @@ module _ (s : Sequencer) (p : List ℕ) where
       ∙ judged_append (refused s) step (read_questions p) (fields_questions s (header_of p))
     where
       go : (v : Verdict) → first_no (read_questions p) ≡ v
-          → read_step s (judged v Reading.Refused (Reading.Fields (header_of p))) (payload_at p)
+          → read_step s (judged v Err (Ok (header_of p))) (payload_at p)
           ≡ judged v (refused s) (judged (first_no (fields_questions s (header_of p))) (refused s) step)
-      go Verdict.Accepted e = fields_asked s (payload_at p) (header_of p) (known_kind_lem p e)
-      go (Verdict.Refused r) e = refl
+      go (Ok _) e = fields_asked s (payload_at p) (header_of p) (known_kind_lem p e)
+      go (Err r) e = refl
 
 pub receive_first_no : ReceiveFirstNo
 unfolding receive_of call_verdict first_no
@@ -93,15 +95,15 @@ module _ (s : Sequencer) (typed : Typed s) where
   keeps_stays : (o : Outcome) → Stays o → Keeps s o
   keeps_stays o k = record { typed = k.typed; sound = λ e. of_sound o.sequencer k.sound; bytes = k.bytes }
 
-  called_sound : (room : ℕ) → call_verdict s room ≡ Verdict.Accepted → sound_of s ≡ true
+  called_sound : (room : ℕ) → call_verdict s room ≡ all_yes → sound_of s ≡ true
   unfolding call_verdict
-  called_sound room e = (when_was (sound_of s) _ _ Verdict.Accepted e (accepted≢ UnsoundState)).0
+  called_sound room e = (when_was (sound_of s) _ _ all_yes e (accepted≢ UnsoundState)).0
 
   -- a packet that was read
   keeps_read : sound_of s ≡ true → (p : List ℕ) → (header_of p).b ≤ largest_number → (reading : Reading) → read_of p ≡ reading
       → Keeps s (read_step s reading (payload_at p))
   unfolding read_step
-  keeps_read sound p fits (Reading.Fields h) e =
+  keeps_read sound p fits (Ok h) e =
       let a = readable p h e in
       let f = askable h (length p - header_size) (payload_at p) a.fields in
       let c = fields_content h (length p - header_size) (payload_at p) a.fields in
@@ -111,7 +113,7 @@ module _ (s : Sequencer) (typed : Typed s) where
       (λ t. keeps_stays _ (content_stays s typed (sound_of_lem s sound) h.group (payload_at p) a.payload (content_of h) (rw c f.obey) (rw c most)))
       (λ t. keeps_refused OtherGroup))
       (λ u. keeps_refused ForbiddenFields)
-  keeps_read sound p fits (Reading.Refused refusal) e = keeps_refused refusal
+  keeps_read sound p fits (Err refusal) e = keeps_refused refusal
 
 pub receive_keeps : ReceiveKeeps
 unfolding receive_of

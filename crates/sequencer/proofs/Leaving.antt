@@ -1,11 +1,12 @@
 -- A refusal, by the law of the first no, leaves the state and writes nothing; a poll and a copy leave the state. Assumes nothing.
+use Rattle.std.specs.Prelude.{Ok, Err}
 use mathlib.Core.Path.{◌≡◌, refl}
 use mathlib.Core.List.{List}
 use Prim.Native.Nat.{ℕ}
 use Rattle.group.specs.Choice.{◌and◌, ◌<?◌, ◌≤?◌}
 use Rattle.group.specs.Question.{first_no}
 use Rattle.group.specs.declared.Refusal.{Refusal}
-use Rattle.group.specs.declared.Verdict.{Verdict}
+use Rattle.group.specs.Question.{Verdict}
 use Rattle.group.proofs.Lists.{when_elim, judged_elim}
 use Rattle.sequencer.specs.Calls.{Outcome, answered, refused, call_verdict, receive_of, poll_of, copy_of}
 use Rattle.sequencer.specs.Laws.{FirstNo, receive_questions, PollLeaves, CopyLeaves}
@@ -22,8 +23,8 @@ refuses s packet room refusal e = go (first_no (receive_questions s packet room)
     first = receive_first_no s packet room
 
     go : (v : Verdict) → first_no (receive_questions s packet room) ≡ v → (r : Refusal) × (receive_of s packet room ≡ refused s r)
-    go Verdict.Accepted q = absurd (first.accepts refusal q e)
-    go (Verdict.Refused r) q = (r, first.refuses r q)
+    go (Ok _) q = absurd (first.accepts refusal q e)
+    go (Err r) q = (r, first.refuses r q)
 
 abbrev Leaves : Sequencer → Outcome → Type 0
 Leaves s o = o.sequencer ≡ s

@@ -2,7 +2,7 @@
 -- number above the new floor keeps its place. Assumes nothing.
 use mathlib.Core.Path.{◌≡◌, refl, sym, ap, ◌∙◌}
 use mathlib.Core.Logic.{◌≢◌}
-use mathlib.Core.Bool.{true, false, false≢true}
+use mathlib.Core.Bool.{true, false≢true}
 use mathlib.Core.List.{List}
 use Prim.Native.Nat.{ℕ, ◌+◌, ◌-◌, ◌≤◌, ◌<◌}
 use native.Mathlib.Nat.{le_refl, le_trans, le_antisymm}
@@ -16,7 +16,6 @@ use Rattle.group.specs.declared.SequenceNumber.{SequenceNumber}
 use Rattle.message.proofs.Kept.{empty_zero}
 use Rattle.message.specs.Message.{is_empty}
 use Rattle.history.proofs.Soundness.{taken_in, count_in, Lost, kept_under, floor_most, floor_least, floor_first, floor_same}
-use Rattle.history.specs.Marks.{mark_at}
 use Rattle.history.specs.Note.{with_taken, table_noted}
 use Rattle.history.specs.State.{Acknowledgement, no_acknowledgement, acknowledgement_of, message_at, place_of, floor_of}
 use Rattle.history.proofs.Noting.{larger_least, larger_new, larger_most, cleared_length, cleared_other, cleared_empty}

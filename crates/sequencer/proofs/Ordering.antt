@@ -1,5 +1,6 @@
 -- Each call of the sequencer owes the group what the invariant of demand 3 asks: the call's text, with a proof for each way
 -- that a choice goes. Assumes nothing.
+use Rattle.group.specs.Question.{all_yes}
 use mathlib.Core.Path.{◌≡◌, refl, sym, ap, ◌∙◌, subst}
 use mathlib.Core.Logic.{◌≢◌}
 use mathlib.Core.Bool.{true}
@@ -20,7 +21,6 @@ use Rattle.group.specs.declared.MemberNumber.{MemberNumber}
 use Rattle.group.specs.declared.Refusal.{Refusal}
 use Rattle.group.specs.declared.Refusal.TheVariants.{ForbiddenFields, OtherEnd, NotInHistory}
 use Rattle.group.specs.declared.SequenceNumber.{SequenceNumber}
-use Rattle.group.specs.declared.Verdict.{Verdict}
 use Rattle.message.proofs.Owning.{Owns}
 use Rattle.message.specs.Order.{Ordered}
 use Rattle.packet.proofs.Facts.{Voice, Known, Says}
@@ -30,7 +30,7 @@ use Rattle.packet.specs.Laws.{Allowed}
 use Rattle.packet.specs.Packet.{packet_of, fields_of, written, from_elected}
 use Rattle.packet.specs.declared.Packet.{Packet}
 use Rattle.packet.specs.declared.Packet.TheVariants.{Request, Broadcast, Gap, Status, Poll, Offer, Confirm, Accept, Invitation, Result}
-use Rattle.history.proofs.Asking.{sender_was, count_was, expected_was}
+use Rattle.history.proofs.Asking.{count_was, expected_was}
 use Rattle.history.proofs.Soundness.{taken_in, floor_most, floor_least}
 use Rattle.history.specs.Ask.{sender_verdict, count_verdict, wanted_verdict, expected_verdict}
 use Rattle.sequencer.specs.Calls.{Outcome, answered, refused, announced, broadcast_of, poll_packet, request_of, content_step, read_step, call_verdict, receive_of, poll_of, copy_of}
@@ -50,7 +50,7 @@ use Rattle.sequencer.proofs.Answering.{Good, Ready, silent, writing, note_ready,
 
 -- a state with its invariant
 module _ (group : Group) (order : List Ordered) (s : Sequencer) (v : SequencerInv group s order) where
-  called : call_verdict s longest_packet ≡ Verdict.Accepted
+  called : call_verdict s longest_packet ≡ all_yes
   unfolding call_verdict when◌then◌else◌
   called = rw v.sound
 
@@ -134,7 +134,7 @@ module _ (group : Group) (order : List Ordered) (s : Sequencer) (v : SequencerIn
 
     -- the steps, once a sender was accepted and its number is noted
     module _ (sender : MemberNumber) (taken : SequenceNumber) (known : taken.0 ≤ (voice sender.0).row)
-        (e : sender_verdict s.group.survivors s.accepted.0 sender taken ≡ Verdict.Accepted) where
+        (e : sender_verdict s.group.survivors s.accepted.0 sender taken ≡ all_yes) where
       member : sender.0 < group.n
       member = rw v.group_is at (sender_in s (sound_of_lem s v.sound) s.accepted.0 sender taken e).0
 
@@ -145,7 +145,7 @@ module _ (group : Group) (order : List Ordered) (s : Sequencer) (v : SequencerIn
       noted = note_ready group order before voice s ready sender taken member survives known (rows sender.0 member)
 
       noted_request : (count : ℕ) (payload : List ℕ) → at (voice sender.0).submitted count ≡ some payload → length payload ≤ payload_most
-          → count_verdict (last_count s sender) s.top.0 count ≡ Verdict.Accepted → Owes (request_of (note_of s sender taken) sender count payload)
+          → count_verdict (last_count s sender) s.top.0 count ≡ all_yes → Owes (request_of (note_of s sender taken) sender count payload)
       unfolding note_of with_table
       noted_request count payload submission short f =
           let b = count_was (last_count s sender) s.top.0 count f in

@@ -7,7 +7,7 @@ use Rattle.group.specs.Lent.{Laid}
 use Rattle.group.specs.declared.Refusal.{Refusal}
 use Rattle.sequencer.specs.Calls.{Outcome, answered, refused}
 use Rattle.sequencer.specs.Owed.{Refuses}
-use Rattle.sequencer.specs.Promise.{reply_of, Changed, Told}
+use Rattle.sequencer.specs.Promise.{Changed, Told}
 use Rattle.sequencer.specs.State.{Sequencer}
 use Rattle.sequencer.specs.View.{Stored, view_of}
 use Rattle.sequencer.specs.Wording.{wording_of}

@@ -1,9 +1,11 @@
 -- The old count moves as a single count does: Old and Again put the sender's entry back with one repeat more, and every other
 -- answer comes with entries that keep their own. Assumes nothing.
+use Rattle.group.specs.Question.{all_yes}
+use Rattle.std.specs.Prelude.{Ok, Err}
 use mathlib.Core.Path.{◌≡◌, refl, sym, ap, ◌∙◌, subst}
 use mathlib.Core.Bool.{Bool, true, false}
 use mathlib.Core.List.{List}
-use Prim.Native.Nat.{ℕ, ◌-◌, ◌≤◌, ◌<◌}
+use Prim.Native.Nat.{ℕ, ◌-◌, ◌<◌}
 use native.Mathlib.Omega.{arith}
 use lib.ListN.{length}
 use Rattle.group.proofs.Choice.{when_was}
@@ -13,19 +15,16 @@ use Rattle.group.specs.Choice.{when◌then◌else◌, ◌and◌, ◌<?◌, ◌�
 use Rattle.group.specs.Limits.{members_most, places_most}
 use Rattle.group.specs.Opening.{open_of}
 use Rattle.group.specs.declared.MemberNumber.{MemberNumber}
-use Rattle.group.specs.declared.Opened.{Opened}
-use Rattle.group.specs.declared.Opened.TheVariants.{Open}
+use Rattle.group.specs.Opening.{Opened}
 use Rattle.group.specs.declared.Refusal.{Refusal}
 use Rattle.group.specs.declared.Refusal.TheVariants.{UnsoundState, ForbiddenFields, OtherGroup}
 use Rattle.group.specs.declared.SequenceNumber.{SequenceNumber}
-use Rattle.group.specs.declared.Verdict.{Verdict}
 use Rattle.packet.proofs.Verdicts.{readable}
 use Rattle.packet.specs.Packet.{request_kind, broadcast_kind, gap_kind, status_kind, poll_kind, offer_kind, confirm_kind, accept_kind, invitation_kind, reply_kind, from_elected, header_of, payload_at, read_of, content_of}
 use Rattle.packet.specs.declared.Header.{Header}
 use Rattle.packet.specs.declared.Packet.{Packet}
 use Rattle.packet.specs.declared.Packet.TheVariants.{Request, Broadcast, Gap, Status, Poll, Offer, Confirm, Accept, Invitation, Result}
-use Rattle.packet.specs.declared.Reading.{Reading}
-use Rattle.history.proofs.Asking.{sender_was}
+use Rattle.packet.specs.Answers.{Reading}
 use Rattle.history.proofs.Repeating.{repeats_same, repeats_more, repeats_none}
 use Rattle.history.specs.Ask.{sender_verdict, count_verdict, wanted_verdict, expected_verdict}
 use Rattle.history.specs.Note.{table_noted}
@@ -118,7 +117,7 @@ request_kind_lem h =
 
 module _ (s : Sequencer) (typed : Typed s) (sound : Sound s) where
   -- an accepted sender has an entry, in the noted table too
-  module _ (sender : MemberNumber) (taken : SequenceNumber) (e : sender_verdict s.group.survivors s.accepted.0 sender taken ≡ Verdict.Accepted) where
+  module _ (sender : MemberNumber) (taken : SequenceNumber) (e : sender_verdict s.group.survivors s.accepted.0 sender taken ≡ all_yes) where
     inside : sender.0 < length s.acknowledgements
     inside = let a = sender_in s sound s.accepted.0 sender taken e in omega arith
 
@@ -160,7 +159,7 @@ module _ (s : Sequencer) (typed : Typed s) (sound : Sound s) where
 
   read_count : (p : List ℕ) (reading : Reading) → read_of p ≡ reading → OldCount s ((header_of p).kind =? request_kind) (read_step s reading (payload_at p))
   unfolding read_step
-  read_count p (Reading.Fields h) e =
+  read_count p (Ok h) e =
       let request = (header_of p).kind =? request_kind in
       let same : is_request (content_of h) ≡ request = request_kind_lem h ∙ ap (λ (x : Header). x.kind =? request_kind) (readable p h e).header in
       when_elim (OldCount s request) (from_elected s.group (content_of h))
@@ -168,7 +167,7 @@ module _ (s : Sequencer) (typed : Typed s) (sound : Sound s) where
       (λ t. subst (λ (b : Bool). OldCount s b (content_step s (content_of h) (payload_at p))) same (content_count (content_of h) (payload_at p)))
       (λ t. refused_count s request OtherGroup))
       (λ u. refused_count s request ForbiddenFields)
-  read_count p (Reading.Refused refusal) e = refused_count s ((header_of p).kind =? request_kind) refusal
+  read_count p (Err refusal) e = refused_count s ((header_of p).kind =? request_kind) refusal
 
 pub receive_old_count : ReceiveOldCount
 unfolding receive_of call_verdict
@@ -176,7 +175,7 @@ receive_old_count s packet room typed =
     let request = (header_of packet).kind =? request_kind in
     judged_elim (OldCount s request) (call_verdict s room) (λ r e. refused_count s request r)
     (λ e.
-    let sound = sound_of_lem s (when_was (sound_of s) _ _ Verdict.Accepted e (accepted≢ UnsoundState)).0 in
+    let sound = sound_of_lem s (when_was (sound_of s) _ _ all_yes e (accepted≢ UnsoundState)).0 in
     read_count s typed sound packet (read_of packet) refl)
 
 pub poll_old_count : PollOldCount
@@ -191,8 +190,8 @@ copy_old_count s number room =
 
 opened_none : (opened : Opened) → repeats_of (opened_of opened).sequencer.acknowledgements ≡ 0
 unfolding opened_of fresh_sequencer
-opened_none (Open group) = repeats_none members_most
-opened_none (Opened.Refused refusal) = repeats_none members_most
+opened_none (Ok group) = repeats_none members_most
+opened_none (Err refusal) = repeats_none members_most
 
 pub fresh_old_count : FreshOldCount
 unfolding fresh_of

@@ -1,5 +1,6 @@
 -- What the answer to an accepted packet comes with may be written: a number that is found, or given next, lies above floor, and its
 -- message is kept soundly, by the soundness of the noted state. Assumes nothing.
+use Rattle.group.specs.Question.{all_yes}
 use mathlib.Core.Path.{◌≡◌}
 use mathlib.Core.Logic.{◌≢◌}
 use mathlib.Core.Bool.{true}
@@ -14,7 +15,6 @@ use Rattle.group.proofs.Members.{survivor_lt}
 use Rattle.group.specs.Choice.{◌<?◌, ◌≤?◌, ◌=?◌}
 use Rattle.group.specs.Limits.{members_most, places_most, payload_most}
 use Rattle.group.specs.declared.MemberNumber.{MemberNumber}
-use Rattle.group.specs.declared.Verdict.{Verdict}
 use Rattle.message.specs.Message.{Message, message_of}
 use Rattle.packet.specs.declared.Packet.{Packet}
 use Rattle.packet.specs.declared.Packet.TheVariants.{Request, Broadcast, Gap, Status, Poll, Offer, Confirm, Accept, Invitation, Result}
@@ -86,7 +86,7 @@ module _ (s : Sequencer) (sound : Sound s) (m : MemberNumber) (payload : List �
 
 -- a sound state that notes the sender of an accepted packet is sound
 pub noted_sound : (s : Sequencer) (packet : Packet) → sound_of s ≡ true → length s.acknowledgements ≡ members_most → length s.history ≡ places_most
-    → content_verdict s.group s.acknowledgements s.accepted.0 s.top.0 packet ≡ Verdict.Accepted
+    → content_verdict s.group s.acknowledgements s.accepted.0 s.top.0 packet ≡ all_yes
     → Sound (note_of s (sender_of packet).member (sender_of packet).taken)
 noted_sound s packet sound table history e =
     let a = accepted_sender s.group s.acknowledgements s.accepted.0 s.top.0 packet e in

@@ -1,10 +1,12 @@
 -- A packet that is accepted comes to the noted state with its change laid in, the change's answer, and what that answer is sent
 -- with: the text of each step, with a proof for each way that a choice goes. Assumes nothing.
+use Rattle.group.specs.Question.{all_yes}
+use Rattle.std.specs.Prelude.{Ok, Err}
 use mathlib.Core.Path.{◌≡◌, refl, sym, ap, ◌∙◌}
 use mathlib.Core.Logic.{◌≢◌}
 use mathlib.Core.Bool.{Bool, true, false}
 use mathlib.Core.List.{List, [], ◌∷◌}
-use Prim.Native.Nat.{ℕ, zero, suc, ◌+◌, ◌-◌, ◌≤◌, ◌<◌}
+use Prim.Native.Nat.{ℕ, zero, suc, ◌+◌, ◌-◌, ◌≤◌}
 use native.Mathlib.Nat.{le_refl}
 use native.Mathlib.Omega.{arith}
 use borrow.Author.Tests.{le-leb, lt-leb, eqb-false}
@@ -19,20 +21,19 @@ use Rattle.group.specs.declared.MemberNumber.{MemberNumber}
 use Rattle.group.specs.declared.Refusal.{Refusal}
 use Rattle.group.specs.declared.Refusal.TheVariants.{ForbiddenFields, OtherGroup, OtherEnd}
 use Rattle.group.specs.declared.SequenceNumber.{SequenceNumber}
-use Rattle.group.specs.declared.Verdict.{Verdict}
-use Rattle.group.proofs.Choice.{when_true, when_false, when_was}
+use Rattle.group.specs.Question.{Verdict}
+use Rattle.group.proofs.Choice.{when_true, when_false, when_was, when_eq, when_ne}
 use Rattle.group.proofs.Question.{accepted≢}
 use Rattle.message.specs.Message.{Message, message_of, blank}
 use Rattle.packet.specs.Packet.{content_of, from_elected}
 use Rattle.packet.specs.declared.Header.{Header}
 use Rattle.packet.specs.declared.Packet.{Packet}
 use Rattle.packet.specs.declared.Packet.TheVariants.{Request, Broadcast, Gap, Status, Poll, Offer, Confirm, Accept, Invitation, Result}
-use Rattle.packet.specs.declared.Reading.{Reading}
 use Rattle.history.specs.Ask.{sender_verdict, request_verdict, gap_verdict, confirm_verdict, sender_of, content_verdict, packet_verdict}
 use Rattle.history.specs.Note.{larger_of, with_counts}
 use Rattle.history.specs.Repeat.{one_more, find_of}
-use Rattle.history.specs.State.{Acknowledgement, no_acknowledgement, acknowledgement_of, place_of, message_at}
-use Rattle.history.proofs.Finding.{found_in}
+use Rattle.history.specs.State.{numbered, Acknowledgement, no_acknowledgement, acknowledgement_of, place_of, message_at}
+use Rattle.history.proofs.Finding.{found_in, numbered_was, numbered_least, numbered_not}
 use Rattle.sequencer.specs.Calls.{Outcome, answered, refused, broadcast_of, poll_packet, repeated_of, old_of, again_of, full_of, with_message, numbered_of, request_of, gap_of, content_step, read_step}
 use Rattle.sequencer.specs.Note.{note_of}
 use Rattle.sequencer.specs.State.{Sequencer, last_count, repeat_count}
@@ -40,7 +41,7 @@ use Rattle.sequencer.specs.Steps.{accepted_step, confirmation_of, quiet, again_c
 use Rattle.sequencer.specs.declared.Answer.{Answer}
 use Rattle.sequencer.specs.declared.Answer.TheVariants.{Old, Again, Full, Numbered, Noted, Wanted}
 use Rattle.sequencer.specs.declared.Change.{Change}
-use Rattle.sequencer.specs.declared.Confirmation.{Confirmation}
+use Rattle.std.specs.Prelude.{Some, None}
 
 -- an entry that is set to what it is
 set_own : {A : Type 0} (l : List A) (i : ℕ) (d : A) → set l i (get_or l i d) ≡ l
@@ -178,14 +179,33 @@ module _ (s : Sequencer) (m : MemberNumber) (payload : List ℕ) where
       choose (λ (answer : Answer). outcome_of s m payload (quiet (last_count s m) s.top s.accepted (repeat_count s m) answer)) (last.0 ≤? s.floor.0) _ _ _ _
       (λ e. noted_is Noted refl) (λ e. noted_is (Wanted (record { 0 = larger_of first.0 (s.floor.0 + 1) }) last) refl)
 
+-- the last count again, whose message was found, and was not
+pub again_some : (k last : ℕ) (top accepted number : SequenceNumber) (repeats : ℕ) → numbered k ≡ Some number
+    → record { number = number; top = top; accepted = accepted; count = last; repeats = one_more repeats; answer = Again number } ≡ again_change k last top accepted repeats
+unfolding again_change
+again_some k last top accepted number repeats e =
+    let p = numbered_was k number e in
+    let q = numbered_least k number e in
+    when_ne k 0 _ _ _ (λ z. omega arith)
+    (ap (λ (n : ℕ). record { number = record { 0 = n }; top = top; accepted = accepted; count = last; repeats = one_more repeats; answer = Again (record { 0 = n }) }) p)
+
+pub again_none : (k last : ℕ) (top accepted : SequenceNumber) (repeats : ℕ) → numbered k ≡ None
+    → quiet last top accepted (one_more repeats) Old ≡ again_change k last top accepted repeats
+unfolding again_change
+again_none k last top accepted repeats e = when_eq k 0 _ _ _ (sym (numbered_not k e)) refl
+
 -- a packet that confirms nothing does not confirm
-pub none≢ : {m : MemberNumber} {number : SequenceNumber} → Confirmation.None ≡ Confirmation.Of m number → ⊥
+pub none≢ : {w : MemberNumber × SequenceNumber} → None ≡ Some w → ⊥
 none≢ e = let z : ◌≡◌ {A = ℕ} 0 1 = cc in omega arith
+
+-- who confirms which number is said once
+pub who_was : {w v : MemberNumber × SequenceNumber} → Some w ≡ Some v → w ≡ v
+who_was e = cc
 
 -- a packet that is accepted and confirms nothing
 pub accepted_is : (s : Sequencer) (packet : Packet) (payload : List ℕ)
-    → content_verdict s.group s.acknowledgements s.accepted.0 s.top.0 packet ≡ Verdict.Accepted
-    → confirmation_of packet ≡ Confirmation.None
+    → content_verdict s.group s.acknowledgements s.accepted.0 s.top.0 packet ≡ all_yes
+    → confirmation_of packet ≡ None
     → let m = (sender_of packet).member in
     let noted = note_of s m (sender_of packet).taken in
     length noted.history ≡ places_most
@@ -206,13 +226,13 @@ accepted_is s (Packet.Reply sender attempt number) payload e none size = absurd 
 accepted_is s (Result sender attempt elected number) payload e none size = absurd (accepted≢ OtherEnd e)
 
 -- two verdicts in turn, and a question before a verdict
-judged_turn : {A : Type 0} (v w : Verdict) (f : Refusal → A) (x : A) → judged v f (judged w f x) ≡ judged (judged v Verdict.Refused w) f x
+judged_turn : {A : Type 0} (v w : Verdict) (f : Refusal → A) (x : A) → judged v f (judged w f x) ≡ judged (judged v Err w) f x
 unfolding judged
-judged_turn Verdict.Accepted w f x = refl
-judged_turn (Verdict.Refused r) w f x = refl
+judged_turn (Ok _) w f x = refl
+judged_turn (Err r) w f x = refl
 
 judged_if : {A : Type 0} (t : Bool) (r : Refusal) (v : Verdict) (f : Refusal → A) (x : A)
-    → (when t then judged v f x else f r) ≡ judged (when t then v else Verdict.Refused r) f x
+    → (when t then judged v f x else f r) ≡ judged (when t then v else Err r) f x
 unfolding judged when◌then◌else◌
 judged_if true r v f x = refl
 judged_if false r v f x = refl
@@ -235,7 +255,7 @@ content_is s (Packet.Reply sender attempt number) payload = refl
 content_is s (Result sender attempt elected number) payload = refl
 
 pub read_is : (s : Sequencer) (h : Header) (payload : List ℕ)
-    → read_step s (Reading.Fields h) payload
+    → read_step s (Ok h) payload
     ≡ judged (packet_verdict s.group s.acknowledgements s.accepted.0 s.top.0 h.group (content_of h)) (refused s)
     (accepted_step s (content_of h) payload)
 unfolding read_step packet_verdict
@@ -247,8 +267,8 @@ read_is s h payload =
 
 -- questions 6 and 7 said yes to a packet that was accepted
 pub content_was : (group : Group) (table : List Acknowledgement) (accepted top number : ℕ) (packet : Packet)
-    → packet_verdict group table accepted top number packet ≡ Verdict.Accepted → content_verdict group table accepted top packet ≡ Verdict.Accepted
+    → packet_verdict group table accepted top number packet ≡ all_yes → content_verdict group table accepted top packet ≡ all_yes
 unfolding packet_verdict
 content_was group table accepted top number packet e =
-    let f = when_was (from_elected group packet) _ _ Verdict.Accepted e (accepted≢ ForbiddenFields) in
-    (when_was (number =? group.number) _ _ Verdict.Accepted f.1 (accepted≢ OtherGroup)).1
+    let f = when_was (from_elected group packet) _ _ all_yes e (accepted≢ ForbiddenFields) in
+    (when_was (number =? group.number) _ _ all_yes f.1 (accepted≢ OtherGroup)).1

@@ -1,5 +1,6 @@
 -- What is done to the arrays, said of the state that they hold: noting and clearing lead to the noted state, and what is laid then to the
 -- step of the definition. The view says every number and byte of the struct. Assumes nothing.
+use Rattle.group.specs.Question.{all_yes}
 use mathlib.Core.Path.{◌≡◌, refl, sym, ap, subst, ◌∙◌}
 use mathlib.Core.List.{List}
 use Prim.Native.Nat.{ℕ, ◌+◌, ◌-◌, ◌*◌, ◌<◌, ◌≤◌}
@@ -17,7 +18,6 @@ use Rattle.group.proofs.Members.{survivor_lt}
 use Rattle.group.specs.declared.Group.{Group}
 use Rattle.group.specs.declared.MemberNumber.{MemberNumber}
 use Rattle.group.specs.declared.SequenceNumber.{SequenceNumber}
-use Rattle.group.specs.declared.Verdict.{Verdict}
 use Rattle.message.proofs.Kept.{payload_short}
 use Rattle.message.specs.Message.{Message, message_of, payload_of, blank}
 use Rattle.packet.proofs.Permitted.{broadcast_fields, offer_fields, laid_whole}
@@ -45,7 +45,7 @@ use Rattle.sequencer.specs.Sound.{sound_of}
 use Rattle.sequencer.specs.Steps.{accepted_step, confirmation_of, request_change, change_of, sent_of, laid_of, changed}
 use Rattle.sequencer.specs.View.{Stored, whole, view_of, Fits}
 use Rattle.sequencer.specs.declared.Change.{Change}
-use Rattle.sequencer.specs.declared.Confirmation.{Confirmation}
+use Rattle.std.specs.Prelude.{None}
 use Rattle.sequencer.specs.declared.Head.{Head}
 use Rattle.sequencer.proofs.Outcomes.{changed_as, changed_laid}
 use Rattle.sequencer.proofs.Owed.{accepted_sender, accepted_left}
@@ -210,14 +210,14 @@ module _ (head : Head) (taken counts repeats kept marks originators lengths payl
       unfolding view_of
       places_next = places_kept
 
-      outcome_is : confirmation_of packet ≡ Confirmation.None → outcome_of (view_of next) m payload change ≡ accepted_step state packet payload
+      outcome_is : confirmation_of packet ≡ None → outcome_of (view_of next) m payload change ≡ accepted_step state packet payload
       outcome_is none =
           let size = ap (λ (s : Sequencer). length s.history) (sym noted_is) ∙ places_next in
           ap (outcome_of (view_of next) m payload) change_is
           ∙ ap (λ (s : Sequencer). outcome_of s m payload (change_in s)) noted_is
           ∙ sym (accepted_is state packet payload due.accepted none size)
 
-      accepted_changed : confirmation_of packet ≡ Confirmation.None → (written : ℕ) (x y : List ℕ)
+      accepted_changed : confirmation_of packet ≡ None → (written : ℕ) (x y : List ℕ)
           → Laid (sent_of change.answer head.group change.top change.accepted floor (get_or (messages_in kept'' originators'' lengths'' payloads'') (place_of change.number.0) blank)) written x y
           → Changed (accepted_step state packet payload) (record { answer = change.answer; written = written }) last x y
       unfolding view_of
@@ -275,7 +275,7 @@ module _ (head : Head) (taken counts repeats kept marks originators lengths payl
           Changed (accepted_step (view_of (whole head taken counts repeats kept marks originators lengths payloads)) packet payload) (record { answer = k.answer; written = written })
           (whole (record { group = head.group; top = k.top; accepted = k.accepted; floor = floor }) taken' (set counts s.member.0 k.count) (set repeats s.member.0 k.repeats) kept'' marks originators'' lengths'' payloads'') x y
 
-      pub found_changed : confirmation_of packet ≡ Confirmation.None → (written : ℕ) (x y : List ℕ) → Wrote c at written x y → Gave from c written x y
+      pub found_changed : confirmation_of packet ≡ None → (written : ℕ) (x y : List ℕ) → Wrote c at written x y → Gave from c written x y
       found_changed none written x y l =
           subst (λ (s : Sender). Gave s c written x y) (sym sent-by)
           (subst (λ (k : Change). Gave (sender_of packet) k written x y) (sym change_by_lem)
@@ -311,10 +311,10 @@ place_laid h payloads at size room {r} {x} {y} short l = subst (λ (p : List ℕ
 
 -- a message's packet, broadcast or offered, may be written
 announced_fields : (group : ℕ) (accepted : SequenceNumber) (originator : MemberNumber) (number floor : SequenceNumber) (count : ℕ) (payload : List ℕ) → 1 ≤ count → floor.0 < number.0
-    → fields_verdict (fields_of group (announced accepted originator number count floor)) (length payload) payload ≡ Verdict.Accepted
+    → fields_verdict (fields_of group (announced accepted originator number count floor)) (length payload) payload ≡ all_yes
 unfolding announced
 announced_fields group accepted originator number floor count payload a b =
-    when_elim (λ (packet : Packet). fields_verdict (fields_of group packet) (length payload) payload ≡ Verdict.Accepted) (number.0 ≤? accepted.0)
+    when_elim (λ (packet : Packet). fields_verdict (fields_of group packet) (length payload) payload ≡ all_yes) (number.0 ≤? accepted.0)
     (λ t. broadcast_fields group originator number floor count payload a b) (λ t. offer_fields group originator number floor count payload a b)
 
 -- the packet of the message in a place

@@ -1,4 +1,6 @@
 -- The sequencer's calls: each goes down its questions in their order, and then takes its step.
+use Rattle.group.specs.Question.{all_yes}
+use Rattle.std.specs.Prelude.{Ok, Err}
 use Rattle.std.specs.Prelude.{List, [], ℕ, ◌+◌, ◌-◌, set}
 use Rattle.group.specs.Choice.{when◌then◌else◌, ask◌or◌then◌, ◌and◌, ◌<?◌, ◌≤?◌, ◌=?◌}
 use Rattle.group.specs.Limits.{places_most, longest_packet}
@@ -7,17 +9,15 @@ use Rattle.group.specs.Opening.{description_of, open_of}
 use Rattle.group.specs.Question.{judged}
 use Rattle.group.specs.declared.MemberNumber.{MemberNumber}
 use Rattle.group.specs.declared.SequenceNumber.{SequenceNumber}
-use Rattle.group.specs.declared.Opened.{Opened}
-use Rattle.group.specs.declared.Opened.TheVariants.{Open}
+use Rattle.group.specs.Opening.{Opened}
 use Rattle.group.specs.declared.Refusal.{Refusal}
 use Rattle.group.specs.declared.Refusal.TheVariants.{UnsoundState, ShortOutput, ForbiddenFields, OtherGroup, OtherEnd, NotInHistory}
-use Rattle.group.specs.declared.Verdict.{Verdict}
+use Rattle.group.specs.Question.{Verdict}
 use Rattle.message.specs.Message.{message_of, payload_of}
 use Rattle.packet.specs.Packet.{content_of, fields_of, packet_of, payload_at, read_of, from_elected}
 use Rattle.packet.specs.declared.Packet.{Packet}
 use Rattle.packet.specs.declared.Packet.TheVariants.{Request, Broadcast, Gap, Status, Poll, Offer, Confirm, Accept, Invitation, Result}
-use Rattle.packet.specs.declared.Reading.{Reading}
-use Rattle.packet.specs.declared.Reading.TheVariants.{Fields}
+use Rattle.packet.specs.Answers.{Reading}
 use Rattle.history.specs.Note.{larger_of, with_counts}
 use Rattle.history.specs.State.{acknowledgement_of, place_of, message_at}
 use Rattle.history.specs.Repeat.{one_more, find_of}
@@ -200,18 +200,18 @@ content_step s (Result sender attempt elected number) payload = refused s OtherE
 
 -- a packet that was read: question 6 of byte 1, then 7
 unfoldable pub read_step : Sequencer → Reading → List ℕ → Outcome
-read_step s (Fields h) payload =
+read_step s (Ok h) payload =
     ask from_elected s.group (content_of h) or refused s ForbiddenFields then
     ask h.group =? s.group.number or refused s OtherGroup then
     content_step s (content_of h) payload
-read_step s (Reading.Refused refusal) payload = refused s refusal
+read_step s (Err refusal) payload = refused s refusal
 
 -- questions 1 and 2, of every call
 unfoldable pub call_verdict : Sequencer → ℕ → Verdict
 call_verdict s room =
-    ask sound_of s or Verdict.Refused UnsoundState then
-    ask longest_packet ≤? room or Verdict.Refused ShortOutput then
-    Verdict.Accepted
+    ask sound_of s or Err UnsoundState then
+    ask longest_packet ≤? room or Err ShortOutput then
+    all_yes
 
 -- the call for packets
 unfoldable pub receive_of : Sequencer → List ℕ → ℕ → Outcome
@@ -235,9 +235,9 @@ pub record Opening : Type 0 where
 
 -- opening: questions 18 and 24. Where it is refused, the state is all zero
 unfoldable pub opened_of : Opened → Opening
-opened_of (Open group) = record { sequencer = fresh_sequencer group; verdict = Verdict.Accepted }
-opened_of (Opened.Refused refusal) =
-    record { sequencer = fresh_sequencer (description_of 0 0 0); verdict = Verdict.Refused refusal }
+opened_of (Ok group) = record { sequencer = fresh_sequencer group; verdict = all_yes }
+opened_of (Err refusal) =
+    record { sequencer = fresh_sequencer (description_of 0 0 0); verdict = Err refusal }
 
 unfoldable pub fresh_of : ℕ → ℕ → ℕ → Opening
 fresh_of n number resilience = opened_of (open_of n number resilience)

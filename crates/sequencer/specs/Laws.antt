@@ -1,4 +1,6 @@
 -- What is proved of the sequencer's meaning. `proofs/` has a proof of each statement.
+use Rattle.group.specs.Question.{all_yes}
+use Rattle.std.specs.Prelude.{Ok, Err}
 use Rattle.std.specs.Prelude.{◌≡◌, Bool, true, false, List, [], ◌∷◌, ◌++◌, ◌⊎◌, ℕ, ◌+◌, ◌^◌, ◌≤◌, ◌<◌, length, get_or}
 use Rattle.std.specs.Int.Count.{ones}
 use Rattle.group.specs.Choice.{when◌then◌else◌, ◌and◌, ◌<?◌, ◌≤?◌, ◌=?◌}
@@ -8,11 +10,9 @@ use Rattle.group.specs.Question.{Question, first_no}
 use Rattle.group.specs.declared.MemberNumber.{MemberNumber}
 use Rattle.group.specs.declared.Refusal.{Refusal}
 use Rattle.group.specs.declared.SequenceNumber.{SequenceNumber}
-use Rattle.group.specs.declared.Verdict.{Verdict}
 use Rattle.packet.specs.Laws.{read_questions}
 use Rattle.packet.specs.Packet.{request_kind, gap_kind, status_kind, confirm_kind, header_of, read_of, content_of, from_elected}
 use Rattle.packet.specs.declared.Header.{Header}
-use Rattle.packet.specs.declared.Reading.{Reading}
 use Rattle.history.specs.Marks.{mark_at}
 use Rattle.history.specs.Repeat.{one_more, repeats_of}
 use Rattle.history.specs.State.{no_acknowledgement}
@@ -55,8 +55,8 @@ copy_questions s number room =
 -- demand 1: a refusal is answered exactly if some question says no, with the first one's number; then the state is the same
 -- and nothing is written. Every other input is accepted
 pub record FirstNo (s : Sequencer) (questions : List Question) (o : Outcome) : Type 0 where
-  pub refuses : (refusal : Refusal) → first_no questions ≡ Verdict.Refused refusal → o ≡ refused s refusal
-  pub accepts : (refusal : Refusal) → first_no questions ≡ Verdict.Accepted → o.answer ≡ Answer.Refused refusal → ⊥
+  pub refuses : (refusal : Refusal) → first_no questions ≡ Err refusal → o ≡ refused s refusal
+  pub accepts : (refusal : Refusal) → first_no questions ≡ all_yes → o.answer ≡ Answer.Refused refusal → ⊥
 
 abbrev pub ReceiveFirstNo : Type 0
 ReceiveFirstNo = (s : Sequencer) (packet : List ℕ) (room : ℕ) → FirstNo s (receive_questions s packet room) (receive_of s packet room)
@@ -83,7 +83,7 @@ pub record Typed (s : Sequencer) : Type 0 where
 pub record Keeps (s : Sequencer) (o : Outcome) : Type 0 where
   pub typed : Typed o.sequencer
   pub sound : sound_of s ≡ true → sound_of o.sequencer ≡ true
-  pub bytes : (o.bytes ≡ []) ⊎ ((h : Header) × (read_of o.bytes ≡ Reading.Fields h))
+  pub bytes : (o.bytes ≡ []) ⊎ ((h : Header) × (read_of o.bytes ≡ Ok h))
 
 abbrev pub ReceiveKeeps : Type 0
 ReceiveKeeps =

@@ -7,5 +7,6 @@ pub mod Wording
 pub mod View
 pub mod Promise
 pub mod Laws
+pub mod Decided
 pub mod Steps
 pub mod Owed

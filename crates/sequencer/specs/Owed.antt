@@ -1,9 +1,9 @@
 -- What the functions below the calls promise, and what they are owed by the questions before them.
+use Rattle.group.specs.Question.{all_yes}
 use Rattle.std.specs.Prelude.{◌≡◌, true, List, ℕ, ◌≤◌, ◌<◌, length}
 use Rattle.group.specs.Limits.{members_most, header_size, payload_most, longest_packet, largest_number}
 use Rattle.group.specs.declared.Refusal.{Refusal}
 use Rattle.group.specs.declared.SequenceNumber.{SequenceNumber}
-use Rattle.group.specs.declared.Verdict.{Verdict}
 use Rattle.message.specs.Message.{Message}
 use Rattle.packet.specs.Packet.{payload_at}
 use Rattle.packet.specs.declared.Packet.{Packet}
@@ -12,9 +12,9 @@ use Rattle.history.specs.Ask.{content_verdict}
 use Rattle.sequencer.specs.Calls.{refused, confirm_of, receive_of}
 use Rattle.sequencer.specs.Sound.{sound_of}
 use Rattle.sequencer.specs.Steps.{accepted_step, confirmation_of}
-use Rattle.sequencer.specs.declared.Confirmation.{Confirmation}
-use Rattle.sequencer.specs.declared.Decision.{Decision}
-use Rattle.sequencer.specs.declared.Decision.TheVariants.{Refuse, Mark, Note}
+use Rattle.std.specs.Prelude.{Ok, Err, None}
+use Rattle.sequencer.specs.Decided.{Decided}
+use Rattle.sequencer.specs.declared.Decision.TheVariants.{Mark, Note}
 use Rattle.sequencer.specs.declared.Answer.{Answer}
 use Rattle.sequencer.specs.declared.Answer.TheVariants.{Old, Again, Full, Numbered, Noted, Wanted, Sent, Marked}
 use Rattle.sequencer.specs.State.{Sequencer}
@@ -50,16 +50,16 @@ pub record Sized (s : Sequencer) (size room : ℕ) : Type 0 where
 -- of a packet that is to be answered: the same, and it was accepted
 pub record Due (s : Sequencer) (packet : Packet) (size room : ℕ) : Type 0 where
   pub sizes : Sized s size room
-  pub accepted : content_verdict s.group s.acknowledgements s.accepted.0 s.top.0 packet ≡ Verdict.Accepted
+  pub accepted : content_verdict s.group s.acknowledgements s.accepted.0 s.top.0 packet ≡ all_yes
 
 -- what a decision on a packet says: a refusal is the call's; who is to be marked is a member; what is to be noted is due, and lies
 -- behind a header
-abbrev pub Judged : Sequencer → List ℕ → ℕ → Decision → Type 0
-Judged s packet room (Refuse refusal) = refused s refusal ≡ receive_of s packet room
-Judged s packet room (Mark m number) =
+abbrev pub Judged : Sequencer → List ℕ → ℕ → Decided → Type 0
+Judged s packet room (Err refusal) = refused s refusal ≡ receive_of s packet room
+Judged s packet room (Ok (Mark m number)) =
     (m.0 < members_most) × (longest_packet ≤ room) × (confirm_of s m number ≡ receive_of s packet room)
-Judged s packet room (Note content) =
-    (confirmation_of content ≡ Confirmation.None) × Due s content (length (payload_at packet)) room × (header_size ≤ length packet)
+Judged s packet room (Ok (Note content)) =
+    (confirmation_of content ≡ None) × Due s content (length (payload_at packet)) room × (header_size ≤ length packet)
     × (accepted_step s content (payload_at packet) ≡ receive_of s packet room)
 
 -- a next number is left where a request wants one

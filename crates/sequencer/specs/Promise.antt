@@ -4,7 +4,7 @@ use Rattle.std.specs.Prelude.{◌≡◌, List, ℕ, length}
 use Rattle.group.specs.Lent.{front}
 use Rattle.group.specs.Wording.{verdict_wording}
 use Rattle.group.specs.declared.SequenceNumber.{SequenceNumber}
-use Rattle.group.specs.declared.Verdict.{Verdict}
+use Rattle.group.specs.Question.{Verdict}
 use Rattle.sequencer.specs.Calls.{Outcome, Opening, receive_of, poll_of, copy_of, fresh_of}
 use Rattle.sequencer.specs.View.{Stored, view_of}
 use Rattle.sequencer.specs.Wording.{wording_of}

@@ -1,4 +1,5 @@
 -- What the functions below the call for packets work out: what a packet that is accepted changes, once A is noted.
+use Rattle.std.specs.Prelude.{Ok, Err, Option, Some, None}
 use Rattle.std.specs.Prelude.{List, [], ℕ, ◌+◌, ◌-◌, set}
 use Rattle.group.specs.Choice.{when◌then◌else◌, ◌<?◌, ◌≤?◌, ◌=?◌}
 use Rattle.group.specs.Limits.{places_most}
@@ -10,8 +11,7 @@ use Rattle.message.specs.Message.{Message, message_of, payload_of}
 use Rattle.packet.specs.Packet.{content_of, fields_of, packet_of}
 use Rattle.packet.specs.declared.Packet.{Packet}
 use Rattle.packet.specs.declared.Packet.TheVariants.{Request, Broadcast, Gap, Status, Poll, Offer, Confirm, Accept, Invitation, Result}
-use Rattle.packet.specs.declared.Reading.{Reading}
-use Rattle.packet.specs.declared.Reading.TheVariants.{Fields}
+use Rattle.packet.specs.Answers.{Reading}
 use Rattle.history.specs.Ask.{packet_verdict}
 use Rattle.history.specs.Note.{larger_of, with_counts}
 use Rattle.history.specs.Repeat.{one_more, find_of}
@@ -21,10 +21,9 @@ use Rattle.sequencer.specs.Note.{note_of}
 use Rattle.sequencer.specs.declared.Answer.{Answer}
 use Rattle.sequencer.specs.declared.Answer.TheVariants.{Old, Again, Full, Numbered, Noted, Wanted, Sent, Marked}
 use Rattle.sequencer.specs.declared.Change.{Change}
-use Rattle.sequencer.specs.declared.Confirmation.{Confirmation}
-use Rattle.sequencer.specs.declared.Confirmation.TheVariants.{None, Of}
+use Rattle.sequencer.specs.Decided.{Decided}
 use Rattle.sequencer.specs.declared.Decision.{Decision}
-use Rattle.sequencer.specs.declared.Decision.TheVariants.{Refuse, Mark, Note}
+use Rattle.sequencer.specs.declared.Decision.TheVariants.{Mark, Note}
 use Rattle.sequencer.specs.State.{Sequencer}
 
 -- what is done with a packet that no question refuses; of the kinds for the other end none is left
@@ -42,30 +41,30 @@ accepted_step s (Packet.Reply sender attempt number) payload = answered s Noted
 accepted_step s (Result sender attempt elected number) payload = answered s Noted
 
 -- who confirms which number in a packet, if it is a confirmation
-unfoldable pub confirmation_of : Packet → Confirmation
+unfoldable pub confirmation_of : Packet → Option (MemberNumber × SequenceNumber)
 confirmation_of (Request sender taken count) = None
 confirmation_of (Broadcast originator number count floor) = None
 confirmation_of (Gap sender taken first last) = None
 confirmation_of (Status sender taken) = None
 confirmation_of (Poll elected top floor) = None
 confirmation_of (Offer originator number count floor) = None
-confirmation_of (Confirm sender number) = Of sender number
+confirmation_of (Confirm sender number) = Some (sender, number)
 confirmation_of (Accept elected number) = None
 confirmation_of (Invitation sender attempt) = None
 confirmation_of (Packet.Reply sender attempt number) = None
 confirmation_of (Result sender attempt elected number) = None
 
 -- what becomes of a packet that no question refuses
-unfoldable pub sorted_by : Confirmation → Packet → Decision
+unfoldable pub sorted_by : Option (MemberNumber × SequenceNumber) → Packet → Decision
 sorted_by None packet = Note packet
-sorted_by (Of member number) packet = Mark member number
+sorted_by (Some (member, number)) packet = Mark member number
 
--- what becomes of a packet that was read: its questions, in a group with a table of acknowledgements, and then whether it confirms
-unfoldable pub decision_of : Group → List Acknowledgement → SequenceNumber → SequenceNumber → Reading → Decision
-decision_of group table accepted top (Fields h) =
-    judged (packet_verdict group table accepted.0 top.0 h.group (content_of h)) Refuse
-    (sorted_by (confirmation_of (content_of h)) (content_of h))
-decision_of group table accepted top (Reading.Refused refusal) = Refuse refusal
+-- what is refused of a packet, or what becomes of it once it was read: its questions, in a group with a table of acknowledgements, and then whether it confirms
+unfoldable pub decision_of : Group → List Acknowledgement → SequenceNumber → SequenceNumber → Reading → Decided
+decision_of group table accepted top (Ok h) =
+    judged (packet_verdict group table accepted.0 top.0 h.group (content_of h)) Err
+    (Ok (sorted_by (confirmation_of (content_of h)) (content_of h)))
+decision_of group table accepted top (Err refusal) = Err refusal
 
 -- a change of the sender's repeat count at most
 abbrev pub quiet : ℕ → SequenceNumber → SequenceNumber → ℕ → Answer → Change

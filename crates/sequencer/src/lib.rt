@@ -21,13 +21,13 @@ ghost use Rattle.sequencer.specs.Promise.{Changed};
 ghost use Rattle.sequencer.specs.Owed.{MayBroadcast, MaySend, Left};
 ghost use Rattle.sequencer.specs.Steps.{quiet, request_change, gap_answer, change_of, confirmation_of, decision_of, sent_of};
 
-use group::{Group, MemberNumber, Refusal, SequenceNumber, Verdict};
-use packet::{Header, Packet, Reading};
+use group::{Group, MemberNumber, Refusal, SequenceNumber};
+use packet::{Header, Packet};
 
 // The numbers of the whole: the group's description, the last number given, the last accepted, and the number through which every
 // member has everything.
 #[repr(C)]
-#[derive(Clone, Copy)]
+#[derive(Clone, Copy, Debug, PartialEq, Eq)]
 pub struct Head {
     pub group: Group,
     pub top: SequenceNumber,
@@ -36,7 +36,7 @@ pub struct Head {
 }
 
 // What a call answers.
-#[derive(Clone, Copy)]
+#[derive(Clone, Copy, Debug, PartialEq, Eq)]
 pub enum Answer {
     Refused(Refusal),
     Old,
@@ -51,29 +51,29 @@ pub enum Answer {
 }
 
 // What a call gives back: its answer, and how many bytes it wrote to the front of the lent output.
-#[derive(Clone, Copy)]
+#[derive(Clone, Copy, Debug, PartialEq, Eq)]
 pub struct Reply {
     pub answer: Answer,
     pub written: usize,
 }
 
 // What a call on the arrays gives back: the head that the state has next, and the reply.
-#[derive(Clone, Copy)]
+#[derive(Clone, Copy, Debug, PartialEq, Eq)]
 pub struct Step {
     pub head: Head,
     pub reply: Reply,
 }
 
 // What opening on the arrays gives back.
-#[derive(Clone, Copy)]
+#[derive(Clone, Copy, Debug, PartialEq, Eq)]
 pub struct Start {
     pub head: Head,
-    pub verdict: Verdict,
+    pub verdict: Result<(), Refusal>,
 }
 
 // What a packet changes beside the noting: the number whose place is laid, top, the last accepted number, the sender's last count and
 // repeat count.
-#[derive(Clone, Copy)]
+#[derive(Clone, Copy, Debug, PartialEq, Eq)]
 pub struct Change {
     pub number: SequenceNumber,
     pub top: SequenceNumber,
@@ -83,17 +83,9 @@ pub struct Change {
     pub answer: Answer,
 }
 
-// Who confirms which number in a packet, if it is a confirmation.
-#[derive(Clone, Copy)]
-pub enum Confirmation {
-    None,
-    Of(MemberNumber, SequenceNumber),
-}
-
-// What becomes of a packet: it is refused, it marks who confirms a number, or it is noted.
-#[derive(Clone, Copy)]
+// What becomes of a packet that no question refuses: it marks who confirms a number, or it is noted.
+#[derive(Clone, Copy, Debug, PartialEq, Eq)]
 pub enum Decision {
-    Refuse(Refusal),
     Mark(MemberNumber, SequenceNumber),
     Note(Packet),
 }
@@ -116,6 +108,7 @@ fn put_place(
 }
 
 // A message goes out as a broadcast if its number is accepted, else as an offer.
+#[tactic(auto, using(group::proofs::Choice::choices), unfolding(crate::specs::Calls::announced))]
 fn announced(
     accepted: SequenceNumber,
     originator: MemberNumber,
@@ -126,18 +119,19 @@ fn announced(
     ensures { result ≡ announced accepted originator number count floor }
 {
     if number.0 <= accepted.0 {
-        return Packet::Broadcast {
+        Packet::Broadcast {
             originator,
             number,
             count,
             floor,
-        };
-    }
-    Packet::Offer {
-        originator,
-        number,
-        count,
-        floor,
+        }
+    } else {
+        Packet::Offer {
+            originator,
+            number,
+            count,
+            floor,
+        }
     }
 }
 
@@ -167,14 +161,12 @@ pub fn send_poll(group: Group, top: SequenceNumber, floor: SequenceNumber, out: 
     requires { (floor.0 ≤ top.0) × (longest_packet ≤ length out.old) }
     ensures { Laid (packet_of (fields_of group.number (Packet.Poll group.elected top floor)) []) result out.old out.new }
 {
-    let none = [0u8; 0];
-    let elected = group.elected;
     let packet = Packet::Poll {
-        elected,
+        elected: group.elected,
         top,
         floor,
     };
-    packet.put(group.number, &none, out)
+    packet.put(group.number, &[], out)
 }
 
 // Writes the packet that accepts all up to a number.
@@ -182,13 +174,15 @@ fn send_accept(group: Group, number: SequenceNumber, out: &mut [u8]) -> usize
     requires { (1 ≤ number.0) × (longest_packet ≤ length out.old) }
     ensures { Laid (packet_of (fields_of group.number (Packet.Accept group.elected number)) []) result out.old out.new }
 {
-    let none = [0u8; 0];
-    let elected = group.elected;
-    let packet = Packet::Accept { elected, number };
-    packet.put(group.number, &none, out)
+    let packet = Packet::Accept {
+        elected: group.elected,
+        number,
+    };
+    packet.put(group.number, &[], out)
 }
 
 // Writes what the answer to a packet that is noted comes with: the packet of the message in a place, a poll packet, or nothing.
+#[tactic(auto, unfolding(crate::specs::Steps::sent_of))]
 pub fn send_answer(
     answer: Answer,
     group: Group,
@@ -206,9 +200,7 @@ pub fn send_answer(
     ensures { Laid (sent_of answer group top accepted floor (get_or (messages_in kept.now originators.now lengths.now payloads.now) at blank)) result out.old out.new }
 {
     match answer {
-        Answer::Refused(_) => 0,
-        Answer::Old => 0,
-        Answer::Again(number) => send(
+        Answer::Again(number) | Answer::Numbered(number) => send(
             group.number,
             accepted,
             floor,
@@ -221,23 +213,7 @@ pub fn send_answer(
             out,
         ),
         Answer::Full => send_poll(group, top, floor, out),
-        Answer::Numbered(number) => send(
-            group.number,
-            accepted,
-            floor,
-            number,
-            at,
-            kept,
-            originators,
-            lengths,
-            payloads,
-            out,
-        ),
-        Answer::Noted => 0,
-        Answer::Wanted(_, _) => 0,
-        Answer::Sent => 0,
-        Answer::Marked => 0,
-        Answer::Accepted => 0,
+        _ => 0,
     }
 }
 
@@ -262,13 +238,11 @@ fn quiet(
 }
 
 // The last accepted number, once a next number is given: that one where none has to confirm it.
+#[tactic(auto, using(group::proofs::Choice::choices))]
 fn accepted_next(group: Group, accepted: SequenceNumber, next: SequenceNumber) -> SequenceNumber
     ensures { result ≡ (when needed_of group =? 0 then next else accepted) }
 {
-    if group.needed() == 0 {
-        return next;
-    }
-    accepted
+    if group.needed() == 0 { next } else { accepted }
 }
 
 // What a request changes, once A is noted: Old, Again, Full or Numbered.
@@ -292,48 +266,46 @@ fn request_change(
         return quiet(last, top, accepted, more, Answer::Old);
     }
     if count == last {
-        let number = history::find(kept, originators, sender, count, floor, top);
-        if number.0 == 0 {
-            return quiet(last, top, accepted, more, Answer::Old);
-        }
-        let answer = Answer::Again(number);
-        return Change {
-            number,
-            top,
-            accepted,
-            count: last,
-            repeats: more,
-            answer,
+        return match history::find(kept, originators, sender, count, floor, top) {
+            Some(number) => Change {
+                number,
+                top,
+                accepted,
+                count: last,
+                repeats: more,
+                answer: Answer::Again(number),
+            },
+            None => quiet(last, top, accepted, more, Answer::Old),
         };
     }
     if history::kept(floor, top) == Group::PLACES {
         return quiet(last, top, accepted, repeats, Answer::Full);
     }
     let next = SequenceNumber(top.0 + 1);
-    let answer = Answer::Numbered(next);
-    let up_to = accepted_next(group, accepted, next);
     Change {
         number: next,
         top: next,
-        accepted: up_to,
+        accepted: accepted_next(group, accepted, next),
         count,
         repeats,
-        answer,
+        answer: Answer::Numbered(next),
     }
 }
 
 // A gap, once A is noted: Noted if C is at most floor, else Wanted, from the larger of B and floor + 1, to C.
+#[tactic(auto, using(group::proofs::Choice::choices), unfolding(crate::specs::Steps::gap_answer))]
 fn gap_answer(floor: SequenceNumber, first: SequenceNumber, last: SequenceNumber) -> Answer
     ensures { result ≡ gap_answer floor.0 first last }
 {
     if last.0 <= floor.0 {
         return Answer::Noted;
     }
-    let from = SequenceNumber(history::larger(first.0, floor.0 + 1));
-    Answer::Wanted(from, last)
+    let from = first.0.max(floor.0 + 1);
+    Answer::Wanted(SequenceNumber(from), last)
 }
 
 // What a packet changes, once A is noted.
+#[tactic(auto, unfolding(crate::specs::Steps::change_of))]
 pub fn packet_change(
     kept: &[u32],
     originators: &[u8],
@@ -349,11 +321,7 @@ pub fn packet_change(
     ensures { result ≡ change_of (listed kept.now originators.now) packet last floor.0 top accepted (needed_of group) repeats }
 {
     match packet {
-        Packet::Request {
-            sender,
-            taken: _,
-            count,
-        } => request_change(
+        Packet::Request { sender, count, .. } => request_change(
             kept,
             originators,
             sender,
@@ -365,116 +333,23 @@ pub fn packet_change(
             group,
             repeats,
         ),
-        Packet::Broadcast {
-            originator: _,
-            number: _,
-            count: _,
-            floor: _,
-        } => quiet(last, top, accepted, repeats, Answer::Noted),
         Packet::Gap {
-            sender: _,
-            taken: _,
             first,
             last: to,
+            ..
         } => quiet(last, top, accepted, repeats, gap_answer(floor, first, to)),
-        Packet::Status {
-            sender: _,
-            taken: _,
-        } => quiet(last, top, accepted, repeats, Answer::Noted),
-        Packet::Poll {
-            elected: _,
-            top: _,
-            floor: _,
-        } => quiet(last, top, accepted, repeats, Answer::Noted),
-        Packet::Offer {
-            originator: _,
-            number: _,
-            count: _,
-            floor: _,
-        } => quiet(last, top, accepted, repeats, Answer::Noted),
-        Packet::Confirm {
-            sender: _,
-            number: _,
-        } => quiet(last, top, accepted, repeats, Answer::Noted),
-        Packet::Accept {
-            elected: _,
-            number: _,
-        } => quiet(last, top, accepted, repeats, Answer::Noted),
-        Packet::Invitation {
-            sender: _,
-            attempt: _,
-        } => quiet(last, top, accepted, repeats, Answer::Noted),
-        Packet::Reply {
-            sender: _,
-            attempt: _,
-            number: _,
-        } => quiet(last, top, accepted, repeats, Answer::Noted),
-        Packet::Result {
-            sender: _,
-            attempt: _,
-            elected: _,
-            number: _,
-        } => quiet(last, top, accepted, repeats, Answer::Noted),
+        _ => quiet(last, top, accepted, repeats, Answer::Noted),
     }
 }
 
-// Who confirms which number in a packet.
-fn confirmed_by(packet: Packet) -> Confirmation
+// Who confirms which number in a packet, if it is a confirmation.
+#[tactic(auto, unfolding(crate::specs::Steps::confirmation_of))]
+fn confirmed_by(packet: Packet) -> Option<(MemberNumber, SequenceNumber)>
     ensures { result ≡ confirmation_of packet }
 {
     match packet {
-        Packet::Request {
-            sender: _,
-            taken: _,
-            count: _,
-        } => Confirmation::None,
-        Packet::Broadcast {
-            originator: _,
-            number: _,
-            count: _,
-            floor: _,
-        } => Confirmation::None,
-        Packet::Gap {
-            sender: _,
-            taken: _,
-            first: _,
-            last: _,
-        } => Confirmation::None,
-        Packet::Status {
-            sender: _,
-            taken: _,
-        } => Confirmation::None,
-        Packet::Poll {
-            elected: _,
-            top: _,
-            floor: _,
-        } => Confirmation::None,
-        Packet::Offer {
-            originator: _,
-            number: _,
-            count: _,
-            floor: _,
-        } => Confirmation::None,
-        Packet::Confirm { sender, number } => Confirmation::Of(sender, number),
-        Packet::Accept {
-            elected: _,
-            number: _,
-        } => Confirmation::None,
-        Packet::Invitation {
-            sender: _,
-            attempt: _,
-        } => Confirmation::None,
-        Packet::Reply {
-            sender: _,
-            attempt: _,
-            number: _,
-        } => Confirmation::None,
-        Packet::Result {
-            sender: _,
-            attempt: _,
-            elected: _,
-            number: _,
-        } => Confirmation::None,
+        Packet::Confirm { sender, number } => Some((sender, number)),
+        _ => None,
     }
 }
 
@@ -491,6 +366,7 @@ pub fn fresh_head(group: Group) -> Head
 }
 
 // Whether the history and the marks are sound.
+#[tactic(auto, using(group::proofs::Choice::choices))]
 fn places_sound(
     head: Head,
     counts: &[u32],
@@ -503,23 +379,22 @@ fn places_sound(
     requires { (head.group.n ≤ members_most) × (length counts.now ≡ members_most) × (length marks.now ≡ places_most) × Places kept.now originators.now lengths.now payloads.now }
     ensures { result ≡ (all_above (place_sound head.group.n (counts_only counts.now) (messages_in kept.now originators.now lengths.now payloads.now) head.top.0) head.floor.0 places_most and all_above (mark_sound (expected_of head.group) marks.now head.accepted.0 head.top.0) head.floor.0 places_most) }
 {
-    let group = head.group;
-    let floor = head.floor;
-    let top = head.top;
-    if history::history_sound(
-        group.n,
-        floor,
-        top,
+    history::history_sound(
+        head.group.n,
+        head.floor,
+        head.top,
         counts,
         kept,
         originators,
         lengths,
         payloads,
-    ) {
-        let expected = group.expected();
-        return history::marks_sound(expected, floor, head.accepted, top, marks);
-    }
-    false
+    ) && history::marks_sound(
+        head.group.expected(),
+        head.floor,
+        head.accepted,
+        head.top,
+        marks,
+    )
 }
 
 // Question 1: is the state sound?
@@ -538,20 +413,13 @@ pub fn sound(
     ensures answer { result ≡ sound_of (view_of (whole head taken.now counts.now repeats.now kept.now marks.now originators.now lengths.now payloads.now)) }
     ensures sizes { Fits (whole head taken.now counts.now repeats.now kept.now marks.now originators.now lengths.now payloads.now) }
 {
-    let group = head.group;
-    let floor = head.floor;
-    let top = head.top;
-    let entries = history::entries_sound(group, top, taken, counts, repeats);
-    if history::frame_sound(group, floor, head.accepted, top, taken) {
-        if entries {
-            return places_sound(head, counts, kept, marks, originators, lengths, payloads);
-        }
-        return false;
-    }
-    false
+    history::frame_sound(head.group, head.floor, head.accepted, head.top, taken)
+        && history::entries_sound(head.group, head.top, taken, counts, repeats)
+        && places_sound(head, counts, kept, marks, originators, lengths, payloads)
 }
 
 // Questions 1 and 2, of every call.
+#[tactic(auto, using(group::proofs::Choice::choices), unfolding(crate::specs::Calls::call_verdict))]
 pub fn ask(
     head: Head,
     taken: &[u32; Group::MEMBERS],
@@ -563,12 +431,12 @@ pub fn ask(
     lengths: &[u8],
     payloads: &[u8],
     room: usize,
-) -> Verdict
+) -> Result<(), Refusal>
     requires { Placed (whole head taken.now counts.now repeats.now kept.now marks.now originators.now lengths.now payloads.now) }
     ensures answer { result ≡ call_verdict (view_of (whole head taken.now counts.now repeats.now kept.now marks.now originators.now lengths.now payloads.now)) room }
     ensures sizes { Fits (whole head taken.now counts.now repeats.now kept.now marks.now originators.now lengths.now payloads.now) }
 {
-    if sound(
+    if !sound(
         head,
         taken,
         counts,
@@ -579,12 +447,12 @@ pub fn ask(
         lengths,
         payloads,
     ) {
-        if room < Group::PACKET {
-            return Verdict::Refused(Refusal::ShortOutput);
-        }
-        return Verdict::Accepted;
+        return Err(Refusal::UnsoundState);
     }
-    Verdict::Refused(Refusal::UnsoundState)
+    if room < Group::PACKET {
+        return Err(Refusal::ShortOutput);
+    }
+    Ok(())
 }
 
 // A reply that writes nothing.
@@ -605,57 +473,49 @@ pub fn confirm(
     requires { (member.0 < members_most) × (length marks.old ≡ places_most) × (longest_packet ≤ length out.old) }
     ensures { Changed (confirm_of (view_of (marks_only head marks.old)) member number) result.reply (marks_only result.head marks.new) out.old out.new }
 {
-    let accepted = head.accepted;
-    if number.0 <= accepted.0 {
-        let reply = unwritten(Answer::Old);
-        return Step { head, reply };
+    if number.0 <= head.accepted.0 {
+        return Step {
+            head,
+            reply: unwritten(Answer::Old),
+        };
     }
-    history::mark(marks, member, accepted, number);
-    let group = head.group;
-    let top = head.top;
-    let floor = head.floor;
-    let needed = group.needed();
-    let found = history::enough(marks, needed, accepted, top);
-    if found.0 == 0 {
-        let reply = unwritten(Answer::Marked);
-        return Step { head, reply };
+    history::mark(marks, member, head.accepted, number);
+    match history::enough(marks, head.group.needed(), head.accepted, head.top) {
+        Some(accepted) => {
+            history::unmark(marks, head.accepted, accepted);
+            let written = send_accept(head.group, accepted, out);
+            Step {
+                head: Head { accepted, ..head },
+                reply: Reply {
+                    answer: Answer::Accepted,
+                    written,
+                },
+            }
+        }
+        None => Step {
+            head,
+            reply: unwritten(Answer::Marked),
+        },
     }
-    history::unmark(marks, accepted, found);
-    let written = send_accept(group, found, out);
-    let answer = Answer::Accepted;
-    let reply = Reply { answer, written };
-    let next = Head {
-        group,
-        top,
-        accepted: found,
-        floor,
-    };
-    Step { head: next, reply }
 }
 
 // Questions 3 to 12 (6 of byte 1 at this end), 25, and 16, of a packet; then what becomes of it.
-pub fn decide(head: Head, counts: &[u32], packet: &[u8]) -> Decision
+pub fn decide(head: Head, counts: &[u32], packet: &[u8]) -> Result<Decision, Refusal>
     requires { length counts.now ≡ members_most }
     ensures { result ≡ decision_of head.group (counts_only counts.now) head.accepted head.top (read_of packet.now) }
 {
-    let reading = packet::read(packet);
-    match reading {
-        Reading::Fields(h) => {
-            let content = Packet::of(h);
-            let group = head.group;
-            let top = head.top;
-            let v = history::ask_packet(group, counts, head.accepted, top, h.group, content);
-            match v {
-                Verdict::Accepted => {
-                    let who = confirmed_by(content);
-                    match who {
-                        Confirmation::Of(member, number) => Decision::Mark(member, number),
-                        Confirmation::None => Decision::Note(content),
-                    }
-                }
-                Verdict::Refused(q) => Decision::Refuse(q),
-            }
-        }
-        Reading::Refused(q) => Decision::Refuse(q),
+    let header = packet::read(packet)?;
+    let content = Packet::of(header);
+    history::ask_packet(
+        head.group,
+        counts,
+        head.accepted,
+        head.top,
+        header.group,
+        content,
+    )?;
+    match confirmed_by(content) {
+        Some((member, number)) => Ok(Decision::Mark(member, number)),
+        None => Ok(Decision::Note(content)),
     }
 }

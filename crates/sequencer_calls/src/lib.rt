@@ -2,22 +2,26 @@
 // has next and what it answers.
 #![tactic(auto)]
 
-ghost use Rattle.std.specs.Prelude.{◌≡◌, length};
+ghost use Rattle.std.specs.Prelude.{◌≡◌, length, None};
+ghost use Rattle.group.specs.Choice.{◌and◌, ◌<?◌, ◌≤?◌};
+ghost use Rattle.group.specs.Question.{all_yes};
 ghost use Rattle.sequencer.specs.Calls.{call_verdict};
 ghost use Rattle.sequencer.specs.View.{Fits, Placed, whole, view_of};
 ghost use Rattle.sequencer.specs.Promise.{Changed, Received, Polled, Copied, Opens};
 ghost use Rattle.sequencer.specs.Owed.{Due, Judged, Refuses};
 ghost use Rattle.sequencer.specs.Steps.{accepted_step, confirmation_of};
 
-use group::{Group, MemberNumber, Opened, Refusal, SequenceNumber, Verdict};
+use group::{Group, MemberNumber, Refusal, SequenceNumber};
 use packet::Packet;
-use sequencer::{Answer, Confirmation, Decision, Head, Reply, Start, Step};
+use sequencer::{Answer, Decision, Head, Reply, Start, Step};
 
 fn refused(refusal: Refusal) -> Reply
     ensures { Refuses refusal result }
 {
-    let answer = Answer::Refused(refusal);
-    Reply { answer, written: 0 }
+    Reply {
+        answer: Answer::Refused(refusal),
+        written: 0,
+    }
 }
 
 // A refusal, which leaves the head.
@@ -45,55 +49,43 @@ fn noted(
     payload: &[u8],
     out: &mut [u8],
 ) -> Step
-    requires { (confirmation_of packet ≡ Confirmation.None) × Due (view_of (whole head taken.old counts.old repeats.old kept.old marks.now originators.old lengths.old payloads.old)) packet (length payload.now) (length out.old) × Fits (whole head taken.old counts.old repeats.old kept.old marks.now originators.old lengths.old payloads.old) }
+    requires { (confirmation_of packet ≡ None) × Due (view_of (whole head taken.old counts.old repeats.old kept.old marks.now originators.old lengths.old payloads.old)) packet (length payload.now) (length out.old) × Fits (whole head taken.old counts.old repeats.old kept.old marks.now originators.old lengths.old payloads.old) }
     ensures { Changed (accepted_step (view_of (whole head taken.old counts.old repeats.old kept.old marks.now originators.old lengths.old payloads.old)) packet payload.now) result.reply (whole result.head taken.new counts.new repeats.new kept.new marks.now originators.new lengths.new payloads.new) out.old out.new }
 {
     let from = history::sender_of(packet);
-    let sender = from.member;
-    let acknowledged = from.taken;
-    let group = head.group;
-    let was = head.floor;
-    let top = head.top;
-    let floor = history::note(group.survivors, taken, sender, acknowledged);
-    history::clear(was, floor, kept, originators, lengths, payloads);
-    let member = sender.0 as usize;
-    let count = counts[member];
-    let again = repeats[member];
-    let reached = floor;
-    let c = sequencer::packet_change(
+    let floor = history::note(head.group.survivors, taken, from.member, from.taken);
+    history::clear(head.floor, floor, kept, originators, lengths, payloads);
+    let member = from.member.0 as usize;
+    let change = sequencer::packet_change(
         kept,
         originators,
         packet,
-        count,
-        reached,
-        top,
+        counts[member],
+        floor,
+        head.top,
         head.accepted,
-        group,
-        again,
+        head.group,
+        repeats[member],
     );
-    counts[member] = c.count;
-    repeats[member] = c.repeats;
-    let number = c.number;
+    counts[member] = change.count;
+    repeats[member] = change.repeats;
     history::lay(
-        number,
-        top,
+        change.number,
+        head.top,
         kept,
         originators,
         lengths,
         payloads,
-        sender,
-        c.count,
+        from.member,
+        change.count,
         payload,
     );
-    let at = history::place(number.0 as u64);
-    let last = c.top;
-    let up_to = c.accepted;
-    let answer = c.answer;
+    let at = history::place(change.number.0 as u64);
     let written = sequencer::send_answer(
-        answer,
-        group,
-        last,
-        up_to,
+        change.answer,
+        head.group,
+        change.top,
+        change.accepted,
         floor,
         at,
         kept,
@@ -102,14 +94,18 @@ fn noted(
         payloads,
         out,
     );
-    let reply = Reply { answer, written };
-    let next = Head {
-        group,
-        top: last,
-        accepted: up_to,
-        floor,
-    };
-    Step { head: next, reply }
+    Step {
+        head: Head {
+            group: head.group,
+            top: change.top,
+            accepted: change.accepted,
+            floor,
+        },
+        reply: Reply {
+            answer: change.answer,
+            written,
+        },
+    }
 }
 
 // Every question of the call for packets.
@@ -125,12 +121,12 @@ fn judge(
     payloads: &[u8],
     packet: &[u8],
     room: usize,
-) -> Decision
+) -> Result<Decision, Refusal>
     requires { Placed (whole head taken.now counts.now repeats.now kept.now marks.now originators.now lengths.now payloads.now) }
     ensures judged { Judged (view_of (whole head taken.now counts.now repeats.now kept.now marks.now originators.now lengths.now payloads.now)) packet.now room result }
     ensures sizes { Fits (whole head taken.now counts.now repeats.now kept.now marks.now originators.now lengths.now payloads.now) }
 {
-    let v = sequencer::ask(
+    sequencer::ask(
         head,
         taken,
         counts,
@@ -141,11 +137,8 @@ fn judge(
         lengths,
         payloads,
         room,
-    );
-    match v {
-        Verdict::Accepted => sequencer::decide(head, counts, packet),
-        Verdict::Refused(q) => Decision::Refuse(q),
-    }
+    )?;
+    sequencer::decide(head, counts, packet)
 }
 
 // The call for packets, on the arrays.
@@ -164,7 +157,7 @@ pub fn receive_on(
 ) -> Step
     ensures { Received (whole head taken.old counts.old repeats.old kept.old marks.old originators.old lengths.old payloads.old) packet.now out.old result.reply (whole result.head taken.new counts.new repeats.new kept.new marks.new originators.new lengths.new payloads.new) out.new }
 {
-    let d = judge(
+    match judge(
         head,
         taken,
         counts,
@@ -176,11 +169,10 @@ pub fn receive_on(
         payloads,
         packet,
         out.len(),
-    );
-    match d {
-        Decision::Refuse(q) => unchanged(head, q),
-        Decision::Mark(member, number) => sequencer::confirm(head, marks, member, number, out),
-        Decision::Note(content) => noted(
+    ) {
+        Err(refusal) => unchanged(head, refusal),
+        Ok(Decision::Mark(member, number)) => sequencer::confirm(head, marks, member, number, out),
+        Ok(Decision::Note(content)) => noted(
             head,
             taken,
             counts,
@@ -212,7 +204,7 @@ pub fn poll_on(
 ) -> Reply
     ensures { Polled (whole head taken.now counts.now repeats.now kept.now marks.now originators.now lengths.now payloads.now) out.old result out.new }
 {
-    let v = sequencer::ask(
+    match sequencer::ask(
         head,
         taken,
         counts,
@@ -223,17 +215,21 @@ pub fn poll_on(
         lengths,
         payloads,
         out.len(),
-    );
-    match v {
-        Verdict::Accepted => {
-            let top = head.top;
-            let floor = head.floor;
-            let written = sequencer::send_poll(head.group, top, floor, out);
-            let answer = Answer::Sent;
-            Reply { answer, written }
-        }
-        Verdict::Refused(q) => refused(q),
+    ) {
+        Ok(()) => Reply {
+            answer: Answer::Sent,
+            written: sequencer::send_poll(head.group, head.top, head.floor, out),
+        },
+        Err(refusal) => refused(refusal),
     }
+}
+
+// Does the history hold a number?
+#[tactic(auto, using(group::proofs::Choice::choices))]
+fn in_history(head: Head, number: SequenceNumber) -> bool
+    ensures { result ≡ (head.floor.0 <? number.0 and number.0 ≤? head.top.0) }
+{
+    head.floor.0 < number.0 && number.0 <= head.top.0
 }
 
 // Question 17, then the packet.
@@ -250,22 +246,17 @@ fn copied(
     number: SequenceNumber,
     out: &mut [u8],
 ) -> Reply
-    requires { (call_verdict (view_of (whole head taken.now counts.now repeats.now kept.now marks.now originators.now lengths.now payloads.now)) (length out.old) ≡ Verdict.Accepted) × Fits (whole head taken.now counts.now repeats.now kept.now marks.now originators.now lengths.now payloads.now) }
+    requires { (call_verdict (view_of (whole head taken.now counts.now repeats.now kept.now marks.now originators.now lengths.now payloads.now)) (length out.old) ≡ all_yes) × Fits (whole head taken.now counts.now repeats.now kept.now marks.now originators.now lengths.now payloads.now) }
     ensures { Copied (whole head taken.now counts.now repeats.now kept.now marks.now originators.now lengths.now payloads.now) number out.old result out.new }
 {
-    let today = head.floor;
-    if number.0 <= today.0 {
-        return refused(Refusal::NotInHistory);
-    }
-    if head.top.0 < number.0 {
+    if !in_history(head, number) {
         return refused(Refusal::NotInHistory);
     }
     let at = history::place(number.0 as u64);
-    let settled = head.accepted;
     let written = sequencer::send(
         head.group.number,
-        settled,
-        today,
+        head.accepted,
+        head.floor,
         number,
         at,
         kept,
@@ -274,8 +265,10 @@ fn copied(
         payloads,
         out,
     );
-    let answer = Answer::Sent;
-    Reply { answer, written }
+    Reply {
+        answer: Answer::Sent,
+        written,
+    }
 }
 
 // The copy call on the arrays.
@@ -294,7 +287,7 @@ pub fn copy_on(
 ) -> Reply
     ensures { Copied (whole head taken.now counts.now repeats.now kept.now marks.now originators.now lengths.now payloads.now) number out.old result out.new }
 {
-    let v = sequencer::ask(
+    match sequencer::ask(
         head,
         taken,
         counts,
@@ -305,9 +298,8 @@ pub fn copy_on(
         lengths,
         payloads,
         out.len(),
-    );
-    match v {
-        Verdict::Accepted => copied(
+    ) {
+        Ok(()) => copied(
             head,
             taken,
             counts,
@@ -320,7 +312,7 @@ pub fn copy_on(
             number,
             out,
         ),
-        Verdict::Refused(q) => refused(q),
+        Err(refusal) => refused(refusal),
     }
 }
 
@@ -341,31 +333,28 @@ pub fn open_on(
 ) -> Start
     ensures { Opens (whole head taken.old counts.old repeats.old kept.old marks.old originators.old lengths.old payloads.old) n group resilience result.verdict (whole result.head taken.new counts.new repeats.new kept.new marks.new originators.new lengths.new payloads.new) }
 {
-    *taken = [0u32; Group::MEMBERS];
-    *counts = [0u32; Group::MEMBERS];
-    *repeats = [0u32; Group::MEMBERS];
-    *kept = [0u32; Group::PLACES];
-    *marks = [0u16; Group::PLACES];
-    *originators = [0u8; Group::PLACES];
-    *lengths = [0u8; Group::PLACES];
-    *payloads = [0u8; Group::HISTORY_BYTES];
-    let opened = Group::fresh(n, group, resilience);
-    match opened {
-        Opened::Open(g) => {
-            let head = sequencer::fresh_head(g);
-            let verdict = Verdict::Accepted;
-            Start { head, verdict }
-        }
-        Opened::Refused(q) => {
-            let head = sequencer::fresh_head(Group {
+    *taken = [0; Group::MEMBERS];
+    *counts = [0; Group::MEMBERS];
+    *repeats = [0; Group::MEMBERS];
+    *kept = [0; Group::PLACES];
+    *marks = [0; Group::PLACES];
+    *originators = [0; Group::PLACES];
+    *lengths = [0; Group::PLACES];
+    *payloads = [0; Group::HISTORY_BYTES];
+    match Group::fresh(n, group, resilience) {
+        Ok(group) => Start {
+            head: sequencer::fresh_head(group),
+            verdict: Ok(()),
+        },
+        Err(refusal) => Start {
+            head: sequencer::fresh_head(Group {
                 n: 0,
                 resilience: 0,
                 survivors: 0,
                 elected: MemberNumber(0),
                 number: 0,
-            });
-            let verdict = Verdict::Refused(q);
-            Start { head, verdict }
-        }
+            }),
+            verdict: Err(refusal),
+        },
     }
 }

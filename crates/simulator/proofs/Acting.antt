@@ -1,15 +1,14 @@
 -- From what a call of an end did, and the packet that was stored, to what its event gives. Assumes nothing.
 use mathlib.Core.Path.{◌≡◌, refl, sym, ap, ◌∙◌, subst}
 use mathlib.Core.List.{List, [], ◌∷◌, ◌++◌, append-nil}
-use mathlib.Core.Option.{Option, none, some}
 use Prim.Native.Nat.{ℕ, zero, suc, ◌+◌, ◌≤◌, ◌<◌}
 use native.Mathlib.Omega.{arith}
 use borrow.Author.Tests.{lt-ltb, le-ltb, ltb-true}
-use lib.ListN.{length, take, drop, get_or, set, get_elem?, length-append}
+use lib.ListN.{length, take, drop, get_or, set, length-append}
 use lib.Seq.{take-append_seam, take_all, get_or-set_same, get_or-set_other}
 use Rattle.group.proofs.Choice.{when_true, when_false}
 use Rattle.group.proofs.Lists.{when_elim, le_or}
-use Rattle.group.specs.Choice.{when◌then◌else◌, ◌<?◌}
+use Rattle.group.specs.Choice.{◌<?◌}
 use Rattle.group.specs.Lent.{front}
 use Rattle.group.specs.Limits.{members_most, longest_packet}
 use Rattle.group.specs.declared.Group as group
@@ -20,7 +19,7 @@ use Rattle.member.specs.View as memberView
 use Rattle.member.specs.declared.Done as memberDone
 use Rattle.member.specs.declared.Head as memberHead
 use Rattle.member.specs.declared.Reply as memberReply
-use Rattle.model.specs.World.{answer_of, Group, Happened, missing, with_member, with_sequencer, no_member, hand_to_member, hand_to_sequencer}
+use Rattle.model.specs.World.{answer_of, Group, Happened, missing, with_member, with_sequencer, no_member}
 use Rattle.model.specs.declared.Reply.{Reply}
 use Rattle.packet.specs.Packet.{written}
 use Rattle.sequencer.specs.Calls as sequencer
@@ -37,7 +36,7 @@ use Rattle.simulator.specs.declared.MemberCall.TheVariants as call
 use Rattle.simulator.specs.declared.SequencerCall.{SequencerCall}
 use Rattle.simulator.proofs.Groups as sequencerKeeps
 use Rattle.simulator.proofs.Keeping as memberKeeps
-use Rattle.simulator.proofs.Lists.{length_list, lists_same, lists_set, lists_snoc, lists_get, lists_there, lists_absent}
+use Rattle.simulator.proofs.Lists.{length_list, lists_same, lists_set, lists_snoc, lists_get}
 
 -- arrays that changed at i alone
 module _ (i : ℕ) (rows : Rows) (a b c d e f g h : List ℕ) where

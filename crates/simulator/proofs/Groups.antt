@@ -1,4 +1,5 @@
 -- A call of the sequencer keeps the description of its group: the call's text, a choice at a time. Assumes nothing.
+use Rattle.std.specs.Prelude.{Ok, Err}
 use mathlib.Core.Path.{◌≡◌, refl}
 use mathlib.Core.List.{List}
 use Prim.Native.Nat.{ℕ, ◌-◌}
@@ -11,8 +12,7 @@ use Rattle.group.specs.declared.SequenceNumber.{SequenceNumber}
 use Rattle.packet.specs.Packet.{content_of, payload_at, read_of, from_elected}
 use Rattle.packet.specs.declared.Packet.{Packet}
 use Rattle.packet.specs.declared.Packet.TheVariants.{Request, Broadcast, Gap, Status, Poll, Offer, Confirm, Accept, Invitation, Reply, Result}
-use Rattle.packet.specs.declared.Reading.{Reading}
-use Rattle.packet.specs.declared.Reading.TheVariants.{Fields}
+use Rattle.packet.specs.Answers.{Reading}
 use Rattle.history.specs.Ask.{sender_verdict, count_verdict, wanted_verdict, expected_verdict}
 use Rattle.sequencer.proofs.Leaving.{poll_leaves, copy_leaves}
 use Rattle.sequencer.specs.Calls.{Outcome, answered, repeated_of, old_of, again_of, full_of, with_message, numbered_of, request_of, gap_of, with_mark, with_accepted, enough_in, settled_of, confirm_of, content_step, read_step, call_verdict, receive_of}
@@ -80,11 +80,11 @@ module _ (s : Sequencer) where
 
   read_has : (reading : Reading) (payload : List ℕ) → Has s.group (read_step s reading payload)
   unfolding read_step answered
-  read_has (Fields h) payload =
+  read_has (Ok h) payload =
       when_elim (Has s.group) (from_elected s.group (content_of h))
       (λ _. when_elim (Has s.group) (h.group =? s.group.number) (λ _. content_has (content_of h) payload) (λ _. refl))
       (λ _. refl)
-  read_has (Reading.Refused refusal) payload = refl
+  read_has (Err refusal) payload = refl
 
   receive_has : (packet : List ℕ) (room : ℕ) → Has s.group (receive_of s packet room)
   unfolding receive_of answered

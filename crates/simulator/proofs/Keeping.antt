@@ -1,4 +1,5 @@
 -- A call of a member keeps the description of its group and its number: the call's text, a choice at a time. Assumes nothing.
+use Rattle.std.specs.Prelude.{Ok, Err}
 use mathlib.Core.Path.{◌≡◌, refl}
 use mathlib.Core.List.{List}
 use Prim.Native.Nat.{ℕ, ◌+◌, ◌-◌}
@@ -7,7 +8,6 @@ use Rattle.group.specs.Choice.{◌and◌, ◌<?◌, ◌≤?◌, ◌=?◌}
 use Rattle.group.specs.Limits.{held_most}
 use Rattle.group.specs.Members.{is_in, expected_of}
 use Rattle.group.specs.declared.MemberNumber.{MemberNumber}
-use Rattle.group.specs.declared.SequenceNumber.{SequenceNumber}
 use Rattle.member.specs.Calls.{Outcome, answered, call_verdict, submit_verdict, with_waiting, submit_of, repeat_of, status_of, with_accepted, with_held, gap_up_to, kept_of, message_step, broadcast_of, confirms, none_missing, confirmed_of, offer_of, poll_of, content_step, read_step, receive_of, with_taken, is_ready, took_of, take_of}
 use Rattle.member.specs.State.{Member}
 use Rattle.member.specs.declared.Answer.{Answer}
@@ -15,8 +15,7 @@ use Rattle.message.specs.Message.{message_of}
 use Rattle.packet.specs.Packet.{content_of, payload_at, read_of, from_elected}
 use Rattle.packet.specs.declared.Packet.{Packet}
 use Rattle.packet.specs.declared.Packet.TheVariants.{Request, Broadcast, Gap, Status, Poll, Offer, Confirm, Accept, Invitation, Reply, Result}
-use Rattle.packet.specs.declared.Reading.{Reading}
-use Rattle.packet.specs.declared.Reading.TheVariants.{Fields}
+use Rattle.packet.specs.Answers.{Reading}
 use Rattle.simulator.specs.Steps.{outcome_of}
 use Rattle.simulator.specs.declared.MemberCall.{MemberCall}
 use Rattle.simulator.specs.declared.MemberCall.TheVariants as call
@@ -96,11 +95,11 @@ module _ (m : Member) where
 
   read_has : (reading : Reading) (payload : List ℕ) → Has m (read_step m reading payload)
   unfolding read_step answered
-  read_has (Fields h) payload =
+  read_has (Ok h) payload =
       when_elim (Has m) (from_elected m.group (content_of h))
       (λ _. when_elim (Has m) (h.group =? m.group.number) (λ _. content_has (content_of h) payload) (λ _. (refl, refl)))
       (λ _. (refl, refl))
-  read_has (Reading.Refused refusal) payload = (refl, refl)
+  read_has (Err refusal) payload = (refl, refl)
 
   receive_has : (packet : List ℕ) (room : ℕ) → Has m (receive_of m packet room)
   unfolding receive_of answered

@@ -1,4 +1,7 @@
 -- The fresh members, one after the other; and the fresh group out of them. Assumes nothing.
+use Rattle.std.specs.Prelude.{Ok, Err}
+use Rattle.group.specs.Opening.{Opened}
+use Rattle.group.specs.Question.{all_yes}
 use mathlib.Core.Path.{◌≡◌, refl, sym, ap, ◌∙◌}
 use mathlib.Core.List.{List, [], ◌∷◌}
 use Prim.Native.Nat.{ℕ, zero, suc, ◌+◌, ◌≤◌, ◌<◌}
@@ -13,9 +16,8 @@ use Rattle.group.specs.Choice.{◌and◌, ◌<?◌, ◌≤?◌}
 use Rattle.group.specs.Limits.{members_most}
 use Rattle.group.specs.Opening.{description_of, open_of}
 use Rattle.group.specs.declared.Group as group
-use Rattle.group.specs.declared.Opened as answer
 use Rattle.group.specs.declared.Refusal.{Refusal}
-use Rattle.group.specs.declared.Verdict.{Verdict}
+use Rattle.group.specs.Question.{Verdict}
 use Rattle.member.specs.Calls as member
 use Rattle.member.specs.State.{Member, fresh_member}
 use Rattle.member.specs.View as memberView
@@ -26,8 +28,7 @@ use Rattle.sequencer.specs.Promise as sequencerPromise
 use Rattle.sequencer.specs.State.{Sequencer, fresh_sequencer}
 use Rattle.sequencer.specs.View as sequencerView
 use Rattle.simulator.specs.Steps.{Full, BegunAt, Begun}
-use Rattle.simulator.specs.Whole.{list_of, Rows, stored_at, Terminals, terminals_of, head_in, member_at, members_in, packets_of, group_of, opened_group, Room, Opens}
-use Rattle.simulator.specs.declared.Head.{Head}
+use Rattle.simulator.specs.Whole.{list_of, Rows, stored_at, Terminals, terminals_of, head_in, member_at, members_in, packets_of, group_of, opened_group, Opens}
 use Rattle.simulator.proofs.Acting.{set_at, set_own, set_others}
 
 -- a member that was opened is fresh, with the description and the number that it says
@@ -38,9 +39,9 @@ fresh_itself : (n number resilience i : ℕ) → Itself (member.fresh_of n (reco
 unfolding member.fresh_of member.opened_of fresh_member
 fresh_itself n number resilience i = when_elim Itself (i <? n) (λ _. opened (open_of n number resilience)) (λ _. refl)
   where
-    opened : (o : answer.Opened) → Itself (member.opened_of o (record { 0 = i }))
-    opened (answer.Opened.Open g) = refl
-    opened (answer.Opened.Refused refusal) = refl
+    opened : (o : Opened) → Itself (member.opened_of o (record { 0 = i }))
+    opened (Ok g) = refl
+    opened (Err refusal) = refl
 
 -- a row of numbers that is set, and arrays that changed at the same index alone
 module _ (n number resilience i : ℕ) (g : group.Group) (numbers : List (List ℕ)) (rows rows' : Rows) (head : memberHead.Head) where
@@ -86,7 +87,7 @@ module _ (n number resilience : ℕ) where
   unfolding member.fresh_of member.opened_of open_of
   fresh_is i h k d =
       ap (λ (o : member.Opening). o.member) (sym (when_true (i <? n) _ _ _ (lt-ltb i n h) refl))
-      ∙ ap (λ (o : answer.Opened). (member.opened_of o (record { 0 = i })).member)
+      ∙ ap (λ (o : Opened). (member.opened_of o (record { 0 = i })).member)
       (sym (when_true (1 ≤? n and n ≤? members_most) _ _ _ (both_hold (1 ≤? n) (n ≤? members_most) (le-leb 1 n (omega arith)) (le-leb n members_most k)) refl)
       ∙ sym (when_true (resilience <? n) _ _ _ (lt-ltb resilience n d) refl))
 
@@ -104,9 +105,9 @@ module _ (n number resilience : ℕ) where
     pub within : o.sequencer.group.n ≤ n
     pub description : 1 ≤ o.sequencer.group.n → o.sequencer.group ≡ description_of n number resilience
     pub degree : 1 ≤ o.sequencer.group.n → resilience < n
-    pub accepted : o.verdict ≡ Verdict.Accepted → o.sequencer.group.n ≡ n
+    pub accepted : o.verdict ≡ all_yes → o.sequencer.group.n ≡ n
 
-  refused_small : (refusal : Refusal) → Small (sequencer.opened_of (answer.Opened.Refused refusal))
+  refused_small : (refusal : Refusal) → Small (sequencer.opened_of (Err refusal))
   unfolding sequencer.opened_of fresh_sequencer
   refused_small refusal =
       record {
@@ -120,8 +121,8 @@ module _ (n number resilience : ℕ) where
   opened_small : Small (sequencer.fresh_of n number resilience)
   unfolding sequencer.fresh_of sequencer.opened_of open_of fresh_sequencer
   opened_small =
-      when_elim (λ (o : answer.Opened). Small (sequencer.opened_of o)) (1 ≤? n and n ≤? members_most)
-      (λ t. when_elim (λ (o : answer.Opened). Small (sequencer.opened_of o)) (resilience <? n)
+      when_elim (λ (o : Opened). Small (sequencer.opened_of o)) (1 ≤? n and n ≤? members_most)
+      (λ t. when_elim (λ (o : Opened). Small (sequencer.opened_of o)) (resilience <? n)
       (λ d.
       record {
         few = leb-true n members_most (both_then (1 ≤? n) (n ≤? members_most) t);

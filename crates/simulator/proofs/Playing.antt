@@ -1,15 +1,13 @@
 -- From what an event does to the parts that it is lent to what it does to the whole group. Assumes nothing.
-use mathlib.Core.Path.{◌≡◌, refl, sym, ap, ◌∙◌}
-use mathlib.Core.List.{List, []}
-use mathlib.Core.Option.{some}
-use Prim.Native.Nat.{ℕ, ◌<◌}
+use mathlib.Core.Path.{◌≡◌, refl, ap, ◌∙◌}
+use mathlib.Core.List.{List}
+use Prim.Native.Nat.{ℕ}
 use native.Mathlib.Omega.{arith}
-use lib.ListN.{length, take, get_or, get_elem?}
+use lib.ListN.{length, take, get_or}
 use lib.Seq.{take_all}
 use Rattle.group.specs.Choice.{when◌then◌else◌, ◌<?◌}
 use Rattle.group.specs.Limits.{longest_packet}
 use Rattle.group.specs.declared.Group as group
-use Rattle.group.specs.declared.SequenceNumber.{SequenceNumber}
 use Rattle.member.specs.Calls as member
 use Rattle.member.specs.State.{Member}
 use Rattle.model.specs.World as world
@@ -18,12 +16,11 @@ use Rattle.packet.specs.Packet.{written}
 use Rattle.sequencer.specs.View as sequencerView
 use Rattle.sequencer.specs.State.{Sequencer}
 use Rattle.sequencer.specs.declared.Head as sequencerHead
-use Rattle.simulator.specs.Steps.{kept_size, outcome_of, outcome_here, happened_at, happened_here, handed_to, handed_here, Acts, Sequences}
+use Rattle.simulator.specs.Steps.{kept_size, outcome_of, happened_at, Acts, Sequences}
 use Rattle.simulator.specs.Whole.{Room, Rows, terminals_of, Terminals, member_at, members_in, Packets, packets_in, group_of, Whole, Plays}
 use Rattle.simulator.specs.declared.Happening.{Happening}
 use Rattle.simulator.specs.declared.Head.{Head}
 use Rattle.simulator.specs.declared.MemberCall.TheVariants as call
-use Rattle.simulator.specs.declared.SequencerCall.TheVariants as calls
 
 -- a call of a member that writes packets; all of its bytes are the packet
 module _ (i : ℕ) (g : Group) where

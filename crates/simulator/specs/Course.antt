@@ -1,7 +1,8 @@
 -- The events of the code, one after the other from an opening, lead where `run` leads: what is run is what demand 3 speaks
 -- of. `proofs/Course.antt` has the proof.
+use Rattle.group.specs.Question.{all_yes}
 use Rattle.std.specs.Prelude.{◌≡◌, List, [], ◌∷◌, ◌++◌, map, ℕ, ◌<◌, take}
-use Rattle.group.specs.declared.Verdict.{Verdict}
+use Rattle.group.specs.Question.{Verdict}
 use Rattle.model.specs.World.{Event, Answer, answer_of, run, fresh}
 use Rattle.model.specs.declared.Reply.{Reply}
 use Rattle.simulator.specs.Whole.{packets_most, Whole, group_of, Room, Plays, Opens}
@@ -9,7 +10,7 @@ use Rattle.simulator.specs.declared.Head.{Head}
 
 -- a group that was opened, then events that each had room for a packet, and what they were answered
 pub data Played (n number resilience : ℕ) : List Event → List Answer → Head → Whole → Type 0 where
-  opened : (verdict : Verdict) (head : Head) (w : Whole) → Opens n number resilience verdict head w → verdict ≡ Verdict.Accepted → Played n number resilience [] [] head w
+  opened : (verdict : Verdict) (head : Head) (w : Whole) → Opens n number resilience verdict head w → verdict ≡ all_yes → Played n number resilience [] [] head w
   played : {events : List Event} {answers : List Answer} {head : Head} {w : Whole} (event : Event) (head' : Head) (reply : Reply) (written : ℕ) (w' : Whole) (before after : List ℕ)
       → Played n number resilience events answers head w → head.count < packets_most → Plays event head w head' reply written w' before after
       → Played n number resilience (events ++ (event ∷ [])) (answers ++ (answer_of reply (take written after) ∷ [])) head' w'

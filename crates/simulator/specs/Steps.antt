@@ -1,5 +1,5 @@
 -- What the steps inside the code promise, in terms of the parts of the group that each is lent.
-use Rattle.std.specs.Prelude.{◌≡◌, List, [], ◌∷◌, ◌++◌, Bool, ℕ, ◌+◌, ◌≤◌, ◌<◌, length, take, get_or}
+use Rattle.std.specs.Prelude.{◌≡◌, List, ◌++◌, Bool, ℕ, ◌+◌, ◌≤◌, ◌<◌, length, take, get_or}
 use Rattle.std.proofs.Math.ListN.{get_elem?}
 use Rattle.group.specs.Choice.{when◌then◌else◌, ◌and◌, ◌<?◌, ◌≤?◌}
 use Rattle.group.specs.Lent.{front}

@@ -1,14 +1,15 @@
 -- The executable group as the group of demand 3: its sequencer, its members 0 to n - 1, and the packets that were written. With room
 -- for a packet, an event does to it what `happen` says.
-use Rattle.std.specs.Prelude.{◌≡◌, List, [], ◌∷◌, ℕ, zero, suc, ◌+◌, ◌≤◌, ◌<◌, length, take, get_or}
+use Rattle.group.specs.Question.{all_yes}
+use Rattle.std.specs.Prelude.{◌≡◌, List, [], ◌∷◌, ℕ, zero, suc, ◌+◌, ◌≤◌, ◌<◌, take, get_or}
 use Rattle.group.specs.Lent.{front}
 use Rattle.group.specs.Limits.{members_most, longest_packet}
 use Rattle.group.specs.declared.Group as group
-use Rattle.group.specs.declared.Verdict.{Verdict}
+use Rattle.group.specs.Question.{Verdict}
 use Rattle.member.specs.State.{Member, fresh_member}
 use Rattle.member.specs.View as memberView
 use Rattle.member.specs.declared.Head as member
-use Rattle.model.specs.World.{Event, answer_of, Group, Happened, happen, fresh_members, fresh}
+use Rattle.model.specs.World.{Event, answer_of, Group, happen, fresh_members, fresh}
 use Rattle.model.specs.declared.Reply.{Reply}
 use Rattle.sequencer.specs.Calls as sequencer
 use Rattle.sequencer.specs.View as sequencerView
@@ -158,5 +159,5 @@ pub record Opens (n number resilience : ℕ) (verdict : Verdict) (head : Head) (
   pub members : (j : ℕ) → j < members_most → member_at w.terminals j ≡ fresh_member head.sequencer.group (record { 0 = j })
   pub count : head.count ≡ 0
   -- where it is accepted, the group is a fresh one; there is room
-  pub group : verdict ≡ Verdict.Accepted → group_of w ≡ (fresh n number resilience).group
+  pub group : verdict ≡ all_yes → group_of w ≡ (fresh n number resilience).group
   pub room : Room head

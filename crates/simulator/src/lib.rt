@@ -8,7 +8,7 @@ ghost use Rattle.sequencer.specs.View as sequencerView;
 ghost use Rattle.simulator.specs.Whole.{packets_most, rows_of, terminals_of, packets_of, whole_of, head_in, Opens};
 ghost use Rattle.simulator.specs.Steps.{room_of, there_of, fitting_of, kept_size, happened_at, happened_here, handed_to, handed_here, Full, CallsMember, CallsAt, CallsSequencer, Stores, Acts, Sequences, BegunAt, Begun};
 
-use group::{Group, MemberNumber, SequenceNumber, Verdict};
+use group::{Group, MemberNumber, Refusal, SequenceNumber};
 use model::Reply;
 
 // The packets that a schedule has room for.
@@ -18,14 +18,14 @@ pub const PACKETS: usize = 200;
 pub const NUMBERS: usize = 4;
 
 // The numbers of the group: those of its sequencer, whose description is every member's, and how many packets were written.
-#[derive(Clone, Copy)]
+#[derive(Clone, Copy, Debug, PartialEq, Eq)]
 pub struct Head {
     pub sequencer: sequencer::Head,
     pub count: usize,
 }
 
 // The calls of a member; a submission and a packet come with bytes.
-#[derive(Clone, Copy)]
+#[derive(Clone, Copy, Debug, PartialEq, Eq)]
 pub enum MemberCall {
     Submit,
     Repeat,
@@ -35,7 +35,7 @@ pub enum MemberCall {
 }
 
 // The calls of the sequencer; a packet comes with bytes.
-#[derive(Clone, Copy)]
+#[derive(Clone, Copy, Debug, PartialEq, Eq)]
 pub enum SequencerCall {
     Receive,
     Poll,
@@ -54,7 +54,7 @@ pub struct Happening {
 #[derive(Clone, Copy)]
 pub struct Opened {
     pub head: Head,
-    pub verdict: Verdict,
+    pub verdict: Result<(), Refusal>,
 }
 
 // The limit of specs/ is this constant.
@@ -65,45 +65,37 @@ fn packets_most() -> usize
 }
 
 // Whether there is room for one packet more, and for every member.
+#[tactic(auto, using(group::proofs::Choice::choices, group::proofs::Choice::tests), unfolding(crate::specs::Steps::room_of))]
 pub fn has_room(count: usize, n: u8) -> bool
     ensures { result ≡ room_of count n }
 {
-    if count < PACKETS {
-        return (n as usize) <= Group::MEMBERS;
-    }
-    false
+    count < PACKETS && (n as usize) <= Group::MEMBERS
 }
 
 // Whether there is room, and a member or packet k: one below the limit.
+#[tactic(auto, using(group::proofs::Choice::choices, group::proofs::Choice::tests), unfolding(crate::specs::Steps::there_of))]
 pub fn is_there(count: usize, n: u8, k: usize, limit: usize) -> bool
     ensures { result ≡ there_of count n k limit }
 {
-    if has_room(count, n) {
-        return k < limit;
-    }
-    false
+    has_room(count, n) && k < limit
 }
 
 // How many bytes of a stored packet are read: its length, where its array has as many.
+#[tactic(auto, using(group::proofs::Choice::choices), unfolding(crate::specs::Steps::fitting_of))]
 pub fn fitting(size: usize) -> usize
     ensures { result ≡ fitting_of size }
 {
-    if size < Group::PACKET {
-        return size;
-    }
-    Group::PACKET
+    size.min(Group::PACKET)
 }
 
 // The length of the packet that a member's call wrote. A take writes a payload, and no packet.
+#[tactic(auto, unfolding(crate::specs::Steps::kept_size))]
 fn kept_size(call: MemberCall, written: usize) -> usize
     ensures { result ≡ kept_size call written }
 {
     match call {
-        MemberCall::Submit => written,
-        MemberCall::Repeat => written,
         MemberCall::Take => 0,
-        MemberCall::Status => written,
-        MemberCall::Receive => written,
+        _ => written,
     }
 }
 
@@ -112,14 +104,11 @@ pub fn head_of(group: Group, i: usize, numbers: [u32; NUMBERS]) -> member::Head
     requires { i < members_most }
     ensures { result ≡ head_in group i numbers }
 {
-    let number = MemberNumber(i as u8);
-    let taken = SequenceNumber(numbers[0]);
-    let accepted = SequenceNumber(numbers[1]);
     member::Head {
         group,
-        number,
-        taken,
-        accepted,
+        number: MemberNumber(i as u8),
+        taken: SequenceNumber(numbers[0]),
+        accepted: SequenceNumber(numbers[1]),
         submitted: numbers[2],
         waiting: numbers[3],
     }
@@ -236,8 +225,7 @@ fn call_at(
     requires { (i < members_most) × (length numbers.old ≡ members_most) × Full (rows_of queued.old held.old queued_originators.old queued_lengths.old held_originators.old held_lengths.old queued_payloads.old held_payloads.old) }
     ensures { CallsAt call i bytes.now (terminals_of group numbers.old (rows_of queued.old held.old queued_originators.old queued_lengths.old held_originators.old held_lengths.old queued_payloads.old held_payloads.old)) result (terminals_of group numbers.new (rows_of queued.new held.new queued_originators.new queued_lengths.new held_originators.new held_lengths.new queued_payloads.new held_payloads.new)) out.old out.new }
 {
-    let row = numbers[i];
-    let head = head_of(group, i, row);
+    let head = head_of(group, i, numbers[i]);
     let done = call_member(
         call,
         head,
@@ -254,8 +242,7 @@ fn call_at(
         out,
     );
     let next = done.head;
-    let left = [next.taken.0, next.accepted.0, next.submitted, next.waiting];
-    numbers[i] = left;
+    numbers[i] = [next.taken.0, next.accepted.0, next.submitted, next.waiting];
     done.reply
 }
 
@@ -272,10 +259,7 @@ pub fn store(
 {
     sizes[count] = size;
     packets[count] = bytes;
-    if size == 0 {
-        return count;
-    }
-    count + 1
+    if size == 0 { count } else { count + 1 }
 }
 
 // An event of member i: a call, if there is room and such a member.
@@ -317,15 +301,11 @@ pub fn act(
             bytes,
             out,
         );
-        let answer = told.answer;
         let size = kept_size(call, told.written);
-        let copy = *out;
-        let count = store(sizes, packets, head.count, size, copy);
-        let sequencer = head.sequencer;
-        let next = Head { sequencer, count };
+        let count = store(sizes, packets, head.count, size, *out);
         return Happening {
-            head: next,
-            reply: Reply::Member(answer),
+            head: Head { count, ..head },
+            reply: Reply::Member(told.answer),
             written: told.written,
         };
     }
@@ -357,7 +337,7 @@ fn deliver(
 ) -> Happening
     ensures { Acts (happened_at MemberCall.Receive i (take size packet)) head (terminals_of head.sequencer.group numbers.old (rows_of queued.old held.old queued_originators.old queued_lengths.old held_originators.old held_lengths.old queued_payloads.old held_payloads.old)) (packets_of sizes.old packets.old head.count) result (terminals_of head.sequencer.group numbers.new (rows_of queued.new held.new queued_originators.new queued_lengths.new held_originators.new held_lengths.new queued_payloads.new held_payloads.new)) (packets_of sizes.new packets.new result.head.count) out.old out.new }
 {
-    let most = fitting(size);
+    let size = fitting(size);
     act(
         MemberCall::Receive,
         head,
@@ -373,7 +353,7 @@ fn deliver(
         sizes,
         packets,
         i,
-        &packet[..most],
+        &packet[..size],
         out,
     )
 }
@@ -527,15 +507,14 @@ pub fn sequence(
             bytes,
             out,
         );
-        let sequencer = step.head;
         let told = step.reply;
-        let answer = told.answer;
-        let copy = *out;
-        let count = store(sizes, packets, head.count, told.written, copy);
-        let next = Head { sequencer, count };
+        let count = store(sizes, packets, head.count, told.written, *out);
         return Happening {
-            head: next,
-            reply: Reply::Sequencer(answer),
+            head: Head {
+                sequencer: step.head,
+                count,
+            },
+            reply: Reply::Sequencer(told.answer),
             written: told.written,
         };
     }
@@ -565,7 +544,7 @@ fn submit(
 ) -> Happening
     ensures { Sequences (happened_here SequencerCall.Receive (take size packet)) head (sequencerView.whole head.sequencer taken.old counts.old repeats.old kept.old marks.old originators.old lengths.old payloads.old) (packets_of sizes.old packets.old head.count) result (sequencerView.whole result.head.sequencer taken.new counts.new repeats.new kept.new marks.new originators.new lengths.new payloads.new) (packets_of sizes.new packets.new result.head.count) out.old out.new }
 {
-    let most = fitting(size);
+    let size = fitting(size);
     sequence(
         SequencerCall::Receive,
         head,
@@ -579,7 +558,7 @@ fn submit(
         payloads,
         sizes,
         packets,
-        &packet[..most],
+        &packet[..size],
         out,
     )
 }
@@ -666,8 +645,7 @@ fn open_member(
         resilience,
     );
     let next = begun.head;
-    let left = [next.taken.0, next.accepted.0, next.submitted, next.waiting];
-    numbers[i] = left;
+    numbers[i] = [next.taken.0, next.accepted.0, next.submitted, next.waiting];
 }
 
 // Opens every member.
@@ -688,8 +666,7 @@ fn open_members(
 )
     ensures { Begun (terminals_of group numbers.new (rows_of queued.new held.new queued_originators.new queued_lengths.new held_originators.new held_lengths.new queued_payloads.new held_payloads.new)) members_most }
 {
-    let mut i: usize = 0;
-    while i < Group::MEMBERS {
+    for i in 0..Group::MEMBERS {
         open_member(
             group,
             n,
@@ -706,7 +683,6 @@ fn open_members(
             held_payloads,
             i,
         );
-        i += 1;
     }
 }
 
@@ -738,9 +714,8 @@ pub fn open(
 ) -> Opened
     ensures { Opens n number resilience result.verdict result.head (whole_of result.head taken.new counts.new repeats.new kept.new marks.new originators.new lengths.new payloads.new numbers.new queued.new held.new queued_originators.new queued_lengths.new held_originators.new held_lengths.new queued_payloads.new held_payloads.new sizes.new packets.new) }
 {
-    let mine = head.sequencer;
     let start = sequencer_calls::open_on(
-        mine,
+        head.sequencer,
         taken,
         counts,
         repeats,
@@ -754,9 +729,8 @@ pub fn open(
         resilience,
     );
     let sequencer = start.head;
-    let group = sequencer.group;
     open_members(
-        group,
+        sequencer.group,
         n,
         number,
         resilience,
@@ -770,13 +744,11 @@ pub fn open(
         queued_payloads,
         held_payloads,
     );
-    let verdict = start.verdict;
-    let next = Head {
-        sequencer,
-        count: 0,
-    };
     Opened {
-        head: next,
-        verdict,
+        head: Head {
+            sequencer,
+            count: 0,
+        },
+        verdict: start.verdict,
     }
 }

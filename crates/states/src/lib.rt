@@ -9,13 +9,13 @@ ghost use Rattle.sequencer.specs.State.{fresh_sequencer};
 ghost use Rattle.states.specs.Member as memberInPlace;
 ghost use Rattle.states.specs.Sequencer as sequencerInPlace;
 
-use group::{Group, MemberNumber, SequenceNumber, Verdict};
+use group::{Group, MemberNumber, Refusal, SequenceNumber};
 
 // A sequencer: its numbers; of each member the last number that it is known to have taken, its last count that was numbered, and how
 // often it repeated itself; of each place of the history its message's count (0: none), who confirmed it, originator, length and
 // payload.
 #[repr(C)]
-#[derive(Clone, Copy)]
+#[derive(Clone, Copy, Debug, PartialEq, Eq)]
 pub struct Sequencer {
     pub head: sequencer::Head,
     pub taken: [u32; Group::MEMBERS],
@@ -31,7 +31,7 @@ pub struct Sequencer {
 // A member: its numbers; of each place of its waiting messages and of each that is held its count, 0 for none, its originator, its
 // length and its payload.
 #[repr(C)]
-#[derive(Clone, Copy)]
+#[derive(Clone, Copy, Debug, PartialEq, Eq)]
 pub struct Member {
     pub head: member::Head,
     pub queued: [u32; Group::WAITING],
@@ -49,28 +49,21 @@ impl Sequencer {
     pub fn closed() -> Self
         ensures { sequencerInPlace.view_of result ≡ fresh_sequencer (description_of 0 0 0) }
     {
-        let head = sequencer::fresh_head(Group {
-            n: 0,
-            resilience: 0,
-            survivors: 0,
-            elected: MemberNumber(0),
-            number: 0,
-        });
         Sequencer {
-            head,
-            taken: [0u32; Group::MEMBERS],
-            counts: [0u32; Group::MEMBERS],
-            repeats: [0u32; Group::MEMBERS],
-            kept: [0u32; Group::PLACES],
-            marks: [0u16; Group::PLACES],
-            originators: [0u8; Group::PLACES],
-            lengths: [0u8; Group::PLACES],
-            payloads: [0u8; Group::HISTORY_BYTES],
+            head: sequencer::fresh_head(Group::default()),
+            taken: [0; Group::MEMBERS],
+            counts: [0; Group::MEMBERS],
+            repeats: [0; Group::MEMBERS],
+            kept: [0; Group::PLACES],
+            marks: [0; Group::PLACES],
+            originators: [0; Group::PLACES],
+            lengths: [0; Group::PLACES],
+            payloads: [0; Group::HISTORY_BYTES],
         }
     }
 
     // Opening: questions 18 and 24. The state is fresh; where opening is refused, it is all zero, and no call accepts it.
-    pub fn open(&mut self, n: u8, group: u32, resilience: u8) -> Verdict
+    pub fn open(&mut self, n: u8, group: u32, resilience: u8) -> Result<(), Refusal>
         ensures { sequencerInPlace.Opens self.old n group resilience result self.new }
     {
         let start = sequencer_calls::open_on(
@@ -155,29 +148,27 @@ impl Member {
     pub fn closed() -> Self
         ensures { memberInPlace.view_of result ≡ fresh_member (description_of 0 0 0) (record { 0 = 0 }) }
     {
-        let none = Group {
-            n: 0,
-            resilience: 0,
-            survivors: 0,
-            elected: MemberNumber(0),
-            number: 0,
-        };
-        let head = member::idle(none, MemberNumber(0));
         Member {
-            head,
-            queued: [0u32; Group::WAITING],
-            held: [0u32; Group::HELD],
-            queued_originators: [0u8; Group::WAITING],
-            queued_lengths: [0u8; Group::WAITING],
-            held_originators: [0u8; Group::HELD],
-            held_lengths: [0u8; Group::HELD],
-            queued_payloads: [0u8; Group::WAITING_BYTES],
-            held_payloads: [0u8; Group::HELD_BYTES],
+            head: member::idle(Group::default(), MemberNumber::default()),
+            queued: [0; Group::WAITING],
+            held: [0; Group::HELD],
+            queued_originators: [0; Group::WAITING],
+            queued_lengths: [0; Group::WAITING],
+            held_originators: [0; Group::HELD],
+            held_lengths: [0; Group::HELD],
+            queued_payloads: [0; Group::WAITING_BYTES],
+            held_payloads: [0; Group::HELD_BYTES],
         }
     }
 
     // Opens a member: questions 18 and 24. Where it is refused, the state is all zero.
-    pub fn open(&mut self, n: u8, number: MemberNumber, group: u32, resilience: u8) -> Verdict
+    pub fn open(
+        &mut self,
+        n: u8,
+        number: MemberNumber,
+        group: u32,
+        resilience: u8,
+    ) -> Result<(), Refusal>
         ensures { memberInPlace.Begins self.old n number group resilience result self.new }
     {
         let done = member_calls::open_on(

@@ -1,12 +1,13 @@
 -- The places that arrays of numbers and of bytes hold: a place is read off them, laid into them, and all of them together say every
 -- number and byte. Assumes nothing.
 use mathlib.Core.Path.{◌≡◌, refl, sym, ap, ◌∙◌}
-use mathlib.Core.List.{List, [], ◌∷◌, ◌++◌, map}
+use mathlib.Core.List.{List, [], ◌∷◌, ◌++◌, map, append_assoc}
 use Prim.Native.Nat.{ℕ, zero, suc, ◌+◌, ◌*◌, ◌-◌, ◌<◌, ◌≤◌}
 use native.Mathlib.Nat.{not-suc-le-zero, le_of_suc-le-suc}
 use native.Mathlib.Omega.{arith}
 use lib.ListN.{length, take, drop, get_or, set, replicate, length-append, length-take, length-drop, length-replicate, take-append-drop, replicate-append-replicate}
 use lib.Seq.{drop-drop, take_at, drop_at, take-add, get_or-drop, length-take-le}
+use Rattle.std.proofs.lemmas.List.{nil_from_length}
 use Rattle.group.specs.Limits.{payload_most}
 use Rattle.message.specs.Message.{Message, blank, empty_message}
 use Rattle.store.specs.Places.{Lies, part_of, laid_at, message_in, messages_in}
@@ -50,16 +51,12 @@ pub laid_length : (bytes part : List ℕ) (at : ℕ) → Lies at bytes → lengt
 laid_length bytes part at h e =
     simp (length-append, length-take, length-drop) (omega arith)
 
-assoc : (a b c : List ℕ) → (a ++ b) ++ c ≡ a ++ (b ++ c)
-assoc [] b c = refl
-assoc (x ∷ a) b c = ap (λ (r : List ℕ). x ∷ r) (assoc a b c)
-
 -- a place behind the first is a place of the bytes behind the first
 laid_on : (bytes part : List ℕ) (i : ℕ) → laid_at bytes (suc i) part ≡ take payload_most bytes ++ laid_at (drop payload_most bytes) i part
 laid_on bytes part i =
     ap (λ (k : ℕ). take k bytes ++ (part ++ drop payload_most (drop k bytes))) (sym (more i))
     ∙ ap (λ (l : List ℕ). l ++ (part ++ drop payload_most (drop (payload_most + i * payload_most) bytes))) (take-add payload_most (i * payload_most) bytes)
-    ∙ assoc (take payload_most bytes) (take (i * payload_most) (drop payload_most bytes)) (part ++ drop payload_most (drop (payload_most + i * payload_most) bytes))
+    ∙ append_assoc (take payload_most bytes) (take (i * payload_most) (drop payload_most bytes)) (part ++ drop payload_most (drop (payload_most + i * payload_most) bytes))
     ∙ ap (λ (l : List ℕ). take payload_most bytes ++ (take (i * payload_most) (drop payload_most bytes) ++ (part ++ drop payload_most l))) (sym (drop-drop (i * payload_most) payload_most bytes))
 
 -- the first place's bytes, then the others'
@@ -106,10 +103,6 @@ pub record Sized (k : ℕ) (counts originators lengths bytes : List ℕ) : Type 
   pub lengths_size : length lengths ≡ k
   pub bytes_size : length bytes ≡ k * payload_most
 
-nothing_left : (l : List ℕ) → length l ≡ 0 → [] ≡ l
-nothing_left [] h = refl
-nothing_left (x ∷ l) h = absurd (let z : suc (length l) ≡ 0 = h in omega arith)
-
 -- the counts come back from the messages, and so do the originators, the lengths and the bytes
 counts_of : (counts originators lengths bytes : List ℕ) → map (λ (m : Message). m.count) (messages_in counts originators lengths bytes) ≡ counts
 unfolding messages_in
@@ -119,7 +112,7 @@ counts_of (c ∷ counts) originators lengths bytes = ap (λ (l : List ℕ). c �
 originators_of : (counts originators lengths bytes : List ℕ) → length originators ≡ length counts
     → map (λ (m : Message). m.originator.0) (messages_in counts originators lengths bytes) ≡ originators
 unfolding messages_in
-originators_of [] originators lengths bytes h = nothing_left originators h
+originators_of [] originators lengths bytes h = sym (nil_from_length originators h)
 originators_of (c ∷ counts) [] lengths bytes h = absurd (let z : 0 ≡ suc (length counts) = h in omega arith)
 originators_of (c ∷ counts) (o ∷ originators) lengths bytes h =
     ap (λ (l : List ℕ). o ∷ l) (originators_of counts originators (drop 1 lengths) (drop payload_most bytes) (let z : suc (length originators) ≡ suc (length counts) = h in omega arith))
@@ -127,7 +120,7 @@ originators_of (c ∷ counts) (o ∷ originators) lengths bytes h =
 lengths_of : (counts originators lengths bytes : List ℕ) → length lengths ≡ length counts
     → map (λ (m : Message). m.length) (messages_in counts originators lengths bytes) ≡ lengths
 unfolding messages_in
-lengths_of [] originators lengths bytes h = nothing_left lengths h
+lengths_of [] originators lengths bytes h = sym (nil_from_length lengths h)
 lengths_of (c ∷ counts) originators [] bytes h = absurd (let z : 0 ≡ suc (length counts) = h in omega arith)
 lengths_of (c ∷ counts) originators (x ∷ lengths) bytes h =
     ap (λ (l : List ℕ). x ∷ l) (lengths_of counts (drop 1 originators) lengths (drop payload_most bytes) (let z : suc (length lengths) ≡ suc (length counts) = h in omega arith))
@@ -139,7 +132,7 @@ bytes_of (m ∷ rest) = m.payload ++ bytes_of rest
 
 bytes_of_lem : (counts originators lengths bytes : List ℕ) → length bytes ≡ length counts * payload_most → bytes_of (messages_in counts originators lengths bytes) ≡ bytes
 unfolding messages_in bytes_of
-bytes_of_lem [] originators lengths bytes h = nothing_left bytes h
+bytes_of_lem [] originators lengths bytes h = sym (nil_from_length bytes h)
 bytes_of_lem (c ∷ counts) originators lengths bytes h =
     ap (λ (l : List ℕ). take payload_most bytes ++ l) (bytes_of_lem counts (drop 1 originators) (drop 1 lengths) (drop payload_most bytes) (simp length-drop (omega (arith, h))))
     ∙ take-append-drop payload_most bytes

@@ -36,7 +36,7 @@ abbrev pub Puts : {W : Type 0} → (W → Option (List ℕ)) → Program → Sta
 Puts contents program from input to left before after = PutsBy line_told program contents from input to left before after
 
 -- the source gave an input, which was played
-abbrev pub Turns : {R W : Type 0} → (R → Option (List ℕ)) → (W → Option (List ℕ)) → Program → State → State → Source R → Sink W → Turn R W → Type 0
+abbrev pub Turns : {R W : Type 0} → (R → Option (List ℕ)) → (W → Option (List ℕ)) → Program → State → State → Source R → Sink W → Turn Player R W → Type 0
 Turns remaining contents program from to source sink r = TurnsBy line_told program contents remaining from to source sink r.source r.sink
 
 -- the sink took what `text` says of every group that is shown by these numbers and packets

@@ -23,20 +23,20 @@ use player::{LINE, OUTPUT, Phase, Player, end, feed, last, phase_of};
 use simulator::{Head, NUMBERS, PACKETS};
 use std::io::{Read, Write};
 
-// The player and the sink after a part of the input.
+// A player of some kind and the sink after a part of the input.
 #[derive(Drop)]
-struct Step<'w, W> {
-    player: Player,
-    sink: Sink<'w, W>,
+pub struct Step<'w, P, W> {
+    pub player: P,
+    pub sink: Sink<'w, W>,
 }
 
 // The same with the source, and whether to go on: the input has not ended, and the sink takes what it is handed.
 #[derive(Drop)]
-struct Turn<'r, 'w, R, W> {
-    player: Player,
-    source: Source<'r, R>,
-    sink: Sink<'w, W>,
-    goes_on: bool,
+pub struct Turn<'r, 'w, P, R, W> {
+    pub player: P,
+    pub source: Source<'r, R>,
+    pub sink: Sink<'w, W>,
+    pub goes_on: bool,
 }
 
 // The source and the sink after a schedule.
@@ -46,49 +46,23 @@ pub struct Played<'r, 'w, R, W> {
     pub sink: Sink<'w, W>,
 }
 
-// Hands on the first `size` bytes.
-fn put<'w, W: Write>(sink: Sink<'w, W>, text: &[u8], size: usize) -> Sink<'w, W>
+// Hands on the first `size` bytes of a text.
+pub fn put_text<'w, W: Write>(sink: Sink<'w, W>, text: &[u8], size: usize) -> Sink<'w, W>
     ensures { Takes W.contents sink.entry (take size text.now) result }
 {
-    if size < text.len() {
-        return sink.write(&text[..size]);
-    }
-    sink.write(text)
-}
-
-// The same of a text, of a table and of a job's line.
-pub fn put_text<'w, W: Write>(sink: Sink<'w, W>, text: [u8; OUTPUT], size: usize) -> Sink<'w, W>
-    ensures { Takes W.contents sink.entry (take size text) result }
-{
-    put(sink, &text, size)
-}
-
-fn put_table<'w, W: Write>(sink: Sink<'w, W>, table: [u8; TABLE_ROOM], size: usize) -> Sink<'w, W>
-    ensures { Takes W.contents sink.entry (take size table) result }
-{
-    put(sink, &table, size)
-}
-
-fn put_job<'w, W: Write>(sink: Sink<'w, W>, line: [u8; JOB_ROOM], size: usize) -> Sink<'w, W>
-    ensures { Takes W.contents sink.entry (take size line) result }
-{
-    put(sink, &line, size)
+    sink.write(&text[..size.min(text.len())])
 }
 
 // How many bytes are said of a line's text: all, or, where the program is quiet, those of a line that opened no group.
 fn said(quiet: bool, n: u8, count: usize, phase: Phase, size: usize) -> usize
     ensures { result ≡ said_size quiet (phase_with n count phase) size }
 {
-    if quiet {
-        let stands = phase_of(n, count, phase);
-        match stands {
-            Phase::Opening => 0,
-            Phase::Running => 0,
-            Phase::Ended => 0,
-            Phase::Closed => size,
-        }
-    } else {
-        size
+    if !quiet {
+        return size;
+    }
+    match phase_of(n, count, phase) {
+        Phase::Closed => size,
+        _ => 0,
     }
 }
 
@@ -118,12 +92,13 @@ fn play_part<'w, W: Write>(
     line: &mut [u8; LINE],
     part: &[u8],
     mut sink: Sink<'w, W>,
-) -> Step<'w, W>
+) -> Step<'w, Player, W>
     ensures { Puts W.contents (program_of quiet) (state_of player (whole_of player.head taken.old counts.old repeats.old kept.old marks.old originators.old lengths.old payloads.old numbers.old queued.old held.old queued_originators.old queued_lengths.old held_originators.old held_lengths.old queued_payloads.old held_payloads.old sizes.old packets.old) line.old) part.now (state_of result.player (whole_of result.player.head taken.new counts.new repeats.new kept.new marks.new originators.new lengths.new payloads.new numbers.new queued.new held.new queued_originators.new queued_lengths.new held_originators.new held_lengths.new queued_payloads.new held_payloads.new sizes.new packets.new) line.new) [] sink.entry result.sink }
 {
     let mut from: usize = 0;
+    // kept: a while, since a feed says how many bytes it used.
     while from < part.len() {
-        let mut text = [0u8; OUTPUT];
+        let mut text = [0; OUTPUT];
         let fed = feed(
             player,
             taken,
@@ -150,10 +125,10 @@ fn play_part<'w, W: Write>(
             &mut text,
         );
         player = fed.player;
-        let phase = player.phase;
-        let n = player.head.sequencer.group.n;
-        let size = said(quiet, n, player.head.count, phase, fed.written);
-        sink = put_text(sink, text, size);
+        let head = player.head;
+        let n = head.sequencer.group.n;
+        let size = said(quiet, n, head.count, player.phase, fed.written);
+        sink = put_text(sink, &text, size);
         from += fed.used;
     }
     Step { player, sink }
@@ -185,7 +160,7 @@ fn play_some<'r, 'w, R: Read, W: Write>(
     line: &mut [u8; LINE],
     source: Source<'r, R>,
     sink: Sink<'w, W>,
-) -> Turn<'r, 'w, R, W>
+) -> Turn<'r, 'w, Player, R, W>
     ensures { Turns R.remaining W.contents (program_of quiet) (state_of player (whole_of player.head taken.old counts.old repeats.old kept.old marks.old originators.old lengths.old payloads.old numbers.old queued.old held.old queued_originators.old queued_lengths.old held_originators.old held_lengths.old queued_payloads.old held_payloads.old sizes.old packets.old) line.old) (state_of result.player (whole_of result.player.head taken.new counts.new repeats.new kept.new marks.new originators.new lengths.new payloads.new numbers.new queued.new held.new queued_originators.new queued_lengths.new held_originators.new held_lengths.new queued_payloads.new held_payloads.new sizes.new packets.new) line.new) source.entry sink.entry result }
 {
     let mut chunk = [0u8; 4096];
@@ -218,19 +193,17 @@ fn play_some<'r, 'w, R: Read, W: Write>(
         &chunk[..size],
         sink,
     );
-    let played = step.player;
-    let handed = step.sink;
-    let goes_on = if handed.failed() { false } else { size > 0 };
+    let goes_on = size > 0 && !step.sink.failed();
     Turn {
-        player: played,
+        player: step.player,
         source: next,
-        sink: handed,
+        sink: step.sink,
         goes_on,
     }
 }
 
-// Plays to the end of the input. A proved loop has to end, and nothing says that an input does: so the loop counts its turns
-// down, from a number that no run uses up.
+// Plays to the end of the input. A proved loop has to end, and nothing says that an input does: so the loop has a number of turns
+// that no run uses up.
 fn play_all<'r, 'w, R: Read, W: Write>(
     quiet: bool,
     player: Player,
@@ -256,71 +229,51 @@ fn play_all<'r, 'w, R: Read, W: Write>(
     line: &mut [u8; LINE],
     source: Source<'r, R>,
     sink: Sink<'w, W>,
-) -> Turn<'r, 'w, R, W>
+) -> Turn<'r, 'w, Player, R, W>
     ensures { Turns R.remaining W.contents (program_of quiet) (state_of player (whole_of player.head taken.old counts.old repeats.old kept.old marks.old originators.old lengths.old payloads.old numbers.old queued.old held.old queued_originators.old queued_lengths.old held_originators.old held_lengths.old queued_payloads.old held_payloads.old sizes.old packets.old) line.old) (state_of result.player (whole_of result.player.head taken.new counts.new repeats.new kept.new marks.new originators.new lengths.new payloads.new numbers.new queued.new held.new queued_originators.new queued_lengths.new held_originators.new held_lengths.new queued_payloads.new held_payloads.new sizes.new packets.new) line.new) source.entry sink.entry result }
 {
-    let mut turn = play_some(
-        quiet,
+    let mut turn = Turn {
         player,
-        taken,
-        counts,
-        repeats,
-        kept,
-        marks,
-        originators,
-        lengths,
-        payloads,
-        numbers,
-        queued,
-        held,
-        queued_originators,
-        queued_lengths,
-        held_originators,
-        held_lengths,
-        queued_payloads,
-        held_payloads,
-        sizes,
-        packets,
-        line,
         source,
         sink,
-    );
-    let mut turns = u64::MAX;
-    while turns > 0 {
-        if turn.goes_on {
-            let player = turn.player;
-            let source = turn.source;
-            let sink = turn.sink;
-            turn = play_some(
-                quiet,
-                player,
-                taken,
-                counts,
-                repeats,
-                kept,
-                marks,
-                originators,
-                lengths,
-                payloads,
-                numbers,
-                queued,
-                held,
-                queued_originators,
-                queued_lengths,
-                held_originators,
-                held_lengths,
-                queued_payloads,
-                held_payloads,
-                sizes,
-                packets,
-                line,
-                source,
-                sink,
-            );
-            turns -= 1;
-        } else {
-            return turn;
+        goes_on: true,
+    };
+    'turns: for _ in 0..u64::MAX {
+        if !turn.goes_on {
+            break;
         }
+        let Turn {
+            player,
+            source,
+            sink,
+            ..
+        } = turn;
+        turn = play_some(
+            quiet,
+            player,
+            taken,
+            counts,
+            repeats,
+            kept,
+            marks,
+            originators,
+            lengths,
+            payloads,
+            numbers,
+            queued,
+            held,
+            queued_originators,
+            queued_lengths,
+            held_originators,
+            held_lengths,
+            queued_payloads,
+            held_payloads,
+            sizes,
+            packets,
+            line,
+            source,
+            sink,
+        );
     }
     turn
 }
@@ -329,13 +282,10 @@ fn play_all<'r, 'w, R: Read, W: Write>(
 fn put_jobs<'w, W: Write>(i: u32, jobs: [Job; Group::JOBS], mut sink: Sink<'w, W>) -> Sink<'w, W>
     ensures { Takes W.contents sink.entry (job_lines i jobs (length jobs)) result }
 {
-    let mut place: usize = 0;
-    while place < Group::JOBS {
-        let job = jobs[place];
-        let mut line = [0u8; JOB_ROOM];
-        let size = write_job(i, place as u32, job, &mut line);
-        sink = put_job(sink, line, size);
-        place += 1;
+    for place in 0..Group::JOBS {
+        let mut line = [0; JOB_ROOM];
+        let size = write_job(i, place as u32, jobs[place], &mut line);
+        sink = put_text(sink, &line, size);
     }
     sink
 }
@@ -352,12 +302,10 @@ fn put_lists<'w, W: Write>(
     requires { (n ≤ members_most) × (count ≤ packets_most) × (length numbers.now ≡ members_most) }
     ensures { Takes W.contents sink.entry (list_lines (list_on numbers.now (packets_in (packets_of sizes.now packets.now count))) n) result }
 {
-    let mut i: usize = 0;
-    while i < n {
+    for i in 0..n {
         let taken = SequenceNumber(numbers[i][0]);
         let jobs = list_left(sizes, packets, count, taken);
         sink = put_jobs(i as u32, jobs, sink);
-        i += 1;
     }
     sink
 }
@@ -389,13 +337,9 @@ fn put_left<'w, W: Write>(
     ensures { HandsLeft W.contents player numbers.now (packets_of sizes.now packets.now player.head.count) sink.entry result }
 {
     let head = player.head;
-    let phase = player.phase;
-    let stands = phase_of(head.sequencer.group.n, head.count, phase);
-    match stands {
-        Phase::Opening => sink,
-        Phase::Running => put_group(head, numbers, sizes, packets, sink),
-        Phase::Ended => put_group(head, numbers, sizes, packets, sink),
-        Phase::Closed => sink,
+    match phase_of(head.sequencer.group.n, head.count, player.phase) {
+        Phase::Running | Phase::Ended => put_group(head, numbers, sizes, packets, sink),
+        Phase::Opening | Phase::Closed => sink,
     }
 }
 
@@ -421,7 +365,7 @@ fn put_last<'w, W: Write>(
     ensures { HandsLast W.contents quiet player taken.now repeats.now (terminals_of player.head.sequencer.group numbers.now (rows_of queued.now held.now queued_originators.now queued_lengths.now held_originators.now held_lengths.now queued_payloads.now held_payloads.now)) (packets_of sizes.now packets.now player.head.count) sink.entry result }
 {
     if quiet {
-        let mut table = [0u8; TABLE_ROOM];
+        let mut table = [0; TABLE_ROOM];
         let size = write_left(
             player,
             numbers,
@@ -437,12 +381,12 @@ fn put_last<'w, W: Write>(
             repeats,
             &mut table,
         );
-        let next = put_table(sink, table, size);
+        let next = put_text(sink, &table, size);
         return put_left(player, numbers, sizes, packets, next);
     }
-    let mut text = [0u8; OUTPUT];
+    let mut text = [0; OUTPUT];
     let size = last(player, numbers, &mut text);
-    put_text(sink, text, size)
+    put_text(sink, &text, size)
 }
 
 // The end of the input.
@@ -473,7 +417,7 @@ fn finish<'w, W: Write>(
 ) -> Sink<'w, W>
     ensures { Takes W.contents sink.entry (said_of (program_of quiet) (end_of (state_of player (whole_of player.head taken.old counts.old repeats.old kept.old marks.old originators.old lengths.old payloads.old numbers.old queued.old held.old queued_originators.old queued_lengths.old held_originators.old held_lengths.old queued_payloads.old held_payloads.old sizes.old packets.old) line.now)) ++ (program_of quiet).last (end_of (state_of player (whole_of player.head taken.old counts.old repeats.old kept.old marks.old originators.old lengths.old payloads.old numbers.old queued.old held.old queued_originators.old queued_lengths.old held_originators.old held_lengths.old queued_payloads.old held_payloads.old sizes.old packets.old) line.now)).state.stage) result }
 {
-    let mut text = [0u8; OUTPUT];
+    let mut text = [0; OUTPUT];
     let fed = end(
         player,
         taken,
@@ -499,10 +443,10 @@ fn finish<'w, W: Write>(
         &mut text,
     );
     let left = fed.player;
-    let phase = left.phase;
-    let n = left.head.sequencer.group.n;
-    let size = said(quiet, n, left.head.count, phase, fed.written);
-    let next = put_text(sink, text, size);
+    let head = left.head;
+    let n = head.sequencer.group.n;
+    let size = said(quiet, n, head.count, left.phase, fed.written);
+    let next = put_text(sink, &text, size);
     put_last(
         quiet,
         left,

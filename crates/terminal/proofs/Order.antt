@@ -1,5 +1,6 @@
 -- The order can be read off the packets of a group that was run: after every list of events the first broadcasts or offers of 1, 2, .. are
 -- its messages. So the list that is fed them up to t is the terminal's. Assumes nothing.
+use Rattle.std.specs.Prelude.{Ok, Err}
 use mathlib.Core.Path.{◌≡◌, refl, sym, ap, ◌∙◌, subst}
 use mathlib.Core.Bool.{Bool, true, false}
 use mathlib.Core.Option.{Option, none, some}
@@ -39,8 +40,7 @@ use Rattle.packet.specs.Packet.{header_of, read_of, payload_at, content_of, fiel
 use Rattle.packet.specs.declared.Header.{Header}
 use Rattle.packet.specs.declared.Packet.{Packet}
 use Rattle.packet.specs.declared.Packet.TheVariants.{Request, Broadcast, Gap, Status, Poll, Offer, Confirm, Accept, Invitation, Result}
-use Rattle.packet.specs.declared.Reading.{Reading}
-use Rattle.packet.specs.declared.Reading.TheVariants.{Fields}
+use Rattle.packet.specs.Answers.{Reading}
 use Rattle.sequencer.proofs.Histories.{broadcast_is, broadcast_may}
 use Rattle.sequencer.proofs.Invariant.{SequencerInv, facts_of}
 use Rattle.sequencer.proofs.Packets.{announced_each}
@@ -59,11 +59,11 @@ use Rattle.terminal.proofs.Lists.{list_folds}
 
 -- the message that a packet broadcasts or offers under a number
 unfoldable broadcasts : ℕ → Reading → List ℕ → List Ordered
-broadcasts s (Fields h) payload =
+broadcasts s (Ok h) payload =
     when is_message h and h.a =? s
     then record { number = s; originator = h.member.0; count = h.b; payload = payload } ∷ []
     else []
-broadcasts s (Reading.Refused refusal) payload = []
+broadcasts s (Err refusal) payload = []
 
 abbrev under : ℕ → List ℕ → List Ordered
 under s packet = broadcasts s (read_of packet) (payload_at packet)
@@ -97,8 +97,8 @@ module _ (t : ℕ) where
       → (heard_all t (heard_of t (left jobs s) reading payload) rest).jobs
       ≡ fed_by jobs (take (t + 1 - s) (broadcasts s reading payload ++ order_in (s + length (broadcasts s reading payload)) rest))
   unfolding heard_of broadcasts is_next fed_by when◌then◌else◌
-  heard_one jobs s (Reading.Refused refusal) payload rest more = let e : s ≡ s + 0 = omega arith in more jobs s ∙ ap (λ (k : ℕ). fed_by jobs (take (t + 1 - s) (order_in k rest))) e
-  heard_one jobs s (Fields h) payload rest more = go (is_message h) (h.a =? s) (s ≤? t) refl
+  heard_one jobs s (Err refusal) payload rest more = let e : s ≡ s + 0 = omega arith in more jobs s ∙ ap (λ (k : ℕ). fed_by jobs (take (t + 1 - s) (order_in k rest))) e
+  heard_one jobs s (Ok h) payload rest more = go (is_message h) (h.a =? s) (s ≤? t) refl
     where
       same : (heard_all t (left jobs s) rest).jobs ≡ fed_by jobs (take (t + 1 - s) (order_in (s + 0) rest))
       same = let e : s ≡ s + 0 = omega arith in more jobs s ∙ ap (λ (k : ℕ). fed_by jobs (take (t + 1 - s) (order_in k rest))) e
@@ -201,11 +201,11 @@ content_copies s (Result sender attempt elected number) payload = refused_copies
 
 read_copies : (s : Sequencer) (reading : Reading) (payload : List ℕ) → Copies (sequencer.read_step s reading payload)
 unfolding sequencer.read_step
-read_copies s (Fields h) payload =
+read_copies s (Ok h) payload =
     when_elim Copies (from_elected s.group (content_of h))
     (λ u. when_elim Copies (h.group =? s.group.number) (λ t. content_copies s (content_of h) payload) (λ f. refused_copies s OtherGroup))
     (λ u. refused_copies s ForbiddenFields)
-read_copies s (Reading.Refused refusal) payload = refused_copies s refusal
+read_copies s (Err refusal) payload = refused_copies s refusal
 
 receive_copies : (s : Sequencer) (packet : List ℕ) (room : ℕ) → Copies (sequencer.receive_of s packet room)
 unfolding sequencer.receive_of
@@ -224,7 +224,7 @@ copy_copies s number room =
 
 -- ---- a packet that the group knows is no message of the number after the order
 fields_under : (g : ℕ) (f : Facts) (content : Packet) (payload rest : List ℕ) → Says f content payload
-    → broadcasts (1 + length f.order) (Fields (fields_of g content)) rest ≡ []
+    → broadcasts (1 + length f.order) (Ok (fields_of g content)) rest ≡ []
 unfolding broadcasts fields_of when◌then◌else◌
 fields_under g f (Request sender taken count) payload rest says = refl
 fields_under g f (Broadcast originator number count floor) payload rest says =
@@ -244,7 +244,7 @@ fields_under g f (Result sender attempt elected number) payload rest says = refl
 
 known_under : (g : ℕ) (f : Facts) (packet : List ℕ) → Known g f packet → under (1 + length f.order) packet ≡ []
 known_under g f packet k =
-    let r : read_of packet ≡ Fields (fields_of g k.content) = ap read_of k.bytes_are ∙ (read_written (fields_of g k.content) k.payload k.allowed).0 in
+    let r : read_of packet ≡ Ok (fields_of g k.content) = ap read_of k.bytes_are ∙ (read_written (fields_of g k.content) k.payload k.allowed).0 in
     ap (λ (reading : Reading). broadcasts (1 + length f.order) reading (payload_at packet)) r
     ∙ fields_under g f k.content k.payload (payload_at packet) k.says
 
@@ -258,12 +258,12 @@ all_under g f (packet ∷ rest) k =
 
 -- the packet of a message, accepted or not, is of its number
 announced_under : (g : ℕ) (accepted : SequenceNumber) (originator : MemberNumber) (number : SequenceNumber) (count : ℕ) (floor : SequenceNumber) (payload : List ℕ)
-    → broadcasts number.0 (Fields (fields_of g (sequencer.announced accepted originator number count floor))) payload
+    → broadcasts number.0 (Ok (fields_of g (sequencer.announced accepted originator number count floor))) payload
     ≡ record { number = number.0; originator = originator.0; count = count; payload = payload } ∷ []
 unfolding broadcasts fields_of when◌then◌else◌
 announced_under g accepted originator number count floor payload =
     announced_each
-    (λ (p : Packet). broadcasts number.0 (Fields (fields_of g p)) payload ≡ record { number = number.0; originator = originator.0; count = count; payload = payload } ∷ [])
+    (λ (p : Packet). broadcasts number.0 (Ok (fields_of g p)) payload ≡ record { number = number.0; originator = originator.0; count = count; payload = payload } ∷ [])
     accepted originator number count floor
     (λ h. rw (eq-eqb number.0 number.0 refl)) (λ h. rw (eq-eqb number.0 number.0 refl))
 
@@ -327,12 +327,12 @@ module _ (group : description.Group) (w : Group) (ord : List Ordered) (tk : ℕ 
       let p : o.bytes ≡ packet_of (fields_of group.number b) m.payload =
       copies number e ∙ ap (sequencer.broadcast_of o.sequencer) n ∙ broadcast_is group (ord ++ (m ∷ [])) o.sequencer q k m a above in
       let r = read_written (fields_of group.number b) m.payload (broadcast_may group (ord ++ (m ∷ [])) o.sequencer q k m a above) in
-      let h : read_of o.bytes ≡ Fields (fields_of group.number b) = ap read_of p ∙ r.0 in
+      let h : read_of o.bytes ≡ Ok (fields_of group.number b) = ap read_of p ∙ r.0 in
       let one : written o.bytes ≡ o.bytes ∷ [] = ap written p ∙ written_packet (fields_of group.number b) m.payload ∙ ap (λ (x : List ℕ). x ∷ []) (sym p) in
       let s : 1 + length ord ≡ k = omega arith in
       let here : under (1 + length ord) o.bytes ≡ m ∷ [] =
       ap (λ (reading : Reading). broadcasts (1 + length ord) reading (payload_at o.bytes)) h
-      ∙ ap (λ (x : ℕ). broadcasts x (Fields (fields_of group.number b)) (payload_at o.bytes)) s
+      ∙ ap (λ (x : ℕ). broadcasts x (Ok (fields_of group.number b)) (payload_at o.bytes)) s
       ∙ announced_under group.number o.sequencer.accepted origin number' m.count o.sequencer.floor (payload_at o.bytes)
       ∙ ap {B = List Ordered} (λ (x : ℕ). record { number = x; originator = m.originator; count = m.count; payload = m.payload } ∷ []) (sym n) in
       record {

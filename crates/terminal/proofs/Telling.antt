@@ -1,12 +1,12 @@
 -- An answer that is not Took hands out nothing, and what a take handed out lies at the front of its output. Assumes nothing.
-use mathlib.Core.Path.{◌≡◌, refl, sym, ap, ◌∙◌}
+use mathlib.Core.Path.{◌≡◌, refl, ap, ◌∙◌}
 use mathlib.Core.Logic.{inl, inr}
 use mathlib.Core.Bool.{Bool, true}
 use mathlib.Core.List.{List, [], ◌∷◌}
 use Prim.Native.Nat.{ℕ, ◌≤◌, ◌<◌}
 use native.Mathlib.Omega.{arith}
 use borrow.Author.Tests.{leb-true}
-use lib.ListN.{length, take, drop, length-append}
+use lib.ListN.{length, take, drop}
 use lib.Seq.{take_at}
 use types.Run.{OneOf}
 use Rattle.group.specs.Choice.{◌and◌, ◌≤?◌, ◌=?◌}
@@ -15,7 +15,6 @@ use Rattle.group.proofs.Choice.{both_then}
 use Rattle.packet.specs.declared.Header.{Header}
 use Rattle.group.specs.declared.MemberNumber.{MemberNumber}
 use Rattle.group.specs.declared.SequenceNumber.{SequenceNumber}
-use Rattle.jobs.specs.declared.Job.{Job}
 use Rattle.member.specs.Calls.{Outcome, take_of}
 use Rattle.member.specs.Order.{took_by}
 use Rattle.member.specs.View.{view_of}

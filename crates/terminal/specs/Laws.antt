@@ -1,7 +1,6 @@
 -- What is proved of the work lists, of every log, so of that of every list of events that demand 3 speaks of. `proofs/Lists.antt`,
 -- `proofs/Order.antt` and, of a take, `proofs/Telling.antt` have the proofs.
-use Rattle.std.specs.Prelude.{◌≡◌, true, List, length, take, ℕ, ◌+◌, ◌≤◌, ◌<◌}
-use Rattle.group.specs.Limits.{members_most, largest_number}
+use Rattle.std.specs.Prelude.{◌≡◌, true, List, length, take, ℕ, ◌+◌, ◌<◌}
 use Rattle.jobs.specs.declared.Job.{Job}
 use Rattle.jobs.specs.Count.{waiting_in, given_in}
 use Rattle.jobs.specs.Sound.{sound_of}

@@ -1,5 +1,6 @@
 -- Each terminal's work list, read off a group: its packets in the sequence in which they were written. The broadcast or the offer of
 -- each number was first written when the number was given, so that the first ones of 1, 2, .. are the order; terminal i took it up to t.
+use Rattle.std.specs.Prelude.{Ok, Err}
 use Rattle.std.specs.Prelude.{Bool, true, List, [], ◌∷◌, ℕ, ◌+◌, get_or}
 use Rattle.group.specs.Choice.{when◌then◌else◌, ◌and◌, ◌≤?◌, ◌=?◌}
 use Rattle.jobs.specs.Feed.{feed_of}
@@ -8,8 +9,7 @@ use Rattle.jobs.specs.declared.Job.{Job}
 use Rattle.model.specs.World.{Group, no_member}
 use Rattle.packet.specs.Packet.{broadcast_kind, offer_kind, read_of, payload_at}
 use Rattle.packet.specs.declared.Header.{Header}
-use Rattle.packet.specs.declared.Reading.{Reading}
-use Rattle.packet.specs.declared.Reading.TheVariants.{Fields}
+use Rattle.packet.specs.Answers.{Reading}
 use Rattle.terminal.specs.declared.Left.{Left}
 
 -- the fields are those of a message's packet: a broadcast or an offer
@@ -22,11 +22,11 @@ is_next t number h = is_message h and h.a =? number and number ≤? t
 
 -- a packet: where it is the message of the number that comes next, the list is fed its message
 unfoldable pub heard_of : ℕ → Left → Reading → List ℕ → Left
-heard_of t left (Fields h) payload =
+heard_of t left (Ok h) payload =
     when is_next t left.next h
     then record { jobs = (feed_of left.jobs h.member payload).jobs; next = left.next + 1 }
     else left
-heard_of t left (Reading.Refused refusal) payload = left
+heard_of t left (Err refusal) payload = left
 
 -- all packets
 unfoldable pub heard_all : ℕ → Left → List (List ℕ) → Left

@@ -1,14 +1,14 @@
 -- A terminal's take: its member's take, and then, once that is done, its work list is fed what was taken. The take stands, whatever
 -- the list answers.
-use Rattle.std.specs.Prelude.{List, [], ◌∷◌}
+use Rattle.std.specs.Prelude.{List, [], ◌∷◌, Option, Some, None, Result}
+use Rattle.group.specs.declared.Refusal.{Refusal}
 use Rattle.jobs.specs.Feed.{feed_of}
+use Rattle.jobs.specs.declared.Answer.{Answer}
 use Rattle.jobs.specs.declared.Job.{Job}
 use Rattle.jobs.specs.declared.Outcome as fed
 use Rattle.member.specs.Calls as member
 use Rattle.member.specs.Order.{took_by}
 use Rattle.message.specs.Order.{Ordered}
-use Rattle.terminal.specs.declared.Fed.{Fed}
-use Rattle.terminal.specs.declared.Fed.TheVariants.{Nothing, Answered}
 use Rattle.terminal.specs.declared.Feeding.{Feeding}
 
 -- a feed of a message: by its originator and its payload
@@ -21,9 +21,9 @@ fed_by jobs [] = jobs
 fed_by jobs (m ∷ rest) = fed_by (fed_of jobs m).jobs rest
 
 -- what it answers to the first of them
-unfoldable pub answered_by : List Job → List Ordered → Fed
-answered_by jobs [] = Nothing
-answered_by jobs (m ∷ rest) = Answered (fed_of jobs m).answer
+unfoldable pub answered_by : List Job → List Ordered → Option (Result Answer Refusal)
+answered_by jobs [] = None
+answered_by jobs (m ∷ rest) = Some (fed_of jobs m).answer
 
 -- a list that is fed them, and its answer
 unfoldable pub feeding_of : List Job → List Ordered → Feeding

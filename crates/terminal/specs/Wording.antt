@@ -1,10 +1,10 @@
 -- How the paper words what a list answers to a take: as it words the feed's answer; where nothing was fed there is nothing to word.
-use Rattle.std.specs.Prelude.{List, [], ◌∷◌}
+use Rattle.std.specs.Prelude.{List, [], ◌∷◌, Option, Some, None, Result}
 use Rattle.group.specs.Wording.{Wording}
+use Rattle.group.specs.declared.Refusal.{Refusal}
 use Rattle.jobs.specs.Wording.{wording_of}
-use Rattle.terminal.specs.declared.Fed.{Fed}
-use Rattle.terminal.specs.declared.Fed.TheVariants.{Nothing, Answered}
+use Rattle.jobs.specs.declared.Answer.{Answer}
 
-unfoldable pub fed_wording : Fed → List Wording
-fed_wording Nothing = []
-fed_wording (Answered answer) = wording_of answer ∷ []
+unfoldable pub fed_wording : Option (Result Answer Refusal) → List Wording
+fed_wording None = []
+fed_wording (Some answer) = wording_of answer ∷ []

@@ -8,16 +8,9 @@ ghost use Rattle.terminal.specs.Left.{is_message, is_next, heard_of, fresh_left}
 ghost use Rattle.terminal.specs.Take.{feeding_of};
 ghost use Rattle.terminal.specs.Wording.{fed_wording};
 
-use group::{Group, SequenceNumber};
+use group::{Group, Refusal, SequenceNumber};
 use jobs::Job;
-use packet::{Header, Reading};
-
-// What the list answers to a take: nothing where the take handed out no message.
-#[derive(Clone, Copy)]
-pub enum Fed {
-    Nothing,
-    Answered(jobs::Answer),
-}
+use packet::Header;
 
 // A list that is fed the messages that a group's packets broadcast, and the number that comes next.
 #[derive(Clone, Copy)]
@@ -26,61 +19,38 @@ pub struct Left {
     pub next: usize,
 }
 
-// A list that was fed, and its answer.
+// A list that was fed, and what it answers: nothing where the take handed out no message.
 #[derive(Clone, Copy)]
 pub struct Feeding {
     pub jobs: [Job; Group::JOBS],
-    pub fed: Fed,
+    pub fed: Option<Result<jobs::Answer, Refusal>>,
 }
 
 // Feeds a list what a take's answer and the bytes that it wrote hand out, once the take is done. The take stands, whatever the list
 // answers.
-pub fn feed(jobs: [Job; Group::JOBS], answer: member::Answer, bytes: &[u8]) -> Feeding
+pub fn feed(mut jobs: [Job; Group::JOBS], answer: member::Answer, bytes: &[u8]) -> Feeding
     ensures answer { result ≡ feeding_of jobs (took_by answer bytes.now) }
     ensures wording { fed_wording result.fed ≡ fed_wording (feeding_of jobs (took_by answer bytes.now)).fed }
 {
-    if let member::Answer::Took {
-        number: _,
-        originator,
-        count: _,
-        more: _,
-    } = answer
-    {
-        let outcome = jobs::feed_array(jobs, originator, bytes);
-        let after = outcome.jobs;
-        let said = outcome.answer;
-        return Feeding {
-            jobs: after,
-            fed: Fed::Answered(said),
-        };
-    }
-    Feeding {
-        jobs,
-        fed: Fed::Nothing,
-    }
+    let member::Answer::Took { originator, .. } = answer else {
+        return Feeding { jobs, fed: None };
+    };
+    let fed = Some(jobs::feed(&mut jobs, originator, bytes));
+    Feeding { jobs, fed }
 }
 
 // Whether the fields are those of a message, broadcast or offered.
 fn is_message(h: Header) -> bool
     ensures { result ≡ is_message h }
 {
-    if h.kind == Header::BROADCAST {
-        return true;
-    }
-    h.kind == Header::OFFER
+    h.kind == Header::BROADCAST || h.kind == Header::OFFER
 }
 
 // Whether the fields are those of the message of the number that comes next, and it was taken.
 fn is_next(taken: SequenceNumber, number: usize, h: Header) -> bool
     ensures { result ≡ is_next taken.0 number h }
 {
-    if is_message(h) {
-        if (h.a as usize) == number {
-            return number <= (taken.0 as usize);
-        }
-        return false;
-    }
-    false
+    is_message(h) && h.a as usize == number && number <= taken.0 as usize
 }
 
 impl Left {
@@ -88,31 +58,23 @@ impl Left {
     pub fn fresh() -> Self
         ensures { result ≡ fresh_left }
     {
-        let jobs = jobs::no_jobs();
-        Left { jobs, next: 1 }
+        Left {
+            jobs: jobs::no_jobs(),
+            next: 1,
+        }
     }
 
     // A packet that was written; `taken` is the last number that the terminal took.
-    pub fn hear(self, taken: SequenceNumber, packet: &[u8]) -> Self
+    pub fn hear(mut self, taken: SequenceNumber, packet: &[u8]) -> Self
         ensures { result ≡ heard_of taken.0 self (read_of packet.now) (payload_at packet.now) }
     {
-        let reading = packet::read(packet);
-        match reading {
-            Reading::Fields(h) => {
-                if is_next(taken, self.next, h) {
-                    let end = Group::HEADER + packet::payload_length(packet);
-                    let jobs = self.jobs;
-                    let originator = h.member;
-                    let outcome = jobs::feed_array(jobs, originator, &packet[Group::HEADER..end]);
-                    let after = outcome.jobs;
-                    return Left {
-                        jobs: after,
-                        next: self.next + 1,
-                    };
-                }
-                self
+        if let Ok(h) = packet::read(packet) {
+            if is_next(taken, self.next, h) {
+                let end = Group::HEADER + packet::payload_length(packet);
+                let _ = jobs::feed(&mut self.jobs, h.member, &packet[Group::HEADER..end]);
+                self.next += 1;
             }
-            Reading::Refused(_) => self,
         }
+        self
     }
 }

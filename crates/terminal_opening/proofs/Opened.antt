@@ -1,4 +1,6 @@
 -- What opening leaves is what its member's opening and its sequencer's left, with nothing kept and no part in a reset. Assumes nothing.
+use Rattle.group.specs.Question.{all_yes}
+use Rattle.std.specs.Prelude.{Ok, Err}
 use mathlib.Core.Path.{◌≡◌, refl, sym, ap, ◌∙◌}
 use mathlib.Core.Bool.{Bool, true, false}
 use Prim.Native.Nat.{ℕ, ◌*◌}
@@ -10,10 +12,9 @@ use Rattle.group.specs.Opening.{description_of, open_of}
 use Rattle.group.specs.Question.{judged}
 use Rattle.group.specs.Wording.{verdict_wording}
 use Rattle.group.specs.declared.MemberNumber.{MemberNumber}
-use Rattle.group.specs.declared.Opened.{Opened}
-use Rattle.group.specs.declared.Opened.TheVariants.{Open, Refused}
+use Rattle.group.specs.Opening.{Opened}
 use Rattle.group.specs.declared.Refusal.{Refusal}
-use Rattle.group.specs.declared.Verdict.{Verdict}
+use Rattle.group.specs.Question.{Verdict}
 use Rattle.store.proofs.Places.{messages_none}
 use Rattle.member.specs.Calls as member
 use Rattle.member.specs.Promise as memberPromise
@@ -34,42 +35,42 @@ unfolding sequencer.fresh_of sequencer.opened_of open_of when◌then◌else◌
 none_fresh group resilience = refl
 
 -- a member that is not opened is all zero
-apart : (refusal : Refusal) → Verdict.Accepted ≡ Verdict.Refused refusal → ⊥
+apart : (refusal : Refusal) → all_yes ≡ Err refusal → ⊥
 apart refusal e = let z : ◌≡◌ {A = ℕ} 0 1 = cc in absurd (omega arith)
 
 not_opened_lem : (number : MemberNumber) (refusal : Refusal) (test : Bool) (o : Opened)
-    → (when test then member.opened_of o number else member.not_opened Refusal.Opening).verdict ≡ Verdict.Refused refusal
+    → (when test then member.opened_of o number else member.not_opened Refusal.Opening).verdict ≡ Err refusal
     → (when test then member.opened_of o number else member.not_opened Refusal.Opening).member ≡ fresh_member (description_of 0 0 0) (record { 0 = 0 })
 unfolding when◌then◌else◌ member.opened_of
-not_opened_lem number refusal true (Open group) e = absurd (apart refusal e)
-not_opened_lem number refusal true (Refused r) e = refl
+not_opened_lem number refusal true (Ok group) e = absurd (apart refusal e)
+not_opened_lem number refusal true (Err r) e = refl
 not_opened_lem number refusal false o e = refl
 
-closed_member : (n : ℕ) (number : MemberNumber) (group resilience : ℕ) (refusal : Refusal) → (member.fresh_of n number group resilience).verdict ≡ Verdict.Refused refusal
+closed_member : (n : ℕ) (number : MemberNumber) (group resilience : ℕ) (refusal : Refusal) → (member.fresh_of n number group resilience).verdict ≡ Err refusal
     → (member.fresh_of n number group resilience).member ≡ fresh_member (description_of 0 0 0) (record { 0 = 0 })
 unfolding member.fresh_of
 closed_member n number group resilience refusal e = not_opened_lem number refusal (number.0 <? n) (open_of n group resilience) e
 
 -- the two ways of opening
-fresh_yes : (n : ℕ) (number : MemberNumber) (group resilience : ℕ) → Verdict.Accepted ≡ (member.fresh_of n number group resilience).verdict
-    → record { terminal = fresh_terminal n group resilience number.0; verdict = Verdict.Accepted } ≡ fresh_of n number group resilience
+fresh_yes : (n : ℕ) (number : MemberNumber) (group resilience : ℕ) → all_yes ≡ (member.fresh_of n number group resilience).verdict
+    → record { terminal = fresh_terminal n group resilience number.0; verdict = all_yes } ≡ fresh_of n number group resilience
 unfolding fresh_of judged
 fresh_yes n number group resilience e =
-    ap (λ (v : Verdict). judged v not_opened (record { terminal = fresh_terminal n group resilience number.0; verdict = Verdict.Accepted })) e
+    ap (λ (v : Verdict). judged v not_opened (record { terminal = fresh_terminal n group resilience number.0; verdict = all_yes })) e
 
-fresh_no : (n : ℕ) (number : MemberNumber) (group resilience : ℕ) (refusal : Refusal) → Verdict.Refused refusal ≡ (member.fresh_of n number group resilience).verdict
+fresh_no : (n : ℕ) (number : MemberNumber) (group resilience : ℕ) (refusal : Refusal) → Err refusal ≡ (member.fresh_of n number group resilience).verdict
     → not_opened refusal ≡ fresh_of n number group resilience
 unfolding fresh_of judged
 fresh_no n number group resilience refusal e =
-    ap (λ (v : Verdict). judged v not_opened (record { terminal = fresh_terminal n group resilience number.0; verdict = Verdict.Accepted })) e
+    ap (λ (v : Verdict). judged v not_opened (record { terminal = fresh_terminal n group resilience number.0; verdict = all_yes })) e
 
 -- a refused opening leaves a terminal that is all zero
 pub refused_closes : RefusedCloses
 refused_closes n number group resilience refusal e = go (member.fresh_of n number group resilience).verdict refl
   where
     go : (v : Verdict) → (member.fresh_of n number group resilience).verdict ≡ v → (fresh_of n number group resilience).terminal ≡ closed_terminal
-    go Verdict.Accepted z = absurd (apart refusal (ap (λ (o : Opening). o.verdict) (fresh_yes n number group resilience (sym z)) ∙ e))
-    go (Verdict.Refused r) z = ap (λ (o : Opening). o.terminal) (sym (fresh_no n number group resilience r (sym z)))
+    go (Ok _) z = absurd (apart refusal (ap (λ (o : Opening). o.verdict) (fresh_yes n number group resilience (sym z)) ∙ e))
+    go (Err r) z = ap (λ (o : Opening). o.terminal) (sym (fresh_no n number group resilience r (sym z)))
 
 -- the parts of both ends, with nothing kept and nobody's reply
 abbrev pub parts : memberView.Stored → sequencerView.Stored → Head → Stored
@@ -106,7 +107,7 @@ unfolding sequencing_of when◌then◌else◌
 opened n number group resilience {verdict} {a} {b} {head} {sequencing} {seats} p f k s e = go verdict p.answer f
   where
     go : (v : Verdict) → v ≡ (member.fresh_of n number group resilience).verdict → sequencing ≡ sequencing_of v number → Opens (fresh_of n number group resilience) v (parts a b head)
-    go Verdict.Accepted z f =
+    go (Ok _) z f =
         let w = fresh_yes n number group resilience z in
         let t : sequencerView.view_of b ≡ (when number.0 =? 0 then (sequencer.fresh_of n group resilience).sequencer else no_sequencer) =
         s ∙ ap (λ (x : ℕ). (sequencer.fresh_of x group resilience).sequencer) (k ∙ ap (λ (x : ℕ). when x =? 1 then n else 0) f) ∙ seats_of n group resilience (number.0 =? 0) in
@@ -118,7 +119,7 @@ opened n number group resilience {verdict} {a} {b} {head} {sequencing} {seats} p
               ∙ ap (λ (o : Opening). seen o.terminal) w;
           wording = ap (λ (o : Opening). verdict_wording o.verdict) w;
         }
-    go (Verdict.Refused refusal) z f =
+    go (Err refusal) z f =
         let w = fresh_no n number group resilience refusal z in
         let t : sequencerView.view_of b ≡ no_sequencer =
         s ∙ ap (λ (x : ℕ). (sequencer.fresh_of x group resilience).sequencer) (k ∙ ap (λ (x : ℕ). when x =? 1 then n else 0) f) ∙ none_fresh group resilience in

@@ -8,39 +8,35 @@ ghost use Rattle.recovery.specs.View.{whole};
 ghost use Rattle.terminal_opening.specs.Opening.{Opens, fresh_of};
 ghost use Rattle.terminal_opening.specs.Steps.{sequencing_of, fresh_head};
 
-use group::{Group, MemberNumber, SequenceNumber, Verdict};
+use group::{Group, MemberNumber, Refusal, SequenceNumber};
 use recovery::Head;
 
 // What opening gives back: the head, and what the caller is told.
 #[derive(Clone, Copy)]
 pub struct Begun {
     pub head: Head,
-    pub verdict: Verdict,
+    pub verdict: Result<(), Refusal>,
 }
 
 // Whether an opened terminal has the sequencer (1: yes, 0: no): member 0's has.
-fn sequencing(verdict: Verdict, number: MemberNumber) -> u8
+// kept: the C interface shows the flag as a byte.
+#[tactic(auto, using(group::proofs::Choice::choices), unfolding(crate::specs::Steps::sequencing_of))]
+fn sequencing(verdict: Result<(), Refusal>, number: MemberNumber) -> u8
     ensures { result ≡ sequencing_of verdict number }
 {
     match verdict {
-        Verdict::Accepted => {
-            if number.0 == 0 {
-                return 1;
-            }
-            0
-        }
-        Verdict::Refused(_) => 0,
+        Ok(()) if number.0 == 0 => 1,
+        _ => 0,
     }
 }
 
 // The members of the sequencer's group: 0 where there is no sequencer.
+// kept: a group of 0 members is what the opening of the sequencer refuses and leaves all zero, which an Option would only unwrap to.
+#[tactic(auto, using(group::proofs::Choice::choices))]
 fn seats(sequencing: u8, n: u8) -> u8
     ensures { result ≡ (when sequencing =? 1 then n else 0) }
 {
-    if sequencing == 1 {
-        return n;
-    }
-    0
+    if sequencing == 1 { n } else { 0 }
 }
 
 // The head of both ends, with no part in a reset.
@@ -94,12 +90,12 @@ pub fn open_on(
 ) -> Begun
     ensures { Opens (fresh_of n number group resilience) result.verdict (whole result.head queued.new held.new queued_originators.new queued_lengths.new held_originators.new held_lengths.new queued_payloads.new held_payloads.new past.new past_originators.new past_lengths.new past_payloads.new highest.new replies.new taken.new counts.new repeats.new kept.new marks.new originators.new lengths.new payloads.new) }
 {
-    *past = [0u32; Group::PLACES];
-    *past_originators = [0u8; Group::PLACES];
-    *past_lengths = [0u8; Group::PLACES];
-    *past_payloads = [0u8; Group::HISTORY_BYTES];
-    *highest = [0u32; Group::MEMBERS];
-    *replies = [0u32; Group::MEMBERS];
+    *past = [0; Group::PLACES];
+    *past_originators = [0; Group::PLACES];
+    *past_lengths = [0; Group::PLACES];
+    *past_payloads = [0; Group::HISTORY_BYTES];
+    *highest = [0; Group::MEMBERS];
+    *replies = [0; Group::MEMBERS];
     let begun = member_calls::open_on(
         head.member,
         queued,
@@ -115,8 +111,7 @@ pub fn open_on(
         group,
         resilience,
     );
-    let verdict = begun.verdict;
-    let sequencing = sequencing(verdict, number);
+    let sequencing = sequencing(begun.verdict, number);
     let start = sequencer_calls::open_on(
         head.sequencer,
         taken,
@@ -131,9 +126,8 @@ pub fn open_on(
         group,
         resilience,
     );
-    let next = fresh_head(begun.head, start.head, sequencing);
     Begun {
-        head: next,
-        verdict,
+        head: fresh_head(begun.head, start.head, sequencing),
+        verdict: begun.verdict,
     }
 }

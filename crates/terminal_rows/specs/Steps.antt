@@ -1,6 +1,8 @@
 -- What the small steps promise: the calls by the parts that they are lent, what is stored of them, and how many terminals are opened.
+use Rattle.group.specs.Question.{all_yes}
+use Rattle.std.specs.Prelude.{Ok, Err}
 use Rattle.std.specs.Prelude.{Bool, true, ℕ}
-use Rattle.group.specs.declared.Verdict.{Verdict}
+use Rattle.group.specs.Question.{Verdict}
 use Rattle.terminal_rows.specs.declared.Call.{Call}
 use Rattle.terminal_rows.specs.declared.Call.TheVariants.{Submit, Repeat, Take, Status, Receive, Invite, Make, Order, Poll, Copy, Open}
 use Rattle.terminal_rows.specs.declared.MemberCall.{MemberCall}
@@ -65,5 +67,5 @@ admits_of (Open n number resilience i) sequencing = true
 
 -- how many terminals there are once a group was opened: none where that is refused
 unfoldable pub opened_with : Verdict → ℕ → ℕ
-opened_with Verdict.Accepted n = n
-opened_with (Verdict.Refused refusal) n = 0
+opened_with (Ok _) n = n
+opened_with (Err refusal) n = 0

@@ -9,7 +9,7 @@ ghost use Rattle.simulator.specs.Steps.{fitting_of};
 ghost use Rattle.terminal_rows.specs.Heads.{flag_of, head_in, small_of, masks_of, numbers_of};
 ghost use Rattle.terminal_rows.specs.Steps.{kept_size, admits_of, of_part, opened_with};
 
-use group::{Group, MemberNumber, SequenceNumber, Verdict};
+use group::{Group, MemberNumber, Refusal, SequenceNumber};
 use recovery::Head;
 
 // The numbers of a terminal's head, by their width: of one byte n, the resilience degree and the elected one of both ends, the member's
@@ -21,20 +21,18 @@ pub const MASKS: usize = 3;
 pub const NUMBERS: usize = 13;
 
 // A flag is set if it is 1.
+#[tactic(auto, using(group::proofs::Choice::choices), unfolding(crate::specs::Heads::flag_of))]
 fn flag(stored: u8) -> u8
     ensures { result ≡ flag_of stored }
 {
-    if stored == 1 {
-        return 1;
-    }
-    0
+    (stored == 1) as u8
 }
 
 // The head of the terminal whose rows these are.
 pub fn head_of(small: [u8; SMALL], masks: [u16; MASKS], numbers: [u32; NUMBERS]) -> Head
     ensures { result ≡ head_in small masks numbers }
 {
-    let mine = member::Head {
+    let member = member::Head {
         group: Group {
             n: small[0],
             resilience: small[1],
@@ -48,7 +46,7 @@ pub fn head_of(small: [u8; SMALL], masks: [u16; MASKS], numbers: [u32; NUMBERS])
         submitted: numbers[3],
         waiting: numbers[4],
     };
-    let order = sequencer::Head {
+    let sequencer = sequencer::Head {
         group: Group {
             n: small[4],
             resilience: small[5],
@@ -60,22 +58,18 @@ pub fn head_of(small: [u8; SMALL], masks: [u16; MASKS], numbers: [u32; NUMBERS])
         accepted: SequenceNumber(numbers[7]),
         floor: SequenceNumber(numbers[8]),
     };
-    let replied = flag(small[7]);
-    let inviting = flag(small[8]);
-    let sequencing = flag(small[9]);
-    let frozen = flag(small[10]);
     Head {
-        member: mine,
-        sequencer: order,
+        member,
+        sequencer,
         read: SequenceNumber(numbers[9]),
         attempt: numbers[10],
         number: SequenceNumber(numbers[11]),
         invited: numbers[12],
         repliers: masks[2],
-        replied,
-        inviting,
-        sequencing,
-        frozen,
+        replied: flag(small[7]),
+        inviting: flag(small[8]),
+        sequencing: flag(small[9]),
+        frozen: flag(small[10]),
     }
 }
 
@@ -138,10 +132,7 @@ pub fn read_head(
     requires { (i < length small.now) × (i < length masks.now) × (i < length numbers.now) }
     ensures { result ≡ head_in (get_or small.now i []) (get_or masks.now i []) (get_or numbers.now i []) }
 {
-    let first = small[i];
-    let second = masks[i];
-    let third = numbers[i];
-    head_of(first, second, third)
+    head_of(small[i], masks[i], numbers[i])
 }
 
 pub fn write_head(
@@ -154,17 +145,14 @@ pub fn write_head(
     requires { (i < length small.old) × (i < length masks.old) × (i < length numbers.old) }
     ensures { (small.new ≡ set small.old i (small_of head)) × (masks.new ≡ set masks.old i (masks_of head)) × (numbers.new ≡ set numbers.old i (numbers_of head)) }
 {
-    let first = small_of(head);
-    small[i] = first;
-    let second = masks_of(head);
-    masks[i] = second;
-    let third = numbers_of(head);
-    numbers[i] = third;
+    small[i] = small_of(head);
+    masks[i] = masks_of(head);
+    numbers[i] = numbers_of(head);
 }
 
 // The calls of a terminal: its member's, inviting and making, its sequencer's, and its opening as terminal i of a group. A submission and a
 // packet come with bytes.
-#[derive(Clone, Copy)]
+#[derive(Clone, Copy, Debug, PartialEq, Eq)]
 pub enum Call {
     Submit,
     Repeat,
@@ -185,7 +173,7 @@ pub enum Call {
 }
 
 // The same by the parts of a terminal that they are lent: its member's, all of it, its sequencer's.
-#[derive(Clone, Copy)]
+#[derive(Clone, Copy, Debug, PartialEq, Eq)]
 pub enum MemberCall {
     Submit,
     Repeat,
@@ -193,7 +181,7 @@ pub enum MemberCall {
     Status,
 }
 
-#[derive(Clone, Copy)]
+#[derive(Clone, Copy, Debug, PartialEq, Eq)]
 pub enum WholeCall {
     Receive,
     Invite(u32),
@@ -206,14 +194,14 @@ pub enum WholeCall {
     },
 }
 
-#[derive(Clone, Copy)]
+#[derive(Clone, Copy, Debug, PartialEq, Eq)]
 pub enum SequencerCall {
     Order,
     Poll,
     Copy(SequenceNumber),
 }
 
-#[derive(Clone, Copy)]
+#[derive(Clone, Copy, Debug, PartialEq, Eq)]
 pub enum Part {
     Member(MemberCall),
     Whole(WholeCall),
@@ -221,6 +209,7 @@ pub enum Part {
 }
 
 // The parts that a call is lent.
+#[tactic(auto, unfolding(crate::specs::Steps::of_part, crate::specs::Steps::of_member, crate::specs::Steps::of_whole, crate::specs::Steps::of_sequencer))]
 pub fn part_of(call: Call) -> Part
     ensures { of_part result ≡ call }
 {
@@ -250,61 +239,33 @@ pub fn part_of(call: Call) -> Part
 }
 
 // The length of the packet that a call wrote. A take writes a payload, and no packet.
+#[tactic(auto, unfolding(crate::specs::Steps::kept_size))]
 pub fn kept_size(call: Call, written: usize) -> usize
     ensures { result ≡ kept_size call written }
 {
     match call {
-        Call::Submit => written,
-        Call::Repeat => written,
         Call::Take => 0,
-        Call::Status => written,
-        Call::Receive => written,
-        Call::Invite(number) => written,
-        Call::Make(demand) => written,
-        Call::Order => written,
-        Call::Poll => written,
-        Call::Copy(number) => written,
-        Call::Open {
-            n,
-            number,
-            resilience,
-            i,
-        } => written,
+        _ => written,
     }
 }
 
 // Whether a terminal can be called so: its sequencer's calls need one.
+#[tactic(auto, unfolding(crate::specs::Steps::admits_of))]
 pub fn admits(call: Call, sequencing: bool) -> bool
     ensures { result ≡ admits_of call sequencing }
 {
     match call {
-        Call::Submit => true,
-        Call::Repeat => true,
-        Call::Take => true,
-        Call::Status => true,
-        Call::Receive => true,
-        Call::Invite(number) => true,
-        Call::Make(demand) => true,
-        Call::Order => sequencing,
-        Call::Poll => sequencing,
-        Call::Copy(number) => sequencing,
-        Call::Open {
-            n,
-            number,
-            resilience,
-            i,
-        } => true,
+        Call::Order | Call::Poll | Call::Copy(_) => sequencing,
+        _ => true,
     }
 }
 
 // How many members the sequencer of terminal i is opened with: that of terminal 0 has the group's, and the others have none.
+#[tactic(auto, using(group::proofs::Choice::choices))]
 pub fn served(n: u8, i: u8) -> u8
     ensures { result ≡ (when i =? 0 then n else 0) }
 {
-    if i == 0 {
-        return n;
-    }
-    0
+    if i == 0 { n } else { 0 }
 }
 
 // The array of packet k, and how many of its bytes are the packet.
@@ -319,27 +280,25 @@ pub fn size_at(sizes: &[usize], k: usize) -> usize
     requires { k < length sizes.now }
     ensures { result ≡ fitting_of (get_or sizes.now k 0) }
 {
-    let size = sizes[k];
-    simulator::fitting(size)
+    simulator::fitting(sizes[k])
 }
 
 // Whether a group can be opened: questions 18 and 24.
-pub fn verdict_of(n: u8, number: u32, resilience: u8) -> Verdict
+#[tactic(auto, unfolding(sequencer::specs::Calls::fresh_of, sequencer::specs::Calls::opened_of))]
+pub fn verdict_of(n: u8, number: u32, resilience: u8) -> Result<(), Refusal>
     ensures { result ≡ (fresh_of n number resilience).verdict }
 {
-    let opened = Group::fresh(n, number, resilience);
-    match opened {
-        group::Opened::Open(group) => Verdict::Accepted,
-        group::Opened::Refused(refusal) => Verdict::Refused(refusal),
-    }
+    Group::fresh(n, number, resilience)?;
+    Ok(())
 }
 
 // How many terminals there are where that is answered.
-pub fn opened_with(verdict: Verdict, n: u8) -> u8
+#[tactic(auto, unfolding(crate::specs::Steps::opened_with))]
+pub fn opened_with(verdict: Result<(), Refusal>, n: u8) -> u8
     ensures { result ≡ opened_with verdict n }
 {
     match verdict {
-        Verdict::Accepted => n,
-        Verdict::Refused(refusal) => 0,
+        Ok(()) => n,
+        Err(_) => 0,
     }
 }

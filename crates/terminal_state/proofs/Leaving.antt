@@ -1,12 +1,14 @@
 -- What is seen of a terminal in memory says every number and byte of it, so that a call that is refused leaves them all: what its outcome shows is what was seen
 -- at entry, by the law of the first no. Assumes nothing.
+use Rattle.group.specs.Question.{all_yes}
+use Rattle.std.specs.Prelude.{Ok, Err}
 use mathlib.Core.Path.{◌≡◌, refl, sym, ap, subst, ◌∙◌}
 use mathlib.Core.List.{List, [], ◌++◌}
 use Prim.Native.Nat.{ℕ}
 use lib.ListN.{length, drop}
 use Rattle.group.specs.Question.{Question, first_no}
 use Rattle.group.specs.declared.Refusal.{Refusal}
-use Rattle.group.specs.declared.Verdict.{Verdict}
+use Rattle.group.specs.Question.{Verdict}
 use Rattle.member.specs.declared.Answer.{Answer}
 use Rattle.member.specs.declared.Reply as member
 use Rattle.sequencer.specs.Calls as calls
@@ -37,8 +39,8 @@ unfolding refused
 refusal_is {t = t} {qs = qs} {o = o} f refusal e = go (first_no qs) refl
   where
     go : (v : Verdict) → first_no qs ≡ v → (o.terminal ≡ t) × (o.bytes ≡ [])
-    go Verdict.Accepted z = absurd (f.accepts refusal z e)
-    go (Verdict.Refused q) z = let y = f.refuses q z in (ap (λ (p : Outcome). p.terminal) y, ap (λ (p : Outcome). p.bytes) y)
+    go (Ok _) z = absurd (f.accepts refusal z e)
+    go (Err q) z = let y = f.refuses q z in (ap (λ (p : Outcome). p.terminal) y, ap (λ (p : Outcome). p.bytes) y)
 
 view_left : (call : state.Terminal → Outcome) (qs : state.Terminal → List Question) → ((t : state.Terminal) → FirstNo t (qs t) (call t)) → (v : View) (refusal : Refusal)
     → (called call v).answer ≡ Answer.Refused refusal → ((called call v).view ≡ v) × ((called call v).bytes ≡ [])
@@ -78,8 +80,8 @@ unfolding calls.answered
 order_is {t = t} {qs = qs} {o = o} f refusal e = go (first_no qs) refl
   where
     go : (v : Verdict) → first_no qs ≡ v → (o.terminal ≡ t) × (o.bytes ≡ [])
-    go Verdict.Accepted z = absurd (f.accepts refusal z e)
-    go (Verdict.Refused q) z = let y = f.refuses q z in (ap (λ (p : SequencerOutcome). p.terminal) y, ap (λ (p : SequencerOutcome). p.bytes) y)
+    go (Ok _) z = absurd (f.accepts refusal z e)
+    go (Err q) z = let y = f.refuses q z in (ap (λ (p : SequencerOutcome). p.terminal) y, ap (λ (p : SequencerOutcome). p.bytes) y)
 
 order_left : (call : state.Terminal → SequencerOutcome) (qs : state.Terminal → List Question) → ((t : state.Terminal) → OrderFirst t (qs t) (call t)) → (v : View) (refusal : Refusal)
     → (ordered call v).answer ≡ sequencerAnswer.Answer.Refused refusal → ((ordered call v).view ≡ v) × ((ordered call v).bytes ≡ [])

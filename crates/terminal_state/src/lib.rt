@@ -8,7 +8,7 @@ ghost use Rattle.recovery.specs.View.{whole, seen};
 ghost use Rattle.terminal_opening.specs.Opening.{closed_terminal};
 ghost use Rattle.terminal_state.specs.Terminal as inPlace;
 
-use group::{Group, MemberNumber, SequenceNumber, Verdict};
+use group::{Group, MemberNumber, Refusal, SequenceNumber};
 use recovery::Head;
 
 // A terminal: its numbers; its member's arrays; of each place of the last messages taken its count (0: none), originator, length and
@@ -592,7 +592,13 @@ impl Terminal {
     }
 
     // Opens a terminal: questions 18 and 24. Where it is refused, the state is all zero.
-    pub fn open(&mut self, n: u8, number: MemberNumber, group: u32, resilience: u8) -> Verdict
+    pub fn open(
+        &mut self,
+        n: u8,
+        number: MemberNumber,
+        group: u32,
+        resilience: u8,
+    ) -> Result<(), Refusal>
         ensures { inPlace.Begins self.old n number group resilience result self.new }
     {
         let done = terminal_opening::open_on(

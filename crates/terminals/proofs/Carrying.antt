@@ -1,4 +1,6 @@
 -- A call over a terminal's parts: what the member's call leaves together with what the terminal keeps, as the whole is left. Assumes nothing.
+use Rattle.group.specs.Question.{all_yes}
+use Rattle.std.specs.Prelude.{Err}
 use mathlib.Core.Path.{◌≡◌, refl, sym, ap, ◌∙◌, subst}
 use mathlib.Core.Bool.{Bool, true, false, false≢true}
 use mathlib.Core.List.{List}
@@ -7,7 +9,7 @@ use Rattle.group.specs.Choice.{when◌then◌else◌, ◌and◌, ◌≤?◌}
 use Rattle.group.specs.Limits.{members_most, longest_packet}
 use Rattle.group.specs.Members.{group_sound}
 use Rattle.group.specs.declared.Refusal.{Refusal}
-use Rattle.group.specs.declared.Verdict.{Verdict}
+use Rattle.group.specs.Question.{Verdict}
 use Rattle.group.proofs.Choice.{when_true, when_false, both_hold, both_first, both_then}
 use Rattle.window.specs.Sound.{frame_sound}
 use Rattle.member.specs.Calls as member
@@ -51,7 +53,7 @@ module _ (s : Stored) where
   unfolding beside_sound call_verdict member_sound member.call_verdict terminal_of memberView.view_of reset_sound
   same_verdict room e =
       let rest = both_then (s.head.member.group.n ≤? members_most) _ (both_then (flags_sound s.head) _ e) in
-      ap (λ (b : Bool). when b then (when longest_packet ≤? room then Verdict.Accepted else Verdict.Refused Refusal.ShortOutput) else Verdict.Refused Refusal.UnsoundState)
+      ap (λ (b : Bool). when b then (when longest_packet ≤? room then all_yes else Err Refusal.ShortOutput) else Err Refusal.UnsoundState)
       (and_true (memberSoundness.sound_of (memberView.view_of (member_in s))) _ rest)
 
   -- and where it is not, the end's say no
@@ -74,11 +76,11 @@ module _ (s : Stored) where
   unfolding end_verdict
   end_asked room {v} e is = is ∙ sym (same_verdict room e) ∙ sym (ap (λ (x : View). end_verdict x room) (seen_as s (flags_of e)))
 
-  pub end_refused : (room : ℕ) → beside_of ≡ false → Verdict.Refused Refusal.UnsoundState ≡ end_verdict (view_of s) room
+  pub end_refused : (room : ℕ) → beside_of ≡ false → Err Refusal.UnsoundState ≡ end_verdict (view_of s) room
   unfolding end_verdict call_verdict view_of
   end_refused room e = go (flags_sound s.head) refl
     where
-      go : (b : Bool) → flags_sound s.head ≡ b → Verdict.Refused Refusal.UnsoundState ≡ end_verdict (view_of s) room
+      go : (b : Bool) → flags_sound s.head ≡ b → Err Refusal.UnsoundState ≡ end_verdict (view_of s) room
       go true f = when_false (member_sound (terminal_of s)) _ _ _ (beside_fails f e) refl ∙ sym (ap (λ (x : View). end_verdict x room) (seen_as s f))
       go false f = sym (ap (λ (x : View). end_verdict x room) (sym (when_false (flags_sound s.head) _ _ _ f refl)))
 

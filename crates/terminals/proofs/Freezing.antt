@@ -1,4 +1,5 @@
 -- A packet at a terminal's sequencer: a frozen one says no to each, and another takes its own step. Assumes nothing.
+use Rattle.std.specs.Prelude.{Ok, Err}
 use mathlib.Core.Path.{◌≡◌, refl, sym, ap, ◌∙◌}
 use mathlib.Core.Bool.{Bool, true, false}
 use mathlib.Core.List.{List}
@@ -7,13 +8,13 @@ use borrow.Author.Tests.{lt-ltb}
 use Rattle.group.specs.Choice.{when◌then◌else◌, ask◌or◌then◌, ◌and◌, ◌<?◌, ◌=?◌}
 use Rattle.group.specs.Question.{judged}
 use Rattle.group.specs.declared.Refusal.{Refusal}
-use Rattle.group.specs.declared.Verdict.{Verdict}
+use Rattle.group.specs.Question.{Verdict}
 use Rattle.group.proofs.Choice.{when_true, when_ne}
 use Rattle.group.proofs.Lists.{eq_or, when_elim}
 use Rattle.packet.specs.Packet.{content_of, from_elected, payload_at, read_of, request_kind, broadcast_kind, gap_kind, status_kind, poll_kind, offer_kind, confirm_kind, accept_kind, invitation_kind, reply_kind}
 use Rattle.packet.specs.declared.Header.{Header}
 use Rattle.packet.specs.declared.Packet.{Packet}
-use Rattle.packet.specs.declared.Reading.{Reading}
+use Rattle.packet.specs.Answers.{Reading}
 use Rattle.packet.proofs.Verdicts.{kind_above}
 use Rattle.sequencer.specs.Calls as sequencer
 use Rattle.sequencer.specs.State.{Sequencer}
@@ -45,8 +46,8 @@ frozen_asked s false ours reset o f = refl
 
 frozen_step : (t : Terminal) → t.frozen ≡ true → (r : Reading) (payload : List ℕ) → ordered_step t r payload ≡ sequencer.refused t.sequencer (frozen_refusal t.sequencer.group r)
 unfolding ordered_step frozen_refusal
-frozen_step t f (Reading.Refused refusal) payload = refl
-frozen_step t f (Reading.Fields h) payload =
+frozen_step t f (Err refusal) payload = refl
+frozen_step t f (Ok h) payload =
     let s : Sequencer = t.sequencer in
     ap (λ (b : Bool). ask from_elected s.group (content_of h) or sequencer.refused s Refusal.ForbiddenFields then ask (h.group =? s.group.number and b) or sequencer.refused s Refusal.OtherGroup then sequencer.content_step s (content_of h) payload)
     (sym (when_true t.frozen (of_reset (content_of h)) (of_reset (content_of h)) true f refl))
@@ -59,8 +60,8 @@ unfolding order_of judged refusal_after
 frozen_own t packet room f = ap (ordered t) (go (sequencer.call_verdict t.sequencer room))
   where
     go : (v : Verdict) → judged v (sequencer.refused t.sequencer) (ordered_step t (read_of packet) (payload_at packet)) ≡ sequencer.refused t.sequencer (refusal_after v (frozen_refusal t.sequencer.group (read_of packet)))
-    go Verdict.Accepted = frozen_step t f (read_of packet) (payload_at packet)
-    go (Verdict.Refused r) = refl
+    go (Ok _) = frozen_step t f (read_of packet) (payload_at packet)
+    go (Err r) = refl
 
 -- a sequencer that is not frozen
 pub awake_own : (t : Terminal) (packet : List ℕ) (room : ℕ) → t.frozen ≡ false → order_of t packet room ≡ ordered t (sequencer.receive_of t.sequencer packet room)

@@ -1,5 +1,6 @@
 -- A packet that is of no reset, at a terminal's member: with a reply open it is refused, else it is the member's, and its floor is read.
 -- Assumes nothing.
+use Rattle.std.specs.Prelude.{Ok, Err}
 use mathlib.Core.Path.{◌≡◌, refl, sym, ap, ◌∙◌}
 use mathlib.Core.Bool.{Bool, true, false, false≢true}
 use mathlib.Core.List.{List}
@@ -7,9 +8,9 @@ use Prim.Native.Nat.{ℕ}
 use Rattle.group.specs.Choice.{when◌then◌else◌, ask◌or◌then◌, ◌and◌, ◌=?◌}
 use Rattle.group.specs.Question.{judged}
 use Rattle.group.specs.declared.Refusal.{Refusal}
-use Rattle.group.specs.declared.Verdict.{Verdict}
+use Rattle.group.specs.Question.{Verdict}
 use Rattle.packet.specs.Packet.{content_of, from_elected, payload_at, read_of}
-use Rattle.packet.specs.declared.Reading.{Reading}
+use Rattle.packet.specs.Answers.{Reading}
 use Rattle.window.specs.Places.{larger_of}
 use Rattle.member.specs.Calls as member
 use Rattle.member.specs.State.{Member}
@@ -47,8 +48,8 @@ module _ (t : Terminal) where
   heard_step : t.reset.replied ≡ false → (r : Reading) (payload : List ℕ) → resets r ≡ false
       → read_step t r payload ≡ carried t (kept_read t.kept (member.read_step m r payload).answer (floor_said r)) (member.read_step m r payload)
   unfolding read_step member.read_step resets floor_said heard_of kept_read is_refusal refused member.answered when◌then◌else◌
-  heard_step p (Reading.Refused refusal) payload e = refl
-  heard_step p (Reading.Fields h) payload e =
+  heard_step p (Err refusal) payload e = refl
+  heard_step p (Ok h) payload e =
       heard_asked (from_elected m.group (content_of h)) (h.group =? m.group.number) (of_reset (content_of h)) t.reset.replied _ (member.content_step m (content_of h) payload) (floor_in (content_of h)) e p
 
   -- with one
@@ -64,8 +65,8 @@ module _ (t : Terminal) where
 
   closed_step : t.reset.replied ≡ true → (r : Reading) (payload : List ℕ) → resets r ≡ false → read_step t r payload ≡ refused t (closed_refusal m.group r)
   unfolding read_step resets closed_refusal
-  closed_step p (Reading.Refused refusal) payload e = refl
-  closed_step p (Reading.Fields h) payload e = closed_asked (from_elected m.group (content_of h)) (h.group =? m.group.number) (of_reset (content_of h)) t.reset.replied _ _ e p
+  closed_step p (Err refusal) payload e = refl
+  closed_step p (Ok h) payload e = closed_asked (from_elected m.group (content_of h)) (h.group =? m.group.number) (of_reset (content_of h)) t.reset.replied _ _ e p
 
   module _ (packet : List ℕ) (room : ℕ) (none : resets (read_of packet) ≡ false) (same : call_verdict t room ≡ member.call_verdict m room) where
     -- the whole call
@@ -79,16 +80,16 @@ module _ (t : Terminal) where
 
         go : (v : Verdict) → judged v (refused t) (read_step t (read_of packet) (payload_at packet))
             ≡ carried t (kept_read t.kept (judged v (member.refused m) inner).answer (floor_said (read_of packet))) (judged v (member.refused m) inner)
-        go Verdict.Accepted = heard_step p (read_of packet) (payload_at packet) none
-        go (Verdict.Refused r) = refl
+        go (Ok _) = heard_step p (read_of packet) (payload_at packet) none
+        go (Err r) = refl
 
     pub closed_own : t.reset.replied ≡ true → receive_of t packet room ≡ refused t (refusal_after (member.call_verdict m room) (closed_refusal m.group (read_of packet)))
     unfolding receive_of judged refusal_after
     closed_own p = ap (λ (v : Verdict). judged v (refused t) (read_step t (read_of packet) (payload_at packet))) same ∙ go (member.call_verdict m room)
       where
         go : (v : Verdict) → judged v (refused t) (read_step t (read_of packet) (payload_at packet)) ≡ refused t (refusal_after v (closed_refusal m.group (read_of packet)))
-        go Verdict.Accepted = closed_step p (read_of packet) (payload_at packet) none
-        go (Verdict.Refused r) = refl
+        go (Ok _) = closed_step p (read_of packet) (payload_at packet) none
+        go (Err r) = refl
 
 -- an answer that is no refusal
 pub not_refused : (answer : Answer) → ((refusal : Refusal) → answer ≡ Answer.Refused refusal → ⊥) → is_refusal answer ≡ false

@@ -1,4 +1,6 @@
 -- A take at a terminal: what the member hands out is kept as it was held, since a sound place has zeros behind its payload. Assumes nothing.
+use Rattle.group.specs.Question.{all_yes}
+use Rattle.std.specs.Prelude.{Ok, Err}
 use mathlib.Core.Path.{◌≡◌, refl, sym, ap, ◌∙◌}
 use mathlib.Core.Bool.{Bool, true, false}
 use mathlib.Core.List.{List, [], ◌∷◌, ◌++◌}
@@ -14,7 +16,7 @@ use Rattle.group.specs.Question.{judged}
 use Rattle.group.specs.declared.MemberNumber.{MemberNumber}
 use Rattle.group.specs.declared.Refusal.{Refusal}
 use Rattle.group.specs.declared.SequenceNumber.{SequenceNumber}
-use Rattle.group.specs.declared.Verdict.{Verdict}
+use Rattle.group.specs.Question.{Verdict}
 use Rattle.group.proofs.Choice.{when_true, both_first, both_then}
 use Rattle.group.proofs.Fold.{above_each}
 use Rattle.group.proofs.Lists.{when_elim, judged_elim}
@@ -77,11 +79,11 @@ module _ (m : Member) (full : Full m.held) where
       let rest = both_then _ _ sound in
       message_same (message_at m.held (m.taken.0 + 1)) (leb-true _ _ (both_first _ _ rest)) (full (m.taken.0 + 1)) (both_first _ _ (both_then _ _ rest))
 
-  accepted_sound : (room : ℕ) → member.call_verdict m room ≡ Verdict.Accepted → sound_of m ≡ true
+  accepted_sound : (room : ℕ) → member.call_verdict m room ≡ all_yes → sound_of m ≡ true
   unfolding member.call_verdict when◌then◌else◌
   accepted_sound room e = go (sound_of m) e
     where
-      go : (b : Bool) → (when b then (when longest_packet ≤? room then Verdict.Accepted else Verdict.Refused Refusal.ShortOutput) else Verdict.Refused Refusal.UnsoundState) ≡ Verdict.Accepted → b ≡ true
+      go : (b : Bool) → (when b then (when longest_packet ≤? room then all_yes else Err Refusal.ShortOutput) else Err Refusal.UnsoundState) ≡ all_yes → b ≡ true
       go true h = refl
       go false h = let z : ◌≡◌ {A = ℕ} 0 1 = cc in absurd (omega arith)
 
@@ -122,8 +124,8 @@ take_own t room full same =
     go : (v : Verdict) → member.call_verdict t.member room ≡ v
         → judged v (refused t) (carried t (when is_ready t.member (t.member.taken.0 + 1) then kept_took t.kept (t.member.taken.0 + 1) (message_at t.member.held (t.member.taken.0 + 1)) else t.kept) (judged v (member.refused t.member) inner))
         ≡ carried t (kept_told t.kept (judged v (member.refused t.member) inner).answer (judged v (member.refused t.member) inner).bytes) (judged v (member.refused t.member) inner)
-    go Verdict.Accepted e = ap (λ (kept : Kept). carried t kept inner) (took_told t.member full t.kept (accepted_sound t.member full room e))
-    go (Verdict.Refused r) e = refl
+    go (Ok _) e = ap (λ (kept : Kept). carried t kept inner) (took_told t.member full t.kept (accepted_sound t.member full room e))
+    go (Err r) e = refl
 
 -- what lies at the front of the output
 module _ (bytes before : List ℕ) where

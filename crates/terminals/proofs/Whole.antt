@@ -1,4 +1,5 @@
 -- What a call of the member or of the sequencer leaves of the parts, list by list. Assumes nothing.
+use Rattle.std.specs.Prelude.{Err}
 use mathlib.Core.Path.{◌≡◌, refl, sym, ap, ◌∙◌, subst}
 use borrow.Author.Tests.{eq-eqb, ne_eqb}
 use mathlib.Core.Bool.{Bool, true, false}
@@ -7,7 +8,7 @@ use Prim.Native.Nat.{ℕ, ◌*◌, ◌≤◌}
 use Rattle.group.specs.Limits.{held_most, payload_most}
 use Rattle.group.specs.declared.Refusal.{Refusal}
 use Rattle.group.specs.declared.SequenceNumber.{SequenceNumber}
-use Rattle.group.specs.declared.Verdict.{Verdict}
+use Rattle.group.specs.Question.{Verdict}
 use Rattle.packet.specs.Packet.{read_of}
 use Rattle.member.specs.Calls as member
 use Rattle.member.specs.Promise as memberPromise
@@ -211,5 +212,5 @@ module _ (head : Head) (queued held queued_originators queued_lengths held_origi
     unfolding terminal_of
     asked_whole room h e = end_asked now_as room (sym is ∙ h) e
 
-    pub asked_no : (room : ℕ) → b ≡ false → Verdict.Refused Refusal.UnsoundState ≡ end_verdict (view_of now_as) room
+    pub asked_no : (room : ℕ) → b ≡ false → Err Refusal.UnsoundState ≡ end_verdict (view_of now_as) room
     asked_no room h = end_refused now_as room (sym is ∙ h)

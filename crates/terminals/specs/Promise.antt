@@ -1,7 +1,7 @@
 -- What each call promises of the parts that it is lent, whatever the others are.
 use Rattle.std.specs.Prelude.{List, ◌≡◌, ℕ}
 use Rattle.group.specs.declared.SequenceNumber.{SequenceNumber}
-use Rattle.group.specs.declared.Verdict.{Verdict}
+use Rattle.group.specs.Question.{Verdict}
 use Rattle.member.specs.declared.Reply as member
 use Rattle.sequencer.specs.declared.Reply as sequencer
 use Rattle.recovery.specs.Promise as promise

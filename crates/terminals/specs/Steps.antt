@@ -1,14 +1,14 @@
 -- What the steps inside the code promise, in terms of the meaning. No call's promise speaks of these.
+use Rattle.std.specs.Prelude.{Ok, Err}
 use Rattle.std.specs.Prelude.{◌≡◌, Bool, false, List, ℕ}
 use Rattle.group.specs.Choice.{when◌then◌else◌, ask◌or◌then◌, ◌and◌, ◌=?◌}
 use Rattle.group.specs.declared.Group.{Group}
 use Rattle.group.specs.declared.Refusal.{Refusal}
 use Rattle.group.specs.declared.SequenceNumber.{SequenceNumber}
-use Rattle.group.specs.declared.Verdict.{Verdict}
+use Rattle.group.specs.Question.{Verdict}
 use Rattle.message.specs.Message.{message_of}
 use Rattle.packet.specs.Packet.{content_of, from_elected}
-use Rattle.packet.specs.declared.Reading.{Reading}
-use Rattle.packet.specs.declared.Reading.TheVariants.{Fields}
+use Rattle.packet.specs.Answers.{Reading}
 use Rattle.window.specs.Places.{larger_of}
 use Rattle.member.specs.declared.Answer.{Answer}
 use Rattle.member.specs.declared.Head as member
@@ -41,33 +41,33 @@ Remembers answer bytes past past_originators past_lengths past_payloads highest 
 
 -- a packet that was read, of a reset
 unfoldable pub resets : Reading → Bool
-resets (Fields h) = of_reset (content_of h)
-resets (Reading.Refused refusal) = false
+resets (Ok h) = of_reset (content_of h)
+resets (Err refusal) = false
 
 -- what a frozen sequencer refuses a packet with: question 6 of byte 1, then 7 but of a reset, and 8
 unfoldable pub frozen_refusal : Group → Reading → Refusal
-frozen_refusal group (Fields h) =
+frozen_refusal group (Ok h) =
     ask from_elected group (content_of h) or Refusal.ForbiddenFields then
     ask h.group =? group.number and of_reset (content_of h) or Refusal.OtherGroup then
     Refusal.OtherEnd
-frozen_refusal group (Reading.Refused refusal) = refusal
+frozen_refusal group (Err refusal) = refusal
 
 -- and a member with a reply open one that is of no reset: question 6 of byte 1, then 7
 unfoldable pub closed_refusal : Group → Reading → Refusal
-closed_refusal group (Fields h) =
+closed_refusal group (Ok h) =
     ask from_elected group (content_of h) or Refusal.ForbiddenFields then
     Refusal.OtherGroup
-closed_refusal group (Reading.Refused refusal) = refusal
+closed_refusal group (Err refusal) = refusal
 
 -- behind questions 1 and 2
 unfoldable pub refusal_after : Verdict → Refusal → Refusal
-refusal_after Verdict.Accepted refusal = refusal
-refusal_after (Verdict.Refused first) refusal = first
+refusal_after (Ok _) refusal = refusal
+refusal_after (Err first) refusal = first
 
 -- the floor that a packet says, once it was read; 0: none
 unfoldable pub floor_said : Reading → ℕ
-floor_said (Fields h) = floor_in (content_of h)
-floor_said (Reading.Refused refusal) = 0
+floor_said (Ok h) = floor_in (content_of h)
+floor_said (Err refusal) = 0
 
 -- the highest floor read, once a packet was answered
 unfoldable pub read_after : SequenceNumber → Answer → Reading → SequenceNumber
@@ -93,4 +93,4 @@ heard_head head m read =
 -- questions 1 and 2 of the member's end, of what is seen
 unfoldable pub end_verdict : View → ℕ → Verdict
 end_verdict (seen t) room = call_verdict t room
-end_verdict (odd s) room = Verdict.Refused Refusal.UnsoundState
+end_verdict (odd s) room = Err Refusal.UnsoundState

@@ -3,7 +3,6 @@
 
 ghost use Rattle.std.specs.Prelude.{true, false, ◌≡◌, ◌*◌, ◌≤◌, length, take};
 ghost use Rattle.group.specs.Limits.{members_most, held_most, payload_most};
-ghost use Rattle.group.specs.declared.Refusal.{Refusal};
 ghost use Rattle.member.specs.declared.Answer as memberAnswer;
 ghost use Rattle.sequencer.specs.declared.Answer as sequencerAnswer;
 ghost use Rattle.packet.specs.Packet.{request_kind, content_of, read_of};
@@ -16,8 +15,8 @@ ghost use Rattle.terminals.specs.Promise.{Submits, Repeats, Reports, Takes, Asks
 ghost use Rattle.terminals.specs.Steps.{Remembers, frozen_refusal, closed_refusal, refusal_after, resets, floor_said, read_after, heard_head};
 
 use attempt::Done;
-use group::{Group, Refusal, SequenceNumber, Verdict};
-use packet::{Header, Packet, Reading};
+use group::{Group, Refusal, SequenceNumber};
+use packet::{Header, Packet};
 use recovery::Head;
 
 // What the work of a sequencer's call for packets gives back: the next head, and what the caller is told.
@@ -27,18 +26,18 @@ pub struct Step {
     pub reply: sequencer::Reply,
 }
 
-// A no to an unsound state.
-fn unsound() -> member::Reply
-    ensures { result ≡ record { answer = memberAnswer.Answer.Refused Refusal.UnsoundState; written = 0 } }
+// A no of the member's end, and of the sequencer's.
+fn refused(refusal: Refusal) -> member::Reply
+    ensures { result ≡ record { answer = memberAnswer.Answer.Refused refusal; written = 0 } }
 {
-    let answer = member::Answer::Refused(Refusal::UnsoundState);
+    let answer = member::Answer::Refused(refusal);
     member::Reply { answer, written: 0 }
 }
 
-fn not_sound() -> sequencer::Reply
-    ensures { result ≡ record { answer = sequencerAnswer.Answer.Refused Refusal.UnsoundState; written = 0 } }
+fn order_refused(refusal: Refusal) -> sequencer::Reply
+    ensures { result ≡ record { answer = sequencerAnswer.Answer.Refused refusal; written = 0 } }
 {
-    let answer = sequencer::Answer::Refused(Refusal::UnsoundState);
+    let answer = sequencer::Answer::Refused(refusal);
     sequencer::Reply { answer, written: 0 }
 }
 
@@ -46,9 +45,7 @@ fn not_sound() -> sequencer::Reply
 fn with_member(head: Head, member: member::Head) -> Head
     ensures { result ≡ with_member_head head member }
 {
-    let mut next = head;
-    next.member = member;
-    next
+    Head { member, ..head }
 }
 
 // The work of a submission.
@@ -95,11 +92,12 @@ pub fn submit_on(
             payload,
             out,
         );
-        let next = with_member(head, done.head);
-        let reply = done.reply;
-        return Done { head: next, reply };
+        return Done {
+            head: with_member(head, done.head),
+            reply: done.reply,
+        };
     }
-    let reply = unsound();
+    let reply = refused(Refusal::UnsoundState);
     Done { head, reply }
 }
 
@@ -146,7 +144,7 @@ pub fn repeat_on(
             out,
         );
     }
-    unsound()
+    refused(Refusal::UnsoundState)
 }
 
 // The work of a status call.
@@ -192,7 +190,7 @@ pub fn status_on(
             out,
         );
     }
-    unsound()
+    refused(Refusal::UnsoundState)
 }
 
 // The sizes of what is held, which a reference to an array does not tell.
@@ -219,7 +217,7 @@ fn remember(
         number,
         originator,
         count,
-        more: _,
+        ..
     } = answer
     {
         let at = history::place(number.0 as u64);
@@ -295,7 +293,7 @@ pub fn take_on(
         );
         return Done { head: next, reply };
     }
-    let reply = unsound();
+    let reply = refused(Refusal::UnsoundState);
     Done { head, reply }
 }
 
@@ -308,78 +306,25 @@ fn of_reset(h: Header) -> bool
 }
 
 // The floor that a packet says; 0 for none.
+// kept: 0 is the sequence number that means none yet, and the caller takes the later of two, for which an Option would only unwrap to it.
+#[tactic(auto, using(group::proofs::Choice::choices), unfolding(recovery::specs::Calls::floor_in))]
 fn floor_in(content: Packet) -> u32
     ensures { result ≡ floor_in content }
 {
     match content {
-        Packet::Request {
-            sender: _,
-            taken: _,
-            count: _,
-        } => 0,
-        Packet::Broadcast {
-            originator: _,
-            number: _,
-            count: _,
-            floor,
-        } => floor.0,
-        Packet::Gap {
-            sender: _,
-            taken: _,
-            first: _,
-            last: _,
-        } => 0,
-        Packet::Status {
-            sender: _,
-            taken: _,
-        } => 0,
-        Packet::Poll {
-            elected: _,
-            top: _,
-            floor,
-        } => floor.0,
-        Packet::Offer {
-            originator: _,
-            number: _,
-            count: _,
-            floor,
-        } => floor.0,
-        Packet::Confirm {
-            sender: _,
-            number: _,
-        } => 0,
-        Packet::Accept {
-            elected: _,
-            number: _,
-        } => 0,
-        Packet::Invitation {
-            sender: _,
-            attempt: _,
-        } => 0,
-        Packet::Reply {
-            sender: _,
-            attempt: _,
-            number: _,
-        } => 0,
-        Packet::Result {
-            sender: _,
-            attempt: _,
-            elected: _,
-            number: _,
-        } => 0,
+        Packet::Broadcast { floor, .. }
+        | Packet::Poll { floor, .. }
+        | Packet::Offer { floor, .. } => floor.0,
+        _ => 0,
     }
 }
 
 fn floor_said(packet: &[u8]) -> SequenceNumber
     ensures { result.0 ≡ floor_said (read_of packet.now) }
 {
-    let r = packet::read(packet);
-    match r {
-        Reading::Fields(h) => {
-            let content = Packet::of(h);
-            SequenceNumber(floor_in(content))
-        }
-        Reading::Refused(_) => SequenceNumber(0),
+    match packet::read(packet) {
+        Ok(h) => SequenceNumber(floor_in(Packet::of(h))),
+        Err(_) => SequenceNumber(0),
     }
 }
 
@@ -390,49 +335,44 @@ fn read_after(read: SequenceNumber, answer: member::Answer, packet: &[u8]) -> Se
     if let member::Answer::Refused(_) = answer {
         return read;
     }
-    let floor = floor_said(packet);
-    window::later(read, floor)
+    window::later(read, floor_said(packet))
 }
 
 // The head with what its member leaves, and the highest floor read.
 fn with_heard(head: Head, member: member::Head, read: SequenceNumber) -> Head
     ensures { result ≡ heard_head head member read }
 {
-    let mut next = with_member(head, member);
-    next.read = read;
-    next
+    Head {
+        member,
+        read,
+        ..head
+    }
 }
 
 // What a member with a reply open refuses a packet with that is of no reset: questions 3 to 7.
 fn closed_refusal(group: Group, packet: &[u8]) -> Refusal
     ensures { result ≡ closed_refusal group (read_of packet.now) }
 {
-    let r = packet::read(packet);
-    match r {
-        Reading::Fields(h) => {
-            let said = Packet::of(h);
-            if said.from_elected(group) {
-                return Refusal::OtherGroup;
+    match packet::read(packet) {
+        Ok(h) => {
+            if Packet::of(h).from_elected(group) {
+                Refusal::OtherGroup
+            } else {
+                Refusal::ForbiddenFields
             }
-            Refusal::ForbiddenFields
         }
-        Reading::Refused(q) => q,
+        Err(refusal) => refusal,
     }
 }
 
 // Behind questions 1 and 2.
-fn closed_reply(v: Verdict, group: Group, packet: &[u8]) -> member::Reply
+#[tactic(auto, unfolding(crate::specs::Steps::refusal_after))]
+fn closed_reply(v: Result<(), Refusal>, group: Group, packet: &[u8]) -> member::Reply
     ensures { result ≡ record { answer = memberAnswer.Answer.Refused (refusal_after v (closed_refusal group (read_of packet.now))); written = 0 } }
 {
     match v {
-        Verdict::Accepted => {
-            let answer = member::Answer::Refused(closed_refusal(group, packet));
-            member::Reply { answer, written: 0 }
-        }
-        Verdict::Refused(q) => {
-            let answer = member::Answer::Refused(q);
-            member::Reply { answer, written: 0 }
-        }
+        Ok(()) => refused(closed_refusal(group, packet)),
+        Err(refusal) => refused(refusal),
     }
 }
 
@@ -497,13 +437,13 @@ fn hear_on(
             packet,
             out,
         );
-        let reply = done.reply;
-        let answer = reply.answer;
-        let read = read_after(head.read, answer, packet);
-        let next = with_heard(head, done.head, read);
-        return Done { head: next, reply };
+        let read = read_after(head.read, done.reply.answer, packet);
+        return Done {
+            head: with_heard(head, done.head, read),
+            reply: done.reply,
+        };
     }
-    let reply = unsound();
+    let reply = refused(Refusal::UnsoundState);
     Done { head, reply }
 }
 
@@ -511,10 +451,9 @@ fn hear_on(
 fn is_of_reset(packet: &[u8]) -> bool
     ensures { result ≡ resets (read_of packet.now) }
 {
-    let r = packet::read(packet);
-    match r {
-        Reading::Fields(h) => of_reset(h),
-        Reading::Refused(_) => false,
+    match packet::read(packet) {
+        Ok(h) => of_reset(h),
+        Err(_) => false,
     }
 }
 
@@ -536,7 +475,7 @@ fn ask(
     highest: &[u32; Group::MEMBERS],
     replies: &[u32; Group::MEMBERS],
     room: usize,
-) -> Verdict
+) -> Result<(), Refusal>
     ensures { Asks head queued.now held.now queued_originators.now queued_lengths.now held_originators.now held_lengths.now queued_payloads.now held_payloads.now past.now past_originators.now past_lengths.now past_payloads.now highest.now replies.now room result }
 {
     if recovery::beside_sound(
@@ -561,7 +500,7 @@ fn ask(
             room,
         );
     }
-    Verdict::Refused(Refusal::UnsoundState)
+    Err(Refusal::UnsoundState)
 }
 
 // A packet of a reset: questions 1 and 2 of the member's end, then those of the reset.
@@ -614,10 +553,10 @@ fn reset_on(
         out.len(),
     );
     match v {
-        Verdict::Accepted => {
+        Ok(()) => {
             let r = packet::read(packet);
             match r {
-                Reading::Fields(h) => {
+                Ok(h) => {
                     attempt::reset_on(
                         head,
                         queued,
@@ -647,10 +586,10 @@ fn reset_on(
                         out,
                     )
                 }
-                Reading::Refused(q) => attempt::declined(head, q),
+                Err(q) => attempt::declined(head, q),
             }
         }
-        Verdict::Refused(q) => attempt::declined(head, q),
+        Err(q) => attempt::declined(head, q),
     }
 }
 
@@ -763,7 +702,7 @@ pub fn poll_on(
             out,
         );
     }
-    not_sound()
+    order_refused(Refusal::UnsoundState)
 }
 
 // The work of its sequencer's copy call.
@@ -797,54 +736,42 @@ pub fn copy_on(
             out,
         );
     }
-    not_sound()
+    order_refused(Refusal::UnsoundState)
 }
 
 // The head with its sequencer's replaced.
 fn with_sequencer(head: Head, sequencer: sequencer::Head) -> Head
     ensures { result ≡ with_sequencer_head head sequencer }
 {
-    let mut next = head;
-    next.sequencer = sequencer;
-    next
+    Head { sequencer, ..head }
 }
 
 // What a frozen sequencer refuses a packet with: questions 3 to 6, 7 but of a reset, and 8.
 fn frozen_refusal(group: Group, packet: &[u8]) -> Refusal
     ensures { result ≡ frozen_refusal group (read_of packet.now) }
 {
-    let r = packet::read(packet);
-    match r {
-        Reading::Fields(h) => {
-            let said = Packet::of(h);
-            if said.from_elected(group) {
-                if h.group == group.number {
-                    if of_reset(h) {
-                        return Refusal::OtherEnd;
-                    }
-                    return Refusal::OtherGroup;
-                }
-                return Refusal::OtherGroup;
+    match packet::read(packet) {
+        Ok(h) => {
+            if !Packet::of(h).from_elected(group) {
+                Refusal::ForbiddenFields
+            } else if h.group == group.number && of_reset(h) {
+                Refusal::OtherEnd
+            } else {
+                Refusal::OtherGroup
             }
-            Refusal::ForbiddenFields
         }
-        Reading::Refused(q) => q,
+        Err(refusal) => refusal,
     }
 }
 
 // Behind questions 1 and 2.
-fn frozen_reply(v: Verdict, group: Group, packet: &[u8]) -> sequencer::Reply
+#[tactic(auto, unfolding(crate::specs::Steps::refusal_after))]
+fn frozen_reply(v: Result<(), Refusal>, group: Group, packet: &[u8]) -> sequencer::Reply
     ensures { result ≡ record { answer = sequencerAnswer.Answer.Refused (refusal_after v (frozen_refusal group (read_of packet.now))); written = 0 } }
 {
     match v {
-        Verdict::Accepted => {
-            let answer = sequencer::Answer::Refused(frozen_refusal(group, packet));
-            sequencer::Reply { answer, written: 0 }
-        }
-        Verdict::Refused(q) => {
-            let answer = sequencer::Answer::Refused(q);
-            sequencer::Reply { answer, written: 0 }
-        }
+        Ok(()) => order_refused(frozen_refusal(group, packet)),
+        Err(refusal) => order_refused(refusal),
     }
 }
 
@@ -894,10 +821,11 @@ pub fn order_on(
             packet,
             out,
         );
-        let next = with_sequencer(head, step.head);
-        let reply = step.reply;
-        return Step { head: next, reply };
+        return Step {
+            head: with_sequencer(head, step.head),
+            reply: step.reply,
+        };
     }
-    let reply = not_sound();
+    let reply = order_refused(Refusal::UnsoundState);
     Step { head, reply }
 }

@@ -1,8 +1,8 @@
 -- What digits come to, one character or one pair at a time. Assumes nothing.
 use mathlib.Core.Path.{◌≡◌, refl, sym, ap, ◌∙◌}
-use mathlib.Core.Bool.{true}
+use mathlib.Core.Bool.{Bool, true, false, ◌&&◌}
 use mathlib.Core.List.{List, [], ◌∷◌, ◌++◌, append-nil}
-use mathlib.Core.Option.{none, some}
+use Rattle.std.specs.Prelude.{None, Some}
 use Prim.Native.Nat.{ℕ, zero, suc, ◌+◌, ◌*◌, ◌/◌, ◌%◌, ◌≤◌, ◌<◌}
 use native.Mathlib.Numerals.{add-one}
 use native.Mathlib.Nat.{le_refl}
@@ -10,13 +10,14 @@ use native.Mathlib.Omega.{arith}
 use borrow.Author.Tests.{ltb-true, eqb-true}
 use lib.ListN.{length, get_or, take, drop, set, drop_of_length-le, take-append-drop}
 use lib.Seq.{drop-cons, take-suc-set, drop-set-lt, append_snoc, drop-drop}
-use Rattle.group.specs.Choice.{◌and◌, ◌<?◌, ◌≤?◌, ◌=?◌}
+use Rattle.std.specs.List.{list_all}
+use Rattle.group.specs.Choice.{when◌then◌else◌, ◌and◌, ◌<?◌, ◌≤?◌, ◌=?◌}
 use Rattle.group.specs.Fold.{all}
 use Rattle.group.specs.Lent.{front}
 use Rattle.group.specs.Limits.{largest_number}
-use Rattle.group.proofs.Choice.{when_eq, when_ne, when_le, when_nle, both_first, both_then}
+use Rattle.group.proofs.Choice.{when_true, when_false, when_le, when_nle, both_first, both_then}
 use Rattle.text.specs.Text.{dash, digit_of}
-use Rattle.text.specs.Field.{letter_of, digits_of, value_from, up_to_largest, pairs_of, is_hex, hex_bytes}
+use Rattle.text.specs.Field.{letter_of, is_letter, digits_of, value_from, up_to_largest, pairs_of, is_hex, hex_bytes}
 
 -- digits bring no value down
 value_grows : (l : List ℕ) (v : ℕ) → v ≤ value_from v l
@@ -30,18 +31,28 @@ module _ (l : List ℕ) (v i : ℕ) (inv : value_from 0 l ≡ value_from v (drop
   unfolding value_from
   value_on d h e = inv ∙ rw (drop-cons l i 0 h, add-one, e)
 
-  pub value_past : (d : ℕ) → i < length l → d ≡ digit_of (get_or l i 0) → largest_number < v * 10 + d → none ≡ up_to_largest (value_from 0 l)
+  pub value_past : (d : ℕ) → i < length l → d ≡ digit_of (get_or l i 0) → largest_number < v * 10 + d → None ≡ up_to_largest (value_from 0 l)
   unfolding up_to_largest
   value_past d h e p =
       let g = value_grows (drop (i + 1) l) (v * 10 + d) in
       let w = value_on d h e in
-      when_nle (value_from 0 l) largest_number none (some (value_from 0 l)) none (omega arith) refl
+      when_nle (value_from 0 l) largest_number None (Some (value_from 0 l)) None (omega arith) refl
 
-  pub value_end : length l ≤ i → v ≤ largest_number → some v ≡ up_to_largest (value_from 0 l)
+  pub value_end : length l ≤ i → v ≤ largest_number → Some v ≡ up_to_largest (value_from 0 l)
   unfolding value_from up_to_largest
   value_end h p =
       let e : value_from 0 l ≡ v = inv ∙ rw (drop_of_length-le l h) in
-      rw e (when_le v largest_number (some v) (some v) none p refl)
+      rw e (when_le v largest_number (Some v) (Some v) None p refl)
+
+-- a chain asks each character what the definition asks
+pub all_each : (test : ℕ → Bool) (i : ℕ) (l : List ℕ) → list_all test l ≡ all (λ i c. test c) i l
+unfolding all when◌then◌else◌
+all_each test i [] = refl
+all_each test i (c ∷ l) = rw (all_each test (i + 1) l) (go (test c) _)
+  where
+    go : (a b : Bool) → (a && b) ≡ a and b
+    go true b = refl
+    go false b = refl
 
 -- where every character is a digit, each is
 pub digit_at : (base i : ℕ) (l : List ℕ) (k : ℕ) → all (λ i c. digit_of c <? base) k l ≡ true → i < length l → digit_of (get_or l i 0) < base
@@ -93,19 +104,19 @@ pairs_done field lent payload i n laid rest =
 
 -- a payload in hex: `-`, or pairs of digits
 module _ (field : List ℕ) where
-  pub hex_dash : letter_of field ≡ dash → hex_bytes field ≡ []
+  pub hex_dash : is_letter dash (letter_of field) ≡ true → hex_bytes field ≡ []
   unfolding hex_bytes
-  hex_dash h = sym (when_eq (letter_of field) dash [] [] (pairs_of field) h refl)
+  hex_dash h = sym (when_true (is_letter dash (letter_of field)) [] [] (pairs_of field) h refl)
 
-  pub hex_pairs : (letter_of field ≡ dash → ⊥) → hex_bytes field ≡ pairs_of field
+  pub hex_pairs : (is_letter dash (letter_of field) ≡ false) → hex_bytes field ≡ pairs_of field
   unfolding hex_bytes
-  hex_pairs h = sym (when_ne (letter_of field) dash (pairs_of field) [] (pairs_of field) h refl)
+  hex_pairs h = sym (when_false (is_letter dash (letter_of field)) (pairs_of field) [] (pairs_of field) h refl)
 
-  pub hex_digits : is_hex field ≡ true → (letter_of field ≡ dash → ⊥) → (digits_of 16 field ≡ true) × (length field % 2 ≡ 0)
+  pub hex_digits : is_hex field ≡ true → (is_letter dash (letter_of field) ≡ false) → (digits_of 16 field ≡ true) × (length field % 2 ≡ 0)
   unfolding is_hex
   hex_digits e h =
       let p : 1 ≤? length field and length field % 2 =? 0 and digits_of 16 field ≡ true =
-      when_ne (letter_of field) dash (1 ≤? length field and length field % 2 =? 0 and digits_of 16 field) true (1 ≤? length field and length field % 2 =? 0 and digits_of 16 field) h refl ∙ e
+      when_false (is_letter dash (letter_of field)) (1 ≤? length field and length field % 2 =? 0 and digits_of 16 field) true (1 ≤? length field and length field % 2 =? 0 and digits_of 16 field) h refl ∙ e
       in
       let q = both_then (1 ≤? length field) (length field % 2 =? 0 and digits_of 16 field) p in
       (both_then (length field % 2 =? 0) (digits_of 16 field) q, eqb-true (length field % 2) 0 (both_first (length field % 2 =? 0) (digits_of 16 field) q))

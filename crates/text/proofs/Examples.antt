@@ -2,13 +2,13 @@
 -- nothing.
 use mathlib.Core.Path.{◌≡◌, refl}
 use mathlib.Core.List.{[], ◌∷◌, map}
-use mathlib.Core.Option.{none, some}
+use Rattle.std.specs.Prelude.{None, Some}
 use Prim.Native.String.{String}
 use lib.ListN.{replicate}
 use Rattle.group.specs.Choice.{when◌then◌else◌}
 use Rattle.group.specs.Fold.{all}
 use Rattle.text.specs.Text.{text_of, digit_of, glyph_of}
-use Rattle.text.specs.Field.{before, lines_of, fields_of, letter_of, value_from, up_to_largest, number_in, pairs_of, is_hex, hex_bytes, hex_in}
+use Rattle.text.specs.Field.{before, lines_of, fields_of, letter_of, is_letter, value_from, up_to_largest, number_in, pairs_of, is_hex, hex_bytes, hex_in}
 use Rattle.text.specs.Written.{decimal_digits, decimal_of, hex_of, payload_text, spaced, line}
 
 -- a line feed at the end begins no line; an empty line is one
@@ -25,14 +25,14 @@ fields = refl
 
 -- numbers up to the largest, with leading zeros; one over the largest, of other characters or of none is of another form
 numbers : map (λ (field : String). number_in (text_of field)) ("0" ∷ "4294967295" ∷ "0000000000000000000007" ∷ "4294967296" ∷ "-1" ∷ "a" ∷ "" ∷ [])
-    ≡ some 0 ∷ some 4294967295 ∷ some 7 ∷ replicate 4 none
+    ≡ Some 0 ∷ Some 4294967295 ∷ Some 7 ∷ replicate 4 None
 unfolding number_in up_to_largest value_from digit_of all when◌then◌else◌
 numbers = refl
 
 -- hex in lower case, `-` for none; in upper case, of an odd number of digits or of none it is of another form
 hexes : map (λ (field : String). hex_in (text_of field)) ("6162" ∷ "00ff" ∷ "-" ∷ "6A" ∷ "616" ∷ "" ∷ "--" ∷ [])
-    ≡ some (0x61 ∷ 0x62 ∷ []) ∷ some (0 ∷ 0xff ∷ []) ∷ some [] ∷ replicate 4 none
-unfolding letter_of digit_of all is_hex hex_bytes pairs_of when◌then◌else◌
+    ≡ Some (0x61 ∷ 0x62 ∷ []) ∷ Some (0 ∷ 0xff ∷ []) ∷ Some [] ∷ replicate 4 None
+unfolding letter_of is_letter digit_of all is_hex hex_bytes pairs_of when◌then◌else◌
 hexes = refl
 
 -- a line of them

@@ -1,9 +1,9 @@
 -- The laws of specs/Laws.antt: a digit is worth what it was written for, and so is a run of them; the lines of an input are its
 -- parts that a line feed ends. Assumes nothing.
 use mathlib.Core.Path.{◌≡◌, refl, sym, ap, ◌∙◌}
-use mathlib.Core.Bool.{true}
+use mathlib.Core.Bool.{true, false}
 use mathlib.Core.List.{List, [], ◌∷◌, ◌++◌}
-use mathlib.Core.Option.{none, some}
+use Rattle.std.specs.Prelude.{None, Some}
 use Prim.Native.Char.{code}
 use Prim.Native.Nat.{ℕ, zero, suc, ◌+◌, ◌-◌, ◌*◌, ◌/◌, ◌%◌, ◌≤◌, ◌<◌}
 use native.Mathlib.Numerals.{add-one}
@@ -14,13 +14,12 @@ use lib.ListN.{length, length-append}
 use Rattle.group.specs.Choice.{when◌then◌else◌, ◌<?◌, ◌≤?◌, ◌=?◌}
 use Rattle.group.specs.Fold.{all}
 use Rattle.group.specs.Limits.{largest_number}
-use Rattle.group.proofs.Choice.{choices, when_true, when_lt, when_nlt, when_le, when_nle, when_ne, both_hold, both_first, both_then}
+use Rattle.group.proofs.Choice.{choices, when_true, when_false, when_lt, when_nlt, when_le, when_nle, both_hold, both_first, both_then}
 use Rattle.group.proofs.Lists.{eq_or, le_or}
 use Rattle.text.specs.Text.{line_feed, dash, digit_of, glyph_of}
-use Rattle.text.specs.Field.{before, lines_of, letter_of, digits_of, value_from, up_to_largest, number_in, pairs_of, is_hex, hex_bytes, hex_in}
+use Rattle.text.specs.Field.{before, lines_of, letter_of, is_letter, digits_of, value_from, up_to_largest, number_in, pairs_of, is_hex, hex_bytes, hex_in}
 use Rattle.text.specs.Laws.{NumberBack, PayloadBack, LinesGoOn, LinesEnd}
 use Rattle.text.specs.Written.{decimal_digits, decimal_of, hex_of, payload_text}
-use Rattle.text.specs.declared.Found.TheVariants.{At}
 use Rattle.text.proofs.Decimal.{digits_step, decimal_zero, decimal_digits_lem}
 use Rattle.text.proofs.Hex.{payload_hex}
 use Rattle.text.proofs.Split.{parts_one, parts_more}
@@ -110,9 +109,9 @@ hex_back (b ∷ l) i j e =
     (rw (w, r.0), both_hold _ _ u (both_hold _ _ v r.1))
 
 -- several bytes are no single character
-hex_letter : (b : ℕ) (l : List ℕ) → letter_of (hex_of (b ∷ l)) ≡ dash → ⊥
-unfolding hex_of letter_of
-hex_letter b l e = let z : ◌≡◌ {A = ℕ} 0 dash = e in omega arith
+hex_letter : (b : ℕ) (l : List ℕ) → is_letter dash (letter_of (hex_of (b ∷ l))) ≡ false
+unfolding hex_of letter_of is_letter
+hex_letter b l = refl
 
 module _ (b : ℕ) (l : List ℕ) (e : all (λ i b. b <? 256) 0 (b ∷ l) ≡ true) where
   hex_is : is_hex (hex_of (b ∷ l)) ≡ true
@@ -122,26 +121,26 @@ module _ (b : ℕ) (l : List ℕ) (e : all (λ i b. b <? 256) 0 (b ∷ l) ≡ tr
       let t = hex_of (b ∷ l) in
       let u : (1 ≤? length t) ≡ true = le-leb 1 (length t) (omega arith) in
       let v : (length t % 2 =? 0) ≡ true = eq-eqb (length t % 2) 0 (omega arith) in
-      sym (when_ne (letter_of t) dash true true _ (hex_letter b l) (sym (both_hold _ _ u (both_hold _ _ v (hex_back (b ∷ l) 0 0 e).1))))
+      sym (when_false (is_letter dash (letter_of t)) true true _ (hex_letter b l) (sym (both_hold _ _ u (both_hold _ _ v (hex_back (b ∷ l) 0 0 e).1))))
 
   hex_bytes_lem : hex_bytes (hex_of (b ∷ l)) ≡ b ∷ l
   unfolding hex_bytes
-  hex_bytes_lem = sym (when_ne (letter_of (hex_of (b ∷ l))) dash (b ∷ l) [] _ (hex_letter b l) (sym (hex_back (b ∷ l) 0 0 e).0))
+  hex_bytes_lem = sym (when_false (is_letter dash (letter_of (hex_of (b ∷ l)))) (b ∷ l) [] _ (hex_letter b l) (sym (hex_back (b ∷ l) 0 0 e).0))
 
-empty_back : hex_in (payload_text []) ≡ some []
-unfolding is_hex hex_bytes payload_text letter_of when◌then◌else◌
+empty_back : hex_in (payload_text []) ≡ Some []
+unfolding is_hex hex_bytes payload_text letter_of is_letter when◌then◌else◌
 empty_back = refl
 
 pub payload_back : PayloadBack
 payload_back [] e = empty_back
 payload_back (b ∷ l) e =
-    rw (payload_hex (b ∷ l) (λ z. omega arith)) (sym (when_true (is_hex (hex_of (b ∷ l))) _ _ none (hex_is b l e) (ap some (sym (hex_bytes_lem b l e)))))
+    rw (payload_hex (b ∷ l) (λ z. omega arith)) (sym (when_true (is_hex (hex_of (b ∷ l))) _ _ None (hex_is b l e) (ap Some (sym (hex_bytes_lem b l e)))))
 
 pub lines_go_on : LinesGoOn
 unfolding lines_of before
 lines_go_on input e h =
     let p : e ≡ 0 + e = omega arith in
-    parts_more line_feed lines_of (λ c l. refl) (λ c. refl) input 0 e (h ∙ ap At p) ∙ rw add-one
+    parts_more line_feed lines_of (λ c l. refl) (λ c. refl) input 0 e (h ∙ ap Some p) ∙ rw add-one
 
 pub lines_end : LinesEnd
 unfolding lines_of before

@@ -3,8 +3,8 @@
 
 ghost use Rattle.std.specs.Prelude.{◌≡◌, true, [], ◌∷◌, ◌+◌, ◌*◌, ◌%◌, ◌≤◌, ◌<◌, length, drop};
 ghost use Rattle.group.specs.Lent.{front};
-ghost use Rattle.text.specs.Text.{hex_base, digit_of, glyph_of};
-ghost use Rattle.text.specs.Field.{first_from, line_end, letter_of, digits_of, value_from, up_to_largest, number_in, read, pairs_of, is_hex, hex_bytes};
+ghost use Rattle.text.specs.Text.{dash, hex_base, digit_of, glyph_of};
+ghost use Rattle.text.specs.Field.{first_from, line_end, letter_of, is_letter, digits_of, value_from, up_to_largest, number_in, pairs_of, is_hex, hex_bytes};
 ghost use Rattle.text.specs.Written.{decimal_digits, decimal_of, hex_of, payload_text, spaced, number_digits, count_digits};
 ghost use Rattle.text.specs.LaidAt.{LaidAt};
 
@@ -17,20 +17,6 @@ pub const HEX_BASE: u8 = 16;
 pub const NUMBER_DIGITS: usize = 10;
 
 pub const COUNT_DIGITS: usize = 20;
-
-// Where a character first stands.
-#[derive(Clone, Copy)]
-pub enum Found {
-    At(usize),
-    Nothing,
-}
-
-// The number that a field is.
-#[derive(Clone, Copy)]
-pub enum Numeral {
-    Of(u32),
-    Other,
-}
 
 // The limits of specs/ are these constants.
 fn hex_base() -> u8
@@ -52,113 +38,91 @@ fn count_digits() -> usize
 }
 
 // Where a character first stands in a text, from an index on.
-pub fn first(text: &[u8], from: usize, character: u8) -> Found
+pub fn first(text: &[u8], from: usize, character: u8) -> Option<usize>
     requires { from ≤ length text.now }
     ensures { result ≡ first_from character from (drop from text.now) }
 {
-    let mut i = from;
-    while i < text.len() {
+    for i in from..text.len() {
         if text[i] == character {
-            return Found::At(i);
+            return Some(i);
         }
-        i += 1;
     }
-    Found::Nothing
+    None
 }
 
 // Where the first line of an input ends.
-pub fn line_end(input: &[u8]) -> Found
+pub fn line_end(input: &[u8]) -> Option<usize>
     ensures { result ≡ line_end input.now }
 {
     first(input, 0, b'\n')
 }
 
-// The character that a field is; 0 for a field of none or several.
-pub fn letter(field: &[u8]) -> u8
+// The character that a field is, if it is of one.
+pub fn letter(field: &[u8]) -> Option<u8>
     ensures { result ≡ letter_of field.now }
 {
-    if field.len() == 1 { field[0] } else { 0 }
+    match field {
+        [character] => Some(*character),
+        _ => None,
+    }
+}
+
+// Whether a field is `-`, which stands for an empty payload.
+fn is_dash(field: &[u8]) -> bool
+    ensures { result ≡ is_letter dash (letter_of field.now) }
+{
+    letter(field) == Some(b'-')
 }
 
 // What a digit is worth; the base for any other character.
+// kept: the base stands for no digit, so that `digit(c) < base` is the one test of each base, and `value_from` and `pairs_of` need no other.
+#[tactic(auto, using(group::proofs::Choice::choices), unfolding(crate::specs::Text::digit_of))]
 pub fn digit(c: u8) -> u8
     ensures { result ≡ digit_of c }
 {
-    if c < b'0' {
-        return HEX_BASE;
+    match c {
+        b'0'..=b'9' => c - b'0',
+        b'a'..=b'f' => c - b'a' + 10,
+        _ => HEX_BASE,
     }
-    if c <= b'9' {
-        return c - b'0';
-    }
-    if c < b'a' {
-        return HEX_BASE;
-    }
-    if c <= b'f' {
-        return c - b'a' + 10;
-    }
-    HEX_BASE
 }
 
 // Whether every character is a digit of that base.
 pub fn all_digits(field: &[u8], base: u8) -> bool
     ensures { result ≡ digits_of base field.now }
 {
-    let mut i: usize = 0;
-    while i < field.len() {
-        if digit(field[i]) < base {
-            i += 1;
-        } else {
-            return false;
-        }
-    }
-    true
+    field.iter().all(|&c| digit(c) < base)
 }
 
 // What digits come to, up to the largest. Past it no digit can bring the value back, so that a long field does not wrap.
-fn value(field: &[u8]) -> Numeral
-    ensures { read result ≡ up_to_largest (value_from 0 field.now) }
+fn value(field: &[u8]) -> Option<u32>
+    ensures { result ≡ up_to_largest (value_from 0 field.now) }
 {
-    let mut value: u64 = 0;
-    let mut i: usize = 0;
-    while i < field.len() {
-        let next = value * 10 + (digit(field[i]) as u64);
-        if (Group::LARGEST as u64) < next {
-            return Numeral::Other;
-        }
-        value = next;
-        i += 1;
+    let mut value: u32 = 0;
+    for &c in field {
+        value = value.checked_mul(10)?.checked_add(digit(c) as u32)?;
     }
-    Numeral::Of(value as u32)
+    Some(value)
 }
 
 // The number that a field is.
-pub fn number(field: &[u8]) -> Numeral
-    ensures { read result ≡ number_in field.now }
+#[tactic(auto, using(group::proofs::Choice::choices), unfolding(crate::specs::Field::number_in))]
+pub fn number(field: &[u8]) -> Option<u32>
+    ensures { result ≡ number_in field.now }
 {
-    if field.len() < 1 {
-        return Numeral::Other;
-    }
-    if all_digits(field, 10) {
+    if !field.is_empty() && all_digits(field, 10) {
         value(field)
     } else {
-        Numeral::Other
+        None
     }
 }
 
 // Whether a field is a payload in hex.
+#[tactic(auto, using(group::proofs::Choice::choices), unfolding(crate::specs::Field::is_hex))]
 pub fn is_hex(field: &[u8]) -> bool
     ensures { result ≡ is_hex field.now }
 {
-    if letter(field) == b'-' {
-        return true;
-    }
-    if field.len() < 1 {
-        return false;
-    }
-    if field.len() % 2 != 0 {
-        return false;
-    }
-    all_digits(field, HEX_BASE)
+    is_dash(field) || !field.is_empty() && field.len() % 2 == 0 && all_digits(field, HEX_BASE)
 }
 
 // The byte of two digits.
@@ -176,12 +140,8 @@ fn lay_pairs(field: &[u8], payload: &mut [u8])
     requires field_len_bound { length field.now ≤ 2 * length payload.old }
     ensures { payload.new ≡ front (pairs_of field.now) payload.old }
 {
-    let count = field.len() / 2;
-    let mut i: usize = 0;
-    while i < count {
-        let byte = pair(field[2 * i], field[2 * i + 1]);
-        payload[i] = byte;
-        i += 1;
+    for i in 0..field.len() / 2 {
+        payload[i] = pair(field[2 * i], field[2 * i + 1]);
     }
 }
 
@@ -192,7 +152,7 @@ pub fn lay_hex(field: &[u8], payload: &mut [u8]) -> usize
     ensures size { result ≡ length (hex_bytes field.now) }
     ensures lent { payload.new ≡ front (hex_bytes field.now) payload.old }
 {
-    if letter(field) == b'-' {
+    if is_dash(field) {
         return 0;
     }
     lay_pairs(field, payload);
@@ -200,6 +160,7 @@ pub fn lay_hex(field: &[u8], payload: &mut [u8]) -> usize
 }
 
 // The digit that is worth d.
+#[tactic(auto, using(group::proofs::Choice::choices), unfolding(crate::specs::Text::glyph_of))]
 fn glyph(d: u8) -> u8
     requires { d < hex_base }
     ensures { result ≡ glyph_of d }
@@ -208,6 +169,7 @@ fn glyph(d: u8) -> u8
 }
 
 // The digits of a number, in an array from an index on.
+// kept: no heap, so the array has room for the longest.
 #[derive(Clone, Copy)]
 struct Spelled {
     digits: [u8; COUNT_DIGITS],
@@ -224,9 +186,8 @@ fn spell(n: u64) -> Spelled
     let mut rest = n;
     while 0 < rest {
         start -= 1;
-        let d = glyph((rest % 10) as u8);
-        digits[start] = d;
-        rest = rest / 10;
+        digits[start] = glyph((rest % 10) as u8);
+        rest /= 10;
     }
     Spelled { digits, start }
 }
@@ -256,9 +217,7 @@ pub fn put_decimal(n: u64, out: &mut [u8], at: usize) -> usize
     if n == 0 {
         return put(b'0', out, at);
     }
-    let spelled = spell(n);
-    let digits = spelled.digits;
-    let start = spelled.start;
+    let Spelled { digits, start } = spell(n);
     put_text(&digits[start..], out, at)
 }
 
@@ -311,10 +270,8 @@ pub fn put_hex(bytes: &[u8], out: &mut [u8], at: usize) -> usize
     ensures short { result ≡ at + 2 * length bytes.now }
 {
     let mut next = at;
-    let mut i: usize = 0;
-    while i < bytes.len() {
-        next = put_byte(bytes[i], out, next);
-        i += 1;
+    for &byte in bytes {
+        next = put_byte(byte, out, next);
     }
     next
 }
@@ -326,8 +283,9 @@ pub fn put_payload(payload: &[u8], out: &mut [u8], at: usize) -> usize
     ensures short { result ≤ at + 2 + 2 * length payload.now }
 {
     let next = put(b' ', out, at);
-    if payload.len() == 0 {
-        return put(b'-', out, next);
+    if payload.is_empty() {
+        put(b'-', out, next)
+    } else {
+        put_hex(payload, out, next)
     }
-    put_hex(payload, out, next)
 }

@@ -34,9 +34,11 @@ module _ (counts originators lengths bytes : List ℕ) (at : ℕ) (inside : at <
   unfolding queued_sound queue_sound
   queue_in number submitted count r p e = e ∙ ap (λ (m : Message). queued_sound number submitted m count) (here_is (queue_place count) p)
 
-  pub place_in : (n number : ℕ) (r : Bool) → at ≡ place_of number → r ≡ message_sound n here number → r ≡ place_sound n (messages_in counts originators lengths bytes) number
+  pub place_in : (n t i : ℕ) (r : Bool) → at ≡ place_of (t + (i + 1)) → r ≡ message_sound n here (t + i + 1) → r ≡ place_sound n (messages_in counts originators lengths bytes) (t + i + 1)
   unfolding message_sound place_sound
-  place_in n number r p e = e ∙ ap (λ (m : Message). message_sound n m number) (here_is (place_of number) p)
+  place_in n t i r p e =
+      let q : t + (i + 1) ≡ t + i + 1 = omega arith in
+      e ∙ ap (λ (m : Message). message_sound n m (t + i + 1)) (here_is (place_of (t + i + 1)) (p ∙ ap (λ (k : ℕ). place_of k) q))
 
 -- the front of a place, as it is lent from the place's start on
 pub front_part : (bytes : List ℕ) (at size : ℕ) → size ≤ payload_most

@@ -1,6 +1,6 @@
 -- The facts that determine the end of a row of held numbers, and from them how it lies to a missing number, to a message kept and
 -- to one taken; and that the scan of the counts finds it. Assumes nothing.
-use mathlib.Core.Path.{◌≡◌, refl, sym, ap}
+use mathlib.Core.Path.{◌≡◌, sym}
 use mathlib.Core.Logic.{◌≢◌}
 use mathlib.Core.List.{List}
 use Prim.Native.Nat.{ℕ, zero, suc, ◌+◌, ◌-◌, ◌≤◌, ◌<◌}
@@ -11,11 +11,10 @@ use lib.ListN.{length, set}
 use lib.Seq.{get_or-set_other}
 use Rattle.group.specs.Choice.{◌<?◌, ◌=?◌}
 use Rattle.group.specs.Limits.{held_most}
-use Rattle.group.proofs.Choice.{when_eq_of, when_ne_of}
 use Rattle.group.proofs.Lists.{when_elim, eq_or, le_or}
 use Rattle.message.specs.Message.{Message, empty_message, blank}
 use Rattle.window.specs.Places.{place_of, message_at, is_held, lowest_missing, row_end, smaller_of, larger_of}
-use Rattle.window.specs.Steps.{Counted, lowest_uncounted, row_counted}
+use Rattle.window.specs.Steps.{Counted, row_counted}
 use Rattle.window.proofs.Missing.{Lowest, lowest_is, lowest_none, held_same}
 use Rattle.window.proofs.Scan.{uncounted}
 
@@ -143,16 +142,6 @@ module _ (held : List Message) (t k last : ℕ) (in-k : last ≤ t + k) where
       eq_or (lowest_missing held t (last - t)) 0
       (λ z. let a = lowest_none held t (last - t) z (row_end held t k + 1) (omega arith) (omega arith) in absurd (omega arith))
       (λ n. let l = lowest_is held t (last - t) n in row_gap w (record { above = l.above; up_to = (let u = l.up_to in let v = l.above in omega arith); missing = l.missing; below = l.below }))
-
--- what the scan up to `last` found as `first` says
-module _ (counts : List ℕ) (t last end first : ℕ) (e : last ≡ end) (f : first ≡ lowest_uncounted counts t (last - t)) where
-  pub row_whole : first ≡ 0 → last ≡ row_counted counts t end
-  unfolding row_counted
-  row_whole z = rw (← e) (when_eq_of (lowest_uncounted counts t (last - t)) 0 first _ _ _ f z refl)
-
-  pub row_broken : (first ≡ 0 → ⊥) → first - 1 ≡ row_counted counts t end
-  unfolding row_counted
-  row_broken n = rw (← e) (when_ne_of (lowest_uncounted counts t (last - t)) 0 first _ _ _ f n (ap (λ (x : ℕ). x - 1) f))
 
 -- the smaller of two numbers is at most each, and what is at most each is at most it
 pub smaller_le : (a b : ℕ) → (smaller_of a b ≤ a) × (smaller_of a b ≤ b)

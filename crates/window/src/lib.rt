@@ -7,11 +7,11 @@ ghost use Rattle.group.specs.Choice.{◌and◌, ◌<?◌, ◌≤?◌, ◌=?◌};
 ghost use Rattle.group.specs.Fold.{all_above};
 ghost use Rattle.group.specs.Lent.{Laid};
 ghost use Rattle.group.specs.Limits.{held_most, payload_most, waiting_most, longest_packet, largest_number};
-ghost use Rattle.message.specs.Message.{is_empty, message_of, empty_message};
+ghost use Rattle.message.specs.Message.{message_of, empty_message};
 ghost use Rattle.store.specs.Places.{part_of, Lies, mask_of, message_in, messages_in};
 ghost use Rattle.window.specs.Places.{place_of, queue_place, smaller_of, larger_of};
 ghost use Rattle.window.specs.Sound.{place_sound, queue_sound, waiting_sound, frame_sound};
-ghost use Rattle.window.specs.Steps.{message_sound, queued_sound, lowest_uncounted, row_counted};
+ghost use Rattle.window.specs.Steps.{message_sound, queued_sound, first_uncounted, row_counted};
 
 use group::{Group, MemberNumber, SequenceNumber};
 
@@ -23,24 +23,26 @@ pub fn place(number: SequenceNumber, ahead: usize) -> usize
     (number.0 as usize + ahead) % Group::HELD
 }
 
-// The lowest number above the last taken, up to `last`, that is missing by the counts of the places; 0 if none is.
-pub fn lowest_missing(counts: &[u32], taken: SequenceNumber, last: SequenceNumber) -> SequenceNumber
+// The lowest number above the last taken, up to `last`, that is missing by the counts of the places.
+#[tactic(auto, using(crate::proofs::Scan::missing_on, crate::proofs::Scan::missing_found, crate::proofs::Scan::missing_none))]
+pub fn lowest_missing(
+    counts: &[u32],
+    taken: SequenceNumber,
+    last: SequenceNumber,
+) -> Option<SequenceNumber>
     requires { length counts.now ≡ held_most }
-    ensures { result.0 ≡ lowest_uncounted counts.now taken.0 (last.0 - taken.0) }
+    ensures { result ≡ first_uncounted counts.now taken.0 (last.0 - taken.0) }
 {
-    let mut number = taken;
-    while number.0 < last.0 {
-        let at = place(number, 1);
-        let next = SequenceNumber(number.0 + 1);
-        if counts[at] == 0 {
-            return next;
+    for number in taken.0..last.0 {
+        if counts[place(SequenceNumber(number), 1)] == 0 {
+            return Some(SequenceNumber(number + 1));
         }
-        number = next;
     }
-    SequenceNumber(0)
+    None
 }
 
 // The group's description is sound, the member is a survivor, and what it took is accepted.
+#[tactic(auto, using(group::proofs::Choice::choices), unfolding(crate::specs::Sound::frame_sound))]
 pub fn frame_sound(
     group: Group,
     number: MemberNumber,
@@ -49,13 +51,7 @@ pub fn frame_sound(
 ) -> bool
     ensures { result ≡ frame_sound group number taken.0 accepted.0 }
 {
-    if group.sound() {
-        if group::is_in(group.survivors, number) {
-            return taken.0 <= accepted.0;
-        }
-        return false;
-    }
-    false
+    group.sound() && group::is_in(group.survivors, number) && taken <= accepted
 }
 
 // The message with a count lies in place count modulo 5, of those that wait.
@@ -65,31 +61,8 @@ pub fn queue_place(count: usize) -> usize
     count % Group::WAITING
 }
 
-// All of a place is zero.
-fn empty_sound(
-    count: u32,
-    originator: u8,
-    length: u8,
-    payloads: &[u8],
-    mask: &[u8],
-    at: usize,
-) -> bool
-    requires { Lies at payloads.now × (mask.now ≡ mask_of) }
-    ensures { result ≡ is_empty (message_in count originator length (part_of payloads.now at)) }
-{
-    if originator != 0 {
-        return false;
-    }
-    if count != 0 {
-        return false;
-    }
-    if length != 0 {
-        return false;
-    }
-    store::zero_from(payloads, mask, at, length)
-}
-
 // A message waits as the member's own with its place's count; a place of a count that was not submitted is all zero.
+#[tactic(auto, using(group::proofs::Choice::choices), unfolding(crate::specs::Steps::queued_sound, message::specs::Message::zero_behind))]
 fn queued_sound(
     number: MemberNumber,
     submitted: u32,
@@ -105,21 +78,17 @@ fn queued_sound(
     ensures { result ≡ queued_sound number submitted (message_in count originator length (part_of payloads.now at)) place }
 {
     if place <= (submitted as usize) {
-        if originator != number.0 {
-            return false;
-        }
-        if (count as usize) != place {
-            return false;
-        }
-        if Group::PAYLOAD < (length as usize) {
-            return false;
-        }
-        return store::zero_from(payloads, mask, at, length);
+        originator == number.0
+            && (count as usize) == place
+            && (length as usize) <= Group::PAYLOAD
+            && store::zero_from(payloads, mask, at, length)
+    } else {
+        store::is_empty(count, originator, length, payloads, mask, at)
     }
-    empty_sound(count, originator, length, payloads, mask, at)
 }
 
 // At most five messages wait, no more than were submitted, and each of the five places is sound.
+#[tactic(auto, using(group::proofs::Choice::choices), unfolding(crate::specs::Sound::waiting_sound))]
 pub fn waiting_sound(
     number: MemberNumber,
     submitted: u32,
@@ -133,25 +102,22 @@ pub fn waiting_sound(
     requires { (length counts.now ≡ waiting_most) × (length originators.now ≡ waiting_most) × (length lengths.now ≡ waiting_most) × (length payloads.now ≡ waiting_most * payload_most) × (mask.now ≡ mask_of) }
     ensures { result ≡ waiting_sound number submitted waiting (messages_in counts.now originators.now lengths.now payloads.now) }
 {
-    if Group::WAITING < (waiting as usize) {
-        return false;
-    }
-    if submitted < waiting {
-        return false;
-    }
-    queue_sound(
-        number,
-        submitted,
-        submitted - waiting,
-        counts,
-        originators,
-        lengths,
-        payloads,
-        mask,
-    )
+    (waiting as usize) <= Group::WAITING
+        && waiting <= submitted
+        && queue_sound(
+            number,
+            submitted,
+            submitted - waiting,
+            counts,
+            originators,
+            lengths,
+            payloads,
+            mask,
+        )
 }
 
 // The places of the five counts above those that were taken are sound.
+#[tactic(auto, using(group::proofs::Fold::above_on, group::proofs::Fold::above_off, group::proofs::Fold::above_done, crate::proofs::Places::queue_in))]
 fn queue_sound(
     number: MemberNumber,
     submitted: u32,
@@ -165,11 +131,10 @@ fn queue_sound(
     requires { (taken ≤ submitted) × (length counts.now ≡ waiting_most) × (length originators.now ≡ waiting_most) × (length lengths.now ≡ waiting_most) × (length payloads.now ≡ waiting_most * payload_most) × (mask.now ≡ mask_of) }
     ensures { result ≡ all_above (queue_sound number (messages_in counts.now originators.now lengths.now payloads.now) submitted) taken waiting_most }
 {
-    let mut i: usize = 0;
-    while i < Group::WAITING {
+    for i in 0..Group::WAITING {
         let count = (taken as usize) + i + 1;
         let at = queue_place(count);
-        if queued_sound(
+        if !queued_sound(
             number,
             submitted,
             count,
@@ -180,8 +145,6 @@ fn queue_sound(
             mask,
             at,
         ) {
-            i += 1;
-        } else {
             return false;
         }
     }
@@ -190,6 +153,7 @@ fn queue_sound(
 
 // A held message has a member of the group as its originator, a length in the limit and a number in the limit; else its
 // place is all zero.
+#[tactic(auto, using(group::proofs::Choice::choices), unfolding(crate::specs::Steps::message_sound, message::specs::Message::zero_behind))]
 fn message_sound(
     n: u8,
     number: usize,
@@ -203,22 +167,17 @@ fn message_sound(
     requires { Lies at payloads.now × (mask.now ≡ mask_of) }
     ensures { result ≡ message_sound n (message_in count originator length (part_of payloads.now at)) number }
 {
-    if 0 < count {
-        if n <= originator {
-            return false;
-        }
-        if Group::PAYLOAD < (length as usize) {
-            return false;
-        }
-        if store::zero_from(payloads, mask, at, length) {
-            return number <= (Group::LARGEST as usize);
-        }
-        return false;
+    if count == 0 {
+        return store::is_empty(count, originator, length, payloads, mask, at);
     }
-    empty_sound(count, originator, length, payloads, mask, at)
+    originator < n
+        && (length as usize) <= Group::PAYLOAD
+        && store::zero_from(payloads, mask, at, length)
+        && number <= (Group::LARGEST as usize)
 }
 
 // The places of the eight numbers above the last taken are sound.
+#[tactic(auto, using(group::proofs::Fold::above_on, group::proofs::Fold::above_off, group::proofs::Fold::above_done, crate::proofs::Places::place_in))]
 pub fn held_sound(
     n: u8,
     taken: SequenceNumber,
@@ -231,11 +190,10 @@ pub fn held_sound(
     requires { (length counts.now ≡ held_most) × (length originators.now ≡ held_most) × (length lengths.now ≡ held_most) × (length payloads.now ≡ held_most * payload_most) × (mask.now ≡ mask_of) }
     ensures { result ≡ all_above (place_sound n (messages_in counts.now originators.now lengths.now payloads.now)) taken.0 held_most }
 {
-    let mut i: usize = 0;
-    while i < Group::HELD {
+    for i in 0..Group::HELD {
         let at = place(taken, i + 1);
         let number = (taken.0 as usize) + i + 1;
-        if message_sound(
+        if !message_sound(
             n,
             number,
             counts[at],
@@ -245,8 +203,6 @@ pub fn held_sound(
             mask,
             at,
         ) {
-            i += 1;
-        } else {
             return false;
         }
     }
@@ -254,6 +210,7 @@ pub fn held_sound(
 }
 
 // A message goes to a place: the keeping step.
+#[tactic(auto, using(store::proofs::Places::messages_laid, crate::proofs::Places::padded_length), unfolding(message::specs::Message::message_of))]
 pub fn keep(
     counts: &mut [u32],
     originators: &mut [u8],
@@ -274,6 +231,7 @@ pub fn keep(
 }
 
 // A place is made empty.
+#[tactic(auto, using(store::proofs::Places::messages_laid), unfolding(message::specs::Message::empty_message))]
 pub fn clear(
     counts: &mut [u32],
     originators: &mut [u8],
@@ -291,73 +249,63 @@ pub fn clear(
 }
 
 // Lays the payload of a place at the front of the output, and gives its length.
+#[tactic(auto, using(crate::proofs::Places::front_part))]
 pub fn put_payload(payloads: &[u8], at: usize, size: u8, out: &mut [u8]) -> usize
     requires { Lies at payloads.now × (size ≤ payload_most) × (longest_packet ≤ length out.old) }
     ensures { Laid (take size (part_of payloads.now at)) result out.old out.new }
 {
     let base = at * Group::PAYLOAD;
-    let end = base + (size as usize);
-    message::copy(&payloads[base..end], out);
+    message::copy(&payloads[base..base + (size as usize)], out);
     size as usize
 }
 
 // The smaller of a poll's top and the last number that a place is for.
+#[tactic(auto, using(group::proofs::Choice::choices), unfolding(crate::specs::Places::smaller_of))]
 pub fn reach(top: SequenceNumber, taken: SequenceNumber) -> SequenceNumber
     ensures { result.0 ≡ smaller_of top.0 (taken.0 + held_most) }
 {
-    if (top.0 as usize) < (taken.0 as usize) + Group::HELD {
-        return top;
-    }
-    SequenceNumber(taken.0 + (Group::HELD as u32))
+    top.min(SequenceNumber(taken.0.saturating_add(Group::HELD as u32)))
 }
 
 // The last number through which nothing above the last taken is missing, by the counts of the places.
+#[tactic(auto, using(group::proofs::Choice::choices), unfolding(crate::specs::Steps::row_counted, crate::specs::Steps::first_uncounted))]
 pub fn row_end(counts: &[u32], taken: SequenceNumber) -> SequenceNumber
     requires { length counts.now ≡ held_most }
     ensures { result.0 ≡ row_counted counts.now taken.0 (smaller_of largest_number (taken.0 + held_most)) }
 {
     let last = reach(SequenceNumber(Group::LARGEST), taken);
-    let first = lowest_missing(counts, taken, last);
-    if first.0 == 0 {
-        return last;
+    match lowest_missing(counts, taken, last) {
+        Some(first) => SequenceNumber(first.0 - 1),
+        None => last,
     }
-    SequenceNumber(first.0 - 1)
 }
 
 // The larger of two numbers.
+#[tactic(auto, using(group::proofs::Choice::choices), unfolding(crate::specs::Places::larger_of))]
 pub fn later(a: SequenceNumber, b: SequenceNumber) -> SequenceNumber
     ensures { result.0 ≡ larger_of a.0 b.0 }
 {
-    if a.0 < b.0 {
-        return b;
-    }
-    a
+    a.max(b)
 }
 
 // The smaller of two numbers.
+#[tactic(auto, using(group::proofs::Choice::choices), unfolding(crate::specs::Places::smaller_of))]
 pub fn earlier(a: SequenceNumber, b: SequenceNumber) -> SequenceNumber
     ensures { result.0 ≡ smaller_of a.0 b.0 }
 {
-    if a.0 < b.0 {
-        return a;
-    }
-    b
+    a.min(b)
 }
 
 // Whether the number behind `previous` may be taken: its place has a count, and it is accepted.
+#[tactic(auto, using(group::proofs::Choice::choices))]
 pub fn ready(count: u32, previous: SequenceNumber, accepted: SequenceNumber) -> bool
     ensures { result ≡ (0 <? count and previous.0 + 1 ≤? accepted.0) }
 {
-    if count == 0 {
-        return false;
-    }
-    if accepted.0 <= previous.0 {
-        return false;
-    }
-    true
+    count != 0 && previous < accepted
 }
 
 // Whether that count of that originator is the first that waits, of the member of that number after so many submissions.
+#[tactic(auto, using(group::proofs::Choice::choices))]
 pub fn own(
     number: MemberNumber,
     submitted: u32,
@@ -368,11 +316,5 @@ pub fn own(
     requires { waiting ≤ submitted }
     ensures { result ≡ (1 ≤? waiting and originator.0 =? number.0 and count =? submitted - waiting + 1) }
 {
-    if waiting < 1 {
-        return false;
-    }
-    if originator.0 != number.0 {
-        return false;
-    }
-    count == submitted - waiting + 1
+    1 <= waiting && originator == number && count == submitted - waiting + 1
 }

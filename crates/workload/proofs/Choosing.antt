@@ -1,4 +1,5 @@
 -- The last letter, a line that was laid from the front on, and which way a call goes. Assumes nothing.
+use Rattle.std.specs.Prelude.{Err}
 use mathlib.Core.Path.{◌≡◌, refl, sym, ap, ◌∙◌}
 use mathlib.Core.List.{List}
 use Prim.Native.Nat.{ℕ, ◌+◌, ◌≤◌, ◌<◌}
@@ -11,7 +12,7 @@ use Rattle.group.specs.Choice.{◌and◌, ◌≤?◌}
 use Rattle.group.specs.Lent.{front, Laid}
 use Rattle.group.specs.Limits.{members_most}
 use Rattle.group.specs.Opening as group
-use Rattle.group.specs.declared.Opened.{Opened}
+use Rattle.group.specs.Opening.{Opened}
 use Rattle.group.specs.declared.Refusal.{Refusal}
 use Rattle.group.specs.declared.Refusal.TheVariants.{UnsoundState, Opening}
 use Rattle.group.proofs.Choice.{when_ne, when_true, when_false, both_hold, first_fails, then_fails}
@@ -22,7 +23,7 @@ use Rattle.text.specs.Written.{line}
 use Rattle.workload.specs.Calls.{Outcome, step_of, load_at, refused, next_of}
 use Rattle.workload.specs.Choice.{Chosen, drawn, chosen, event_from}
 use Rattle.workload.specs.Line.{event_fields, line_room}
-use Rattle.workload.specs.declared.Answer.{Answer}
+use Rattle.std.specs.Prelude.{Ok}
 use Rattle.workload.specs.Wording.{wording_of}
 use Rattle.workload.specs.declared.Load.{Load}
 use Rattle.workload.specs.declared.Step.{Step}
@@ -45,10 +46,10 @@ laid_whole {size} {bytes} f =
     record { size = f.ends ∙ z; lent = f.lays ∙ rw z }
 
 -- question 18 of more members than there may be
-pub open_many : (n number : ℕ) → members_most < n → group.open_of n number 0 ≡ Opened.Refused Opening
+pub open_many : (n number : ℕ) → members_most < n → group.open_of n number 0 ≡ Err Opening
 unfolding group.open_of
 open_many n number h =
-    sym (when_false (1 ≤? n and n ≤? members_most) (Opened.Refused Opening) _ _ (then_fails (1 ≤? n) (n ≤? members_most) (lt-leb n members_most h)) refl)
+    sym (when_false (1 ≤? n and n ≤? members_most) (Err Opening) _ _ (then_fails (1 ≤? n) (n ≤? members_most) (lt-leb n members_most h)) refl)
 
 -- question 1, and the line
 module _ (load : Load) where
@@ -64,7 +65,7 @@ module _ (load : Load) where
   line_outcome =
       record {
         load = load_at (event_from load.n load.generator.state).state load.n;
-        answer = Answer.Written;
+        answer = Ok tt;
         bytes = line (event_fields (event_from load.n load.generator.state).event);
       }
 
@@ -75,13 +76,13 @@ module _ (load : Load) where
   -- what the code made of the next event
   pub next_step : {event : Event} (generator : Generator) (written : ℕ) (before after : List ℕ) → record { event = event; state = generator.state } ≡ event_from load.n load.generator.state
       → LaidAt 0 (line (event_fields event)) before after written
-      → (record { load = record { generator = generator; n = load.n }; answer = Answer.Written; written = written } ≡ step_of line_outcome) × (after ≡ front line_outcome.bytes before)
+      → (record { load = record { generator = generator; n = load.n }; answer = Ok tt; written = written } ≡ step_of line_outcome) × (after ≡ front line_outcome.bytes before)
   next_step generator written before after e at =
       let h = laid_whole at in
       let chose = ap (λ (c : Chosen). c.event) e in
       let state = ap (λ (c : Chosen). c.state) e in
       let size = h.size ∙ ap (λ (x : Event). length (line (event_fields x))) chose in (
-        λ i. record { load = load_at (state i) load.n; answer = Answer.Written; written = size i },
+        λ i. record { load = load_at (state i) load.n; answer = Ok tt; written = size i },
         h.lent ∙ ap (λ (x : Event). front (line (event_fields x)) before) chose,
       )
 

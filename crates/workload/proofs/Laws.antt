@@ -3,7 +3,7 @@
 use mathlib.Core.Path.{◌≡◌, refl, sym, ap, ◌∙◌}
 use mathlib.Core.Bool.{true}
 use mathlib.Core.List.{List, [], ◌∷◌, map}
-use mathlib.Core.Option.{none, some}
+use Rattle.std.specs.Prelude.{None, Some}
 use Prim.Native.Char.{code}
 use Prim.Native.Nat.{ℕ, zero, suc, ◌≤◌, ◌<◌}
 use native.Mathlib.Nat.{mod-lt}
@@ -18,8 +18,7 @@ use Rattle.group.proofs.Choice.{when_le, both_hold}
 use Rattle.group.proofs.Lists.{when_elim}
 use Rattle.model.specs.World.{Event, submit, repeat, take, status, poll, copy, hand_member, hand_sequencer}
 use Rattle.schedule.specs.Line.{line_most, alone, with_number, submitted, handed, with_two, form_of, event_of, opened, opening_with, opening_form, opening_of}
-use Rattle.schedule.specs.declared.Opening.{Opening}
-use Rattle.text.specs.Field.{lines_of, fields_of, letter_of, hex_in}
+use Rattle.text.specs.Field.{lines_of, fields_of, letter_of, is_letter, hex_in}
 use Rattle.text.specs.Text.{space}
 use Rattle.text.specs.Written.{payload_text}
 use Rattle.text.proofs.Laws.{number_back, payload_back}
@@ -81,19 +80,19 @@ module _ (fields : List (List ℕ)) (some-fields : 1 ≤ length fields) (few : l
 
   event_by : event_of (joined fields) ≡ form_of fields
   unfolding event_of
-  event_by = sym (when_le (length (joined fields)) line_most (form_of fields) (form_of (fields_of (joined fields))) none back.1 (ap form_of (sym back.0)))
+  event_by = sym (when_le (length (joined fields)) line_most (form_of fields) (form_of (fields_of (joined fields))) None back.1 (ap form_of (sym back.0)))
 
   opening_by : opening_of (joined fields) ≡ opening_form fields
   unfolding opening_of
-  opening_by = sym (when_le (length (joined fields)) line_most (opening_form fields) (opening_form (fields_of (joined fields))) Opening.Other back.1 (ap opening_form (sym back.0)))
+  opening_by = sym (when_le (length (joined fields)) line_most (opening_form fields) (opening_form (fields_of (joined fields))) None back.1 (ap opening_form (sym back.0)))
 
-byte_back : (byte : ℕ) → byte < 256 → hex_in (payload_text (byte ∷ [])) ≡ some (byte ∷ [])
+byte_back : (byte : ℕ) → byte < 256 → hex_in (payload_text (byte ∷ [])) ≡ Some (byte ∷ [])
 unfolding all
 byte_back byte h = payload_back (byte ∷ []) (both_hold (byte <? 256) true (lt-ltb byte 256 h) refl)
 
 -- reading the fields of an event gives the event
-form_means : (n : ℕ) (event : Event) → n ≤ members_most → Within n event → form_of (event_fields event) ≡ some event
-unfolding Within event_fields form_of alone with_number with_two submitted handed letter_of when◌then◌else◌
+form_means : (n : ℕ) (event : Event) → n ≤ members_most → Within n event → form_of (event_fields event) ≡ Some event
+unfolding Within event_fields form_of alone with_number with_two submitted handed letter_of is_letter when◌then◌else◌
 form_means n (submit i payload) m h =
     let k = h.0 in
     rw (h.3, number_back i (omega arith), byte_back h.1 h.2)
@@ -136,13 +135,13 @@ module _ (n : ℕ) (one : 1 ≤ n) (most : n ≤ members_most) where
       line_then (event_fields event) (event_lines (events_from n (event_from n state).state k)) (all_solid (event_fields event) plain)
       ∙ ap (λ (l : List (List ℕ)). event_text event ∷ l) (events_lines (event_from n state).state k)
 
-  events_mean : (state k : ℕ) → map (λ event. event_of (event_text event)) (events_from n state k) ≡ map some (events_from n state k)
+  events_mean : (state k : ℕ) → map (λ event. event_of (event_text event)) (events_from n state k) ≡ map Some (events_from n state k)
   unfolding events_from
   events_mean state zero = refl
   events_mean state (suc k) = rw (line_means n (event_from n state).event most (chosen_within n state one), events_mean (event_from n state).state k)
 
 pub load_plays : LoadPlays
-unfolding load_of opening_form opening_with opened letter_of when◌then◌else◌
+unfolding load_of opening_form opening_with opened letter_of is_letter when◌then◌else◌
 load_plays seed n group k one most g =
     let plain : AllPlain (opening_fields n group) = (letter_plain (code "N") (omega arith), (decimal_plain n (omega arith), (decimal_plain group g, tt))) in
     record {

@@ -1,22 +1,21 @@
 -- What opening a load and its next line come to.
-use Rattle.std.specs.Prelude.{List, [], ℕ, length}
+use Rattle.std.specs.Prelude.{List, [], ℕ, length, Result, Ok, Err, ⊤}
 use Rattle.group.specs.Choice.{ask◌or◌then◌, ◌and◌, ◌≤?◌}
 use Rattle.group.specs.Limits.{members_most}
 use Rattle.group.specs.Opening as group
-use Rattle.group.specs.declared.Opened.{Opened}
+use Rattle.group.specs.Opening.{Opened}
 use Rattle.group.specs.declared.Refusal.{Refusal}
 use Rattle.group.specs.declared.Refusal.TheVariants.{UnsoundState}
 use Rattle.text.specs.Written.{line}
 use Rattle.workload.specs.Choice.{event_from}
 use Rattle.workload.specs.Line.{opening_fields, event_fields}
-use Rattle.workload.specs.declared.Answer.{Answer}
 use Rattle.workload.specs.declared.Load.{Load}
 use Rattle.workload.specs.declared.Step.{Step}
 
 -- the load that a call leaves, its answer, and the bytes that it lays at the front of the lent output
 pub record Outcome : Type 0 where
   pub load : Load
-  pub answer : Answer
+  pub answer : Result ⊤ Refusal
   pub bytes : List ℕ
 
 -- what the call gives back of it
@@ -29,12 +28,12 @@ load_at state n = record { generator = record { state = state }; n = n }
 
 -- a no: nothing is written
 abbrev pub refused : Load → Refusal → Outcome
-refused load refusal = record { load = load; answer = Answer.Refused refusal; bytes = [] }
+refused load refusal = record { load = load; answer = Err refusal; bytes = [] }
 
 -- the first line, or question 18 of the group; then the load is all zero, and has no line
 unfoldable pub opened : ℕ → Opened → Outcome
-opened seed (Opened.Open g) = record { load = load_at seed g.n; answer = Answer.Written; bytes = line (opening_fields g.n g.number) }
-opened seed (Opened.Refused refusal) = refused (load_at 0 0) refusal
+opened seed (Ok g) = record { load = load_at seed g.n; answer = Ok tt; bytes = line (opening_fields g.n g.number) }
+opened seed (Err refusal) = refused (load_at 0 0) refusal
 
 -- the group's resilience degree is 0
 abbrev pub open_of : ℕ → ℕ → ℕ → Outcome
@@ -46,6 +45,6 @@ next_of load =
     ask 1 ≤? load.n and load.n ≤? members_most or refused load UnsoundState then
     record {
       load = load_at (event_from load.n load.generator.state).state load.n;
-      answer = Answer.Written;
+      answer = Ok tt;
       bytes = line (event_fields (event_from load.n load.generator.state).event);
     }

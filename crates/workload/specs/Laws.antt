@@ -1,10 +1,8 @@
 -- A load is a schedule that `play` reads as exactly its events. `proofs/Laws.antt` has the proofs.
-use Rattle.std.specs.Prelude.{◌≡◌, List, [], ◌∷◌, ◌++◌, map, ℕ, ◌≤◌, ◌<◌}
-use Rattle.std.proofs.Math.Option.{some}
+use Rattle.std.specs.Prelude.{Some, ◌≡◌, List, [], ◌∷◌, ◌++◌, map, ℕ, ◌≤◌, ◌<◌}
 use Rattle.group.specs.Limits.{members_most, places_most, largest_number}
 use Rattle.model.specs.World.{Event, submit, repeat, take, status, poll, copy, hand_member, hand_sequencer}
 use Rattle.schedule.specs.Line.{event_of, opening_of}
-use Rattle.schedule.specs.declared.Opening.{Opening}
 use Rattle.simulator.specs.Whole.{packets_most}
 use Rattle.text.specs.Field.{lines_of, fields_of}
 use Rattle.text.specs.Text.{space}
@@ -50,7 +48,7 @@ abbrev pub event_text : Event → List ℕ
 event_text event = joined (event_fields event)
 
 abbrev pub LineMeans : Type 0
-LineMeans = (n : ℕ) (event : Event) → n ≤ members_most → Within n event → event_of (event_text event) ≡ some event
+LineMeans = (n : ℕ) (event : Event) → n ≤ members_most → Within n event → event_of (event_text event) ≡ Some event
 
 -- the lines of a load are the first line and those of its events; the first opens the group
 abbrev pub opening_text : ℕ → ℕ → List ℕ
@@ -58,8 +56,8 @@ opening_text n group = joined (opening_fields n group)
 
 pub record LoadReads (seed n group k : ℕ) : Type 0 where
   pub lines : lines_of (load_of seed n group k) ≡ opening_text n group ∷ map event_text (events_from n seed k)
-  pub opens : opening_of (opening_text n group) ≡ Opening.Group n group 0
-  pub means : map (λ event. event_of (event_text event)) (events_from n seed k) ≡ map some (events_from n seed k)
+  pub opens : opening_of (opening_text n group) ≡ Some (record { n = n; number = group; resilience = 0 })
+  pub means : map (λ event. event_of (event_text event)) (events_from n seed k) ≡ map Some (events_from n seed k)
 
 abbrev pub LoadPlays : Type 0
 LoadPlays = (seed n group k : ℕ) → 1 ≤ n → n ≤ members_most → group ≤ largest_number → LoadReads seed n group k

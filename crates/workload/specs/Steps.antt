@@ -1,9 +1,9 @@
 -- What the private functions promise on the way. No public promise speaks of it.
 use Rattle.std.specs.Prelude.{[], ◌∷◌}
+use Rattle.generator.specs.declared.Generator.{Generator}
 use Rattle.model.specs.World as world
 use Rattle.model.specs.World.{submit, repeat, take, status, poll, copy, hand_member, hand_sequencer}
 use Rattle.workload.specs.Choice as choice
-use Rattle.workload.specs.declared.Chosen.{Chosen}
 use Rattle.workload.specs.declared.Event.{Event}
 use Rattle.workload.specs.declared.Event.TheVariants.{Submit, Repeat, Take, Status, Poll, Copy, HandMember, HandSequencer}
 
@@ -19,5 +19,5 @@ event_in (HandMember k i) = hand_member k i
 event_in (HandSequencer k) = hand_sequencer k
 
 -- and the same with the state behind its choices
-abbrev pub chosen_in : Chosen → choice.Chosen
-chosen_in c = record { event = event_in c.event; state = c.generator.state }
+abbrev pub chosen_in : Event → Generator → choice.Chosen
+chosen_in event generator = record { event = event_in event; state = generator.state }

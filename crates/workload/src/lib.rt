@@ -14,7 +14,7 @@ ghost use Rattle.workload.specs.Wording.{wording_of};
 ghost use Rattle.workload.specs.Steps.{event_in, chosen_in};
 
 use generator::Generator;
-use group::{Group, Opened, Refusal};
+use group::{Group, Refusal};
 use simulator::PACKETS;
 use text::{NUMBER_DIGITS, put, put_number, put_payload};
 
@@ -37,20 +37,6 @@ enum Event {
     HandSequencer(u32),
 }
 
-// A value that was chosen, and the generator behind the choice.
-#[derive(Clone, Copy)]
-struct Drawn {
-    generator: Generator,
-    value: u32,
-}
-
-// The same with an event.
-#[derive(Clone, Copy)]
-struct Chosen {
-    generator: Generator,
-    event: Event,
-}
-
 // A load of n members. It has lines while n is 1 to 16.
 #[derive(Clone, Copy)]
 pub struct Load {
@@ -58,17 +44,11 @@ pub struct Load {
     pub n: u8,
 }
 
-#[derive(Clone, Copy)]
-pub enum Answer {
-    Written,
-    Refused(Refusal),
-}
-
 // The load after a call, its answer, and how many bytes it laid at the front of the lent output.
 #[derive(Clone, Copy)]
 pub struct Step {
     pub load: Load,
-    pub answer: Answer,
+    pub answer: Result<(), Refusal>,
     pub written: usize,
 }
 
@@ -92,98 +72,36 @@ fn line_room() -> usize
 }
 
 // One choice: a step, and then the output.
-fn draw(generator: Generator, choices: u32) -> Drawn
+fn draw(generator: &mut Generator, choices: u32) -> u32
     requires { 1 ≤ choices }
-    ensures value { result.value ≡ drawn choices generator.state }
-    ensures state { result.generator.state ≡ stepped generator.state }
-    ensures below { result.value < choices }
+    ensures value { result ≡ drawn choices generator.old.state }
+    ensures state { generator.new.state ≡ stepped generator.old.state }
+    ensures below { result < choices }
 {
-    let next = generator.step();
-    let value = next.output() % choices;
-    Drawn {
-        generator: next,
-        value,
-    }
-}
-
-// `S i hex`
-fn choose_submit(generator: Generator, n: u32) -> Chosen
-    requires { 1 ≤ n }
-    ensures { chosen_in result ≡ chosen 0 n generator.state }
-{
-    let member = draw(generator, n);
-    let byte = draw(member.generator, BYTES);
-    let next = byte.generator;
-    Chosen {
-        generator: next,
-        event: Event::Submit(member.value, byte.value as u8),
-    }
-}
-
-// `R i`, `T i`, `A i`
-fn choose_call(letter: u32, generator: Generator, n: u32) -> Chosen
-    requires le_n { 1 ≤ n }
-    requires le_letter { 1 ≤ letter }
-    requires letter_bound { letter ≤ 3 }
-    ensures { chosen_in result ≡ chosen letter n generator.state }
-{
-    let member = draw(generator, n);
-    let next = member.generator;
-    let event = match letter {
-        1 => Event::Repeat(member.value),
-        2 => Event::Take(member.value),
-        _ => Event::Status(member.value),
-    };
-    Chosen {
-        generator: next,
-        event,
-    }
-}
-
-// `M k i`
-fn choose_hand(generator: Generator, n: u32) -> Chosen
-    requires { 1 ≤ n }
-    ensures { chosen_in result ≡ chosen 6 n generator.state }
-{
-    let packets = PACKETS as u32;
-    let packet = draw(generator, packets);
-    let member = draw(packet.generator, n);
-    let next = member.generator;
-    Chosen {
-        generator: next,
-        event: Event::HandMember(packet.value, member.value),
-    }
+    *generator = generator.step();
+    generator.output() % choices
 }
 
 // The fields of a letter's event, in the order of its line.
-fn choose(letter: u32, generator: Generator, n: u32) -> Chosen
+fn choose(letter: u32, generator: &mut Generator, n: u32) -> Event
     requires { 1 ≤ n }
-    ensures { chosen_in result ≡ chosen letter n generator.state }
+    ensures { chosen_in result generator.new ≡ chosen letter n generator.old.state }
 {
     match letter {
-        0 => choose_submit(generator, n),
-        1 | 2 | 3 => choose_call(letter, generator, n),
-        4 => Chosen {
-            generator,
-            event: Event::Poll,
-        },
-        5 => {
-            let number = draw(generator, Group::PLACES as u32);
-            let next = number.generator;
-            Chosen {
-                generator: next,
-                event: Event::Copy(1 + number.value),
-            }
+        0 => {
+            let member = draw(generator, n);
+            Event::Submit(member, draw(generator, BYTES) as u8)
         }
-        6 => choose_hand(generator, n),
-        _ => {
+        1 => Event::Repeat(draw(generator, n)),
+        2 => Event::Take(draw(generator, n)),
+        3 => Event::Status(draw(generator, n)),
+        4 => Event::Poll,
+        5 => Event::Copy(1 + draw(generator, Group::PLACES as u32)),
+        6 => {
             let packet = draw(generator, PACKETS as u32);
-            let next = packet.generator;
-            Chosen {
-                generator: next,
-                event: Event::HandSequencer(packet.value),
-            }
+            Event::HandMember(packet, draw(generator, n))
         }
+        _ => Event::HandSequencer(draw(generator, PACKETS as u32)),
     }
 }
 
@@ -256,7 +174,7 @@ impl Load {
     {
         Step {
             load: self,
-            answer: Answer::Refused(refusal),
+            answer: Err(refusal),
             written: 0,
         }
     }
@@ -275,47 +193,38 @@ impl Load {
         if (Group::MEMBERS as u32) < n {
             return none.refused(Refusal::Opening);
         }
-        let opened = Group::fresh(n as u8, group, 0);
-        match opened {
-            Opened::Open(g) => {
+        match Group::fresh(n as u8, group, 0) {
+            Ok(g) => {
                 let written = put_two(b'N', g.n as u32, g.number, out);
-                let load = Load {
-                    generator: Generator { state: seed },
-                    n: g.n,
-                };
                 Step {
-                    load,
-                    answer: Answer::Written,
+                    load: Load {
+                        generator: Generator { state: seed },
+                        n: g.n,
+                    },
+                    answer: Ok(()),
                     written,
                 }
             }
-            Opened::Refused(refusal) => none.refused(refusal),
+            Err(refusal) => none.refused(refusal),
         }
     }
 
     // The line of the next event; 1 if n is not 1 to 16.
-    pub fn next(self, out: &mut [u8; Load::LINE]) -> Step
+    pub fn next(mut self, out: &mut [u8; Load::LINE]) -> Step
         ensures answer { result ≡ step_of (next_of self) }
         ensures lent { out.new ≡ front (next_of self).bytes out.old }
         ensures wording { wording_of result.answer ≡ wording_of (next_of self).answer }
         ensures within { result.written ≤ line_room }
     {
-        let n = self.n;
-        if n < 1 {
+        if self.n < 1 || Group::MEMBERS < self.n as usize {
             return self.refused(Refusal::UnsoundState);
         }
-        if Group::MEMBERS < (n as usize) {
-            return self.refused(Refusal::UnsoundState);
-        }
-        let letter = draw(self.generator, LETTERS);
-        let chosen = choose(letter.value, letter.generator, n as u32);
-        let event = chosen.event;
-        let generator = chosen.generator;
+        let letter = draw(&mut self.generator, LETTERS);
+        let event = choose(letter, &mut self.generator, self.n as u32);
         let written = put_event(event, out);
-        let load = Load { generator, n };
         Step {
-            load,
-            answer: Answer::Written,
+            load: self,
+            answer: Ok(()),
             written,
         }
     }

@@ -3,17 +3,8 @@ use Rattle.packet.proofs.Permitted.{invitation_fields}
 use Rattle.attempt.proofs.Stepping.{invite_takes}
 use Rattle.attempt.proofs.invite.Goals as goal
 
-pub reply_number-number-requires : goal.reply_number-number-requires
-reply_number-number-requires c = c.requires.1
-
 pub put_bare-written-requires : goal.put_bare-written-requires
 put_bare-written-requires c = let a = c.args in (invitation_fields a.head.member.group.number a.head.member.number a.attempt, c.requires.2)
-
-pub own_reply-requires : goal.own_reply-requires
-own_reply-requires c = c.requires.0
-
-pub only-own-requires : goal.only-own-requires
-only-own-requires c = c.requires.0
 
 pub returns : goal.returns
 returns c = let a = c.args in invite_takes a.head a.held.now a.attempt c.reply_number-number.ensures c.with_reply-open.ensures c.only-own.ensures c.with_invitation-next.ensures c.own_reply.ensures c.put_bare-written.ensures

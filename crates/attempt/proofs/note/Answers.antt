@@ -1,18 +1,10 @@
 -- Each part of the step is what a function left.
 use mathlib.Core.Path.{sym, ◌∙◌}
-use native.Mathlib.Omega.{arith}
 use Rattle.attempt.proofs.Stepping.{note_unknown, note_other, note_again, note_first}
-use borrow.Author.Rules.{rules}
 use Rattle.attempt.proofs.note.Goals as goal
 
 pub returns-then-is_in : goal.returns-then-is_in
 returns-then-is_in c = let a = c.args in λ out. note_again a.head a.replies.now a.sender a.attempt a.number.0 c.if-sender-head.true (sym c.awaits.ensures ∙ c.if-awaits.true) (sym c.is_in.ensures ∙ c.if-is_in.true)
-
-pub keep_reply-requires : goal.keep_reply-requires
-keep_reply-requires c = let p = c.requires in let h = c.if-sender-head.true in (search rules, omega arith)
-
-pub only-own-requires : goal.only-own-requires
-only-own-requires c = let p = c.requires in let h = c.if-sender-head.true in omega arith
 
 pub returns-then-awaits : goal.returns-then-awaits
 returns-then-awaits c = let a = c.args in λ out. note_first a.head a.replies.now a.sender a.attempt a.number.0 c.if-sender-head.true (sym c.awaits.ensures ∙ c.if-awaits.true) (sym c.is_in.ensures ∙ c.if-is_in.false) c.keep_reply.ensures c.only-own.ensures c.with_invitation-next.ensures

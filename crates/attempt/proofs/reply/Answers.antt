@@ -4,9 +4,6 @@ use Rattle.packet.proofs.Permitted.{reply_fields}
 use Rattle.attempt.proofs.Stepping.{reply_takes, reply_closes, reply_declines}
 use Rattle.attempt.proofs.reply.Goals as goal
 
-pub reply_number-number-requires : goal.reply_number-number-requires
-reply_number-number-requires c = c.requires.0
-
 pub put_bare-written-requires : goal.put_bare-written-requires
 put_bare-written-requires c = let a = c.args in (reply_fields a.head.member.group.number a.head.member.number a.attempt c.reply_number-number.result, c.requires.1)
 

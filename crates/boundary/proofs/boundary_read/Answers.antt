@@ -6,14 +6,14 @@ use Rattle.group.specs.Codes.{numbers_in, code_of, word_code}
 use Rattle.boundary.specs.Codes.{numbers_after, read_code, fields_after}
 use Rattle.boundary.proofs.boundary_read.Goals as goal
 
-pub returns-in-Fields : goal.returns-in-Fields
+pub returns-in-Ok : goal.returns-in-Ok
 unfolding reading_wording numbers_in code_of word_code when◌then◌else◌ numbers_after
-returns-in-Fields c =
-    let e = sym c.in-Fields.is ∙ c.read-reading.ensures.answer in
+returns-in-Ok c =
+    let e = sym c.in-Ok.is ∙ c.read.ensures.answer in
     record { answer = ap read_code e; lent = ap (λ r. fields_after r c.args.fields.now) e }
 
-pub returns-in-Refused : goal.returns-in-Refused
+pub returns-in-Err : goal.returns-in-Err
 unfolding reading_wording numbers_in code_of word_code when◌then◌else◌ numbers_after
-returns-in-Refused c =
-    let e = sym c.in-Refused.is ∙ c.read-reading.ensures.answer in
+returns-in-Err c =
+    let e = sym c.in-Err.is ∙ c.read.ensures.answer in
     record { answer = c.number.ensures ∙ ap read_code e; lent = ap (λ r. fields_after r c.args.fields.now) e }

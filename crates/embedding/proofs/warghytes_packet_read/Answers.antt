@@ -6,14 +6,14 @@ use Rattle.embedding.specs.Packets.{read_code, fields_after}
 use Rattle.embedding.proofs.Codes.{fields_code}
 use Rattle.embedding.proofs.warghytes_packet_read.Goals as goal
 
-pub returns-in-Fields : goal.returns-in-Fields
+pub returns-in-Ok : goal.returns-in-Ok
 unfolding reading_wording code_of numbers_of numbers_in fields_after
-returns-in-Fields c =
-    let e = sym c.in-Fields.is ∙ c.read-reading.ensures.answer in
+returns-in-Ok c =
+    let e = sym c.in-Ok.is ∙ c.read-reading.ensures.answer in
     record { answer = sym fields_code ∙ ap read_code e; lent = ap (λ r. fields_after r c.args.fields.now) e }
 
-pub returns-in-Refused : goal.returns-in-Refused
+pub returns-in-Err : goal.returns-in-Err
 unfolding reading_wording code_of numbers_of numbers_in fields_after
-returns-in-Refused c =
-    let e = sym c.in-Refused.is ∙ c.read-reading.ensures.answer in
+returns-in-Err c =
+    let e = sym c.in-Err.is ∙ c.read-reading.ensures.answer in
     record { answer = c.number.ensures ∙ ap read_code e; lent = ap (λ r. fields_after r c.args.fields.now) e }

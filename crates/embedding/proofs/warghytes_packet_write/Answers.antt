@@ -3,17 +3,17 @@ use mathlib.Core.Path.{sym, ap, ◌∙◌}
 use Rattle.packet.specs.Wording.{writing_wording}
 use Rattle.embedding.specs.Codes.{answer_of}
 use Rattle.embedding.specs.Packets.{header_with}
-use Rattle.embedding.proofs.Answers.{bytes_answer, refused_answer}
+use Rattle.embedding.proofs.Answers.{bytes_answer}
 use Rattle.embedding.proofs.warghytes_packet_write.Goals as goal
 
-pub returns-in-Bytes : goal.returns-in-Bytes
+pub returns-in-Ok : goal.returns-in-Ok
 unfolding writing_wording header_with
-returns-in-Bytes c =
-    let e = sym c.in-Bytes.is ∙ c.write-writing.ensures.answer in
+returns-in-Ok c =
+    let e = sym c.in-Ok.is ∙ c.write-writing.ensures.answer in
     record { answer = bytes_answer _ _ ∙ ap (λ w. answer_of (writing_wording w)) e; lent = c.write-writing.ensures.lent }
 
-pub returns-in-Refused : goal.returns-in-Refused
+pub returns-in-Err : goal.returns-in-Err
 unfolding writing_wording header_with
-returns-in-Refused c =
-    let e = sym c.in-Refused.is ∙ c.write-writing.ensures.answer in
-    record { answer = refused_answer c.number.ensures ∙ ap (λ w. answer_of (writing_wording w)) e; lent = c.write-writing.ensures.lent }
+returns-in-Err c =
+    let e = sym c.in-Err.is ∙ c.write-writing.ensures.answer in
+    record { answer = c.refused.ensures ∙ ap (λ w. answer_of (writing_wording w)) e; lent = c.write-writing.ensures.lent }

@@ -12,10 +12,6 @@ use Rattle.ends.proofs.opening_tells.Goals as goal
 abbrev plain : ℕ → ℕ → Told
 plain k written = record { code = k; first = 0; second = 0; third = 0; more = 0; written = written }
 
-pub returns-in-Accepted : goal.returns-in-Accepted
+pub returns-in-Ok : goal.returns-in-Ok
 unfolding told_of code_of word_code numbers_of numbers_in more_of more_in flag_of when◌then◌else◌ verdict_wording
-returns-in-Accepted c = c.word.ensures ∙ ap (λ a. told_of (verdict_wording a) 0) (sym c.in-Accepted.is)
-
-pub returns-in-Refused : goal.returns-in-Refused
-unfolding told_of code_of word_code numbers_of numbers_in more_of more_in flag_of when◌then◌else◌ verdict_wording
-returns-in-Refused c = c.word-in-Refused.ensures ∙ ap (λ (k : ℕ). plain k 0) c.number.ensures ∙ ap (λ a. told_of (verdict_wording a) 0) (sym c.in-Refused.is)
+returns-in-Ok c = c.word.ensures ∙ ap (λ a. told_of (verdict_wording a) 0) (sym c.in-Ok.is)

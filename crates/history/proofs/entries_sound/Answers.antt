@@ -1,28 +1,23 @@
 -- The loop's invariant: the entries are sound exactly if those after the first `i` are.
-use mathlib.Core.Path.{refl}
-use Prim.Native.Nat.{◌-◌}
 use native.Mathlib.Omega.{arith}
 use Rattle.group.proofs.Fold.{all_on, all_off, all_done}
 use Rattle.history.specs.Sound.{entry_sound}
 use Rattle.history.proofs.View.{entry_asked, length_table}
 use Rattle.history.proofs.entries_sound.Goals as goal
 
-pub loop-i-init : goal.loop-i-init
-loop-i-init c = (c.requires, refl)
-
 pub loop-i-preserved : goal.loop-i-preserved
 loop-i-preserved c =
     let l = c.loop-i in
     let a = c.args in
     let z = length_table a.taken.now a.counts.now a.repeats.now in
-    (l.invariant.0, all_on _ _ l.i l.invariant.1 _ c.entry_sound.result (omega arith) (entry_asked (entry_sound a.group a.top.0) a.taken.now a.counts.now a.repeats.now l.i _ (omega arith) c.entry_sound.ensures) c.if-entry_sound.true)
+    (l.invariant.0, all_on _ _ l.i l.invariant.1 _ c.entry_sound.result (omega arith) (entry_asked (entry_sound a.group a.top.0) a.taken.now a.counts.now a.repeats.now l.i _ (omega arith) c.entry_sound.ensures) c.if-not-entry_sound.false)
 
-pub returns-else-entry_sound : goal.returns-else-entry_sound
-returns-else-entry_sound c =
+pub returns-then-not-entry_sound : goal.returns-then-not-entry_sound
+returns-then-not-entry_sound c =
     let l = c.loop-i in
     let a = c.args in
     let z = length_table a.taken.now a.counts.now a.repeats.now in
-    all_off _ _ l.i l.invariant.1 _ c.entry_sound.result (omega arith) (entry_asked (entry_sound a.group a.top.0) a.taken.now a.counts.now a.repeats.now l.i _ (omega arith) c.entry_sound.ensures) c.if-entry_sound.false
+    all_off _ _ l.i l.invariant.1 _ c.entry_sound.result (omega arith) (entry_asked (entry_sound a.group a.top.0) a.taken.now a.counts.now a.repeats.now l.i _ (omega arith) c.entry_sound.ensures) c.if-not-entry_sound.true
 
 pub returns : goal.returns
 returns c =

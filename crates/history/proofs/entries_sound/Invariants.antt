@@ -1,15 +1,10 @@
 -- The loop's invariant: the entries are sound exactly if those after the first `i` are.
 use mathlib.Core.Path.{◌≡◌}
-use Prim.Native.Nat.{◌-◌}
 use lib.ListN.{drop}
 use Rattle.group.specs.Fold.{all}
-use Rattle.group.specs.Limits.{members_most}
 use Rattle.history.specs.Sound.{entry_sound}
 use Rattle.history.specs.View.{Entries, table_in}
 use Rattle.history.proofs.entries_sound.Given as goal
 
 abbrev pub invariant-loop-i : goal.invariant-loop-i
 invariant-loop-i l = Entries l.taken l.counts l.repeats × (all (entry_sound l.group l.top.0) 0 (table_in l.taken l.counts l.repeats) ≡ all (entry_sound l.group l.top.0) l.i (drop l.i (table_in l.taken l.counts l.repeats)))
-
-abbrev pub decreases-loop-i : goal.decreases-loop-i
-decreases-loop-i l = members_most - l.i

@@ -11,6 +11,3 @@ use Rattle.history.proofs.history_sound.Given as goal
 
 abbrev pub invariant-loop-i : goal.invariant-loop-i
 invariant-loop-i l = (length l.counts ≡ members_most) × Places l.kept l.originators l.lengths l.payloads × (l.mask ≡ mask_of) × (all_above (place_sound l.n (counts_only l.counts) (messages_in l.kept l.originators l.lengths l.payloads) l.top.0) l.floor.0 places_most ≡ all_above (place_sound l.n (counts_only l.counts) (messages_in l.kept l.originators l.lengths l.payloads) l.top.0) (l.floor.0 + l.i) (places_most - l.i))
-
-abbrev pub decreases-loop-i : goal.decreases-loop-i
-decreases-loop-i l = places_most - l.i

@@ -9,6 +9,3 @@ use Rattle.history.proofs.marks_sound.Given as goal
 
 abbrev pub invariant-loop-i : goal.invariant-loop-i
 invariant-loop-i l = (length l.marks ≡ places_most) × (all_above (mark_sound l.expected l.marks l.accepted.0 l.top.0) l.floor.0 places_most ≡ all_above (mark_sound l.expected l.marks l.accepted.0 l.top.0) (l.floor.0 + l.i) (places_most - l.i))
-
-abbrev pub decreases-loop-i : goal.decreases-loop-i
-decreases-loop-i l = places_most - l.i

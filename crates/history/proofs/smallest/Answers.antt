@@ -1,6 +1,5 @@
 -- The loop's invariant: the smaller of `low` and the smallest of the rest is floor.
 use mathlib.Core.Path.{refl, sym, ◌∙◌}
-use Prim.Native.Nat.{◌-◌}
 use native.Mathlib.Omega.{arith}
 use Rattle.history.specs.State.{floor_of}
 use Rattle.history.proofs.View.{smallest_on, smallest_end}

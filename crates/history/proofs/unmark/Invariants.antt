@@ -1,4 +1,4 @@
--- The loop's invariant: the marks of the numbers up to `passed` are cleared.
+-- The loop's invariant: the marks of the numbers up to `number` are cleared.
 use mathlib.Core.Path.{◌≡◌}
 use Prim.Native.Nat.{◌-◌, ◌≤◌}
 use lib.ListN.{length}
@@ -6,8 +6,5 @@ use Rattle.group.specs.Limits.{places_most}
 use Rattle.history.specs.Marks.{unmarked_of}
 use Rattle.history.proofs.unmark.Given as goal
 
-abbrev pub invariant-loop-passed : goal.invariant-loop-passed
-invariant-loop-passed l = (length l.initial.marks ≡ places_most) × (length l.marks ≡ places_most) × (l.initial.passed ≤ l.passed) × (l.passed - l.initial.passed ≤ l.to.0 - l.initial.passed) × (l.marks ≡ unmarked_of l.initial.marks l.initial.passed (l.passed - l.initial.passed))
-
-abbrev pub decreases-loop-passed : goal.decreases-loop-passed
-decreases-loop-passed l = l.to.0 - l.passed
+abbrev pub invariant-loop-number : goal.invariant-loop-number
+invariant-loop-number l = (length l.marks ≡ places_most) × (l.number - l.fn.from.0 ≤ l.fn.to.0 - l.fn.from.0) × (l.marks ≡ unmarked_of l.initial.marks l.fn.from.0 (l.number - l.fn.from.0))

@@ -12,19 +12,19 @@ pub slice_bounds-packet-end : goal.slice_bounds-packet-end
 slice_bounds-packet-end c =
     let a = c.args in
     let n : length a.packet ≡ longest_packet = search rules in
-    let s = packet_fits c.fitting-most.result a.size c.fitting-most.ensures in
+    let s = packet_fits c.fitting.result a.size c.fitting.ensures in
     omega arith
 
 pub slice_bounds-hear-end : goal.slice_bounds-hear-end
 slice_bounds-hear-end c =
     let a = c.args in
     let n : length a.packet ≡ longest_packet = search rules in
-    let s = packet_fits c.fitting-most.result a.size c.fitting-most.ensures in
-    sym (length-take-le c.fitting-most.result a.packet (omega arith))
+    let s = packet_fits c.fitting.result a.size c.fitting.ensures in
+    sym (length-take-le c.fitting.result a.packet (omega arith))
 
 pub returns : goal.returns
 returns c =
     let a = c.args in
     let n : length a.packet ≡ longest_packet = search rules in
-    let s = packet_fits c.fitting-most.result a.size c.fitting-most.ensures in
-    rw (packet_read c.fitting-most.result a.size a.packet n c.fitting-most.ensures) at c.hear.ensures
+    let s = packet_fits c.fitting.result a.size c.fitting.ensures in
+    rw (packet_read c.fitting.result a.size a.packet n c.fitting.ensures) at c.hear.ensures

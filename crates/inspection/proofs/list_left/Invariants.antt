@@ -9,6 +9,3 @@ abbrev pub invariant-loop-k : goal.invariant-loop-k
 invariant-loop-k l =
     (l.k ≤ l.count)
     × (heard_all l.taken.0 l.left (list_of (packet_at (packets_of l.sizes l.packets l.count)) l.k (l.count - l.k)) ≡ heard_all l.taken.0 fresh_left (list_of (packet_at (packets_of l.sizes l.packets l.count)) 0 l.count))
-
-abbrev pub decreases-loop-k : goal.decreases-loop-k
-decreases-loop-k l = l.count - l.k

@@ -1,7 +1,6 @@
 -- The loop's invariant: the rows passed are laid.
 use mathlib.Core.Path.{◌≡◌}
 use mathlib.Core.List.{◌∷◌, map}
-use Prim.Native.Nat.{◌-◌}
 use native.Mathlib.Omega.{arith}
 use Rattle.simulator.specs.Whole.{rows_of, terminals_of}
 use Rattle.text.proofs.Pieces.{laid_none, laid_then}

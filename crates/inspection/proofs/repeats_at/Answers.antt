@@ -6,5 +6,5 @@ use Rattle.inspection.proofs.repeats_at.Goals as goal
 pub returns-then-i-taken : goal.returns-then-i-taken
 returns-then-i-taken c = let a = c.args in repeats_there a.taken.now a.repeats.now a.i (search rules)
 
-pub returns : goal.returns
-returns c = let a = c.args in repeats_none a.taken.now a.repeats.now a.i (search rules)
+pub returns-else-i-taken : goal.returns-else-i-taken
+returns-else-i-taken c = let a = c.args in repeats_none a.taken.now a.repeats.now a.i (search rules)

@@ -1,13 +1,10 @@
--- Question 20, then the job lies in the place that was found.
-use Rattle.group.proofs.Choice.{choices}
-use Rattle.jobs.specs.Feed.{add_of}
-use borrow.Author.Rules.{rules}
+-- Question 20, then the job waits in the place that was found.
+use Rattle.std.proofs.Common.{refl}
+use Rattle.jobs.proofs.Steps.{add_room, add_full}
 use Rattle.jobs.proofs.add.Goals as goal
 
-pub returns-then-place-lt-JOBS : goal.returns-then-place-lt-JOBS
-unfolding add_of
-returns-then-place-lt-JOBS c = rw (← c.waiting-job.ensures, ← c.find-place.ensures) (search (choices, rules) depth 9)
+pub returns-in_default : goal.returns-in_default
+returns-in_default c = add_full c.args.jobs.now c.requires.list c.args.job.now (c.in_default.ensures.none refl)
 
 pub returns : goal.returns
-unfolding add_of
-returns c = rw (← c.find-place.ensures) (search (choices, rules) depth 9)
+returns c = rw c.waiting.ensures (add_room c.args.jobs.now c.requires.list c.args.job.now c.in-Some.place c.in-Some.ensures.some)

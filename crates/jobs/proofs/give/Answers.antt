@@ -1,26 +1,16 @@
 -- The job at the place that was found, given to the member.
-use Rattle.group.proofs.Choice.{choices}
-use native.Mathlib.Omega.{arith}
-use lib.ListN.{length}
-use mathlib.Core.Path.{◌≡◌}
-use mathlib.Core.List.{[]}
-use Prim.Native.Nat.{◌<◌}
-use Rattle.group.specs.Limits.{jobs_most}
-use Rattle.jobs.specs.Feed.{give_of}
+use Rattle.std.proofs.Common.{refl}
 use Rattle.jobs.specs.Job.{no_job, given_to}
 use Rattle.jobs.proofs.Places.{read_any}
-use borrow.Author.Rules.{rules}
+use Rattle.jobs.proofs.Steps.{give_found, give_none}
 use Rattle.jobs.proofs.give.Goals as goal
 
-pub returns-then-place-lt-JOBS : goal.returns-then-place-lt-JOBS
-unfolding give_of given_to
-returns-then-place-lt-JOBS c =
-    let a = c.args in
-    let k = c.find-place.result in
-    let n : length a.jobs ≡ jobs_most = search rules in
-    let inside : k < length a.jobs = let z = c.if-place-lt-JOBS.true in omega (arith, n, z) in
-    rw (← c.find-place.ensures, read_any a.jobs k no_job (record { state = 0; member = record { 0 = 0 }; length = 0; bytes = [] }) inside) (search (choices, rules) depth 9)
+pub returns-in_default : goal.returns-in_default
+returns-in_default c = give_none c.args.jobs.now c.requires c.args.member (c.in_default.ensures.none refl)
 
 pub returns : goal.returns
-unfolding give_of
-returns c = rw (← c.find-place.ensures) (search (choices, rules) depth 9)
+unfolding given_to
+returns c =
+    let jobs = c.args.jobs.now in
+    let place = c.in-Some.place in
+    rw (read_any jobs place _ no_job c.in-Some.ensures.some.1) (give_found jobs c.requires c.args.member place c.in-Some.ensures.some)

@@ -8,6 +8,6 @@ pub returns-then-payload-ge1 : goal.returns-then-payload-ge1
 unfolding is_add
 returns-then-payload-ge1 c = search (choices, rules) depth 9
 
-pub returns : goal.returns
+pub returns-else-payload-ge1 : goal.returns-else-payload-ge1
 unfolding is_add
-returns c = search (choices, rules) depth 9
+returns-else-payload-ge1 c = search (choices, rules) depth 9

@@ -8,6 +8,6 @@ pub returns-then-payload-eq1 : goal.returns-then-payload-eq1
 unfolding is_fetch
 returns-then-payload-eq1 c = search (choices, rules) depth 9
 
-pub returns : goal.returns
+pub returns-else-payload-eq1 : goal.returns-else-payload-eq1
 unfolding is_fetch
-returns c = search (choices, rules) depth 9
+returns-else-payload-eq1 c = search (choices, rules) depth 9

@@ -2,4 +2,4 @@
 use Rattle.jobs.proofs.no_jobs.Goals as goal
 
 pub returns : goal.returns
-returns c = rw c.empty-job.ensures
+returns c = rw c.empty.ensures

@@ -7,10 +7,7 @@ use Rattle.journal.specs.Read.{found_from, found_in, counted}
 use Rattle.journal.proofs.Walking.{onto}
 use Rattle.journal.proofs.read_blocks.Given as goal
 
-abbrev pub invariant-loop-blocks : goal.invariant-loop-blocks
-invariant-loop-blocks l =
-    (l.total ≡ length l.journal / block_size) × (l.blocks ≤ l.total) × (l.messages ≤ 71 * l.blocks)
-    × (counted (found_in l.journal) ≡ onto l.blocks l.messages (counted (found_from l.tail (drop (l.blocks * block_size) l.journal) (l.total - l.blocks))))
-
-abbrev pub decreases-loop-blocks : goal.decreases-loop-blocks
-decreases-loop-blocks l = l.total - l.blocks
+abbrev pub invariant-loop-i : goal.invariant-loop-i
+invariant-loop-i l =
+    (l.found.blocks ≡ l.i) × (l.found.messages ≤ 71 * l.i)
+    × (counted (found_in l.journal) ≡ onto l.i l.found.messages (counted (found_from l.found.tail (drop (l.i * block_size) l.journal) (length l.journal / block_size - l.i))))

@@ -1,5 +1,6 @@
--- The loop counts its turns down.
+-- The line is no longer than the longest.
+use Rattle.std.proofs.Common.{◌≤◌, vec_len}
 use Rattle.journal_tool.proofs.type_line.Given as goal
 
-abbrev pub decreases-loop-turns : goal.decreases-loop-turns
-decreases-loop-turns l = l.turns
+abbrev pub invariant-bytes : goal.invariant-bytes
+invariant-bytes l = vec_len l.line ≤ 1000

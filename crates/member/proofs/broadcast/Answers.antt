@@ -12,4 +12,4 @@ unfolding with_accepted broadcast_of
 returns c =
     let a = c.args in
     let held = messages_in a.held.now a.held_originators.now a.held_lengths.now a.held_payloads.now in
-    λ queue. replied_as (ap (λ (h : Head). message_step (member_of h queue held) a.originator a.number.0 a.count a.payload.now) c.accept_up_to-next.ensures) (c.message_step-reply.ensures queue)
+    λ queue. replied_as (ap (λ (h : Head). message_step (member_of h queue held) a.originator a.number.0 a.count a.payload.now) c.accept_up_to-head.ensures) (c.message_step-reply.ensures queue)

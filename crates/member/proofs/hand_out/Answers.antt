@@ -10,37 +10,9 @@ use Rattle.store.specs.Places.{part_of, message_in, messages_in}
 use Rattle.window.specs.Places.{place_of}
 use Rattle.window.proofs.Places.{counted_in_lem, here_is}
 use Rattle.member.specs.Calls.{took_of}
-use Rattle.member.specs.Steps.{member_of, empty_handed}
-use Rattle.member.proofs.Outcomes.{replied_as, own_is, own_some, own_count, ready_is, taken_own, taken_other, took}
-use borrow.Author.Rules.{rules}
+use Rattle.member.specs.Steps.{member_of}
+use Rattle.member.proofs.Outcomes.{replied_as, own_is, ready_is, taken_own, taken_other, took}
 use Rattle.member.proofs.hand_out.Goals as goal
-
-pub overflow_add-number : goal.overflow_add-number
-overflow_add-number c = let p = c.requires.1 in record { fits = omega (arith, p) }
-
-pub put_payload-written-requires : goal.put_payload-written-requires
-put_payload-written-requires c = let q = c.place-at.ensures in let p = c.requires in (omega (arith, q), rw q p.0, p.3)
-
-pub clear-requires : goal.clear-requires
-clear-requires c = let q = c.place-at.ensures in (omega (arith, q), omega (arith, q), omega (arith, q), omega (arith, q))
-
-pub own-requires : goal.own-requires
-own-requires c = c.requires.2
-
-pub overflow_cast-count : goal.overflow_cast-count
-overflow_cast-count c =
-    let m = empty_handed c.args.head in
-    let n = own_count m _ _ _ c.own.ensures c.if-own.true in
-    let w = own_some m _ _ _ c.own.ensures c.if-own.true in
-    let p = c.requires.2 in
-    let g = c.well_formed.0 in
-    record { fits = omega (arith, n, w, p, g) }
-
-pub clear-requires-then-own : goal.clear-requires-then-own
-clear-requires-then-own c = let q = c.queue_place-first.ensures in (omega (arith, q), omega (arith, q), omega (arith, q), omega (arith, q))
-
-pub overflow_sub-head : goal.overflow_sub-head
-overflow_sub-head c = own_some (empty_handed c.args.head) _ _ _ c.own.ensures c.if-own.true
 
 pub returns-then-own : goal.returns-then-own
 unfolding payload_of
@@ -52,16 +24,16 @@ returns-then-own c =
     let q = c.place-at.ensures in
     let at = c.place-at.result in
     let here = message_in (get_or a.held.now at 0) (get_or a.held_originators.now at 0) (get_or a.held_lengths.now at 0) (part_of a.held_payloads.now at) in
-    let long : length a.held.now ≡ held_most = let k = c.clear-arg-1 in search rules in
+    let long : length a.held.now ≡ held_most = c.told-held in
     let inside : at < length a.held.now = omega (arith, q, long) in
     let t = taken_own m here _ (rw q at c.clear.ensures) _ (rw c.queue_place-first.ensures at c.clear-then-own.ensures) (own_is m here _ true c.own.ensures c.if-own.true) in
     let more = ready_is m a.held.now (counted_in_lem a.held.now a.held_originators.now a.held_lengths.now a.held_payloads.now) _ (a.head.taken.0 + 1) (a.head.taken.0 + 2) _ c.place-next.ensures (omega arith) c.ready-more.ensures in
     replied_as (ap (took_of m) (here_is a.held.now a.held_originators.now a.held_lengths.now a.held_payloads.now at inside (place_of (a.head.taken.0 + 1)) q))
     (took m _ here _ _ _ _ t more c.put_payload-written.ensures)
 
-pub returns : goal.returns
+pub returns-else-own : goal.returns-else-own
 unfolding payload_of
-returns c =
+returns-else-own c =
     let a = c.args in
     let queue = messages_in a.queued.now a.queued_originators.now a.queued_lengths.now a.queued_payloads.now in
     let held = messages_in a.held.now a.held_originators.now a.held_lengths.now a.held_payloads.now in
@@ -69,7 +41,7 @@ returns c =
     let q = c.place-at.ensures in
     let at = c.place-at.result in
     let here = message_in (get_or a.held.now at 0) (get_or a.held_originators.now at 0) (get_or a.held_lengths.now at 0) (part_of a.held_payloads.now at) in
-    let long : length a.held.now ≡ held_most = search rules in
+    let long : length a.held.now ≡ held_most = c.told-held in
     let inside : at < length a.held.now = omega (arith, q, long) in
     let t = taken_other m here _ (rw q at c.clear.ensures) (own_is m here _ false c.own.ensures c.if-own.false) in
     let more = ready_is m a.held.now (counted_in_lem a.held.now a.held_originators.now a.held_lengths.now a.held_payloads.now) _ (a.head.taken.0 + 1) (a.head.taken.0 + 2) _ c.place-next.ensures (omega arith) c.ready-more.ensures in

@@ -9,14 +9,7 @@ use Rattle.member.specs.Calls.{answered, gap_up_to, with_held, kept_of}
 use Rattle.member.specs.Steps.{member_of}
 use Rattle.member.specs.declared.Answer.{Answer}
 use Rattle.member.proofs.Outcomes.{replied_as}
-use borrow.Author.Rules.{rules}
 use Rattle.member.proofs.kept.Goals as goal
-
-pub keep-requires : goal.keep-requires
-keep-requires c = let q = c.place-at.ensures in (search rules, search rules, search rules, omega (arith, q), c.requires.2)
-
-pub gap_up_to-requires : goal.gap_up_to-requires
-gap_up_to-requires c = let p = c.requires in (omega (arith, p.1), p.3)
 
 pub returns : goal.returns
 unfolding kept_of with_held

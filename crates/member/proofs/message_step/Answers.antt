@@ -11,28 +11,28 @@ use Rattle.member.proofs.Outcomes.{replied_as, quiet}
 use borrow.Author.Rules.{rules}
 use Rattle.member.proofs.message_step.Goals as goal
 
-pub returns-then-number-taken : goal.returns-then-number-taken
+pub returns-then-le : goal.returns-then-le
 unfolding message_step
-returns-then-number-taken c = λ queue. replied_as (search (choices, rules) depth 9) (quiet _ _ _ c.args.out.now refl)
+returns-then-le c =
+    let h : c.args.number.0 ≤ c.args.head.taken.0 = search rules in
+    λ queue. replied_as (search (choices, rules) depth 9) (quiet _ _ _ c.args.out.now refl)
 
-pub gap_up_to-requires : goal.gap_up_to-requires
-gap_up_to-requires c = (search rules, search rules)
-
-pub returns-then-taken-number : goal.returns-then-taken-number
+pub returns-then-head-number : goal.returns-then-head-number
 unfolding message_step
-returns-then-taken-number c = λ queue. replied_as (search (choices, rules) depth 9) (c.gap_up_to.ensures queue _ (counted_in_lem _ _ _ _))
+returns-then-head-number c =
+    let h : c.args.head.taken.0 < c.args.number.0 = search rules in
+    λ queue. replied_as (search (choices, rules) depth 9) (c.gap_up_to.ensures queue _ (counted_in_lem _ _ _ _))
 
-pub returns-then-held-place-gt0 : goal.returns-then-held-place-gt0
+pub returns-then-held-place-ne0 : goal.returns-then-held-place-ne0
 unfolding message_step
-returns-then-held-place-gt0 c =
+returns-then-held-place-ne0 c =
     λ queue. let a = c.args in
     let held = messages_in a.held.now a.held_originators.now a.held_lengths.now a.held_payloads.now in
     let e : a.number.0 + 0 ≡ a.number.0 = omega arith in
-    let h : 0 < (message_at held a.number.0).count = rw (c.place-place.ensures, e, counted_in_lem a.held.now a.held_originators.now a.held_lengths.now a.held_payloads.now (place_of a.number.0)) at c.if-held-place-gt0.true in
+    let after : a.head.taken.0 < a.number.0 = search rules in
+    let z = rw (c.place.ensures, e, counted_in_lem a.held.now a.held_originators.now a.held_lengths.now a.held_payloads.now (place_of a.number.0)) at c.if-held-place-ne0.true in
+    let h : 0 < (message_at held a.number.0).count = omega (arith, z) in
     replied_as (search (choices, rules) depth 9) (quiet _ _ _ a.out.now refl)
-
-pub kept-requires : goal.kept-requires
-kept-requires c = let p = c.requires in (search rules, search rules, p.0, p.1)
 
 pub returns : goal.returns
 unfolding message_step
@@ -40,5 +40,7 @@ returns c =
     λ queue. let a = c.args in
     let held = messages_in a.held.now a.held_originators.now a.held_lengths.now a.held_payloads.now in
     let e : a.number.0 + 0 ≡ a.number.0 = omega arith in
-    let h : (message_at held a.number.0).count ≤ 0 = rw (c.place-place.ensures, e, counted_in_lem a.held.now a.held_originators.now a.held_lengths.now a.held_payloads.now (place_of a.number.0)) at c.if-held-place-gt0.false in
+    let after : a.head.taken.0 < a.number.0 = search rules in
+    let z = rw (c.place.ensures, e, counted_in_lem a.held.now a.held_originators.now a.held_lengths.now a.held_payloads.now (place_of a.number.0)) at c.if-held-place-ne0.false in
+    let h : (message_at held a.number.0).count ≤ 0 = omega (arith, z) in
     replied_as (search (choices, rules) depth 9) (c.kept.ensures queue)

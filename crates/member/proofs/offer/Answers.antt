@@ -2,14 +2,7 @@
 use Rattle.window.proofs.Places.{counted_in_lem}
 use Rattle.member.specs.Calls.{confirm_packet, offer_of}
 use Rattle.member.proofs.Confirming.{message_silent, confirms_so, confirms_not}
-use borrow.Author.Rules.{rules}
 use Rattle.member.proofs.offer.Goals as goal
-
-pub message_step-reply-requires : goal.message_step-reply-requires
-message_step-reply-requires c = let p = c.requires in (p.1, p.2)
-
-pub put_confirm-written-requires : goal.put_confirm-written-requires
-put_confirm-written-requires c = let p = c.requires in (p.0, search rules)
 
 pub returns-then-confirmed : goal.returns-then-confirmed
 unfolding offer_of confirm_packet

@@ -1,10 +1,11 @@
--- The fields of a status may be written; the accepted of the row are acknowledged.
-use Rattle.packet.proofs.Permitted.{status_fields}
+-- The accepted of the row are acknowledged.
+use mathlib.Core.Path.{◌≡◌}
+use native.Mathlib.Omega.{arith}
+use Rattle.group.proofs.Choice.{choices}
+use Rattle.window.specs.Places.{smaller_of}
 use Rattle.member.proofs.View.{status_laid}
 use Rattle.member.proofs.put_status.Goals as goal
 
-pub put_bare-requires : goal.put_bare-requires
-put_bare-requires c = let a = c.args in (status_fields a.head.group.number a.head.number _, c.requires)
-
 pub returns : goal.returns
-returns c = status_laid c.args.head _ _ c.earlier-taken.ensures c.put_bare.ensures
+unfolding smaller_of
+returns c = let e : c.min.result.0 ≡ smaller_of c.args.end.0 c.args.head.accepted.0 = grind (arith, choices) in status_laid c.args.head _ _ e c.put_bare.ensures

@@ -1,6 +1,5 @@
 -- The message lies in the place of its count; its request is written where none waits before it.
 use Prim.Native.Nat.{◌+◌, ◌<◌}
-use native.Mathlib.Omega.{arith}
 use lib.ListN.{length}
 use Rattle.store.specs.Places.{messages_in}
 use Rattle.store.proofs.Places.{length_messages}
@@ -9,23 +8,11 @@ use Rattle.member.proofs.Submitting.{submits_first, submits_behind}
 use borrow.Author.Rules.{rules}
 use Rattle.member.proofs.submitted.Goals as goal
 
-pub overflow_add-count : goal.overflow_add-count
-overflow_add-count c = let p = c.requires.2 in record { fits = omega (arith, p) }
-
-pub keep-requires : goal.keep-requires
-keep-requires c = let q = c.queue_place-place.ensures in (search rules, search rules, search rules, omega (arith, q), c.requires.0)
-
-pub put_request-written-requires : goal.put_request-written-requires
-put_request-written-requires c = let p = c.requires in (omega arith, p.0, p.3)
-
 pub returns-then-head-eq0 : goal.returns-then-head-eq0
 returns-then-head-eq0 c =
     λ held n v w. let a = c.args in
     let inside : queue_place (a.head.submitted + 1) < length (messages_in a.queued.now a.queued_originators.now a.queued_lengths.now a.queued_payloads.now) = rw (length_messages a.queued.now a.queued_originators.now a.queued_lengths.now a.queued_payloads.now, ← c.queue_place-place.ensures) (search rules) in
     submits_first a.head _ held _ a.payload.now (rw c.queue_place-place.ensures at c.keep.ensures) v w c.if-head-eq0.true a.held.now n (search rules) inside c.put_request-written.ensures
-
-pub overflow_add-head : goal.overflow_add-head
-overflow_add-head c = let p = c.requires.1 in record { fits = omega (arith, p) }
 
 pub returns : goal.returns
 returns c =

@@ -11,10 +11,10 @@ pub returns-then-n-number : goal.returns-then-n-number
 unfolding fresh_of
 returns-then-n-number c = opens (ap (λ (b : Begun). b.head) c.unopened.ensures) (rw c.unopened.ensures (search (choices, rules) depth 9))
 
-pub returns-in-Open : goal.returns-in-Open
+pub returns-in-Ok : goal.returns-in-Ok
 unfolding fresh_of opened_of
-returns-in-Open c = opens c.idle-head.ensures (rw (sym c.fresh-opened.ensures.answer ∙ c.in-Open.is) (search (choices, rules) depth 9))
+returns-in-Ok c = opens c.idle.ensures (rw (sym c.fresh.ensures.answer ∙ c.in-Ok.is) (search (choices, rules) depth 9))
 
-pub returns-in-Refused : goal.returns-in-Refused
+pub returns-in-Err : goal.returns-in-Err
 unfolding fresh_of opened_of
-returns-in-Refused c = opens (ap (λ (b : Begun). b.head) c.unopened-in-Refused.ensures) (rw (sym c.fresh-opened.ensures.answer ∙ c.in-Refused.is, c.unopened-in-Refused.ensures) (search (choices, rules) depth 9))
+returns-in-Err c = opens (ap (λ (b : Begun). b.head) c.unopened-in-Err.ensures) (rw (sym c.fresh.ensures.answer ∙ c.in-Err.is, c.unopened-in-Err.ensures) (search (choices, rules) depth 9))

@@ -2,28 +2,9 @@
 use mathlib.Core.Path.{sym, ◌∙◌}
 use native.Mathlib.Omega.{arith}
 use Rattle.big_endian.specs.Laws.{Bytes}
-use Rattle.group.proofs.Choice.{choices}
 use Rattle.packet.proofs.Verdicts.{read_named}
-use Rattle.member.specs.Steps.{read_ours}
-use borrow.Author.Rules.{rules}
 use Rattle.member_calls.proofs.read_ours.Goals as goal
 
-pub of-said-requires : goal.of-said-requires
+pub of-requires : goal.of-requires
 unfolding Bytes
-of-said-requires c = read_named _ (λ i _. let z = c.shared_slice_known-1.given i in omega (arith, z)) _ (sym c.read-r.ensures.answer ∙ c.in-Fields.is)
-
-pub returns-then-h-group : goal.returns-then-h-group
-unfolding read_ours
-returns-then-h-group c = rw (← c.read-r.ensures.answer, c.in-Fields.is, ← c.of-said.ensures) (search (choices, rules) depth 9)
-
-pub returns-then-from_elected : goal.returns-then-from_elected
-unfolding read_ours
-returns-then-from_elected c = rw (← c.read-r.ensures.answer, c.in-Fields.is, ← c.of-said.ensures) (search (choices, rules) depth 9)
-
-pub returns-else-from_elected : goal.returns-else-from_elected
-unfolding read_ours
-returns-else-from_elected c = rw (← c.read-r.ensures.answer, c.in-Fields.is, ← c.of-said.ensures) (search (choices, rules) depth 9)
-
-pub returns-in-Refused : goal.returns-in-Refused
-unfolding read_ours
-returns-in-Refused c = rw (← c.read-r.ensures.answer, c.in-Refused.is)
+of-requires c = read_named _ (λ i _. let z = c.shared_slice_known-1.given i in omega (arith, z)) _ (sym c.read.ensures.answer ∙ c.in_ok-header.was)

@@ -1,6 +1,6 @@
 -- Questions 1, 2 and 15, then the request of the first message that waits.
 use mathlib.Core.Path.{refl, sym, ◌∙◌}
-use Prim.Native.Nat.{◌<◌}
+use Prim.Native.Nat.{◌<◌, ◌≤◌}
 use native.Mathlib.Omega.{arith}
 use lib.ListN.{get_or}
 use Rattle.group.proofs.Choice.{when_le, when_nle}
@@ -19,45 +19,44 @@ use Rattle.member.proofs.View.{held_inside, length_in, payload_in, request_is}
 use borrow.Author.Rules.{rules}
 use Rattle.member_calls.proofs.repeat_on.Goals as goal
 
-pub ask-v-requires : goal.ask-v-requires
-ask-v-requires c = record { queued_size = search rules; held_size = search rules; queued_originators_size = search rules; queued_lengths_size = search rules; held_originators_size = search rules; held_lengths_size = search rules; queued_payloads_size = search rules; held_payloads_size = search rules }
-
-pub put_first-written-requires : goal.put_first-written-requires
+pub put_first-requires : goal.put_first-requires
 unfolding view_of
-put_first-written-requires c =
+put_first-requires c =
     let a = c.args in
     let queue = messages_in a.queued.now a.queued_originators.now a.queued_lengths.now a.queued_payloads.now in
     let held = messages_in a.held.now a.held_originators.now a.held_lengths.now a.held_payloads.now in
     let m = member_of a.head queue held in
-    let s = asked m _ (sym c.ask-v.ensures ∙ c.in-Accepted.is) in
+    let s = asked m _ (sym c.ask.ensures ∙ c.in_default.is) in
     let w = (sound_of_lem m s.0).waiting in
-    let some-wait = c.if-head-ge1.true in
+    let some-wait : 1 ≤ a.head.waiting = let z = c.if-head-eq0.false in omega (arith, z) in
     let enough = w.enough in
     let q = w.waits (first_count m) (omega arith) (omega arith) in
     let some : 0 < (get_or queue (queue_place (first_count m)) blank).count = let z = q.count_is in omega arith in
     (some-wait, enough, search rules, rw (length_in a.queued.now a.queued_originators.now a.queued_lengths.now a.queued_payloads.now (queue_place (first_count m)) some) q.short, search rules, s.1)
 
-pub returns-then-head-ge1 : goal.returns-then-head-ge1
+pub returns : goal.returns
 unfolding view_of repeat_of
-returns-then-head-ge1 c =
+returns c =
     let a = c.args in
     let queue = messages_in a.queued.now a.queued_originators.now a.queued_lengths.now a.queued_payloads.now in
     let held = messages_in a.held.now a.held_originators.now a.held_lengths.now a.held_payloads.now in
     let m = member_of a.head queue held in
-    let v = sym c.ask-v.ensures ∙ c.in-Accepted.is in
+    let v = sym c.ask.ensures ∙ c.in_default.is in
     let w = (sound_of_lem m (asked m _ v).0).waiting in
-    let some-wait = c.if-head-ge1.true in
+    let some-wait : 1 ≤ a.head.waiting = let z = c.if-head-eq0.false in omega (arith, z) in
     let enough = w.enough in
     let q = w.waits (first_count m) (omega arith) (omega arith) in
     let some : 0 < (get_or queue (queue_place (first_count m)) blank).count = let z = q.count_is in omega arith in
     let inside = held_inside a.queued.now a.queued_originators.now a.queued_lengths.now a.queued_payloads.now (queue_place (first_count m)) some in
     let request = request_is a.head a.held.now queue held (counted_in_lem a.held.now a.held_originators.now a.held_lengths.now a.held_payloads.now) (let g = c.well_formed.0 in omega (arith, g)) _ (payload_in a.queued.now a.queued_originators.now a.queued_lengths.now a.queued_payloads.now (queue_place (first_count m)) inside) in
-    told (replied_as (when_le 1 _ _ _ _ some-wait refl ∙ judged_yes _ _ _ v) (sent m Answer.Sent (request_packet m) _ _ _ (laid_as request c.put_first-written.ensures)))
+    told (replied_as (when_le 1 _ _ _ _ some-wait refl ∙ judged_yes _ _ _ v) (sent m Answer.Sent (request_packet m) _ _ _ (laid_as request c.put_first.ensures)))
 
-pub returns-else-head-ge1 : goal.returns-else-head-ge1
+pub returns-then-head-eq0 : goal.returns-then-head-eq0
 unfolding view_of repeat_of
-returns-else-head-ge1 c = told (replied_as (when_nle 1 _ _ _ _ c.if-head-ge1.false refl ∙ judged_yes _ _ _ (sym c.ask-v.ensures ∙ c.in-Accepted.is)) (quiet _ _ _ c.args.out.now c.refused.ensures))
+returns-then-head-eq0 c =
+    let none : c.args.head.waiting < 1 = let z = c.if-head-eq0.true in omega (arith, z) in
+    told (replied_as (when_nle 1 _ _ _ _ none refl ∙ judged_yes _ _ _ (sym c.ask.ensures ∙ c.in_default.is)) (quiet _ _ _ c.args.out.now c.refused-then-head-eq0.ensures))
 
-pub returns-in-Refused : goal.returns-in-Refused
+pub returns-in-Err : goal.returns-in-Err
 unfolding view_of repeat_of
-returns-in-Refused c = told (replied_as (judged_no _ _ _ _ (sym c.ask-v.ensures ∙ c.in-Refused.is)) (quiet _ _ _ c.args.out.now c.refused-in-Refused.ensures))
+returns-in-Err c = told (replied_as (judged_no _ _ _ _ (sym c.ask.ensures ∙ c.in-Err.is)) (quiet _ _ _ c.args.out.now c.refused.ensures))

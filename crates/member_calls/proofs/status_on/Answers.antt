@@ -10,25 +10,21 @@ use Rattle.member.specs.declared.Answer.{Answer}
 use Rattle.member.proofs.Acknowledged.{end_counted}
 use Rattle.member.proofs.Outcomes.{told, replied_as, quiet, sent, judged_yes, judged_no, asked}
 use Rattle.member.proofs.View.{reported}
-use borrow.Author.Rules.{rules}
 use Rattle.member_calls.proofs.status_on.Goals as goal
 
-pub ask-v-requires : goal.ask-v-requires
-ask-v-requires c = record { queued_size = search rules; held_size = search rules; queued_originators_size = search rules; queued_lengths_size = search rules; held_originators_size = search rules; held_lengths_size = search rules; queued_payloads_size = search rules; held_payloads_size = search rules }
+pub put_status-requires : goal.put_status-requires
+put_status-requires c = (asked _ _ (sym c.ask.ensures ∙ c.in_default.is)).1
 
-pub put_status-written-requires : goal.put_status-written-requires
-put_status-written-requires c = (asked _ _ (sym c.ask-v.ensures ∙ c.in-Accepted.is)).1
-
-pub returns-in-Accepted : goal.returns-in-Accepted
+pub returns : goal.returns
 unfolding view_of status_of
-returns-in-Accepted c =
+returns c =
     let a = c.args in
     let queue = messages_in a.queued.now a.queued_originators.now a.queued_lengths.now a.queued_payloads.now in
     let held = messages_in a.held.now a.held_originators.now a.held_lengths.now a.held_payloads.now in
     let m = member_of a.head queue held in
     let e = end_counted m a.held.now (counted_in_lem a.held.now a.held_originators.now a.held_lengths.now a.held_payloads.now) _ (let g = c.well_formed.0 in omega (arith, g)) c.row_end-end.ensures in
-    told (replied_as (judged_yes _ _ _ (sym c.ask-v.ensures ∙ c.in-Accepted.is)) (sent m Answer.Sent (status_packet m) _ _ _ (reported m _ e c.put_status-written.ensures)))
+    told (replied_as (judged_yes _ _ _ (sym c.ask.ensures ∙ c.in_default.is)) (sent m Answer.Sent (status_packet m) _ _ _ (reported m _ e c.put_status.ensures)))
 
-pub returns-in-Refused : goal.returns-in-Refused
+pub returns-in-Err : goal.returns-in-Err
 unfolding view_of status_of
-returns-in-Refused c = told (replied_as (judged_no _ _ _ _ (sym c.ask-v.ensures ∙ c.in-Refused.is)) (quiet _ _ _ c.args.out.now c.refused.ensures))
+returns-in-Err c = told (replied_as (judged_no _ _ _ _ (sym c.ask.ensures ∙ c.in-Err.is)) (quiet _ _ _ c.args.out.now c.refused.ensures))

@@ -9,14 +9,10 @@ use Rattle.window.proofs.Places.{counted_in_lem}
 use Rattle.member.specs.Calls.{take_of}
 use Rattle.member.specs.Steps.{member_of}
 use Rattle.member.specs.View.{view_of}
-use Rattle.member.proofs.Outcomes.{changed, replied_as, quiet, judged_yes, judged_no, asked, next_short, ready_is, ready_held}
+use Rattle.member.proofs.Outcomes.{changed, replied_as, quiet, quiet_done, judged_yes, judged_no, asked, next_short, ready_is, ready_held}
 use Rattle.member.proofs.Soundness.{sound_of_lem}
 use Rattle.member.proofs.View.{length_in}
-use borrow.Author.Rules.{rules}
 use Rattle.member_calls.proofs.take_on.Goals as goal
-
-pub ask-v-requires : goal.ask-v-requires
-ask-v-requires c = record { queued_size = search rules; held_size = search rules; queued_originators_size = search rules; queued_lengths_size = search rules; held_originators_size = search rules; held_lengths_size = search rules; queued_payloads_size = search rules; held_payloads_size = search rules }
 
 pub hand_out-requires : goal.hand_out-requires
 unfolding view_of
@@ -24,7 +20,7 @@ hand_out-requires c =
     let a = c.args in
     let held = messages_in a.held.now a.held_originators.now a.held_lengths.now a.held_payloads.now in
     let m = member_of a.head (messages_in a.queued.now a.queued_originators.now a.queued_lengths.now a.queued_payloads.now) held in
-    let s = asked m _ (sym c.ask-v.ensures ∙ c.in-Accepted.is) in
+    let s = asked m _ (sym c.ask.ensures ∙ c.in_default.is) in
     let r = ready_is m a.held.now (counted_in_lem a.held.now a.held_originators.now a.held_lengths.now a.held_payloads.now) _ a.head.taken.0 (a.head.taken.0 + 1) _ c.place-following.ensures refl c.ready.ensures in
     let h = ready_held m _ (sym r ∙ c.if-ready.true) in
     let n = next_short m s.0 h in
@@ -37,17 +33,17 @@ returns-then-ready c =
     let held = messages_in a.held.now a.held_originators.now a.held_lengths.now a.held_payloads.now in
     let m = member_of a.head (messages_in a.queued.now a.queued_originators.now a.queued_lengths.now a.queued_payloads.now) held in
     let r = ready_is m a.held.now (counted_in_lem a.held.now a.held_originators.now a.held_lengths.now a.held_payloads.now) _ a.head.taken.0 (a.head.taken.0 + 1) _ c.place-following.ensures refl c.ready.ensures in
-    changed (replied_as (when_true _ _ _ _ (sym r ∙ c.if-ready.true) refl ∙ judged_yes _ _ _ (sym c.ask-v.ensures ∙ c.in-Accepted.is)) c.hand_out.ensures)
+    changed (replied_as (when_true _ _ _ _ (sym r ∙ c.if-ready.true) refl ∙ judged_yes _ _ _ (sym c.ask.ensures ∙ c.in_default.is)) c.hand_out.ensures)
 
-pub returns-else-ready : goal.returns-else-ready
+pub returns : goal.returns
 unfolding view_of take_of
-returns-else-ready c =
+returns c =
     let a = c.args in
     let held = messages_in a.held.now a.held_originators.now a.held_lengths.now a.held_payloads.now in
     let m = member_of a.head (messages_in a.queued.now a.queued_originators.now a.queued_lengths.now a.queued_payloads.now) held in
     let r = ready_is m a.held.now (counted_in_lem a.held.now a.held_originators.now a.held_lengths.now a.held_payloads.now) _ a.head.taken.0 (a.head.taken.0 + 1) _ c.place-following.ensures refl c.ready.ensures in
-    changed (replied_as (when_false _ _ _ _ (sym r ∙ c.if-ready.false) refl ∙ judged_yes _ _ _ (sym c.ask-v.ensures ∙ c.in-Accepted.is)) (quiet _ _ _ a.out.now refl))
+    changed (replied_as (when_false _ _ _ _ (sym r ∙ c.if-ready.false) refl ∙ judged_yes _ _ _ (sym c.ask.ensures ∙ c.in_default.is)) (quiet _ _ _ a.out.now refl))
 
-pub returns-in-Refused : goal.returns-in-Refused
+pub returns-in-Err : goal.returns-in-Err
 unfolding view_of take_of
-returns-in-Refused c = changed (replied_as (judged_no _ _ _ _ (sym c.ask-v.ensures ∙ c.in-Refused.is)) (quiet _ _ _ c.args.out.now c.refused-reply.ensures))
+returns-in-Err c = changed (replied_as (judged_no _ _ _ _ (sym c.ask.ensures ∙ c.in-Err.is)) (quiet_done c.args.head _ _ _ _ c.args.out.now c.declined.ensures))

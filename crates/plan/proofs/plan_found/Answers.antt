@@ -1,28 +1,24 @@
 -- Too many units, or the plan of the table is that of the journal.
-use Prim.Native.Nat.{ℕ}
-use lib.ListN.{length-replicate}
-use Rattle.plan.proofs.Planning.{found_within, plan_many, plan_stands, plan_laid}
-use borrow.Author.Rules.{rules}
+use Rattle.std.proofs.Common.{◌≤◌, length}
+use Rattle.std.proofs.lemmas.Result.{err_from_is_err_and}
+use Rattle.plan.specs.Table.{units_most}
+use Rattle.plan.proofs.Planning.{few_used, found_within, plan_many, plan_stands, plan_laid}
 use Rattle.plan.proofs.plan_found.Goals as goal
 
-pub gather-count-requires : goal.gather-count-requires
-gather-count-requires c =
-    let a = c.args in
-    (found_within a.journal.now _ _ c.requires, length-replicate {A = ℕ} 512 0, length-replicate {A = ℕ} 512 0)
+pub gather-requires-clause-within : goal.gather-requires-clause-within
+gather-requires-clause-within c = found_within c.args.journal.now _ _ c.requires
 
-pub returns-then-count-gt-UNITS : goal.returns-then-count-gt-UNITS
-returns-then-count-gt-UNITS c =
-    let a = c.args in
-    plan_many a.journal.now _ _ c.requires _ _ _ c.gather-count.ensures _ _ c.if-count-gt-UNITS.true
+pub returns-in_err-gather : goal.returns-in_err-gather
+returns-in_err-gather c =
+    let p = err_from_is_err_and c.from_residual.result c.from_residual.ensures.1 in
+    rw (p.1, p.2) (plan_many c.args.journal.now _ _ c.requires _ _ c.in_err-gather.ensures _ _)
 
 pub lay_plan-requires : goal.lay_plan-requires
 lay_plan-requires c =
-    let a = c.args in
-    let g = c.gather-count.ensures in
-    let n = g.places_size in
-    (search rules, search rules, plan_stands a.journal.now _ _ c.requires _ _ _ g c.if-count-gt-UNITS.false)
+    let few : length c.used.result.now ≤ units_most = rw c.used.ensures (few_used c.gather.new.self.rows c.gather.new.self.count c.gather.new.self.few) in
+    (few, plan_stands c.args.journal.now _ _ c.requires _ _ (rw (← c.used.ensures) at c.in_ok-gather.ensures) few)
 
 pub returns : goal.returns
 returns c =
-    let a = c.args in
-    plan_laid a.journal.now _ _ c.requires _ _ _ c.gather-count.ensures _ _ _ _ c.if-count-gt-UNITS.false c.lay_plan.ensures
+    let few : length c.used.result.now ≤ units_most = rw c.used.ensures (few_used c.gather.new.self.rows c.gather.new.self.count c.gather.new.self.few) in
+    plan_laid c.args.journal.now _ _ c.requires _ _ (rw (← c.used.ensures) at c.in_ok-gather.ensures) few _ _ _ _ c.lay_plan.ensures

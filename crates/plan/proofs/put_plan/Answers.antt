@@ -1,46 +1,31 @@
 -- The loop's invariant: the rows passed are laid at the front.
-use mathlib.Core.Path.{refl, ◌∙◌}
-use Prim.Native.Nat.{◌-◌, ◌<◌}
-use lib.ListN.{get_or, take}
-use native.Mathlib.Nat.{zero-add}
+use Rattle.std.proofs.Common.{◌∙◌, zero-add, take, rules}
 use Rattle.text.proofs.Pieces.{laid_none, laid_then}
-use Rattle.plan.specs.Table.{row_at, plan_at}
+use Rattle.plan.specs.Table.{row_at, plan_at, starts_of}
 use Rattle.plan.proofs.Printing.{stands_at, table_on, table_room_lem, table_all}
-use borrow.Author.Rules.{rules}
 use Rattle.plan.proofs.put_plan.Goals as goal
 
-pub loop-i-init : goal.loop-i-init
+pub loop-row-init : goal.loop-row-init
 unfolding plan_at
-loop-i-init c = (search rules, refl, laid_none 0 c.args.out.now (search rules))
+loop-row-init c = laid_none 0 c.args.out.now (search rules)
 
 pub put_row-at-requires : goal.put_row-at-requires
 put_row-at-requires c =
-    let l = c.loop-i in
-    let a = c.args in
-    let j = a.journal.now in
-    let t = a.places.now in
-    let (fits, all, room) = c.requires in
-    let h : l.i < a.count = search rules in
-    let r = table_room_lem j t a.count l.i fits h all in
-    let e = l.invariant.2.ends in
-    (stands_at j t a.count l.i fits h all, search rules)
+    let l = c.loop-row in
+    let (all, room) = c.requires in
+    let r = table_room_lem c.args.journal.now c.args.rows.now l.row-index c.loop-row-test.true all in
+    let e = l.invariant.ends in
+    (stands_at _ _ _ c.loop-row-test.true all, search rules)
 
-pub loop-i-preserved : goal.loop-i-preserved
-loop-i-preserved c =
-    let l = c.loop-i in
-    let a = c.args in
-    let j = a.journal.now in
-    let t = a.places.now in
-    let (fits, all, room) = c.requires in
-    let h : l.i < a.count = search rules in (
-      search rules,
-      search rules,
-      rw (table_on j t a.count l.i fits h all) (laid_then (plan_at j (take l.i (take a.count t))) (row_at j (get_or t l.i 0)) l.invariant.2 c.put_row-at.ensures),
-    )
+pub loop-row-preserved : goal.loop-row-preserved
+loop-row-preserved c =
+    let l = c.loop-row in
+    let j = c.args.journal.now in
+    let rows = c.args.rows.now in
+    rw (table_on j rows l.row-index c.loop-row-test.true c.requires.0) (laid_then (plan_at j (take l.row-index (starts_of rows))) (row_at j _) l.invariant c.put_row-at.ensures)
 
 pub returns : goal.returns
 returns c =
-    let l = c.loop-i in
-    let a = c.args in
-    let e = table_all a.journal.now a.places.now a.count l.i c.requires.0 (search rules) in
-    l.invariant.2.lays ∙ rw (e, zero-add)
+    let l = c.loop-row in
+    let e = table_all c.args.journal.now c.args.rows.now l.row-index (search rules) in
+    l.invariant.lays ∙ rw (e, zero-add)

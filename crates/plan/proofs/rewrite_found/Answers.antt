@@ -1,42 +1,26 @@
--- Too many units, or the blocks of the records at the places in order are those of the messages that are kept.
-use Prim.Native.Nat.{ℕ}
-use native.Mathlib.Omega.{arith}
-use lib.ListN.{length-replicate}
+-- Too many units, or the blocks of the records of the rows in order are those of the messages that are kept.
+use Rattle.std.proofs.lemmas.Result.{err_from_is_err_and}
 use Rattle.plan.specs.Calls.{rewrite_of}
-use Rattle.plan.proofs.Planning.{found_within, asked_many}
+use Rattle.plan.proofs.Planning.{few_used, found_within, asked_many}
 use Rattle.plan.proofs.Latest.{rewrite_apart, rewrite_spotted, rewrite_laid}
 use Rattle.plan.proofs.rewrite_found.Goals as goal
 
-pub gather-count-requires : goal.gather-count-requires
-gather-count-requires c =
-    let a = c.args in
-    (found_within a.journal.now _ _ c.requires, length-replicate {A = ℕ} 512 0, length-replicate {A = ℕ} 512 0)
+pub gather-requires-clause-within : goal.gather-requires-clause-within
+gather-requires-clause-within c = found_within c.args.journal.now _ _ c.requires
 
-pub returns-then-count-gt-UNITS : goal.returns-then-count-gt-UNITS
+pub returns-in_err-gather : goal.returns-in_err-gather
 unfolding rewrite_of
-returns-then-count-gt-UNITS c =
-    let a = c.args in
-    asked_many a.journal.now _ _ c.requires _ _ _ c.gather-count.ensures _ _ _ c.if-count-gt-UNITS.true
+returns-in_err-gather c =
+    let p = err_from_is_err_and c.from_residual.result c.from_residual.ensures.1 in
+    rw (p.1, p.2) (asked_many c.args.journal.now _ _ c.requires _ _ c.in_err-gather.ensures _ _ _)
 
-pub sort-requires : goal.sort-requires
-sort-requires c =
-    let a = c.args in
-    let g = c.gather-count.ensures in
-    let p = g.places_size in
-    let u = g.units_size in
-    let most = c.if-count-gt-UNITS.false in
-    (omega arith, omega arith, rewrite_apart a.journal.now _ _ c.requires _ _ _ g most)
+pub sort_by_start-requires : goal.sort_by_start-requires
+sort_by_start-requires c = rewrite_apart c.args.journal.now _ _ c.requires _ _ c.in_ok-gather.ensures (few_used c.gather.new.self.rows c.gather.new.self.count c.gather.new.self.few)
 
 pub lay_blocks-requires : goal.lay_blocks-requires
 lay_blocks-requires c =
-    let a = c.args in
-    let g = c.gather-count.ensures in
-    let u = g.units_size in
-    let most = c.if-count-gt-UNITS.false in
-    let (order, size) = c.sort.ensures in
-    (omega arith, rewrite_spotted a.journal.now _ _ c.requires _ _ _ g most _ order)
+    rw c.used.ensures (rewrite_spotted c.args.journal.now _ _ c.requires _ _ c.in_ok-gather.ensures (few_used c.gather.new.self.rows c.gather.new.self.count c.gather.new.self.few) _ c.sort_by_start.ensures)
 
 pub returns : goal.returns
 returns c =
-    let a = c.args in
-    rewrite_laid a.journal.now _ _ c.requires _ _ _ c.gather-count.ensures c.if-count-gt-UNITS.false _ c.sort.ensures.0 _ _ _ _ c.lay_blocks.ensures
+    rewrite_laid c.args.journal.now _ _ c.requires _ _ c.in_ok-gather.ensures (few_used c.gather.new.self.rows c.gather.new.self.count c.gather.new.self.few) _ c.sort_by_start.ensures _ _ _ _ (rw c.used.ensures at c.lay_blocks.ensures)

@@ -7,7 +7,7 @@ use lib.ListN.{length, take, drop, length-drop}
 use lib.Seq.{length-take-le}
 use Rattle.player.proofs.Keeping.{smaller_fits, whole_text}
 use Rattle.player.specs.Player.{output_room}
-use Rattle.playback.proofs.Showing.{put_shows, put_within, as_shown}
+use Rattle.playback.proofs.Showing.{smaller_min, put_shows, put_within, as_shown}
 use borrow.Author.Rules.{rules}
 use Rattle.playback.proofs.put.Goals as goal
 
@@ -17,10 +17,10 @@ slice_bounds-text-end c =
     let text = a.text in
     let room : length text ≡ output_room = search rules in
     let out = a.out.now in
-    let most = c.smaller-most.result in
-    let m = (smaller_fits a.size output_room most c.smaller-most.ensures).1 in
-    let n = c.smaller-n.result in
-    let l = smaller_fits most (length out - a.at) n c.smaller-n.ensures in
+    let most = c.min-most.result in
+    let m = (smaller_fits a.size output_room most (c.min-most.ensures ∙ smaller_min a.size output_room)).1 in
+    let n = c.min-n.result in
+    let l = smaller_fits most (length out - a.at) n (c.min-n.ensures ∙ smaller_min most (length out - a.at)) in
     let l₀ = l.0 in
     let l₁ = l.1 in
     let p = c.requires in
@@ -33,10 +33,10 @@ slice_bounds-copy-end c =
     let text = a.text in
     let room : length text ≡ output_room = search rules in
     let out = a.out.now in
-    let most = c.smaller-most.result in
-    let m = (smaller_fits a.size output_room most c.smaller-most.ensures).1 in
-    let n = c.smaller-n.result in
-    let l = smaller_fits most (length out - a.at) n c.smaller-n.ensures in
+    let most = c.min-most.result in
+    let m = (smaller_fits a.size output_room most (c.min-most.ensures ∙ smaller_min a.size output_room)).1 in
+    let n = c.min-n.result in
+    let l = smaller_fits most (length out - a.at) n (c.min-n.ensures ∙ smaller_min most (length out - a.at)) in
     let l₀ = l.0 in
     let l₁ = l.1 in
     let p = c.requires in
@@ -49,10 +49,10 @@ copy-requires c =
     let text = a.text in
     let room : length text ≡ output_room = search rules in
     let out = a.out.now in
-    let most = c.smaller-most.result in
-    let m = (smaller_fits a.size output_room most c.smaller-most.ensures).1 in
-    let n = c.smaller-n.result in
-    let l = smaller_fits most (length out - a.at) n c.smaller-n.ensures in
+    let most = c.min-most.result in
+    let m = (smaller_fits a.size output_room most (c.min-most.ensures ∙ smaller_min a.size output_room)).1 in
+    let n = c.min-n.result in
+    let l = smaller_fits most (length out - a.at) n (c.min-n.ensures ∙ smaller_min most (length out - a.at)) in
     let l₀ = l.0 in
     let l₁ = l.1 in
     let p = c.requires in
@@ -68,10 +68,10 @@ overflow_add-result c =
     let text = a.text in
     let room : length text ≡ output_room = search rules in
     let out = a.out.now in
-    let most = c.smaller-most.result in
-    let m = (smaller_fits a.size output_room most c.smaller-most.ensures).1 in
-    let n = c.smaller-n.result in
-    let l = smaller_fits most (length out - a.at) n c.smaller-n.ensures in
+    let most = c.min-most.result in
+    let m = (smaller_fits a.size output_room most (c.min-most.ensures ∙ smaller_min a.size output_room)).1 in
+    let n = c.min-n.result in
+    let l = smaller_fits most (length out - a.at) n (c.min-n.ensures ∙ smaller_min most (length out - a.at)) in
     let l₀ = l.0 in
     let l₁ = l.1 in
     let p = c.requires in
@@ -85,16 +85,16 @@ returns c =
     let text = a.text in
     let room : length text ≡ output_room = search rules in
     let out = a.out.now in
-    let most = c.smaller-most.result in
-    let m = (smaller_fits a.size output_room most c.smaller-most.ensures).1 in
-    let n = c.smaller-n.result in
-    let l = smaller_fits most (length out - a.at) n c.smaller-n.ensures in
+    let most = c.min-most.result in
+    let m = (smaller_fits a.size output_room most (c.min-most.ensures ∙ smaller_min a.size output_room)).1 in
+    let n = c.min-n.result in
+    let l = smaller_fits most (length out - a.at) n (c.min-n.ensures ∙ smaller_min most (length out - a.at)) in
     let l₀ = l.0 in
     let l₁ = l.1 in
     let p = c.requires in
     let fit : n ≤ length text = omega arith in record {
       adds = λ printed lent s.
-          as_shown (ap (λ (x : ℕ). printed ++ take x text) c.smaller-most.ensures ∙ ap (λ (t : List ℕ). printed ++ t) (whole_text text a.size output_room room))
-          (put_shows printed lent out text _ most a.at _ s (omega arith) c.smaller-n.ensures c.copy.ensures);
+          as_shown (ap (λ (x : ℕ). printed ++ take x text) (c.min-most.ensures ∙ smaller_min a.size output_room) ∙ ap (λ (t : List ℕ). printed ++ t) (whole_text text a.size output_room room))
+          (put_shows printed lent out text _ most a.at _ s (omega arith) (c.min-n.ensures ∙ smaller_min most (length out - a.at)) c.copy.ensures);
       within = put_within out text _ a.at _ fit p c.copy.ensures;
     }

@@ -1,6 +1,5 @@
 -- The loop's invariant: the members passed have their number in the list.
 use mathlib.Core.Path.{◌≡◌, refl, sym, ap, ◌∙◌}
-use Prim.Native.Nat.{◌-◌}
 use native.Mathlib.Omega.{arith}
 use lib.ListN.{length-set}
 use lib.Seq.{take_all}
@@ -21,7 +20,6 @@ loop-i-preserved c = let l = c.loop-i in (search rules, simp length-set l.invari
 pub returns : goal.returns
 returns c =
     let l = c.loop-i in
-    let t = c.loop-i-test.false in
     let b = l.invariant.0 in
     let e : l.i ≡ members_most = omega arith in
     sym (take_all l.i l.taken (search rules)) ∙ l.invariant.2 ∙ ap (list_of (taken_at c.args.numbers.now) 0) e

@@ -1,6 +1,6 @@
 -- The loop's invariant: the members passed have their number in the list.
 use mathlib.Core.Path.{◌≡◌}
-use Prim.Native.Nat.{◌-◌, ◌≤◌}
+use Prim.Native.Nat.{◌≤◌}
 use lib.ListN.{length, take}
 use Rattle.group.specs.Limits.{members_most}
 use Rattle.simulator.specs.Whole.{list_of}
@@ -9,6 +9,3 @@ use Rattle.player.proofs.each_taken.Given as goal
 
 abbrev pub invariant-loop-i : goal.invariant-loop-i
 invariant-loop-i l = (l.i ≤ members_most) × (length l.taken ≡ members_most) × (take l.i l.taken ≡ list_of (taken_at l.numbers) 0 l.i)
-
-abbrev pub decreases-loop-i : goal.decreases-loop-i
-decreases-loop-i l = members_most - l.i

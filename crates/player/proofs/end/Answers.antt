@@ -7,7 +7,7 @@ use lib.Seq.{length-take-le}
 use Rattle.simulator.specs.Whole.{whole_of}
 use Rattle.player.specs.Feed.{kept_most}
 use Rattle.player.specs.Player.{state_of}
-use Rattle.player.proofs.Keeping.{smaller_fits, smaller_zero, whole_text}
+use Rattle.player.proofs.Keeping.{min_fits, min_zero, whole_min}
 use Rattle.player.proofs.Opening.{ends_none, ends_told}
 use borrow.Author.Rules.{rules}
 use Rattle.player.proofs.end.Goals as goal
@@ -16,11 +16,11 @@ pub returns-then-size-eq0 : goal.returns-then-size-eq0
 returns-then-size-eq0 c =
     let a = c.args in
     let w = (whole_of a.player.head a.taken.now a.counts.now a.repeats.now a.kept.now a.marks.now a.originators.now a.lengths.now a.payloads.now a.numbers.now a.queued.now a.held.now a.queued_originators.now a.queued_lengths.now a.held_originators.now a.held_lengths.now a.queued_payloads.now a.held_payloads.now a.sizes.now a.packets.now) in
-    ends_none (state_of a.player w a.line.now) _ _ _ _ _ (ap (λ (k : ℕ). length (take k a.line.now)) (smaller_zero a.player.length kept_most _ (omega arith) c.smaller-size.ensures c.if-size-eq0.true))
+    ends_none (state_of a.player w a.line.now) _ _ _ _ _ (ap (λ (k : ℕ). length (take k a.line.now)) (min_zero a.player.length kept_most _ (omega arith) c.min-size.ensures c.if-size-eq0.true))
     (record { state = refl; used = refl; written = refl; output = refl })
 
 pub play_line-requires : goal.play_line-requires
-play_line-requires c = let k = (smaller_fits c.args.player.length kept_most _ c.smaller-size.ensures).1 in search rules
+play_line-requires c = let k = (min_fits c.args.player.length kept_most _ c.min-size.ensures).1 in search rules
 
 pub returns : goal.returns
 returns c =
@@ -28,8 +28,8 @@ returns c =
     let w = (whole_of a.player.head a.taken.now a.counts.now a.repeats.now a.kept.now a.marks.now a.originators.now a.lengths.now a.payloads.now a.numbers.now a.queued.now a.held.now a.queued_originators.now a.queued_lengths.now a.held_originators.now a.held_lengths.now a.queued_payloads.now a.held_payloads.now a.sizes.now a.packets.now) in
     let line = a.line.now in
     let n : length line ≡ kept_most = search rules in
-    let size = c.smaller-size.result in
-    let e : take size line ≡ take a.player.length line = ap (λ (k : ℕ). take k line) c.smaller-size.ensures ∙ whole_text line a.player.length kept_most n in
-    let k = (smaller_fits a.player.length kept_most size c.smaller-size.ensures).1 in
+    let size = c.min-size.result in
+    let e : take size line ≡ take a.player.length line = ap (λ (k : ℕ). take k line) c.min-size.ensures ∙ whole_min line a.player.length kept_most n in
+    let k = (min_fits a.player.length kept_most size c.min-size.ensures).1 in
     let l = length-take-le size line (omega arith) in
     ends_told (state_of a.player w line) _ _ _ _ _ (λ z. c.if-size-eq0.false (sym l ∙ ap length e ∙ z)) (rw e at (c.play_line.ensures line))

@@ -6,7 +6,7 @@ use native.Mathlib.Omega.{arith}
 use lib.ListN.{length, take, drop, length-drop}
 use lib.Seq.{length-take-le}
 use Rattle.player.specs.Feed.{kept_most, kept_of}
-use Rattle.player.proofs.Keeping.{smaller_fits, kept_with, whole_text}
+use Rattle.player.proofs.Keeping.{min_fits, kept_with, whole_min}
 use borrow.Author.Rules.{rules}
 use Rattle.player.proofs.keep.Goals as goal
 
@@ -15,9 +15,9 @@ overflow_sub-from c =
     let a = c.args in
     let line = a.line.now in
     let part = a.part.now in
-    let f = c.smaller-from.result in
+    let f = c.min-from.result in
     let n : length line ≡ kept_most = c.requires in
-    let k = (smaller_fits a.kept kept_most f c.smaller-from.ensures).1 in
+    let k = (min_fits a.kept kept_most f c.min-from.ensures).1 in
     search rules
 
 pub slice_bounds-copy-end : goal.slice_bounds-copy-end
@@ -25,11 +25,11 @@ slice_bounds-copy-end c =
     let a = c.args in
     let line = a.line.now in
     let part = a.part.now in
-    let f = c.smaller-from.result in
+    let f = c.min-from.result in
     let n : length line ≡ kept_most = c.requires in
-    let k = (smaller_fits a.kept kept_most f c.smaller-from.ensures).1 in
-    let size = c.smaller-size.result in
-    let h = smaller_fits (length part) (kept_most - f) size c.smaller-size.ensures in
+    let k = (min_fits a.kept kept_most f c.min-from.ensures).1 in
+    let size = c.min-size.result in
+    let h = min_fits (length part) (kept_most - f) size c.min-size.ensures in
     let h₀ = h.0 in
     let h₁ = h.1 in
     sym (length-take-le size part h₀)
@@ -39,11 +39,11 @@ slice_bounds-copy-count c =
     let a = c.args in
     let line = a.line.now in
     let part = a.part.now in
-    let f = c.smaller-from.result in
+    let f = c.min-from.result in
     let n : length line ≡ kept_most = c.requires in
-    let k = (smaller_fits a.kept kept_most f c.smaller-from.ensures).1 in
-    let size = c.smaller-size.result in
-    let h = smaller_fits (length part) (kept_most - f) size c.smaller-size.ensures in
+    let k = (min_fits a.kept kept_most f c.min-from.ensures).1 in
+    let size = c.min-size.result in
+    let h = min_fits (length part) (kept_most - f) size c.min-size.ensures in
     let h₀ = h.0 in
     let h₁ = h.1 in
     let b : f ≤ length line = omega arith in
@@ -54,11 +54,11 @@ slice_bounds-copy-start c =
     let a = c.args in
     let line = a.line.now in
     let part = a.part.now in
-    let f = c.smaller-from.result in
+    let f = c.min-from.result in
     let n : length line ≡ kept_most = c.requires in
-    let k = (smaller_fits a.kept kept_most f c.smaller-from.ensures).1 in
-    let size = c.smaller-size.result in
-    let h = smaller_fits (length part) (kept_most - f) size c.smaller-size.ensures in
+    let k = (min_fits a.kept kept_most f c.min-from.ensures).1 in
+    let size = c.min-size.result in
+    let h = min_fits (length part) (kept_most - f) size c.min-size.ensures in
     let h₀ = h.0 in
     let h₁ = h.1 in
     let b : f ≤ length line = omega arith in
@@ -69,11 +69,11 @@ slice_bounds-copy-end-2 c =
     let a = c.args in
     let line = a.line.now in
     let part = a.part.now in
-    let f = c.smaller-from.result in
+    let f = c.min-from.result in
     let n : length line ≡ kept_most = c.requires in
-    let k = (smaller_fits a.kept kept_most f c.smaller-from.ensures).1 in
-    let size = c.smaller-size.result in
-    let h = smaller_fits (length part) (kept_most - f) size c.smaller-size.ensures in
+    let k = (min_fits a.kept kept_most f c.min-from.ensures).1 in
+    let size = c.min-size.result in
+    let h = min_fits (length part) (kept_most - f) size c.min-size.ensures in
     let h₀ = h.0 in
     let h₁ = h.1 in
     let b : f ≤ length line = omega arith in
@@ -84,11 +84,11 @@ copy-requires c =
     let a = c.args in
     let line = a.line.now in
     let part = a.part.now in
-    let f = c.smaller-from.result in
+    let f = c.min-from.result in
     let n : length line ≡ kept_most = c.requires in
-    let k = (smaller_fits a.kept kept_most f c.smaller-from.ensures).1 in
-    let size = c.smaller-size.result in
-    let h = smaller_fits (length part) (kept_most - f) size c.smaller-size.ensures in
+    let k = (min_fits a.kept kept_most f c.min-from.ensures).1 in
+    let size = c.min-size.result in
+    let h = min_fits (length part) (kept_most - f) size c.min-size.ensures in
     let h₀ = h.0 in
     let h₁ = h.1 in
     let l = length-take-le size part h₀ in
@@ -101,11 +101,11 @@ overflow_add-result c =
     let a = c.args in
     let line = a.line.now in
     let part = a.part.now in
-    let f = c.smaller-from.result in
+    let f = c.min-from.result in
     let n : length line ≡ kept_most = c.requires in
-    let k = (smaller_fits a.kept kept_most f c.smaller-from.ensures).1 in
-    let size = c.smaller-size.result in
-    let h = smaller_fits (length part) (kept_most - f) size c.smaller-size.ensures in
+    let k = (min_fits a.kept kept_most f c.min-from.ensures).1 in
+    let size = c.min-size.result in
+    let h = min_fits (length part) (kept_most - f) size c.min-size.ensures in
     let h₀ = h.0 in
     let h₁ = h.1 in
     let z : f + size < 18446744073709551616 = omega arith in
@@ -116,15 +116,15 @@ returns c =
     let a = c.args in
     let line = a.line.now in
     let part = a.part.now in
-    let f = c.smaller-from.result in
+    let f = c.min-from.result in
     let n : length line ≡ kept_most = c.requires in
-    let k = (smaller_fits a.kept kept_most f c.smaller-from.ensures).1 in
-    let size = c.smaller-size.result in
-    let h = smaller_fits (length part) (kept_most - f) size c.smaller-size.ensures in
+    let k = (min_fits a.kept kept_most f c.min-from.ensures).1 in
+    let size = c.min-size.result in
+    let h = min_fits (length part) (kept_most - f) size c.min-size.ensures in
     let h₀ = h.0 in
     let h₁ = h.1 in
     let z : f + size ≤ kept_most = omega arith in record {
-      kept = rw c.copy.ensures (rw append_assoc (kept_with line part _ f size (omega arith) k c.smaller-size.ensures))
-          ∙ ap (λ (x : List ℕ). kept_of (x ++ part)) (ap (λ (x : ℕ). take x line) c.smaller-from.ensures ∙ whole_text line a.kept kept_most n);
+      kept = rw c.copy.ensures (rw append_assoc (kept_with line part _ f size (omega arith) k c.min-size.ensures))
+          ∙ ap (λ (x : List ℕ). kept_of (x ++ part)) (ap (λ (x : ℕ). take x line) c.min-from.ensures ∙ whole_min line a.kept kept_most n);
       most = z;
     }

@@ -1,13 +1,15 @@
--- The test is the definition's.
-use Rattle.group.proofs.Choice.{choices}
-use Rattle.player.specs.Play.{next_number}
-use borrow.Author.Rules.{rules}
+-- One more, or as many as there are.
+use mathlib.Core.Path.{◌≡◌}
+use Prim.Native.Nat.{ℕ}
+use native.Mathlib.Omega.{arith}
+use borrow.Author.Tests.{ltb-true, ltb-false}
+use Rattle.group.proofs.Lists.{when_elim}
+use Rattle.group.specs.Choice.{◌<?◌}
+use Rattle.player.specs.Play.{count_largest, next_number}
 use Rattle.player.proofs.next_number.Goals as goal
 
-pub returns-then-number-lt18446744073709551615 : goal.returns-then-number-lt18446744073709551615
+pub returns : goal.returns
 unfolding next_number
-returns-then-number-lt18446744073709551615 c = search (choices, rules) depth 9
-
-pub returns-else-number-lt18446744073709551615 : goal.returns-else-number-lt18446744073709551615
-unfolding next_number
-returns-else-number-lt18446744073709551615 c = search (choices, rules) depth 9
+returns c =
+    let n = c.args.number in
+    when_elim (λ (x : ℕ). c.saturating_add.result ≡ x) (n <? count_largest) (λ t. let z = ltb-true n count_largest t in omega arith) (λ t. let z = ltb-false n count_largest t in omega arith)

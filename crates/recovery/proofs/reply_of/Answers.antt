@@ -4,5 +4,5 @@ use lib.ListN.{get_or-eq_default}
 use native.Mathlib.Omega.{arith}
 use Rattle.recovery.proofs.reply_of.Goals as goal
 
-pub returns : goal.returns
-returns c = let p = c.requires in sym (get_or-eq_default c.args.replies.now 0 (omega arith))
+pub returns-else-at-lt-MEMBERS : goal.returns-else-at-lt-MEMBERS
+returns-else-at-lt-MEMBERS c = let p = c.requires in sym (get_or-eq_default c.args.replies.now 0 (omega arith))

@@ -1,8 +1,7 @@
 -- What a command asks is its event.
-use mathlib.Core.Path.{refl, sym, ◌∙◌}
+use mathlib.Core.Path.{sym, ◌∙◌}
 use lib.Seq.{length-take-le}
-use Rattle.reset_player.specs.Steps.{Performed}
-use Rattle.reset_player.proofs.Asking.{Meant, asked_is, as_performed, performed_by}
+use Rattle.reset_player.proofs.Asking.{Meant, asked_is, performed_by}
 use Rattle.reset_player.proofs.perform.Goals as goal
 
 pub slice_bounds-act-end : goal.slice_bounds-act-end
@@ -11,10 +10,6 @@ slice_bounds-act-end c =
     let a = c.args in
     let m = asked_is _ a.command a.payload.now c.requires.0 (sym c.in-Act.is ∙ c.action_of-asked.ensures) in
     sym (length-take-le _ a.payload.now (rw c.requires.1 m.0))
-
-pub returns-in-Nothing : goal.returns-in-Nothing
-unfolding Meant Performed
-returns-in-Nothing c = let a = c.args in as_performed a.world _ _ _ _ _ (sym (asked_is _ a.command a.payload.now c.requires.0 (sym c.in-Nothing.is ∙ c.action_of-asked.ensures))) refl
 
 pub returns-in-Act : goal.returns-in-Act
 unfolding Meant

@@ -5,6 +5,3 @@ use Rattle.reset_stream.proofs.put_terminals.Given as goal
 
 abbrev pub invariant-loop-i : goal.invariant-loop-i
 invariant-loop-i g l = (l.i ≤ l.n) × HandsTerminals g.W.Write.contents l.small l.masks l.numbers l.i l.initial.sink l.sink
-
-abbrev pub decreases-loop-i : goal.decreases-loop-i
-decreases-loop-i g l = l.n - l.i

@@ -1,9 +1,6 @@
--- The loop's invariant: the index stays in the list.
-use Rattle.std.proofs.Common.{◌-◌, ◌≤◌, length}
+-- The rest of the list becomes shorter.
+use Rattle.std.proofs.Common.{length}
 use Rattle.rounds.proofs.list_hears.Given as goal
 
-abbrev pub invariant-loop-at : goal.invariant-loop-at
-invariant-loop-at l = l.at ≤ length l.feeds
-
-abbrev pub decreases-loop-at : goal.decreases-loop-at
-decreases-loop-at l = length l.feeds - l.at
+abbrev pub decreases-loop-head : goal.decreases-loop-head
+decreases-loop-head l = length l.rest

@@ -1,44 +1,38 @@
 -- A line over the limit is of another form, and so is one of fewer than three fields.
-use mathlib.Core.Path.{subst, sym, ap, ◌∙◌}
-use Rattle.schedule.specs.Parts.{parts_at, Within}
+use mathlib.Core.Path.{sym, ◌∙◌}
+use Prim.Native.Nat.{◌+◌}
+use Rattle.schedule.specs.Parts.{parts_at}
+use Rattle.schedule.specs.Steps.{four_at}
 use Rattle.schedule.specs.Line.{opening_form}
-use Rattle.schedule.proofs.Forms.{opening_by, opening_long}
-use Rattle.schedule.specs.declared.Parts.{Parts}
-use Rattle.schedule.specs.declared.Parts.TheVariants.{One, Two, Three, More}
+use Rattle.schedule.proofs.Forms.{opening_by, opening_few, four_opening, more_opening, to_end}
+use Rattle.schedule.specs.declared.Parts.TheVariants.{Three, More}
+use Rattle.text.proofs.Split.{fields_one, fields_more}
 use borrow.Author.Rules.{rules}
 use Rattle.schedule.proofs.read_opening.Goals as goal
 
-pub returns-then-line-gt-LINE_MOST : goal.returns-then-line-gt-LINE_MOST
-returns-then-line-gt-LINE_MOST c = sym (opening_long c.args.line.now (search rules))
-
-pub read_whole-requires : goal.read_whole-requires
-read_whole-requires c =
-    let a = c.args in
-    subst (λ (p : Parts). Within p a.line.now) c.in-Three.is c.fields-parts.ensures.within
-
-pub read_more-requires : goal.read_more-requires
-read_more-requires c =
-    let a = c.args in
-    subst (λ (p : Parts). Within p a.line.now) c.in-More.is c.fields-parts.ensures.within
-
 pub returns-in-One : goal.returns-in-One
-unfolding parts_at opening_form
-returns-in-One c =
-    let a = c.args in
-    sym (opening_by a.line.now (One) (search rules) (c.fields-parts.ensures.parts ∙ ap (λ (p : Parts). parts_at p a.line.now) c.in-One.is))
-
-pub returns-in-Two : goal.returns-in-Two
-unfolding parts_at opening_form
-returns-in-Two c =
-    let a = c.args in
-    sym (opening_by a.line.now (Two c.in-Two.field-0) (search rules) (c.fields-parts.ensures.parts ∙ ap (λ (p : Parts). parts_at p a.line.now) c.in-Two.is))
+returns-in-One c = opening_few c.args.line.now c.fields.result c.if-line-gt-LINE_MOST.false c.fields.ensures.parts c.in-One.is
 
 pub returns-in-Three : goal.returns-in-Three
+unfolding parts_at opening_form
 returns-in-Three c =
-    let a = c.args in
-    c.read_whole.ensures ∙ sym (opening_by a.line.now (Three c.in-Three.a c.in-Three.b) (search rules) (c.fields-parts.ensures.parts ∙ ap (λ (p : Parts). parts_at p a.line.now) c.in-Three.is))
+    let l = c.args.line.now in
+    let b = c.in-Three.b in
+    let e = opening_by l (Three c.in-Three.a b) c.if-line-gt-LINE_MOST.false c.in-Three.ensures.parts in
+    rw (e, ← to_end l (b + 1)) c.read_group.ensures
 
-pub returns-in-More : goal.returns-in-More
-returns-in-More c =
-    let a = c.args in
-    c.read_more.ensures ∙ sym (opening_by a.line.now (More c.in-More.a c.in-More.b c.in-More.c) (search rules) (c.fields-parts.ensures.parts ∙ ap (λ (p : Parts). parts_at p a.line.now) c.in-More.is))
+pub returns-in-None : goal.returns-in-None
+unfolding four_at opening_form
+returns-in-None c =
+    let l = c.args.line.now in
+    let m = c.in-More in
+    let e = opening_by l (More m.a m.b m.c) c.if-line-gt-LINE_MOST.false m.ensures.parts in
+    let f = four_opening l m.a m.b m.c (fields_one l (m.c + 1) (sym c.in-None.ensures)) in
+    rw (e, f, ← to_end l (m.c + 1), ← c.number-resilience.ensures) c.read_group-in-None.ensures
+
+pub returns-in-Some : goal.returns-in-Some
+returns-in-Some c =
+    let l = c.args.line.now in
+    let m = c.in-More in
+    let e = opening_by l (More m.a m.b m.c) c.if-line-gt-LINE_MOST.false m.ensures.parts in
+    sym (e ∙ more_opening l m.a m.b m.c c.in-Some.field-0 (fields_more l (m.c + 1) c.in-Some.field-0 (search rules) (sym c.in-Some.ensures)))

@@ -1,16 +1,15 @@
 -- The questions of every call, then those of a packet.
-use mathlib.Core.Path.{sym, ◌∙◌}
-use Rattle.sequencer.proofs.Deciding.{refused_is, decided_is}
+use mathlib.Core.Path.{◌≡◌, sym, ◌∙◌}
+use Rattle.std.specs.Prelude.{Err}
+use Rattle.sequencer.proofs.Deciding.{refused_is, decided_is, judged_as}
+use borrow.Author.Rules.{rules}
 use Rattle.sequencer_calls.proofs.judge.Goals as goal
 
-pub ask-v-requires : goal.ask-v-requires
-ask-v-requires c = c.requires
+pub returns : goal.returns
+returns c = let a = c.args in record { judged = decided_is a.head a.taken.now a.counts.now a.repeats.now a.kept.now a.marks.now a.originators.now a.lengths.now a.payloads.now c.ask.ensures.sizes a.packet.now a.room (sym c.ask.ensures.answer ∙ c.in_ok-ask.was) _ c.decide.ensures; sizes = c.ask.ensures.sizes }
 
-pub decide-requires : goal.decide-requires
-decide-requires c = c.ask-v.ensures.sizes.entries.counts_size
-
-pub returns-in-Accepted : goal.returns-in-Accepted
-returns-in-Accepted c = let a = c.args in record { judged = decided_is a.head a.taken.now a.counts.now a.repeats.now a.kept.now a.marks.now a.originators.now a.lengths.now a.payloads.now c.ask-v.ensures.sizes a.packet.now a.room (sym c.ask-v.ensures.answer ∙ c.in-Accepted.is) _ c.decide.ensures; sizes = c.ask-v.ensures.sizes }
-
-pub returns-in-Refused : goal.returns-in-Refused
-returns-in-Refused c = let a = c.args in record { judged = refused_is a.head a.taken.now a.counts.now a.repeats.now a.kept.now a.marks.now a.originators.now a.lengths.now a.payloads.now c.ask-v.ensures.sizes a.packet.now a.room _ (sym c.ask-v.ensures.answer ∙ c.in-Refused.is); sizes = c.ask-v.ensures.sizes }
+pub returns-in_err-ask-clause-judged : goal.returns-in_err-ask-clause-judged
+returns-in_err-ask-clause-judged c =
+    let a = c.args in
+    let e : Err c.in_err-ask.field-0.0 ≡ c.from_residual.result = search rules in
+    judged_as _ _ _ _ _ e (refused_is a.head a.taken.now a.counts.now a.repeats.now a.kept.now a.marks.now a.originators.now a.lengths.now a.payloads.now c.ask.ensures.sizes a.packet.now a.room _ (sym c.ask.ensures.answer ∙ c.in_err-ask.was))

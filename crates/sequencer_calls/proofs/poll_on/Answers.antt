@@ -8,28 +8,24 @@ use Rattle.sequencer.specs.declared.Answer.TheVariants.{Sent}
 use Rattle.sequencer.proofs.Outcomes.{told_as_lem, told_laid, refusal_told}
 use Rattle.sequencer.proofs.Owed.{call_asked}
 use Rattle.sequencer.proofs.Soundness.{sound_of_lem}
-use borrow.Author.Rules.{rules}
 use Rattle.sequencer_calls.proofs.poll_on.Goals as goal
 
-pub ask-v-requires : goal.ask-v-requires
-ask-v-requires c = record { counts_long = search rules; repeats_long = search rules; places = record { kept_size = search rules; originators_size = search rules; lengths_size = search rules; payloads_size = search rules }; marks_size = search rules }
-
-pub send_poll-written-requires : goal.send_poll-written-requires
+pub send_poll-requires : goal.send_poll-requires
 unfolding view_of
-send_poll-written-requires c =
-    let w = call_asked _ _ (sym c.ask-v.ensures.answer ∙ c.in-Accepted.is) in
+send_poll-requires c =
+    let w = call_asked _ _ (sym c.ask.ensures.answer ∙ c.in-Ok.is) in
     let s = sound_of_lem _ w.0 in
     (le_trans s.floor_le s.accepted_le, w.1)
 
-pub returns-in-Accepted : goal.returns-in-Accepted
+pub returns-in-Ok : goal.returns-in-Ok
 unfolding poll_of poll_packet view_of
-returns-in-Accepted c =
+returns-in-Ok c =
     let a = c.args in
     let s = view_of (whole a.head a.taken.now a.counts.now a.repeats.now a.kept.now a.marks.now a.originators.now a.lengths.now a.payloads.now) in
-    told_as_lem {o = record { sequencer = s; answer = Sent; bytes = poll_packet s }} (judged_yes _ _ _ (sym c.ask-v.ensures.answer ∙ c.in-Accepted.is)) (told_laid (record { sequencer = s; answer = Sent; bytes = poll_packet s }) _ _ _ c.send_poll-written.ensures)
+    told_as_lem {o = record { sequencer = s; answer = Sent; bytes = poll_packet s }} (judged_yes _ _ _ (sym c.ask.ensures.answer ∙ c.in-Ok.is)) (told_laid (record { sequencer = s; answer = Sent; bytes = poll_packet s }) _ _ _ c.send_poll.ensures)
 
-pub returns-in-Refused : goal.returns-in-Refused
+pub returns-in-Err : goal.returns-in-Err
 unfolding poll_of
-returns-in-Refused c =
+returns-in-Err c =
     let a = c.args in
-    told_as_lem (judged_no _ _ _ _ (sym c.ask-v.ensures.answer ∙ c.in-Refused.is)) (refusal_told _ _ a.out.now c.refused.ensures (view_of (whole a.head a.taken.now a.counts.now a.repeats.now a.kept.now a.marks.now a.originators.now a.lengths.now a.payloads.now)))
+    told_as_lem (judged_no _ _ _ _ (sym c.ask.ensures.answer ∙ c.in-Err.is)) (refusal_told _ _ a.out.now c.refused.ensures (view_of (whole a.head a.taken.now a.counts.now a.repeats.now a.kept.now a.marks.now a.originators.now a.lengths.now a.payloads.now)))

@@ -11,18 +11,18 @@ pub slice_bounds-packet-end : goal.slice_bounds-packet-end
 slice_bounds-packet-end c =
     let a = c.args in
     let n : length a.packet ≡ longest_packet = c.well_formed.1.1.1.1.1.1.1.1.1.1.1.1.0.1.0.1 in
-    let s = packet_fits c.fitting-most.result a.size c.fitting-most.ensures in
+    let s = packet_fits c.fitting-size.result a.size c.fitting-size.ensures in
     omega arith
 
 pub slice_bounds-act-end : goal.slice_bounds-act-end
 slice_bounds-act-end c =
     let a = c.args in
     let n : length a.packet ≡ longest_packet = c.well_formed.1.1.1.1.1.1.1.1.1.1.1.1.0.1.0.1 in
-    let s = packet_fits c.fitting-most.result a.size c.fitting-most.ensures in
-    sym (length-take-le c.fitting-most.result a.packet (omega arith))
+    let s = packet_fits c.fitting-size.result a.size c.fitting-size.ensures in
+    sym (length-take-le c.fitting-size.result a.packet (omega arith))
 
 pub returns : goal.returns
 returns c =
     let a = c.args in
     let n : length a.packet ≡ longest_packet = c.well_formed.1.1.1.1.1.1.1.1.1.1.1.1.0.1.0.1 in
-    rw (packet_read c.fitting-most.result a.size a.packet n c.fitting-most.ensures) at c.act.ensures
+    rw (packet_read c.fitting-size.result a.size a.packet n c.fitting-size.ensures) at c.act.ensures

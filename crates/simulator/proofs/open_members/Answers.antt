@@ -1,7 +1,6 @@
 -- One member after the other.
 use mathlib.Core.Path.{◌≡◌}
 use native.Mathlib.Omega.{arith}
-use Prim.Native.Nat.{◌-◌}
 use Rattle.group.specs.Limits.{members_most}
 use Rattle.simulator.proofs.Opening.{begun_none, begun_on}
 use borrow.Author.Rules.{rules}

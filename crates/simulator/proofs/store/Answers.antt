@@ -7,8 +7,8 @@ use Rattle.simulator.proofs.store.Goals as goal
 pub returns-then-size-eq0 : goal.returns-then-size-eq0
 returns-then-size-eq0 c = let a = c.args in stores_none a.sizes.now a.packets.now a.count a.size a.bytes c.if-size-eq0.true (search rules)
 
-pub returns : goal.returns
-returns c =
+pub returns-else-size-eq0 : goal.returns-else-size-eq0
+returns-else-size-eq0 c =
     let a = c.args in
     let k = c.requires.0 in
     let s = c.requires.1 in

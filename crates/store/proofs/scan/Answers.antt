@@ -1,46 +1,23 @@
--- The loop's invariant: what was seen of the bytes that count is zero and the rest is, exactly if all from the index on are.
-use mathlib.Core.Path.{◌≡◌, ap, ◌∙◌}
-use mathlib.Core.Bool.{true}
-use mathlib.Core.List.{List}
-use Prim.Native.Nat.{ℕ, ◌+◌, ◌-◌}
+-- What is left is under the mask all of it at first, a pair less each turn, and nothing at the end.
+use mathlib.Core.Path.{ap, ◌∙◌}
+use mathlib.Core.Logic.{⊎_map}
 use native.Mathlib.Omega.{arith}
-use lib.Bits.{bit_and}
-use lib.ListN.{length, get_or}
-use Rattle.group.specs.Choice.{when◌then◌else◌, ◌and◌, ◌=?◌}
-use Rattle.message.proofs.Zero.{zero_on, zero_done}
-use Rattle.store.specs.Places.{block_size}
-use Rattle.store.proofs.Scanning.{mask_length, masked_zero}
+use Rattle.store.proofs.Scanning.{under_next, under_end, under_mask}
 use Rattle.store.proofs.scan.Goals as goal
 
-pub loop-i-init : goal.loop-i-init
-unfolding when◌then◌else◌
-loop-i-init c =
-    let a = c.args in
-    let p = c.requires in
-    let e : 0 + (a.from - 0) ≡ a.from = omega arith in
-    (p.0, p.1, ap length p.1 ∙ mask_length, p.2, rw e)
+pub loop-byte-init : goal.loop-byte-init
+loop-byte-init c =
+    let z = c.zip-byte-items.ensures in
+    rw c.into_iter-byte-iterator.ensures.into_iter_gives
+    (under_mask c.args.block.now c.args.mask.now _ _ c.args.from (λ i. let z = c.type_inv.block i in omega (arith, z)) c.requires (ap (λ i. i.rest.now) z.first ∙ c.iter.ensures.rest) z.second.0)
 
-pub bounds-block-i : goal.bounds-block-i
-bounds-block-i c = omega arith
-
-pub bounds-mask-shift : goal.bounds-mask-shift
-bounds-mask-shift c = omega arith
-
-pub loop-i-smaller : goal.loop-i-smaller
-loop-i-smaller c = omega arith
-
-pub loop-i-preserved : goal.loop-i-preserved
-loop-i-preserved c =
-    let l = c.loop-i in
-    let a = c.args in
-    let b = get_or a.block.now l.i 0 in
-    let u : (bit_and b (get_or a.mask.now (block_size - a.from + l.i) 0) =? 0) ≡ (when b =? 0 then true else (l.i + 1 - a.from =? 0)) =
-    ap (λ (m : List ℕ). bit_and b (get_or m (block_size - a.from + l.i) 0) =? 0) l.invariant.1
-    ∙ masked_zero b l.i a.from (let z = c.shared_slice_known-1.given l.i in omega (arith, z)) (omega arith) l.invariant.3 in
-    (l.invariant.0, l.invariant.1, l.invariant.2, l.invariant.3, zero_on a.block.now a.from l.seen l.i l.invariant.4 (bit_and b (get_or a.mask.now (block_size - a.from + l.i) 0)) (omega arith) u)
+pub loop-byte-preserved : goal.loop-byte-preserved
+loop-byte-preserved c =
+    let l = c.loop-byte in
+    let h = c.in-Some.ensures.steps in
+    under_next l.seen c.in-Some.byte.now c.in-Some.bits.now _ _ _ _ h.0 h.1 ∙ l.invariant
 
 pub returns : goal.returns
 returns c =
-    let l = c.loop-i in
-    let a = c.args in
-    zero_done a.block.now a.from l.seen l.i l.invariant.4 (omega arith)
+    let l = c.loop-byte in
+    under_end l.seen _ _ (⊎_map (λ a. a.1.0) (λ b. b.1.0) c.in-None.ensures.steps) ∙ l.invariant

@@ -1,16 +1,10 @@
--- The loop's invariant: what was seen of the bytes that count is zero and the rest is, exactly if all from the index on are.
+-- The loop's invariant: what was seen is zero and the rest is under the mask, exactly if all bytes from the index on are.
 use mathlib.Core.Path.{◌≡◌}
-use Prim.Native.Nat.{◌+◌, ◌-◌, ◌≤◌}
-use lib.ListN.{length, drop}
+use lib.ListN.{drop}
 use Rattle.group.specs.Choice.{◌and◌, ◌=?◌}
 use Rattle.message.specs.Message.{all_zero}
-use Rattle.store.specs.Places.{block_size, mask_of}
+use Rattle.store.proofs.Scanning.{under}
 use Rattle.store.proofs.scan.Given as goal
 
-abbrev pub invariant-loop-i : goal.invariant-loop-i
-invariant-loop-i l =
-    (length l.block ≡ block_size) × (l.mask ≡ mask_of) × (length l.mask ≡ block_size + block_size) × (l.from ≤ block_size)
-    × (l.seen =? 0 and all_zero (drop (l.i + (l.from - l.i)) l.block) ≡ all_zero (drop l.from l.block))
-
-abbrev pub decreases-loop-i : goal.decreases-loop-i
-decreases-loop-i l = block_size - l.i
+abbrev pub invariant-loop-byte : goal.invariant-loop-byte
+invariant-loop-byte l = (l.seen =? 0) and all_zero (under l.byte-iterator.a.rest.now l.byte-iterator.b.rest.now) ≡ all_zero (drop l.from l.block)

@@ -25,7 +25,7 @@ loop-place-preserved g c =
     let b : l.place < length a.jobs = omega arith in
     let f = c.write_job-size.ensures in
     let e = laid_front (job_line a.i l.place _) _ _ _ f.lent f.size ∙ ap (job_line a.i l.place) (get_d-inside a.jobs l.place _ no_job b) in
-    (search rules, takes_as (sym (jobs_on a.i a.jobs l.place)) (takes_both l.invariant.1 (takes_as e c.put_job-sink.ensures)))
+    (search rules, takes_as (sym (jobs_on a.i a.jobs l.place)) (takes_both l.invariant.1 (takes_as e c.put_text-sink.ensures)))
 
 pub returns : goal.returns
 returns g c =

@@ -16,7 +16,7 @@ returns-then-quiet g c =
     λ g u v.
     let stage = stage_in (phase_of p.head p.phase) g p.number in
     let f = c.write_left-size.ensures g u in
-    let t = takes_as (laid_front (table_left stage) _ _ _ f.lent f.size) c.put_table-next.ensures in
+    let t = takes_as (laid_front (table_left stage) _ _ _ f.lent f.size) c.put_text-next.ensures in
     takes_as (ap (λ (b : Bool). (program_of b).last stage) (sym c.if-quiet.true)) (takes_both t (c.put_left.ensures g v))
 
 pub returns : goal.returns

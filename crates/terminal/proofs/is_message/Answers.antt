@@ -6,5 +6,5 @@ use Rattle.terminal.proofs.is_message.Goals as goal
 pub returns-then-h-eq-BROADCAST : goal.returns-then-h-eq-BROADCAST
 returns-then-h-eq-BROADCAST c = search (choices, rules) depth 9
 
-pub returns : goal.returns
-returns c = search (choices, rules) depth 9
+pub returns-else-h-eq-BROADCAST : goal.returns-else-h-eq-BROADCAST
+returns-else-h-eq-BROADCAST c = search (choices, rules) depth 9

@@ -8,18 +8,18 @@ use Rattle.terminals.specs.Steps.{closed_refusal}
 use borrow.Author.Rules.{rules}
 use Rattle.terminals.proofs.closed_refusal.Goals as goal
 
-pub of-said-requires : goal.of-said-requires
+pub of-requires : goal.of-requires
 unfolding Bytes
-of-said-requires c = read_named _ (λ i _. let z = c.shared_slice_known-1.given i in omega (arith, z)) _ (sym c.read-r.ensures.answer ∙ c.in-Fields.is)
+of-requires c = read_named _ (λ i _. let z = c.shared_slice_known-1.given i in omega (arith, z)) _ (sym c.read.ensures.answer ∙ c.in-Ok.is)
 
 pub returns-then-from_elected : goal.returns-then-from_elected
 unfolding closed_refusal
-returns-then-from_elected c = rw (← c.read-r.ensures.answer, c.in-Fields.is, ← c.of-said.ensures) (search (choices, rules) depth 9)
+returns-then-from_elected c = rw (← c.read.ensures.answer, c.in-Ok.is, ← c.of.ensures) (search (choices, rules) depth 9)
 
 pub returns-else-from_elected : goal.returns-else-from_elected
 unfolding closed_refusal
-returns-else-from_elected c = rw (← c.read-r.ensures.answer, c.in-Fields.is, ← c.of-said.ensures) (search (choices, rules) depth 9)
+returns-else-from_elected c = rw (← c.read.ensures.answer, c.in-Ok.is, ← c.of.ensures) (search (choices, rules) depth 9)
 
-pub returns-in-Refused : goal.returns-in-Refused
+pub returns-in-Err : goal.returns-in-Err
 unfolding closed_refusal
-returns-in-Refused c = rw (← c.read-r.ensures.answer, c.in-Refused.is)
+returns-in-Err c = rw (← c.read.ensures.answer, c.in-Err.is)

@@ -6,14 +6,14 @@ use Rattle.packet.proofs.Verdicts.{read_named}
 use Rattle.terminals.specs.Steps.{floor_said}
 use Rattle.terminals.proofs.floor_said.Goals as goal
 
-pub of-content-requires : goal.of-content-requires
+pub of-requires : goal.of-requires
 unfolding Bytes
-of-content-requires c = read_named _ (λ i _. let z = c.shared_slice_known-1.given i in omega (arith, z)) _ (sym c.read-r.ensures.answer ∙ c.in-Fields.is)
+of-requires c = read_named _ (λ i _. let z = c.shared_slice_known-1.given i in omega (arith, z)) _ (sym c.read.ensures.answer ∙ c.in-Ok.is)
 
-pub returns-in-Fields : goal.returns-in-Fields
+pub returns-in-Ok : goal.returns-in-Ok
 unfolding floor_said
-returns-in-Fields c = rw (← c.read-r.ensures.answer, c.in-Fields.is, ← c.of-content.ensures) c.floor_in.ensures
+returns-in-Ok c = rw (← c.read.ensures.answer, c.in-Ok.is, ← c.of.ensures) c.floor_in.ensures
 
-pub returns-in-Refused : goal.returns-in-Refused
+pub returns-in-Err : goal.returns-in-Err
 unfolding floor_said
-returns-in-Refused c = rw (← c.read-r.ensures.answer, c.in-Refused.is)
+returns-in-Err c = rw (← c.read.ensures.answer, c.in-Err.is)

@@ -8,12 +8,12 @@ use Rattle.terminals.proofs.is_of_reset.Goals as goal
 
 pub of_reset-requires : goal.of_reset-requires
 unfolding Bytes
-of_reset-requires c = (read_named _ (λ i _. let z = c.shared_slice_known-1.given i in omega (arith, z)) _ (sym c.read-r.ensures.answer ∙ c.in-Fields.is)).0
+of_reset-requires c = (read_named _ (λ i _. let z = c.shared_slice_known-1.given i in omega (arith, z)) _ (sym c.read.ensures.answer ∙ c.in-Ok.is)).0
 
-pub returns-in-Fields : goal.returns-in-Fields
+pub returns-in-Ok : goal.returns-in-Ok
 unfolding resets
-returns-in-Fields c = rw (← c.read-r.ensures.answer, c.in-Fields.is) c.of_reset.ensures
+returns-in-Ok c = rw (← c.read.ensures.answer, c.in-Ok.is) c.of_reset.ensures
 
-pub returns-in-Refused : goal.returns-in-Refused
+pub returns-in-Err : goal.returns-in-Err
 unfolding resets
-returns-in-Refused c = rw (← c.read-r.ensures.answer, c.in-Refused.is)
+returns-in-Err c = rw (← c.read.ensures.answer, c.in-Err.is)

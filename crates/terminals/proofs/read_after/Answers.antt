@@ -14,4 +14,4 @@ returns-in-Refused c = rw c.in-Refused.is
 
 pub returns : goal.returns
 unfolding read_after
-returns c = let a = c.args in let n = not_refused a.answer c.in_default.not-Refused in let l = c.later.ensures ∙ ap (larger_of a.read.0) c.floor_said-floor.ensures in when_false (is_refusal a.answer) _ _ _ n (λ i. record { 0 = l i })
+returns c = let a = c.args in let n = not_refused a.answer c.in_default.not-Refused in let l = c.later.ensures ∙ ap (larger_of a.read.0) c.floor_said.ensures in when_false (is_refusal a.answer) _ _ _ n (λ i. record { 0 = l i })

@@ -1,13 +1,9 @@
 -- The rest of the member's end is asked, then the member.
 use Rattle.terminals.proofs.Whole.{repeated_whole, repeated_no}
-use borrow.Author.Rules.{rules}
 use Rattle.terminals.proofs.repeat_on.Goals as goal
-
-pub beside_sound-requires : goal.beside_sound-requires
-beside_sound-requires c = (record { kept_size = search rules; originators_size = search rules; lengths_size = search rules; payloads_size = search rules }, search rules, search rules)
 
 pub returns-then-beside_sound : goal.returns-then-beside_sound
 returns-then-beside_sound c = let a = c.args in λ taken counts repeats kept marks originators lengths payloads. repeated_whole a.head a.queued.now a.held.now a.queued_originators.now a.queued_lengths.now a.held_originators.now a.held_lengths.now a.queued_payloads.now a.held_payloads.now a.past.now a.past_originators.now a.past_lengths.now a.past_payloads.now a.highest.now a.replies.now c.beside_sound.ensures taken counts repeats kept marks originators lengths payloads c.if-beside_sound.true c.repeat_on.ensures
 
 pub returns : goal.returns
-returns c = let a = c.args in λ taken counts repeats kept marks originators lengths payloads. repeated_no a.head a.queued.now a.held.now a.queued_originators.now a.queued_lengths.now a.held_originators.now a.held_lengths.now a.queued_payloads.now a.held_payloads.now a.past.now a.past_originators.now a.past_lengths.now a.past_payloads.now a.highest.now a.replies.now c.beside_sound.ensures taken counts repeats kept marks originators lengths payloads c.if-beside_sound.false c.unsound.ensures
+returns c = let a = c.args in λ taken counts repeats kept marks originators lengths payloads. repeated_no a.head a.queued.now a.held.now a.queued_originators.now a.queued_lengths.now a.held_originators.now a.held_lengths.now a.queued_payloads.now a.held_payloads.now a.past.now a.past_originators.now a.past_lengths.now a.past_payloads.now a.highest.now a.replies.now c.beside_sound.ensures taken counts repeats kept marks originators lengths payloads c.if-beside_sound.false c.refused.ensures

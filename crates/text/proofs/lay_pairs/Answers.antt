@@ -1,15 +1,11 @@
 -- The loop's invariant: the bytes laid, then those of the rest, are those of the whole, and the rest keeps its value.
-use mathlib.Core.Path.{refl}
-use Prim.Native.Nat.{◌+◌, ◌*◌, ◌-◌}
+use Prim.Native.Nat.{◌+◌, ◌*◌}
 use Rattle.text.proofs.Digits.{digit_at, pairs_laid, pairs_rest, pairs_done}
 use borrow.Author.Rules.{rules}
 use Rattle.text.proofs.lay_pairs.Goals as goal
 
-pub loop-i-init : goal.loop-i-init
-loop-i-init c = (search rules, search rules, search rules, refl, refl)
-
-pub pair-byte-requires : goal.pair-byte-requires
-pair-byte-requires c =
+pub pair-requires : goal.pair-requires
+pair-requires c =
     let a = c.args in
     let i = c.loop-i.i in
     (digit_at 16 (2 * i) a.field.now 0 c.requires.field_value (search rules), digit_at 16 (2 * i + 1) a.field.now 0 c.requires.field_value (search rules))
@@ -18,15 +14,12 @@ pub loop-i-preserved : goal.loop-i-preserved
 loop-i-preserved c =
     let l = c.loop-i in
     let a = c.args in (
-      search rules,
-      search rules,
-      search rules,
-      pairs_laid a.field.now a.payload.now l.payload l.i l.invariant.3 l.invariant.4 (search rules) c.pair-byte.result (search rules) c.pair-byte.ensures,
-      pairs_rest a.field.now a.payload.now l.payload l.i l.invariant.3 l.invariant.4 (search rules) c.pair-byte.result,
+      pairs_laid a.field.now a.payload.now l.payload l.i l.invariant.0 l.invariant.1 (search rules) c.pair.result (search rules) c.pair.ensures,
+      pairs_rest a.field.now a.payload.now l.payload l.i l.invariant.0 l.invariant.1 (search rules) c.pair.result,
     )
 
 pub returns : goal.returns
 returns c =
     let l = c.loop-i in
     let a = c.args in
-    pairs_done a.field.now a.payload.now l.payload l.i (search rules) l.invariant.3 l.invariant.4
+    pairs_done a.field.now a.payload.now l.payload l.i (search rules) l.invariant.0 l.invariant.1

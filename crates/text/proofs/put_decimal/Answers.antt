@@ -18,16 +18,16 @@ returns-then-n-eq0 c = rw (c.if-n-eq0.true, decimal_zero) c.put.ensures
 
 pub put_text-requires : goal.put_text-requires
 put_text-requires c =
-    let s = c.spell-spelled.result in
+    let s = c.spell-start.result in
     let t = take_all (count_digits - s.start) (drop s.start s.digits) (simp length-drop (omega arith)) in
-    let e = c.spell-spelled.ensures.digits in
+    let e = c.spell-start.ensures.digits in
     let d = decimal_digits_lem c.args.n c.if-n-eq0.false in
     rw (t, e, ← d) c.requires
 
 pub returns : goal.returns
 returns c =
-    let s = c.spell-spelled.result in
+    let s = c.spell-start.result in
     let t = take_all (count_digits - s.start) (drop s.start s.digits) (simp length-drop (omega arith)) in
-    let e = c.spell-spelled.ensures.digits in
+    let e = c.spell-start.ensures.digits in
     let d = decimal_digits_lem c.args.n c.if-n-eq0.false in
     rw d (rw (t, e) at c.put_text.ensures)

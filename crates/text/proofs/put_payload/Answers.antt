@@ -7,12 +7,12 @@ use Rattle.text.specs.Text.{dash}
 use borrow.Author.Rules.{rules}
 use Rattle.text.proofs.put_payload.Goals as goal
 
-pub returns-then-payload-eq0 : goal.returns-then-payload-eq0
-returns-then-payload-eq0 c =
-    let e = payload_empty c.args.payload.now c.if-payload-eq0.true in
+pub returns-then-is_empty : goal.returns-then-is_empty
+returns-then-is_empty c =
+    let e = payload_empty c.args.payload.now (search rules) in
     record { laid = rw e (laid_field (dash ∷ []) c.put-next.ensures c.put.ensures); short = search rules }
 
-pub returns : goal.returns
-returns c =
-    let e = payload_hex c.args.payload.now c.if-payload-eq0.false in
+pub returns-else-is_empty : goal.returns-else-is_empty
+returns-else-is_empty c =
+    let e = payload_hex c.args.payload.now (search rules) in
     record { laid = rw e (laid_field (hex_of c.args.payload.now) c.put-next.ensures c.put_hex.ensures.laid); short = search rules }

@@ -19,7 +19,7 @@ loop-rest-preserved c =
       search rules,
       search rules,
       spell_fewer n l.rest l.start l.digits l.invariant.2 l.invariant.3 c.loop-rest-test.true,
-      spell_on n l.rest l.start l.digits l.invariant.2 l.invariant.3 c.glyph-d.result c.loop-rest-test.true (search rules) c.glyph-d.ensures,
+      spell_on n l.rest l.start l.digits l.invariant.2 l.invariant.3 c.glyph.result c.loop-rest-test.true (search rules) c.glyph.ensures,
     )
 
 pub returns : goal.returns

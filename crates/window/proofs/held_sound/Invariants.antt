@@ -1,15 +1,11 @@
 -- The loop's invariant: the places are sound exactly if those of the numbers after the first `i` are.
 use mathlib.Core.Path.{◌≡◌}
-use Prim.Native.Nat.{◌+◌, ◌-◌, ◌*◌}
-use lib.ListN.{length}
+use Prim.Native.Nat.{◌+◌, ◌-◌}
 use Rattle.group.specs.Fold.{all_above}
-use Rattle.group.specs.Limits.{held_most, payload_most}
-use Rattle.store.specs.Places.{messages_in, mask_of}
+use Rattle.group.specs.Limits.{held_most}
+use Rattle.store.specs.Places.{messages_in}
 use Rattle.window.specs.Sound.{place_sound}
 use Rattle.window.proofs.held_sound.Given as goal
 
 abbrev pub invariant-loop-i : goal.invariant-loop-i
-invariant-loop-i l = (length l.counts ≡ held_most) × (length l.originators ≡ held_most) × (length l.lengths ≡ held_most) × (length l.payloads ≡ held_most * payload_most) × (l.mask ≡ mask_of) × (all_above (place_sound l.n (messages_in l.counts l.originators l.lengths l.payloads)) l.taken.0 held_most ≡ all_above (place_sound l.n (messages_in l.counts l.originators l.lengths l.payloads)) (l.taken.0 + l.i) (held_most - l.i))
-
-abbrev pub decreases-loop-i : goal.decreases-loop-i
-decreases-loop-i l = held_most - l.i
+invariant-loop-i l = all_above (place_sound l.n (messages_in l.counts l.originators l.lengths l.payloads)) l.taken.0 held_most ≡ all_above (place_sound l.n (messages_in l.counts l.originators l.lengths l.payloads)) (l.taken.0 + l.i) (held_most - l.i)

@@ -5,4 +5,4 @@ use Rattle.workload.proofs.draw.Goals as goal
 
 pub returns : goal.returns
 unfolding drawn
-returns c = record { value = rw (c.output.ensures, c.step-next.ensures); state = c.step-next.ensures; below = mod-lt _ c.requires }
+returns c = record { value = rw (c.output.ensures, c.step.ensures); state = c.step.ensures; below = mod-lt _ c.requires }

@@ -1,12 +1,13 @@
--- A turn of the loop counts the byte at the index; behind the last byte no byte is left.
-use Rattle.std.proofs.Common.{sym, ◌∙◌}
-use Rattle.descriptor.proofs.Laws.{tallied_step, tallied_end}
+-- The tally of bytes is the fold along them.
+use Rattle.std.proofs.Common.{◌≡◌, ◌∙◌, fold, rules, tests}
+use Rattle.std.proofs.lemmas.Iterator.{YieldsList-from_slice}
+use Rattle.std.proofs.lemmas.Iterator.Consumers.{fold_from_yields_List}
+use Rattle.descriptor.specs.Tally.{counted}
+use Rattle.descriptor.proofs.Laws.{folded}
 use Rattle.descriptor.proofs.Tally.over.Goals as goal
 
-pub loop-i-preserved : goal.loop-i-preserved
-loop-i-preserved c =
-    let s = tallied_step c.loop-i.self c.args.bytes.now c.loop-i.i c.loop-i-test.true in
-    rw c.with-self.ensures (sym s ∙ c.loop-i.invariant)
-
 pub returns : goal.returns
-returns c = sym (tallied_end c.loop-i.self c.args.bytes.now c.loop-i.i c.loop-i-test.false) ∙ c.loop-i.invariant
+returns c =
+    let e : c.fold.result ≡ fold counted c.args.self c.args.bytes.now =
+    fold_from_yields_List _ counted _ c.fold.result c.fold.ensures.ran (YieldsList-from_slice c.args.bytes.now cc) (λ b x q k. search (rules, tests)) in
+    e ∙ folded c.args.self c.args.bytes.now

@@ -8,18 +8,18 @@ pub returns-then-self-eq0 : goal.returns-then-self-eq0
 unfolding holder_sound
 returns-then-self-eq0 c = search (choices, rules) depth 9
 
-pub returns-then-self-eq-UNUSED : goal.returns-then-self-eq-UNUSED
+pub returns-else-self-eq0 : goal.returns-else-self-eq0
 unfolding holder_sound
-returns-then-self-eq-UNUSED c = search (choices, rules) depth 9
+returns-else-self-eq0 c = search (choices, rules) depth 9
 
-pub returns-then-self-eq-WAITING : goal.returns-then-self-eq-WAITING
+pub returns-in-1 : goal.returns-in-1
 unfolding holder_sound
-returns-then-self-eq-WAITING c = search (choices, rules) depth 9
+returns-in-1 c = search (choices, rules) depth 9
 
-pub returns-then-self-eq-GIVEN : goal.returns-then-self-eq-GIVEN
+pub returns-in-2 : goal.returns-in-2
 unfolding holder_sound
-returns-then-self-eq-GIVEN c = search (choices, rules) depth 9
+returns-in-2 c = search (choices, rules) depth 9
 
-pub returns : goal.returns
+pub returns-in_default : goal.returns-in_default
 unfolding holder_sound
-returns c = search (choices, rules) depth 9
+returns-in_default c = search (choices, rules) depth 9

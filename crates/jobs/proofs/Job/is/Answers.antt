@@ -8,6 +8,6 @@ pub returns-then-self-state : goal.returns-then-self-state
 unfolding is_of
 returns-then-self-state c = search (choices, rules) depth 9
 
-pub returns : goal.returns
+pub returns-else-self-state : goal.returns-else-self-state
 unfolding is_of
-returns c = search (choices, rules) depth 9
+returns-else-self-state c = search (choices, rules) depth 9

@@ -1,10 +1,12 @@
--- No block, or the first one.
-use mathlib.Core.Path.{◌∙◌}
-use Rattle.journal.proofs.Cursors.{cursor_none, cursor_first}
+-- A journal with a block is as long as one.
+use mathlib.Core.Path.{sym}
+use native.Mathlib.Omega.{arith}
+use lib.Seq.{length-take-le}
+use Rattle.journal.specs.Limits.{block_size}
 use Rattle.journal.proofs.Cursor.of.Goals as goal
 
-pub returns-then-blocks-eq0 : goal.returns-then-blocks-eq0
-returns-then-blocks-eq0 c = cursor_none c.args.journal.now _ c.if-blocks-eq0.true
+pub slice_bounds-bytes-end : goal.slice_bounds-bytes-end
+slice_bounds-bytes-end c = sym (length-take-le block_size c.args.journal.now (omega arith))
 
-pub returns : goal.returns
-returns c = c.entered.ensures ∙ cursor_first c.args.journal.now _ c.if-blocks-eq0.false
+pub invariant_of-entered : goal.invariant_of-entered
+invariant_of-entered c = length-take-le block_size c.args.journal.now (omega arith)

@@ -8,29 +8,29 @@ use Rattle.journal.proofs.Writer.finish.Goals as goal
 pub returns-then-self-eq0 : goal.returns-then-self-eq0
 returns-then-self-eq0 c =
     let a = c.args in
-    let both = closed_says (closed_none a.self a.hand.now a.out.now _ (sym c.sound.ensures ∙ c.if-sound.true) c.if-self-eq0.true c.after-writer.ensures) in
+    let both = closed_says (closed_none a.self a.hand.now a.out.now _ (sym c.sound.ensures ∙ c.if-not-sound.false) c.if-self-eq0.true c.after-writer.ensures) in
     record { answer = both.0; lent = both.1.0; wording = both.1.1 }
 
 pub hand_out-requires : goal.hand_out-requires
 hand_out-requires c =
-    let sound = sound_says c.args.self (sym c.sound.ensures ∙ c.if-sound.true) in
+    let sound = sound_says c.args.self (sym c.sound.ensures ∙ c.if-not-sound.false) in
     let low = sound.begins in
     let high = sound.ends in
     let fits = sound.fits in
     search rules
 
-pub returns-then-sound : goal.returns-then-sound
-returns-then-sound c =
+pub returns : goal.returns
+returns c =
     let a = c.args in
-    let s = sym c.sound.ensures ∙ c.if-sound.true in
+    let s = sym c.sound.ensures ∙ c.if-not-sound.false in
     let sound = sound_says a.self s in
     let both = closed_says
     (closed_block a.self a.hand.now a.out.now _ s c.if-self-eq0.false c.after-writer.ensures (search rules) (search rules) sound.begins sound.ends
     c.hand_out.ensures) in
     record { answer = both.0; lent = both.1.0; wording = both.1.1 }
 
-pub returns : goal.returns
-returns c =
+pub returns-then-not-sound : goal.returns-then-not-sound
+returns-then-not-sound c =
     let a = c.args in
-    let both = closed_says (closed_refused a.self a.hand.now a.out.now (sym c.sound.ensures ∙ c.if-sound.false)) in
+    let both = closed_says (closed_refused a.self a.hand.now a.out.now (sym c.sound.ensures ∙ c.if-not-sound.true)) in
     record { answer = both.0; lent = both.1.0; wording = both.1.1 }

@@ -10,7 +10,7 @@ use Rattle.journal.proofs.Writer.write.Goals as goal
 pub keep-requires : goal.keep-requires
 keep-requires c =
     let a = c.args in
-    let (s, m, _) = accepted_says a.self (message_with a.number a.originator a.count a.payload.now) (sym c.ask-verdict.ensures ∙ c.in-Accepted.is) in
+    let (s, m, _) = accepted_says a.self (message_with a.number a.originator a.count a.payload.now) (sym c.ask-verdict.ensures ∙ c.in-Ok.is) in
     let sound = sound_says a.self s in
     let low = sound.begins in
     let high = sound.ends in
@@ -18,16 +18,16 @@ keep-requires c =
     let size = (may (message_with a.number a.originator a.count a.payload.now) m).size in
     search rules
 
-pub returns-in-Accepted : goal.returns-in-Accepted
-returns-in-Accepted c =
+pub returns-in-Ok : goal.returns-in-Ok
+returns-in-Ok c =
     let a = c.args in
     let m = message_with a.number a.originator a.count a.payload.now in
-    let both = done_says (write_accepted a.self m a.hand.now (sym c.ask-verdict.ensures ∙ c.in-Accepted.is) c.keep.ensures) in
+    let both = done_says (write_accepted a.self m a.hand.now (sym c.ask-verdict.ensures ∙ c.in-Ok.is) c.keep.ensures) in
     record { answer = both.0; hand = both.1.0; lent = both.1.1.0; wording = both.1.1.1 }
 
-pub returns-in-Refused : goal.returns-in-Refused
-returns-in-Refused c =
+pub returns-in-Err : goal.returns-in-Err
+returns-in-Err c =
     let a = c.args in
     let m = message_with a.number a.originator a.count a.payload.now in
-    let both = done_says (write_refused a.self m a.hand.now a.out.now _ (sym c.ask-verdict.ensures ∙ c.in-Refused.is)) in
+    let both = done_says (write_refused a.self m a.hand.now a.out.now _ (sym c.ask-verdict.ensures ∙ c.in-Err.is)) in
     record { answer = both.0; hand = both.1.0; lent = both.1.1.0; wording = both.1.1.1 }

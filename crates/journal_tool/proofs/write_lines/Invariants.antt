@@ -1,5 +1,0 @@
--- The loop counts its turns down.
-use Rattle.journal_tool.proofs.write_lines.Given as goal
-
-abbrev pub decreases-loop-turns : goal.decreases-loop-turns
-decreases-loop-turns l = l.turns

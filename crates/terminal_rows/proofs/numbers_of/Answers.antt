@@ -1,6 +1,0 @@
--- Each number in its place.
-use mathlib.Core.Path.{refl}
-use Rattle.terminal_rows.proofs.numbers_of.Goals as goal
-
-pub returns : goal.returns
-returns c = refl

@@ -1,7 +1,5 @@
 -- What each step of a feed comes to, by the place that was found. Assumes nothing.
-use Rattle.std.proofs.Common.{◌≡◌, refl, ap, ◌∙◌, true, false, List, [], ◌∷◌, ◌++◌, ℕ, ◌+◌, ◌-◌, ◌≤◌, ◌<◌, length, take, drop, set, get_or, Ok, Err, arith, append_assoc}
-use Rattle.std.specs.List.{copy_within}
-use Rattle.std.proofs.lemmas.List.{take_all, set-append_right, length-append, length-take, length-drop}
+use Rattle.std.proofs.Common.{◌≡◌, refl, ap, true, false, List, ℕ, ◌<◌, length, drop, set, get_or, Ok, Err, arith}
 use borrow.Author.Tests.{eqb-true}
 use Rattle.group.specs.Choice.{◌=?◌}
 use Rattle.group.specs.Limits.{jobs_most}
@@ -14,25 +12,6 @@ use Rattle.jobs.specs.Sound.{sound_of}
 use Rattle.jobs.specs.declared.Answer.TheVariants.{Added, Given, None}
 use Rattle.jobs.specs.declared.Job.{Job}
 use Rattle.jobs.specs.declared.Outcome.{Outcome}
-
-one_set : (ys : List Job) → length ys ≡ 1 → set ys 0 no_job ≡ no_job ∷ []
-one_set [] e = absurd (let z : ◌≡◌ {A = ℕ} 0 1 = e in omega arith)
-one_set (y ∷ []) e = refl
-one_set (y ∷ (z ∷ rest)) e = absurd (omega (arith, e))
-
-closed : (xs : List Job) (k n : ℕ) → k ≤ n → length xs ≡ n + 1 → set (copy_within xs (k + 1) (length xs) k) n no_job ≡ without_place k xs
-unfolding without_place
-closed xs k n h e =
-    let d = length-drop (k + 1) xs in
-    let whole : take (length xs - (k + 1)) (drop (k + 1) xs) ≡ drop (k + 1) xs = take_all _ (drop (k + 1) xs) (omega (arith, d)) in
-    let front : length (take k xs ++ drop (k + 1) xs) ≡ n = (let t = length-take k xs in length-append (take k xs) (drop (k + 1) xs) ∙ omega (arith, t, d, h, e)) in
-    let at : k + (length xs - (k + 1)) ≡ n = omega (arith, h, e) in
-    let last : set (drop n xs) (n - n) no_job ≡ no_job ∷ [] = (let l = length-drop n xs in let z : n - n ≡ 0 = omega arith in rw z (one_set (drop n xs) (omega (arith, l, e)))) in
-    ap (λ (ys : List Job). set (take k xs ++ ys ++ drop (k + (length xs - (k + 1))) xs) n no_job) whole
-    ∙ ap (λ (i : ℕ). set (take k xs ++ drop (k + 1) xs ++ drop i xs) n no_job) at
-    ∙ set-append_right (take k xs ++ drop (k + 1) xs) (drop n xs) n n no_job front (omega arith)
-    ∙ ap (λ (ys : List Job). take k xs ++ drop (k + 1) xs ++ ys) last
-    ∙ append_assoc (take k xs) (drop (k + 1) xs) (no_job ∷ [])
 
 module _ (jobs : List Job) (full : length jobs ≡ jobs_most) where
   pub add_room : (bytes : List ℕ) (place : ℕ) → (place ≡ place_of unused_state 0 jobs) × (place < length jobs)
@@ -57,14 +36,11 @@ module _ (jobs : List Job) (full : length jobs ≡ jobs_most) where
   unfolding give_of
   give_none m e = when_nlt (place_of waiting_state 0 jobs) jobs_most _ _ _ (omega (arith, e, full)) refl
 
-  -- the records behind a place move down by one, and the last one is unused
-  pub closes : (place n : ℕ) (m : MemberNumber) → (place ≡ place_of given_state m.0 jobs) × (place < length jobs) → n ≡ jobs_most - 1
-      → set (copy_within jobs (place + 1) (length jobs) place) n no_job ≡ finish_of jobs m
+  -- the list without the record at the place that was found
+  pub closes : (place : ℕ) (m : MemberNumber) → (place ≡ place_of given_state m.0 jobs) × (place < length jobs) → without_place place jobs ≡ finish_of jobs m
   unfolding finish_of
-  closes place n m e is =
-      let h = e.1 in
-      closed jobs place n (omega (arith, h, is, full)) (omega (arith, is, full))
-      ∙ when_lt (place_of given_state m.0 jobs) jobs_most _ _ _ (omega (arith, e.0, e.1, full)) (ap (λ (k : ℕ). without_place k jobs) e.0)
+  closes place m e =
+      when_lt (place_of given_state m.0 jobs) jobs_most _ _ _ (omega (arith, e.0, e.1, full)) (ap (λ (k : ℕ). without_place k jobs) e.0)
 
   pub finish_none : (m : MemberNumber) → place_of given_state m.0 jobs ≡ length jobs → jobs ≡ finish_of jobs m
   unfolding finish_of

@@ -66,7 +66,7 @@ impl Job {
         ensures { result ≡ waiting_job job.now }
     {
         let mut bytes = [0; Group::JOB];
-        bytes[..job.len()].copy_from_slice(job);
+        message::copy(job, &mut bytes);
         Job {
             state: Job::WAITING,
             member: MemberNumber(0),
@@ -165,7 +165,10 @@ fn finish(jobs: &mut [Job], member: MemberNumber)
     ensures { jobs.new ≡ finish_of jobs.old member }
 {
     if let Some(place) = find(jobs, Job::GIVEN, member.0) {
-        jobs.copy_within(place + 1.., place);
+        // kept: a loop by index, since `copy_within` calls `memmove`, which C without a library need not have.
+        for i in place..LAST {
+            jobs[i] = jobs[i + 1];
+        }
         jobs[LAST] = Job::empty();
     }
 }

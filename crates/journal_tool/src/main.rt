@@ -4,13 +4,12 @@
 // nothing is promised here; what is read and written is worked out by `journal`, `plan` and `text`.
 #![tactic(auto)]
 
-ghost use Rattle.std.specs.Prelude.{◌≡◌, ◌+◌, ◌*◌, ◌<◌, ◌≤◌, length, vec_len, IfSome};
+ghost use Rattle.std.specs.Prelude.{◌≡◌, ◌+◌, ◌*◌, ◌<◌, ◌≤◌, length, IfOk, IfSome};
 ghost use Rattle.group.specs.Limits.{payload_most};
 ghost use Rattle.journal.specs.Laws.{StandsIn};
 
 use group::{Group, MemberNumber, Refusal, SequenceNumber};
 use journal::{Block, Cursor, Found, Record, Spot, Step, Tail, Writer};
-use std::alloc::AllocError;
 use std::env::FillError;
 use std::fs::{File, OpenOptions, Permissions};
 use std::io::{Error, ErrorKind, Read, Seek, SeekFrom, Stdin, Write};
@@ -50,12 +49,6 @@ impl From<Error> for Failure {
     }
 }
 
-impl From<AllocError> for Failure {
-    fn from(error: AllocError) -> Self {
-        Failure::Io(Error::from(error))
-    }
-}
-
 impl From<Refusal> for Failure {
     fn from(refusal: Refusal) -> Self {
         Failure::Refused(refusal)
@@ -79,16 +72,19 @@ fn words_of(told: &str) -> &str {
     }
 }
 
+// Says on standard error what failed.
+fn fail(rt: &HostRuntime, error: Error) {
+    if let Ok(told) = error.to_string(rt.alloc()) {
+        let words = words_of(told.as_str());
+        let _ = eprintln!(rt; "journal_tool: {words}");
+    }
+}
+
 // Says what failed: of the system on standard error, and else in the output.
 fn report(rt: &HostRuntime, done: Result<(), Failure>) {
     match done {
         Ok(()) => {}
-        Err(Failure::Io(error)) => {
-            if let Ok(told) = error.to_string(rt.alloc()) {
-                let words = words_of(told.as_str());
-                let _ = eprintln!(rt; "journal_tool: {words}");
-            }
-        }
+        Err(Failure::Io(error)) => fail(rt, error),
         Err(Failure::Refused(refusal)) => print_refused(rt, refusal),
         Err(Failure::Told(words)) => {
             let _ = println!(rt; "{words}");
@@ -174,6 +170,7 @@ fn length_of(mut file: &File) -> io::Result<u64> {
     Ok(length)
 }
 
+#[inline(never)]
 fn list(rt: &HostRuntime, name: &[u8]) -> Result<(), Failure> {
     let file = File::open(rt, path(name)?)?;
     let length = length_of(&file)?;
@@ -233,24 +230,50 @@ fn read_line(line: &[u8], payload: &mut [u8]) -> Option<Message>
     })
 }
 
-// Types a line, up to its line feed or the end of the input, and gives whether the input goes on. Of a line that is too long the
-// front is kept. Each block waits for the card, so a call for each byte of the input is no loss.
-fn type_line(input: Stdin, line: &mut Vec<u8>) -> Result<bool, AllocError>
-    ensures { vec_len line.new ≤ LINE_MOST }
+// A line that was typed, at the front of these bytes, and whether the input goes on behind it.
+#[derive(Drop)]
+struct Typed {
+    bytes: [u8; LINE_MOST],
+    size: usize,
+    goes_on: bool,
+}
+
+impl Typed {
+    fn line(&self) -> &[u8]
+        ensures { length result.now ≤ 1000 }
+    {
+        &self.bytes[..self.size.min(LINE_MOST)]
+    }
+}
+
+// Types a line, up to its line feed or the end of the input. Of a line that is too long the front is kept. Each block waits for the
+// card, so a call for each byte of the input is no loss.
+fn type_line(input: Stdin) -> Typed
+    ensures { result.size ≤ LINE_MOST }
 {
-    line.clear();
+    let mut bytes = [0; LINE_MOST];
+    let mut size = 0;
+    let mut goes_on = false;
     'bytes: for byte in input.bytes() {
         match byte {
-            Ok(b'\n') => return Ok(true),
+            Ok(b'\n') => {
+                goes_on = true;
+                break;
+            }
             Ok(byte) => {
-                if line.len() < LINE_MOST {
-                    line.push(byte)?;
+                if size < LINE_MOST {
+                    bytes[size] = byte;
+                    size += 1;
                 }
             }
             Err(_) => break,
         }
     }
-    Ok(false)
+    Typed {
+        bytes,
+        size,
+        goes_on,
+    }
 }
 
 // A writer on a file, with its block in hand, and the file's blocks and messages.
@@ -322,18 +345,17 @@ impl Session {
 
     // Writes each line of the input. What stands behind the last line feed is a line too, unless it is empty.
     fn write_lines(&mut self, rt: &HostRuntime) -> Result<(), Failure> {
-        let mut line = Vec::new(rt.alloc());
         let mut payload = [0; LINE_MOST / 2];
         for _ in 0..u64::MAX {
-            let goes_on = type_line(rt.stdin(), &mut line)?;
-            if !goes_on && line.is_empty() {
+            let typed = type_line(rt.stdin());
+            if !typed.goes_on && typed.size == 0 {
                 break;
             }
-            let Some(message) = read_line(&line, &mut payload) else {
+            let Some(message) = read_line(typed.line(), &mut payload) else {
                 return Err(Failure::Told("bad line"));
             };
             self.write(rt, message, &payload[..message.length])?;
-            if !goes_on {
+            if !typed.goes_on {
                 break;
             }
         }
@@ -350,6 +372,7 @@ impl Session {
 }
 
 // Appends to a file the messages of the input. What stands behind its right blocks is cut off, a rest that is no block too.
+#[inline(never)]
 fn append(rt: &HostRuntime, name: &[u8]) -> Result<(), Failure> {
     let file = open_or_make(rt, name)?;
     let length = length_of(&file)?;
@@ -416,25 +439,49 @@ fn print_rows(rt: &HostRuntime, mut rows: &[u8]) {
     }
 }
 
-// The journal in a file: what is read of it up to its end, or until a read fails.
-fn read_journal(rt: &HostRuntime, name: &[u8]) -> Result<Vec<u8>, Failure> {
-    let file = File::open(rt, path(name)?)?;
-    let mut journal = Vec::new(rt.alloc());
-    if let Err(error) = file.take(FILE_MOST as u64 + 1).read_to_end(&mut journal) {
-        if error.kind() == ErrorKind::OutOfMemory {
-            return Err(Failure::Io(error));
+// Reads until the bytes are full, the input ends or a read fails, and gives how many bytes it put at their front.
+fn read_full(mut file: &File, bytes: &mut [u8]) -> usize
+    ensures { result ≤ length bytes.new }
+{
+    let mut done = 0;
+    'reads: for _ in 0..u64::MAX {
+        match file.read(&mut bytes[done..]) {
+            Ok(0) => break,
+            Ok(size) => done += size,
+            Err(error) => {
+                if error.kind() != ErrorKind::Interrupted {
+                    break;
+                }
+            }
         }
     }
-    if FILE_MOST < journal.len() {
-        return Err(Failure::Told("longer than 1048576 bytes"));
-    }
-    Ok(journal)
+    done
 }
 
+// Puts the journal in a file at the front of the bytes, and gives its length: what is read of it up to its end, or until a read fails.
+// There is a byte more than a journal may have, by which a longer one is told.
+fn read_journal(
+    rt: &HostRuntime,
+    name: &[u8],
+    journal: &mut [u8; FILE_MOST + 1],
+) -> Result<usize, Failure>
+    ensures { IfOk result (λ size. size ≤ length journal.new) }
+{
+    let file = File::open(rt, path(name)?)?;
+    let size = read_full(&file, journal);
+    if FILE_MOST < size {
+        return Err(Failure::Told("longer than 1048576 bytes"));
+    }
+    Ok(size)
+}
+
+// Its journal and its output lie on the stack, and so do those of a rewriting: neither becomes part of a command that has none.
+#[inline(never)]
 fn plan(rt: &HostRuntime, name: &[u8]) -> Result<(), Failure> {
-    let journal = read_journal(rt, name)?;
-    let mut out = vec![in rt.alloc(); 0; OUTPUT_MOST]?;
-    let size = plan::plan(&journal, &mut out)?;
+    let mut journal = [0; FILE_MOST + 1];
+    let mut out = [0; OUTPUT_MOST];
+    let length = read_journal(rt, name, &mut journal)?;
+    let size = plan::plan(&journal[..length], &mut out)?;
     print_rows(rt, &out[..size]);
     Ok(())
 }
@@ -452,26 +499,30 @@ fn letter(random: u8) -> u8 {
     if n < 10 { b'0' + n } else { b'a' + (n - 10) }
 }
 
-// A name that is completed: its last bytes are digits and letters, as chance has it.
-fn completed(rt: &HostRuntime, name: &str) -> io::Result<String> {
+// Completes a name: its last bytes become digits and letters, as chance has it.
+fn complete(rt: &HostRuntime, name: &mut [u8]) -> io::Result<()>
+    requires { 6 ≤ length name.old }
+{
     let mut random = [0; COMPLETED];
     rt.fill_bytes(&mut random)?;
-    let mut beside = String::from_str(rt.alloc(), name)?;
-    beside.push('.')?;
-    for byte in random {
-        beside.push(letter(byte) as char)?;
+    let start = name.len() - COMPLETED;
+    for (byte, random) in name[start..].iter_mut().zip(&random) {
+        *byte = letter(*random);
     }
-    Ok(beside)
+    Ok(())
 }
 
-// Makes a file that was not there, and gives it with its name.
-fn create_temp(rt: &HostRuntime, name: &str) -> io::Result<(File, String)> {
+// Makes a file that was not there, and completes its name. A name that is shorter than what completes it is refused.
+fn create_temp(rt: &HostRuntime, name: &mut [u8]) -> io::Result<File> {
+    if name.len() < COMPLETED {
+        return Err(Error::from(ErrorKind::InvalidInput));
+    }
     let mut options = OpenOptions::new();
     options.write(true).create_new(true).mode(0o600);
     for _ in 0..NAMES_TRIED {
-        let beside = completed(rt, name)?;
-        match options.open(rt, &beside) {
-            Ok(file) => return Ok((file, beside)),
+        complete(rt, name)?;
+        match options.open(rt, path(name)?) {
+            Ok(file) => return Ok(file),
             Err(error) => {
                 if error.kind() != ErrorKind::AlreadyExists {
                     return Err(error);
@@ -488,46 +539,69 @@ fn place(rt: &HostRuntime, file: File, beside: &str, name: &str, bytes: &[u8]) -
     fs::rename(rt, beside, name)
 }
 
-// Puts bytes in a file of that name, by way of another beside it: a failure leaves what has that name.
-fn replace(rt: &HostRuntime, name: &[u8], bytes: &[u8]) -> Result<(), Failure> {
+// Puts bytes in a file of that name, by way of another beside it: a failure leaves what has that name. Whether they are there.
+fn replace(rt: &HostRuntime, name: &[u8], bytes: &[u8]) -> Result<bool, Failure> {
     if NAME_MOST - 1 - COMPLETED < name.len() {
         return Err(Failure::Told("too long a name"));
     }
-    let name = path(name)?;
-    let (file, beside) = create_temp(rt, name)?;
-    let placed = place(rt, file, &beside, name, bytes);
-    if placed.is_err() {
-        let _ = fs::remove_file(rt, &beside);
+    let mut beside = [b'.'; NAME_MOST];
+    let size = text::put_text(name, &mut beside, 0) + 1 + COMPLETED;
+    let beside = &mut beside[..size];
+    let file = create_temp(rt, beside)?;
+    let beside = path(beside)?;
+    if let Err(error) = place(rt, file, beside, path(name)?, bytes) {
+        fail(rt, error);
+        let _ = fs::remove_file(rt, beside);
+        return Ok(false);
     }
-    placed?;
-    Ok(())
+    Ok(true)
 }
 
-// Rewrites the journal in a file to another, and prints what is there then.
-fn rewrite(rt: &HostRuntime, name: &[u8], new: &[u8]) -> Result<(), Failure> {
-    let journal = read_journal(rt, name)?;
-    let mut out = vec![in rt.alloc(); 0; OUTPUT_MOST]?;
-    let size = plan::rewrite(&journal, &mut out)?;
+// Rewrites the journal in a file to another, which an argument names, and prints what is there then.
+#[inline(never)]
+fn rewrite(rt: &HostRuntime, name: &[u8], i: usize) -> Result<(), Failure> {
+    let mut new = [0; NAME_MOST];
+    let new_size = argument(rt, i, &mut new);
+    let mut journal = [0; FILE_MOST + 1];
+    let mut out = [0; OUTPUT_MOST];
+    let length = read_journal(rt, name, &mut journal)?;
+    let size = plan::rewrite(&journal[..length], &mut out)?;
     let blocks = &out[..size];
-    replace(rt, new, blocks)?;
-    let found = journal::read(blocks)?;
-    print_totals(rt, found.blocks, found.messages);
+    if replace(rt, &new[..new_size], blocks)? {
+        let found = journal::read(blocks)?;
+        print_totals(rt, found.blocks, found.messages);
+    }
     Ok(())
 }
 
-// The arguments behind the program's own name. One that is longer than the longest is empty.
-fn arguments(rt: &HostRuntime) -> Result<Vec<Vec<u8>>, AllocError> {
-    let mut all = Vec::new(rt.alloc());
+// Puts an argument at the front of a word, and gives its length: 0 where it is missing, or longer than the word.
+fn argument(rt: &HostRuntime, i: usize, word: &mut [u8]) -> usize
+    ensures { result ≤ length word.new }
+{
+    rt.arg(i, word).unwrap_or(0)
+}
+
+// Whether there is an argument; argument 0 is the program's own name.
+// kept: `load` has the same but for the length; no library reads arguments.
+#[inline(never)]
+fn is_there(rt: &HostRuntime, i: usize) -> bool {
     let mut word = [0; NAME_MOST];
-    for i in 0..usize::MAX {
-        let size = match rt.arg(i, &mut word) {
-            Ok(size) => size,
-            Err(FillError::NotPresent) => break,
-            Err(FillError::TooLong) => 0,
-        };
-        all.push(word[..size].to_vec(rt.alloc())?)?;
+    !matches!(rt.arg(i, &mut word), Err(FillError::NotPresent))
+}
+
+// Where the command that begins at an argument ends: before `then`, or behind the last argument.
+#[inline(never)]
+fn command_end(rt: &HostRuntime, from: usize) -> usize
+    ensures { from ≤ result }
+{
+    let mut word = [0; NAME_MOST];
+    for i in from..usize::MAX {
+        let size = argument(rt, i, &mut word);
+        if !is_there(rt, i) || &word[..size] == b"then".as_slice() {
+            return i;
+        }
     }
-    Ok(all)
+    usize::MAX
 }
 
 fn usage(rt: &HostRuntime) {
@@ -536,34 +610,73 @@ fn usage(rt: &HostRuntime) {
     );
 }
 
-// Runs a command.
-fn run(rt: &HostRuntime, command: &[Vec<u8>]) {
-    let Some((word, files)) = command.split_first() else {
+// What is asked.
+#[derive(Clone, Copy)]
+enum Command {
+    List,
+    Append,
+    Plan,
+    Rewrite,
+}
+
+// The command that an argument is, with so many files behind it.
+#[inline(never)]
+fn asked(rt: &HostRuntime, i: usize, files: usize) -> Option<Command> {
+    let mut word = [0; NAME_MOST];
+    let size = argument(rt, i, &mut word);
+    match (path(&word[..size]), files) {
+        (Ok("list"), _) => Some(Command::List),
+        (Ok("append"), 1) => Some(Command::Append),
+        (Ok("plan"), 1) => Some(Command::Plan),
+        (Ok("rewrite"), 2) => Some(Command::Rewrite),
+        _ => None,
+    }
+}
+
+// Runs a command on the file that an argument names; of a rewriting the argument behind it names the new one.
+#[inline(never)]
+fn run_on(rt: &HostRuntime, command: Command, i: usize) {
+    let mut name = [0; NAME_MOST];
+    let size = argument(rt, i, &mut name);
+    let name = &name[..size];
+    let done = match command {
+        Command::List => list(rt, name),
+        Command::Append => append(rt, name),
+        Command::Plan => plan(rt, name),
+        Command::Rewrite => rewrite(rt, name, i.saturating_add(1)),
+    };
+    report(rt, done);
+}
+
+// Runs the command that begins at an argument and ends before another.
+fn run(rt: &HostRuntime, from: usize, end: usize) {
+    if end <= from {
         usage(rt);
         return;
-    };
-    match (path(word), files) {
-        (Ok("list"), files) => {
-            for file in files {
-                report(rt, list(rt, file));
+    }
+    let first = from + 1;
+    match asked(rt, from, end - first) {
+        Some(Command::List) => {
+            for i in first..end {
+                run_on(rt, Command::List, i);
             }
         }
-        (Ok("append"), [file]) => report(rt, append(rt, file)),
-        (Ok("plan"), [file]) => report(rt, plan(rt, file)),
-        (Ok("rewrite"), [file, new]) => report(rt, rewrite(rt, file, new)),
-        _ => usage(rt),
+        Some(command) => run_on(rt, command, first),
+        None => usage(rt),
     }
 }
 
 fn main(rt: HostRuntime) {
-    let Ok(arguments) = arguments(&rt) else {
-        report(&rt, Err(Failure::Io(Error::from(ErrorKind::OutOfMemory))));
-        return;
-    };
-    let Some((_, arguments)) = arguments.split_first() else {
-        return;
-    };
-    for command in arguments.split(|word| word.as_slice() == b"then".as_slice()) {
-        run(&rt, command);
+    let mut from = 1;
+    // Where there is no own name there is nothing to run.
+    let mut goes_on = is_there(&rt, 0);
+    'commands: for _ in 0..usize::MAX {
+        if !goes_on {
+            return;
+        }
+        let end = command_end(&rt, from);
+        run(&rt, from, end);
+        goes_on = is_there(&rt, end);
+        from = end.saturating_add(1);
     }
 }

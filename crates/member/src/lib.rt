@@ -176,7 +176,7 @@ pub fn ask_submission(head: Head, size: usize) -> Result<(), Refusal>
 }
 
 // Lays a request with a payload at the front of the output, and gives its length. It acknowledges the accepted of the row.
-#[tactic(auto, using(group::proofs::Choice::choices, packet::proofs::Permitted::request_fields, packet::proofs::Permitted::laid_whole, crate::proofs::View::requested), unfolding(window::specs::Places::smaller_of))]
+#[tactic(auto, using(group::proofs::Choice::choices, packet::proofs::Permitted::request_fields, packet::proofs::Permitted::laid_whole, crate::proofs::View::requested))]
 fn put_request(
     head: Head,
     held: &[u32; Group::HELD],
@@ -190,7 +190,7 @@ fn put_request(
     let end = window::row_end(held, head.taken);
     let packet = Packet::Request {
         sender: head.number,
-        taken: end.min(head.accepted),
+        taken: window::earlier(end, head.accepted),
         count,
     };
     packet.put(head.group.number, payload, out)
@@ -215,27 +215,27 @@ pub fn put_first(
 }
 
 // Lays a status packet at the front of the output, and gives its length. It acknowledges the accepted of the row that ends there.
-#[tactic(auto, using(group::proofs::Choice::choices, packet::proofs::Permitted::status_fields, crate::proofs::View::status_laid), unfolding(window::specs::Places::smaller_of))]
+#[tactic(auto, using(group::proofs::Choice::choices, packet::proofs::Permitted::status_fields, crate::proofs::View::status_laid))]
 pub fn put_status(head: Head, end: SequenceNumber, out: &mut [u8]) -> usize
     requires { longest_packet ≤ length out.old }
     ensures { Laid (packet_of (fields_of head.group.number (Packet.Status head.number (record { 0 = smaller_of end.0 head.accepted.0 }))) []) result out.old out.new }
 {
     let packet = Packet::Status {
         sender: head.number,
-        taken: end.min(head.accepted),
+        taken: window::earlier(end, head.accepted),
     };
     put_bare(packet, head.group.number, out)
 }
 
 // Lays a gap packet from the number behind the row's end up to `last` at the front of the output, and gives its length.
-#[tactic(auto, using(group::proofs::Choice::choices, packet::proofs::Permitted::gap_fields, crate::proofs::View::gap_laid, window::proofs::Row::smaller_le), unfolding(window::specs::Places::smaller_of))]
+#[tactic(auto, using(group::proofs::Choice::choices, packet::proofs::Permitted::gap_fields, crate::proofs::View::gap_laid, window::proofs::Row::smaller_le))]
 fn put_gap(head: Head, end: SequenceNumber, last: SequenceNumber, out: &mut [u8]) -> usize
     requires { (end.0 < last.0) × (longest_packet ≤ length out.old) }
     ensures { Laid (packet_of (fields_of head.group.number (Packet.Gap head.number (record { 0 = smaller_of end.0 head.accepted.0 }) (record { 0 = end.0 + 1 }) last)) []) result out.old out.new }
 {
     let packet = Packet::Gap {
         sender: head.number,
-        taken: end.min(head.accepted),
+        taken: window::earlier(end, head.accepted),
         first: SequenceNumber(end.0 + 1),
         last,
     };
@@ -380,12 +380,11 @@ fn message_step(
 }
 
 // All up to a number are accepted.
-#[tactic(auto, using(group::proofs::Choice::choices), unfolding(window::specs::Places::larger_of))]
 fn accept_up_to(head: Head, number: SequenceNumber) -> Head
     ensures { result ≡ accepting head number.0 }
 {
     Head {
-        accepted: head.accepted.max(number),
+        accepted: window::later(head.accepted, number),
         ..head
     }
 }

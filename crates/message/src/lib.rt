@@ -11,7 +11,10 @@ pub fn copy(bytes: &[u8], part: &mut [u8])
     requires { length bytes.now ≤ length part.old }
     ensures { part.new ≡ front bytes.now part.old }
 {
-    part[..bytes.len()].copy_from_slice(bytes);
+    // kept: a loop by index, since `copy_from_slice` calls `memmove`, and a terminal of C without a library has `memset` alone.
+    for (i, &byte) in bytes.iter().enumerate() {
+        part[i] = byte;
+    }
 }
 
 // Fills with zeros from an index on; what lies before it keeps its value.

@@ -2,13 +2,12 @@
 use mathlib.Core.Path.{◌≡◌, refl, sym, ap, subst, ◌∙◌}
 use mathlib.Core.List.Memᴰ
 use mathlib.Core.List.{List, [], ◌∷◌, map}
-use Prim.Native.Nat.{ℕ, zero, suc, ◌+◌, ◌≤◌, ◌<◌}
+use Prim.Native.Nat.{ℕ, zero, suc, ◌≤◌, ◌<◌}
 use native.Mathlib.Omega.{arith}
 use native.Mathlib.Numerals.{add-one}
 use lib.ListN.{length, get_or, set, take, length-map}
 use lib.Seq.{length-take-le, take-set-lt}
 use Rattle.std.specs.Prelude.{Result, Ok, Err, MatchResult}
-use Rattle.std.specs.List.{copy_within}
 use Rattle.std.specs.List.Sorted.{IsSearchInRange, IsBinarySearchResult, IsNonDecreasingBy}
 use Rattle.std.specs.Ordering.{nat_cmp, ordering_index}
 use Rattle.std.proofs.lemmas.Bool.Decides.{nat_tests}
@@ -23,7 +22,7 @@ use Rattle.plan.specs.Laws.{◌among◌, Rises}
 use Rattle.plan.specs.Table.{units_most, place_of, Rising, inserted, row_for, Noted}
 use Rattle.plan.specs.declared.Row.{Row}
 use Rattle.plan.proofs.Placing.{order_or, placed_below, placed_same, placed_above}
-use Rattle.plan.proofs.Tables.{Bounds, place_is, made_room}
+use Rattle.plan.proofs.Tables.{Bounds, place_is}
 
 pub map_inserted : {A B : Type 0} (f : A → B) (i : ℕ) (x : A) (l : List A) → map f (inserted i x l) ≡ inserted i (f x) (map f l)
 map_inserted f zero x l = refl
@@ -174,12 +173,12 @@ module _ (table : List Row) (count : ℕ) (row : Row) (fits : count ≤ length t
             (refl, omega arith);
       }
 
-  pub noted_new : (i : ℕ) → Search (Err i) → count < length table → Noted (take count table) row (Ok tt) (take (count + 1) (set (copy_within table i count (i + 1)) i row))
-  noted_new i s less =
+  pub noted_new : (i : ℕ) → Search (Err i) → {after : List Row} → after ≡ inserted i row (take count table) → Noted (take count table) row (Ok tt) after
+  noted_new i s made =
       record {
         held = λ rows m rise is e.
             let (h, p) = found (Err i) s rows m rise is e in
             let n = many rows is in
-            made_room table count i row (omega arith) less ∙ ap (λ (l : List Row). inserted i row l) is ∙ ap (λ (x : Row). inserted i x (map row_for rows)) e
+            made ∙ ap (λ (l : List Row). inserted i row l) is ∙ ap (λ (x : Row). inserted i x (map row_for rows)) e
             ∙ sym (map_inserted row_for i m rows) ∙ ap (map row_for) (sym p);
       }

@@ -1,15 +1,12 @@
 -- Where a number stands in a rising table, and room made in a table. Assumes nothing.
-use mathlib.Core.Path.{◌≡◌, refl, sym, ap, ◌∙◌}
-use mathlib.Core.List.{List, [], ◌∷◌, ◌++◌, append_assoc}
-use Prim.Native.Nat.{ℕ, zero, suc, ◌+◌, ◌-◌, ◌≤◌, ◌<◌}
+use mathlib.Core.Path.{◌≡◌, refl, ap, ◌∙◌}
+use mathlib.Core.List.{List, [], ◌∷◌, ◌++◌, append-nil}
+use Prim.Native.Nat.{ℕ, zero, suc, ◌+◌, ◌≤◌, ◌<◌}
 use native.Mathlib.Omega.{arith}
-use lib.ListN.{length, get_or, set, take, drop, length-drop}
-use lib.Seq.{length-take-le, take-take, take-set-lt, paste}
-use Rattle.std.specs.List.{copy_within}
-use Rattle.std.proofs.lemmas.List.{set-append_left, take_more_set}
-use Rattle.std.proofs.lemmas.List.Edits.{take-paste}
+use native.Mathlib.Nat.{not-suc-le-zero, le_of_suc-le-suc}
+use native.Mathlib.Numerals.{add-one}
+use lib.ListN.{length, get_or, set, take, drop, drop_of_length-le, length-take}
 use Rattle.group.proofs.Choice.{when_lt, when_nlt}
-use Rattle.journal.proofs.Lists.{drop_take}
 use Rattle.plan.specs.Table.{place_of, inserted}
 
 -- the numbers before `low` lie below, those from `high` on do not
@@ -27,20 +24,45 @@ place_is number (x ∷ l) (suc k) h b =
     when_lt x number _ _ _ (b.below 0 (omega arith))
     (let e = place_is number l k (omega arith) (record { below = λ i g. b.below (suc i) (omega arith); above = λ i g n. b.above (suc i) (omega arith) (omega arith) }) in omega arith)
 
--- room made at an index of a table of which so many entries are used, and an element put there
-pub made_room : {A : Type 0} (t : List A) (count at : ℕ) (x : A) → at ≤ count → count < length t
-    → take (count + 1) (set (copy_within t at count (at + 1)) at x) ≡ inserted at x (take count t)
-made_room t count at x low room =
-    let shifted = paste t (at + 1) (drop at t) (count - at) in
-    let front = take (at + 1) t in
-    let back = take (count - at) (drop at t) in
-    let e : count + 1 ≡ at + 1 + (count - at) = omega arith in
-    let d = length-drop at t in
-    let h = length-take-le (at + 1) t (omega arith) in
-    let parts : take (count + 1) shifted ≡ front ++ back = ap (λ (n : ℕ). take n shifted) e ∙ take-paste t (at + 1) (drop at t) (count - at) (omega arith) (omega arith) in
-    let first : set front at x ≡ take at t ++ (x ∷ []) = sym (take-set-lt (at + 1) t at x (omega arith)) ∙ take_more_set t at x (omega arith) in
-    take-set-lt (count + 1) shifted at x (omega arith)
-    ∙ ap (λ l. set l at x) parts ∙ set-append_left front back at x (omega arith)
-    ∙ ap (λ l. l ++ back) first ∙ append_assoc (take at t) (x ∷ []) back
-    ∙ ap (λ l. l ++ (x ∷ back)) (sym (take-take at count t low))
-    ∙ ap (λ l. take at (take count t) ++ (x ∷ l)) (sym (drop_take at count t))
+-- room made at an index, an element a turn from the last one down, and an element put there: before the first turn, a turn, and after the last
+module _ {A : Type 0} where
+  moved : (t : List A) (k count : ℕ) (d : A) → k < count → count < length t
+      → take k (set t (suc k) (get_or t k d)) ++ drop (suc k) (take (suc count) (set t (suc k) (get_or t k d)))
+      ≡ take (suc k) t ++ drop (suc (suc k)) (take (suc count) t)
+  moved t k zero d h n = absurd (not-suc-le-zero h)
+  moved [] k (suc count) d h n = absurd (not-suc-le-zero n)
+  moved (y ∷ []) zero (suc count) d h n = absurd (not-suc-le-zero (le_of_suc-le-suc n))
+  moved (y ∷ (z ∷ t)) zero (suc count) d h n = refl
+  moved (y ∷ t) (suc k) (suc count) d h n = ap (λ (l : List A). y ∷ l) (moved t k count d (le_of_suc-le-suc h) (le_of_suc-le-suc n))
+
+  turn : (t : List A) (at k count : ℕ) (x d : A) → at ≤ k → k < count → count < length t
+      → inserted at x (take k (set t (suc k) (get_or t k d))) ++ drop (suc k) (take (suc count) (set t (suc k) (get_or t k d)))
+      ≡ inserted at x (take (suc k) t) ++ drop (suc (suc k)) (take (suc count) t)
+  turn t zero k count x d low h n = ap (λ (l : List A). x ∷ l) (moved t k count d h n)
+  turn [] (suc at) k count x d low h n = absurd (not-suc-le-zero n)
+  turn (y ∷ t) (suc at) zero count x d low h n = absurd (not-suc-le-zero low)
+  turn (y ∷ t) (suc at) (suc k) zero x d low h n = absurd (not-suc-le-zero h)
+  turn (y ∷ t) (suc at) (suc k) (suc count) x d low h n =
+      ap (λ (l : List A). y ∷ l) (turn t at k count x d (le_of_suc-le-suc low) (le_of_suc-le-suc h) (le_of_suc-le-suc n))
+
+  last : (t : List A) (at count : ℕ) (x : A) → at ≤ count → count < length t
+      → take (suc count) (set t at x) ≡ inserted at x (take at t) ++ drop (suc at) (take (suc count) t)
+  last [] at count x low n = absurd (not-suc-le-zero n)
+  last (y ∷ t) zero count x low n = refl
+  last (y ∷ t) (suc at) zero x low n = absurd (not-suc-le-zero low)
+  last (y ∷ t) (suc at) (suc count) x low n = ap (λ (l : List A). y ∷ l) (last t at count x (le_of_suc-le-suc low) (le_of_suc-le-suc n))
+
+  pub room_first : (t : List A) (at count : ℕ) (x : A) → inserted at x (take count t) ++ drop (count + 1) (take (count + 1) t) ≡ inserted at x (take count t)
+  room_first t at count x =
+      let n = length-take (count + 1) t in
+      ap (λ (l : List A). inserted at x (take count t) ++ l) (drop_of_length-le (take (count + 1) t) {i = count + 1} (omega (arith, n)))
+      ∙ append-nil (inserted at x (take count t))
+
+  pub room_next : (t : List A) (at k count : ℕ) (x d : A) → at ≤ k → k < count → count < length t
+      → inserted at x (take k (set t (k + 1) (get_or t k d))) ++ drop (k + 1) (take (count + 1) (set t (k + 1) (get_or t k d)))
+      ≡ inserted at x (take (k + 1) t) ++ drop (k + 1 + 1) (take (count + 1) t)
+  room_next t at k count x d low h n = rw (add-one (k + 1), add-one k, add-one count) (turn t at k count x d low h n)
+
+  pub room_last : (t : List A) (at count : ℕ) (x : A) → at ≤ count → count < length t
+      → take (count + 1) (set t at x) ≡ inserted at x (take at t) ++ drop (at + 1) (take (count + 1) t)
+  room_last t at count x low n = rw (add-one at, add-one count) (last t at count x low n)

@@ -12,7 +12,7 @@ ghost use Rattle.plan.specs.Units.{sets};
 ghost use Rattle.plan.specs.Wording.{wording_of};
 ghost use Rattle.plan.specs.Kept.{records_room};
 ghost use Rattle.plan.specs.Pack.{Apart, sorted, AllSpotted, messages_at, packs, fresh_packer, numbered, grown_to, closed_in, kept_by, blocks_for, Packed};
-ghost use Rattle.plan.specs.Table.{units_most, starts_of, Noted, NotedSpot, rows_in, Gathered, spotted, length_before, Stands, AllStand, row_at, plan_at};
+ghost use Rattle.plan.specs.Table.{units_most, starts_of, inserted, Noted, NotedSpot, rows_in, Gathered, spotted, length_before, Stands, AllStand, row_at, plan_at};
 
 use group::{Refusal, SequenceNumber};
 use journal::{Block, COMPACT_MARK, Cursor, Found, Record, Spot};
@@ -103,6 +103,18 @@ fn sort(rows: &mut [Row], count: usize)
     rows[..count].sort_unstable_by_key(|row| row.start);
 }
 
+// Puts a row at an index of a table of which so many rows are used; those from there on move one up.
+fn insert(rows: &mut [Row], count: usize, at: usize, row: Row)
+    requires { (at ≤ count) × (count < length rows.old) }
+    ensures { take (count + 1) rows.new ≡ inserted at row (take count rows.old) }
+{
+    // kept: a loop by index, since `copy_within` calls `memmove`, which C without a library need not have.
+    for k in (at..count).rev() {
+        rows[k + 1] = rows[k];
+    }
+    rows[at] = row;
+}
+
 impl Table {
     // A table of no rows.
     fn new() -> Self
@@ -134,8 +146,7 @@ impl Table {
                 if self.count == UNITS {
                     return Err(Refusal::ManyUnits);
                 }
-                self.rows.copy_within(i..self.count, i + 1);
-                self.rows[i] = row;
+                insert(&mut self.rows, self.count, i, row);
                 self.count += 1;
                 Ok(())
             }

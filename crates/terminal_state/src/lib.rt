@@ -549,6 +549,42 @@ pub fn make_on(
     )
 }
 
+// Stores a group, a field at a time: the bytes between the fields, which C lends with them, stay as they were.
+fn put_group(group: &mut Group, next: Group)
+    ensures { group.new ≡ next }
+{
+    group.n = next.n;
+    group.resilience = next.resilience;
+    group.survivors = next.survivors;
+    group.elected = next.elected;
+    group.number = next.number;
+}
+
+// Stores the head that comes back in the same way.
+fn put_head(head: &mut Head, next: Head)
+    ensures { head.new ≡ next }
+{
+    put_group(&mut head.member.group, next.member.group);
+    head.member.number = next.member.number;
+    head.member.taken = next.member.taken;
+    head.member.accepted = next.member.accepted;
+    head.member.submitted = next.member.submitted;
+    head.member.waiting = next.member.waiting;
+    put_group(&mut head.sequencer.group, next.sequencer.group);
+    head.sequencer.top = next.sequencer.top;
+    head.sequencer.accepted = next.sequencer.accepted;
+    head.sequencer.floor = next.sequencer.floor;
+    head.read = next.read;
+    head.attempt = next.attempt;
+    head.number = next.number;
+    head.invited = next.invited;
+    head.repliers = next.repliers;
+    head.replied = next.replied;
+    head.inviting = next.inviting;
+    head.sequencing = next.sequencing;
+    head.frozen = next.frozen;
+}
+
 impl Terminal {
     // All zero: what a caller has before it opens a terminal. No call accepts it.
     pub fn closed() -> Self
@@ -665,7 +701,7 @@ impl Terminal {
             payload,
             out,
         );
-        self.head = done.head;
+        put_head(&mut self.head, done.head);
         done.reply
     }
 
@@ -763,7 +799,7 @@ impl Terminal {
             &mut self.payloads,
             out,
         );
-        self.head = done.head;
+        put_head(&mut self.head, done.head);
         done.reply
     }
 
@@ -798,7 +834,7 @@ impl Terminal {
             packet,
             out,
         );
-        self.head = done.head;
+        put_head(&mut self.head, done.head);
         done.reply
     }
 
@@ -833,7 +869,7 @@ impl Terminal {
             packet,
             out,
         );
-        self.head = done.head;
+        put_head(&mut self.head, done.head);
         done.reply
     }
 
@@ -933,7 +969,7 @@ impl Terminal {
             number,
             out,
         );
-        self.head = done.head;
+        put_head(&mut self.head, done.head);
         done.reply
     }
 
@@ -968,7 +1004,7 @@ impl Terminal {
             demand,
             out,
         );
-        self.head = done.head;
+        put_head(&mut self.head, done.head);
         done.reply
     }
 }

@@ -3,7 +3,12 @@ use Rattle.std.proofs.Common.{sym, length-take-le, rules}
 use Rattle.journal_tool.proofs.Within.{rewrite_within}
 use Rattle.journal_tool.proofs.rewrite.Goals as goal
 
+pub slice_bounds-out-end : goal.slice_bounds-out-end
+slice_bounds-out-end c =
+    let w = rewrite_within _ _ _ (sym c.in_ok-size.ensures.answer) in
+    search rules
+
 pub slice_bounds-blocks-end : goal.slice_bounds-blocks-end
 slice_bounds-blocks-end c =
-    let w = rewrite_within c.deref.result.now _ _ (sym c.in_ok-size.ensures.answer) in
-    sym (length-take-le c.in_ok-size.size c.deref-2.result.now (search rules))
+    let w = rewrite_within _ _ _ (sym c.in_ok-size.ensures.answer) in
+    sym (length-take-le _ _ (search rules))

@@ -1,11 +1,6 @@
 -- The accepted of the row are acknowledged.
-use mathlib.Core.Path.{◌≡◌}
-use native.Mathlib.Omega.{arith}
-use Rattle.group.proofs.Choice.{choices}
-use Rattle.window.specs.Places.{smaller_of}
 use Rattle.member.proofs.View.{status_laid}
 use Rattle.member.proofs.put_status.Goals as goal
 
 pub returns : goal.returns
-unfolding smaller_of
-returns c = let e : c.min.result.0 ≡ smaller_of c.args.end.0 c.args.head.accepted.0 = grind (arith, choices) in status_laid c.args.head _ _ e c.put_bare.ensures
+returns c = status_laid c.args.head _ _ c.earlier.ensures c.put_bare.ensures

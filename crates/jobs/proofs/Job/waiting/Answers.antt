@@ -5,4 +5,4 @@ use Rattle.jobs.proofs.Job.waiting.Goals as goal
 
 pub returns : goal.returns
 unfolding waiting_job
-returns c = rw c.copy_from_slice.ensures.after refl
+returns c = rw c.copy.ensures refl

@@ -26,4 +26,4 @@ returns-else-self-eq-UNITS c =
     let t = a.self.now in
     let e = c.binary_search_by_key.ensures in
     let by_unit = e.position (λ row. row.unit) (answers_always _ _ _ (λ f x r g called. search rules)) in
-    rw c.copy_within.ensures.after (noted_new t.rows t.count a.row (search rules) c.in-Err.i (rw c.in-Err.is at e.bound, rw c.in-Err.is at by_unit) (search rules))
+    noted_new t.rows t.count a.row (search rules) c.in-Err.i (rw c.in-Err.is at e.bound, rw c.in-Err.is at by_unit) c.insert.ensures

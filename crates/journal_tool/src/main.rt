@@ -589,19 +589,22 @@ fn is_there(rt: &HostRuntime, i: usize) -> bool {
     !matches!(rt.arg(i, &mut word), Err(FillError::NotPresent))
 }
 
-// Where the command that begins at an argument ends: before `then`, or behind the last argument.
+// Where the command that begins at an argument ends, before `then` or behind the last argument, and whether `then` is there.
 #[inline(never)]
-fn command_end(rt: &HostRuntime, from: usize) -> usize
-    ensures { from ≤ result }
+fn command_end(rt: &HostRuntime, from: usize) -> (usize, bool)
+    ensures { from ≤ result.0 }
 {
     let mut word = [0; NAME_MOST];
     for i in from..usize::MAX {
         let size = argument(rt, i, &mut word);
-        if !is_there(rt, i) || &word[..size] == b"then".as_slice() {
-            return i;
+        if &word[..size] == b"then".as_slice() {
+            return (i, true);
+        }
+        if size == 0 && !is_there(rt, i) {
+            return (i, false);
         }
     }
-    usize::MAX
+    (usize::MAX, false)
 }
 
 fn usage(rt: &HostRuntime) {
@@ -667,16 +670,17 @@ fn run(rt: &HostRuntime, from: usize, end: usize) {
 }
 
 fn main(rt: HostRuntime) {
+    // Without the program's own name there is no command.
+    if !is_there(&rt, 0) {
+        return;
+    }
     let mut from = 1;
-    // Where there is no own name there is nothing to run.
-    let mut goes_on = is_there(&rt, 0);
     'commands: for _ in 0..usize::MAX {
+        let (end, goes_on) = command_end(&rt, from);
+        run(&rt, from, end);
         if !goes_on {
             return;
         }
-        let end = command_end(&rt, from);
-        run(&rt, from, end);
-        goes_on = is_there(&rt, end);
         from = end.saturating_add(1);
     }
 }

@@ -143,6 +143,22 @@ impl Sequencer {
     }
 }
 
+// Stores the head that comes back, a field at a time: the bytes between the fields, which C lends with them, stay as they were.
+fn put_head(head: &mut member::Head, next: member::Head)
+    ensures { head.new ≡ next }
+{
+    head.group.n = next.group.n;
+    head.group.resilience = next.group.resilience;
+    head.group.survivors = next.group.survivors;
+    head.group.elected = next.group.elected;
+    head.group.number = next.group.number;
+    head.number = next.number;
+    head.taken = next.taken;
+    head.accepted = next.accepted;
+    head.submitted = next.submitted;
+    head.waiting = next.waiting;
+}
+
 impl Member {
     // The member that is not opened, all zero: no call accepts it.
     pub fn closed() -> Self
@@ -207,7 +223,7 @@ impl Member {
             payload,
             out,
         );
-        self.head = done.head;
+        put_head(&mut self.head, done.head);
         done.reply
     }
 
@@ -228,7 +244,7 @@ impl Member {
             packet,
             out,
         );
-        self.head = done.head;
+        put_head(&mut self.head, done.head);
         done.reply
     }
 
@@ -249,7 +265,7 @@ impl Member {
             &mut self.held_payloads,
             out,
         );
-        self.head = done.head;
+        put_head(&mut self.head, done.head);
         done.reply
     }
 

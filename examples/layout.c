@@ -3,6 +3,7 @@
  * fields that the header names.
  */
 #include "warghytes.h"
+#include <stddef.h>
 #include <stdio.h>
 #include <stdlib.h>
 #include <string.h>
@@ -258,6 +259,21 @@ static void journal_fields(void)
     CHECK(warghytes_rewrite(block, 511, laid, sizeof laid).code == WARGHYTES_WRONG_JOURNAL);
 }
 
+/* Of a refused call every byte stays, those between the fields too. */
+static void refused(void)
+{
+    static struct warghytes_terminal t, before;
+    const size_t gap = offsetof(struct warghytes_terminal, frozen) + 1;
+    static const uint8_t payload[WARGHYTES_PAYLOAD + 1];
+    CHECK(warghytes_terminal_open(&t, 3, 0, 7, 0).code == WARGHYTES_ACCEPTED);
+    ((uint8_t *)&t)[gap] = 0xa5;
+    memcpy(&before, &t, sizeof t);
+    CHECK(warghytes_terminal_submit(&t, payload, sizeof payload, out, sizeof out).code == WARGHYTES_LONG_PAYLOAD);
+    CHECK(warghytes_terminal_take(&t, out, 0).code == WARGHYTES_SHORT_OUTPUT);
+    CHECK(warghytes_terminal_receive(&t, payload, 19, out, sizeof out).code == WARGHYTES_PACKET_SIZE);
+    CHECK(memcmp(&before, &t, sizeof t) == 0);
+}
+
 int main(void)
 {
     sizes();
@@ -267,6 +283,7 @@ int main(void)
     offered();
     marked();
     terminal_fields();
+    refused();
     packet_fields();
     job_fields();
     journal_fields();

@@ -27,7 +27,8 @@ const FILE_MOST: usize = 1048576;
 // The bytes of a rewritten journal at most: a block for each of 512 records. A plan has less than half of that.
 const OUTPUT_MOST: usize = 512 * Block::SIZE;
 
-// The bytes of an argument, at most.
+// The bytes of an argument, at most. What has an array of so many, or is called beside one, is `inline(never)`: no command takes the stack
+// of another.
 const NAME_MOST: usize = 4096;
 
 // The last bytes of a new file's name, and how many such names are tried.
@@ -240,7 +241,7 @@ struct Typed {
 
 impl Typed {
     fn line(&self) -> &[u8]
-        ensures { length result.now ≤ 1000 }
+        ensures { length result.now ≤ LINE_MOST }
     {
         &self.bytes[..self.size.min(LINE_MOST)]
     }
@@ -475,7 +476,7 @@ fn read_journal(
     Ok(size)
 }
 
-// Its journal and its output lie on the stack, and so do those of a rewriting: neither becomes part of a command that has none.
+// Prints the plan of the journal in a file. Journal and output lie on the stack.
 #[inline(never)]
 fn plan(rt: &HostRuntime, name: &[u8]) -> Result<(), Failure> {
     let mut journal = [0; FILE_MOST + 1];

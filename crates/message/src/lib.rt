@@ -11,7 +11,7 @@ pub fn copy(bytes: &[u8], part: &mut [u8])
     requires { length bytes.now ≤ length part.old }
     ensures { part.new ≡ front bytes.now part.old }
 {
-    // kept: a loop by index, since `copy_from_slice` calls `memmove`, and a terminal of C without a library has `memset` alone.
+    // kept: a loop by index, since `copy_from_slice` calls `memmove`, which C without a library need not have.
     for (i, &byte) in bytes.iter().enumerate() {
         part[i] = byte;
     }
